@@ -1,0 +1,4 @@
+pub mod NameLemmas
+pub mod NumberLemmas
+pub mod Runs
+pub mod Unique

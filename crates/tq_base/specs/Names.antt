@@ -1,0 +1,41 @@
+-- Names of tables, columns and aliases. This project's own.
+use Rattle.std.specs.Prelude.{ℕ, Bool, true, false, ◌&&◌, ◌||◌, not, if◌then◌else◌, ◌==◌, nat_le, List, [], ◌∷◌, length, map, Option, Some, None, codes}
+use Rattle.std.specs.Char.{is_ascii_alphabetic, is_ascii_alphanumeric, is_ascii_uppercase, to_ascii_lowercase}
+use Rattle.std.specs.List.{list_all, list_any}
+use Rattle.std.specs.Str.{str_eq_ignore_ascii_case}
+use Rattle.tq_base.specs.declared.name.TheConstants.{RESERVED}
+
+-- an ASCII letter or `_`
+abbrev pub is_name_start : ℕ → Bool
+is_name_start b = is_ascii_alphabetic b || b == 95
+
+-- an ASCII letter, a digit or `_`
+abbrev pub is_name_byte : ℕ → Bool
+is_name_byte b = is_ascii_alphanumeric b || b == 95
+
+-- begins as a name does and goes on as one
+abbrev pub has_name_form : List ℕ → Bool
+has_name_form [] = false
+has_name_form (b ∷ bs) = is_name_start b && list_all is_name_byte bs
+
+-- a word of the language, in any ASCII case
+unfoldable pub is_reserved : List ℕ → Bool
+is_reserved bytes = list_any (λ word. str_eq_ignore_ascii_case word.now bytes) RESERVED
+
+-- 1 to 64 bytes of the form of a name, and no reserved word
+abbrev pub is_name : List ℕ → Bool
+is_name bytes = has_name_form bytes && nat_le (length bytes) 64 && not (is_reserved bytes)
+
+-- each ASCII letter in lower case
+abbrev pub folded : List ℕ → List ℕ
+folded bytes = map to_ascii_lowercase bytes
+
+-- the name that the bytes write, folded to lower case
+abbrev pub folded_name : List ℕ → Option (List ℕ)
+folded_name bytes = if is_name bytes then Some (folded bytes) else None
+
+-- a folded name, or the name `count` or `sum` that an answer's column may have
+abbrev pub is_shown_name : List ℕ → Bool
+is_shown_name bytes =
+    has_name_form bytes && nat_le (length bytes) 64 && list_all (λ b. not (is_ascii_uppercase b)) bytes
+    && (not (is_reserved bytes) || str_eq_ignore_ascii_case (codes "count") bytes || str_eq_ignore_ascii_case (codes "sum") bytes)
