@@ -1,3 +1,5 @@
+pub mod Converse
+pub mod Existence
 pub mod NameLemmas
 pub mod NumberLemmas
 pub mod Runs

@@ -134,15 +134,15 @@ levels_differ table front (f ∷ back) =
 
 -- ---- each run has a row: the levels of the rows that hold an instant are as many as there are copies, and all differ
 
-abbrev Labelled : Type 0
+abbrev pub Labelled : Type 0
 Labelled = Fragment × ℕ
 
 -- the rows of the values that hold the instant
-abbrev counts_at : List Value → ℕ → Labelled → Bool
+abbrev pub counts_at : List Value → ℕ → Labelled → Bool
 counts_at v t x = holds x.0.period t && eq_by_cmp values_cmp x.0.values v
 
 -- their levels
-abbrev levels_at : List Value → ℕ → List Labelled → List ℕ
+abbrev pub levels_at : List Value → ℕ → List Labelled → List ℕ
 levels_at v t [] = []
 levels_at v t (x ∷ xs) = cond (counts_at v t x) (x.1 ∷ levels_at v t xs) (levels_at v t xs)
 
@@ -154,24 +154,24 @@ and_cond : (a b : Bool) (n : ℕ) → n ≡ cond (a && b) 1 0 → n ≡ cond a (
 and_cond true b n e = e
 and_cond false b n e = e
 
-length-levels_at : (R : Fragment → ℕ → Type 0) (v : List Value) (t : ℕ) (rows : List Fragment) (levels : List ℕ) → AllZip R rows levels → length (levels_at v t (zip rows levels)) ≡ sum_by (tally v t) rows
+pub length-levels_at : (R : Fragment → ℕ → Type 0) (v : List Value) (t : ℕ) (rows : List Fragment) (levels : List ℕ) → AllZip R rows levels → length (levels_at v t (zip rows levels)) ≡ sum_by (tally v t) rows
 length-levels_at R v t [] levels all = refl
 length-levels_at R v t (f ∷ rows) [] all = absurd all
 length-levels_at R v t (f ∷ rows) (j ∷ levels) all =
     omega (arith, length_cond (counts_at v t (f, j)) j (levels_at v t (zip rows levels)), and_cond (holds f.period t) (eq_by_cmp values_cmp f.values v) _ refl, length-levels_at R v t rows levels all.1, sum_by-cons (tally v t) f rows)
 
 -- a labelled row of the values that holds the instant, and its level
-record Found (v : List Value) (t level : ℕ) (xs : List Labelled) : Type 0 where
-  row : Labelled
-  stands : Contains xs row
-  at_level : row.1 ≡ level
-  has_values : row.0.values ≡ v
-  holds_it : holds row.0.period t ≡ true
+pub record Found (v : List Value) (t level : ℕ) (xs : List Labelled) : Type 0 where
+  pub row : Labelled
+  pub stands : Contains xs row
+  pub at_level : row.1 ≡ level
+  pub has_values : row.0.values ≡ v
+  pub holds_it : holds row.0.period t ≡ true
 
 found_later : (v : List Value) (t level : ℕ) (x : Labelled) (xs : List Labelled) → Found v t level xs → Found v t level (x ∷ xs)
 found_later v t level x xs f = record { row = f.row; stands = (suc f.stands.0, omega (arith, f.stands.1), f.stands.2); at_level = f.at_level; has_values = f.has_values; holds_it = f.holds_it }
 
-found : (v : List Value) (t level : ℕ) (xs : List Labelled) → list_any (eqb level) (levels_at v t xs) ≡ true → Found v t level xs
+pub found : (v : List Value) (t level : ℕ) (xs : List Labelled) → list_any (eqb level) (levels_at v t xs) ≡ true → Found v t level xs
 found v t level [] any = cc
 found v t level (x ∷ xs) any = split (counts_at v t x) refl any (found v t level xs)
   where
@@ -188,7 +188,7 @@ found v t level (x ∷ xs) any = split (counts_at v t x) refl any (found v t lev
       | inr there ↦ found_later v t level x xs (later there)
     ]
 
-none_by_recursion : (x : ℕ) (xs : List ℕ) → list_any (eqb x) xs ≡ false → AllByRecursion (λ y. eqb x y ≡ false) xs
+pub none_by_recursion : (x : ℕ) (xs : List ℕ) → list_any (eqb x) xs ≡ false → AllByRecursion (λ y. eqb x y ≡ false) xs
 none_by_recursion x [] none = tt
 none_by_recursion x (y ∷ ys) none =
     let parts = or_parts (eqb x y) (list_any (eqb x) ys) none in
@@ -196,7 +196,7 @@ none_by_recursion x (y ∷ ys) none =
 
 module _ (m : List Value → ℕ → ℕ) where
   -- two runs of one level that hold an instant are one
-  same_run : (v : List Value) (level t : ℕ) (p q : Period) → IsRun m v level p → IsRun m v level q → holds p t ≡ true → holds q t ≡ true → p ≡ q
+  pub same_run : (v : List Value) (level t : ℕ) (p q : Period) → IsRun m v level p → IsRun m v level q → holds p t ≡ true → holds q t ≡ true → p ≡ q
   same_run v level t p q a b in_p in_q =
       let hp = held_from p t in_p in
       let hq = held_from q t in_q in
@@ -214,22 +214,22 @@ module _ (m : List Value → ℕ → ℕ) where
         | inl lt ↦ absurd (omega (arith, a.after, b.inside p.end (omega (arith, hp, hq)) lt))
       ]
 
-  abbrev Labels : Labelled → Type 0
+  abbrev pub Labels : Labelled → Type 0
   Labels x = IsRun m x.0.values x.1 x.0.period
 
   -- the run of a row that was found
-  found_run : (v : List Value) (t level : ℕ) (xs : List Labelled) → All Labels xs → (f : Found v t level xs) → IsRun m v level f.row.0.period
+  pub found_run : (v : List Value) (t level : ℕ) (xs : List Labelled) → All Labels xs → (f : Found v t level xs) → IsRun m v level f.row.0.period
   found_run v t level xs runs f =
       let run = All-contains Labels xs f.row runs f.stands in
       subst (λ j. IsRun m v j f.row.0.period) f.at_level (subst (λ u. IsRun m u f.row.1 f.row.0.period) f.has_values run)
 
   -- the row that was found is the one of a run that holds the instant
-  found_is : (v : List Value) (t level : ℕ) (xs : List Labelled) → All Labels xs → (f : Found v t level xs) → (p : Period) → IsRun m v level p → holds p t ≡ true → f.row ≡ (record { values = v; period = p }, level)
+  pub found_is : (v : List Value) (t level : ℕ) (xs : List Labelled) → All Labels xs → (f : Found v t level xs) → (p : Period) → IsRun m v level p → holds p t ≡ true → f.row ≡ (record { values = v; period = p }, level)
   found_is v t level xs runs f p run in_p =
       let same = same_run v level t f.row.0.period p (found_run v t level xs runs f) run f.holds_it in_p in
       λ i. (record { values = f.has_values i; period = same i }, f.at_level i)
 
-  distinct_levels : (v : List Value) (t : ℕ) (xs : List Labelled) → All Labels xs → AllPairs (λ x y. x ≢ y) xs → IsDistinct eqb (levels_at v t xs)
+  pub distinct_levels : (v : List Value) (t : ℕ) (xs : List Labelled) → All Labels xs → AllPairs (λ x y. x ≢ y) xs → IsDistinct eqb (levels_at v t xs)
   unfolding IsDistinct
   distinct_levels v t [] runs once = tt
   distinct_levels v t (x ∷ xs) runs once = split (counts_at v t x) refl (distinct_levels v t xs (All-tail Labels x xs runs) (pairs_tail_here (λ x y. x ≢ y) x xs once))
@@ -293,7 +293,7 @@ module _ (m : List Value → ℕ → ℕ) where
       split false any =
           absurd (omega (arith, length-le_from_distinct_below (0 ∷ level ∷ all) (m v p.start + 1) (distinct any) within, long))
 
-all_labelled : (R : Fragment → ℕ → Type 0) (rows : List Fragment) (levels : List ℕ) → AllZip R rows levels → All (λ x. R x.0 x.1) (zip rows levels)
+pub all_labelled : (R : Fragment → ℕ → Type 0) (rows : List Fragment) (levels : List ℕ) → AllZip R rows levels → All (λ x. R x.0 x.1) (zip rows levels)
 all_labelled R [] levels h = All-nil (λ x. R x.0 x.1)
 all_labelled R (f ∷ rows) [] h = absurd h
 all_labelled R (f ∷ rows) (j ∷ levels) h = All-cons (λ x. R x.0 x.1) (f, j) (zip rows levels) h.0 (all_labelled R rows levels h.1)

@@ -1,8 +1,11 @@
 pub mod Catalogues
 pub mod Copies
 pub mod Fragments
+pub mod Groups
+pub mod Layering
 pub mod Layers
 pub mod Names
 pub mod Numbers
 pub mod Periods
+pub mod Sweep
 pub mod ValueOrder
