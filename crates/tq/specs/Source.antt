@@ -1,0 +1,24 @@
+-- What a contract sees of a source, and what a call of one does to the bytes of its reader.
+use Rattle.std.specs.Prelude.{ℕ, ◌<◌, List, length, Option, refl}
+use Rattle.std.specs.Coded.{Coded, code_by, coded×, coded_ℕ}
+use Rattle.std.specs.Io.KnownBytes.{Consumes}
+
+-- A reader, how many reads of it were made, and how many of these failed. (This project's own.)
+pub record Source (R : Type 0) : Type 0 where
+  pub reader : R
+  pub reads : ℕ
+  pub failed : ℕ
+
+-- A source is stored as the triple of its fields.
+abbrev pub source_code : {R : Type 0} → Coded R → Coded (Source R)
+source_code {R} code =
+    code_by (R × (ℕ × ℕ)) (coded× code (coded× coded_ℕ coded_ℕ)) (λ s. (s.reader, (s.reads, s.failed)))
+    (λ p. record { reader = p.0; reads = p.1.0; failed = p.1.1 }) (λ _. refl)
+
+-- Known bytes lose some of their first. (This project's own.)
+abbrev pub ConsumesSome : Option (List ℕ) → Option (List ℕ) → Type 0
+ConsumesSome old new = (taken : List ℕ) × Consumes old new taken
+
+-- Known bytes lose more than so many of their first. (This project's own.)
+abbrev pub ConsumesMore : Option (List ℕ) → Option (List ℕ) → ℕ → Type 0
+ConsumesMore old new count = (taken : List ℕ) × Consumes old new taken × (count < length taken)

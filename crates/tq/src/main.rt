@@ -1,0 +1,6 @@
+//! The program `tq`.
+#![tactic(auto)]
+
+mod source;
+
+fn main() {}

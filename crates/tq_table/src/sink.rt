@@ -1,0 +1,124 @@
+// A writer, and how many of its calls failed.
+
+ghost use Rattle.std.specs.Prelude.{◌≡◌, ◌≤◌, ◌<◌, length, take, OnOk, OnErr, IfOk, IfErr, if◌then◌else◌};
+ghost use Rattle.std.specs.Result.{is_err};
+ghost use Rattle.std.specs.Io.KnownBytes.{Appends, Keeps};
+ghost use Rattle.tq_table.specs.Sink.{AppendsPrefix, one_more};
+
+use std::io::Write;
+use std::marker::Model;
+use thiserror::Error;
+
+/// Why a table was not written: the writer failed (1), or the table's text found no memory (2).
+#[derive(Clone, Copy, Debug, PartialEq, Eq, Error)]
+pub enum WriteFault {
+    #[error("write failed")]
+    Write = 1,
+    #[error("out of memory")]
+    OutOfMemory = 2,
+}
+
+/// A writer, with a count of its calls that failed.
+#[derive(Drop)]
+pub struct Sink<W> {
+    writer: W,
+    failed: u64,
+}
+
+impl<W> Model for Sink<W> {
+    ghost use Rattle.tq_table.specs.Sink.{Sink as Sent, sink_code};
+
+    ghost Value = { Sent W };
+
+    ghost coded = { sink_code W.code };
+
+    ghost view = { λ s. record { writer = s.writer; failed = s.failed } };
+}
+
+impl<W> Sink<W> {
+    /// A sink over a writer, with no failed call yet.
+    pub fn over(writer: W) -> Sink<W>
+        ensures writer { result.writer ≡ writer }
+        ensures failed { result.failed ≡ 0 }
+    {
+        Sink { writer, failed: 0 }
+    }
+
+    /// How many calls of the writer failed; the count stays at `u64::MAX`.
+    pub fn failed(&self) -> u64
+        ensures { result ≡ self.now.failed }
+    {
+        self.failed
+    }
+}
+
+impl<W> Sink<W> {
+    // Counts a call that failed.
+    fn count_failure(&mut self) -> WriteFault
+        ensures fault { result ≡ WriteFault.Write }
+        ensures writer { self.new.writer ≡ self.old.writer }
+        ensures failed { self.new.failed ≡ one_more self.old.failed }
+    {
+        self.failed = self.failed.saturating_add(1);
+        WriteFault::Write
+    }
+}
+
+impl<W: Write> Sink<W> {
+    // One write of the front of the bytes. One that fails, or takes nothing, is counted.
+    fn write_some(&mut self, bytes: &[u8]) -> Result<usize, WriteFault>
+        requires { 0 < length bytes.now }
+        ensures some { IfOk result (λ n. 0 < n) }
+        ensures bound { IfOk result (λ n. n ≤ length bytes.now) }
+        ensures taken { IfOk result (λ n. Appends (W.contents self.old.writer) (W.contents self.new.writer)
+            (take n bytes.now)) }
+        ensures kept { OnErr result (Keeps (W.contents self.old.writer) (W.contents self.new.writer)) }
+        ensures fault { IfErr result (λ e. e ≡ WriteFault.Write) }
+        ensures failed { self.new.failed ≡ (if is_err result then one_more self.old.failed else self.old.failed) }
+    {
+        match self.writer.write(bytes) {
+            Ok(0) | Err(_) => Err(self.count_failure()),
+            Ok(taken) => Ok(taken),
+        }
+    }
+
+    // One flush. A failure is counted.
+    fn flush(&mut self) -> Result<(), WriteFault>
+        ensures kept { Keeps (W.contents self.old.writer) (W.contents self.new.writer) }
+        ensures fault { IfErr result (λ e. e ≡ WriteFault.Write) }
+        ensures failed { self.new.failed ≡ (if is_err result then one_more self.old.failed else self.old.failed) }
+    {
+        match self.writer.flush() {
+            Ok(()) => Ok(()),
+            Err(_) => Err(self.count_failure()),
+        }
+    }
+
+    /// Writes the bytes and flushes the writer. `Write` comes where a write or the flush failed, or a
+    /// write took none of some bytes: that call is counted, no other follows it, and a prefix went out.
+    pub fn send(&mut self, bytes: &[u8]) -> Result<(), WriteFault>
+        ensures whole { OnOk result (Appends (W.contents self.old.writer) (W.contents self.new.writer) bytes.now) }
+        ensures prefix { OnErr result (AppendsPrefix (W.contents self.old.writer) (W.contents self.new.writer)
+            bytes.now) }
+        ensures fault { IfErr result (λ e. e ≡ WriteFault.Write) }
+        ensures failed { self.new.failed ≡ (if is_err result then one_more self.old.failed else self.old.failed) }
+    {
+        let mut rest = bytes;
+        'rest: while !rest.is_empty() {
+            let taken = self.write_some(rest)?;
+            rest = &rest[taken..];
+        }
+        self.flush()
+    }
+
+    /// The writer, given back as it is.
+    pub fn into_inner(self) -> W
+        ensures { result ≡ self.writer }
+    {
+        let Sink { writer, .. } = self;
+        writer
+    }
+}
+
+#[cfg(test)]
+mod tests;
