@@ -1,5 +1,5 @@
 -- Layers exist: the sweep and the pass over groups, as functions on lists.
-use Rattle.std.proofs.Common.{◌≡◌, ◌≢◌, ℕ, zero, suc, ◌+◌, ◌<◌, ◌≤◌, Bool, true, false, cond, List, [], ◌∷◌, ◌++◌, length, get_or, take, drop, map, refl, ap, ◌∙◌, subst, arith, inl, inr, IfSome, slice_get}
+use Rattle.std.proofs.Common.{◌≡◌, ◌≢◌, ℕ, zero, suc, ◌+◌, ◌<◌, ◌≤◌, Bool, true, false, cond, List, [], ◌∷◌, ◌++◌, length, get_or, take, drop, map, refl, sym, ap, ◌∙◌, subst, arith, inl, inr, IfSome, slice_get}
 use Rattle.std.specs.Prelude.{All, IsSorted, IsPermutation}
 use Rattle.std.specs.Cmp.{IsTotalOrder, nat_cmp_total}
 use Rattle.std.specs.Ordering.{eq_by_cmp, is_lt, is_gt, ordering_reverse, nat_cmp}
@@ -7,7 +7,7 @@ use Rattle.std.specs.declared.cmp.Ordering.{Ordering}
 use Rattle.std.specs.declared.cmp.Ordering.TheVariants.{Less, Equal, Greater}
 use Rattle.std.proofs.lemmas.Cmp.{upto}
 use Rattle.std.proofs.lemmas.Bool.{cases_lt}
-use Rattle.std.proofs.lemmas.List.{length-drop}
+use Rattle.std.proofs.lemmas.List.{length-drop, take-append-drop}
 use Rattle.std.proofs.lemmas.List.Elements.{All-nil, All-cons, All-weaker}
 use Rattle.std.proofs.lemmas.List.Sorted.{IsPermutation-refl, IsPermutation-cons, IsPermutation-trans, IsPermutation-middle, IsPermutation-sym, All-permutation, sum_by-IsPermutation}
 use Rattle.tq_base.specs.declared.period.Period.{Period}
@@ -19,8 +19,8 @@ use Rattle.tq_base.specs.Periods.{holds}
 use Rattle.tq_base.specs.Layers.{IsLayers, TakesIn}
 use Rattle.tq_base.specs.Layering.{IsLayering, period_cmp, period_total}
 use Rattle.tq_base.specs.Layering.{rows_of}
-use Rattle.tq_base.specs.Sweep.{Sweep, begun, finished, opens, cancels, closes, some_open, opened_before, pairs_head}
-use Rattle.tq_base.specs.Groups.{Grouping, grouping_starts, grouping_ends, next_group}
+use Rattle.tq_base.specs.Sweep.{Sweep, begun, finished, reordered, opens, cancels, closes, some_open, opened_before, pairs_head}
+use Rattle.tq_base.specs.Groups.{Grouping, grouping_starts, grouping_ends, closes_group}
 
 -- ---- a list in order
 
@@ -132,13 +132,6 @@ module _ (periods : List Period) where
       swept (length (in_order nat_cmp nat_cmp_total starts) + length (in_order nat_cmp nat_cmp_total ends)) _ _ [] [] (omega arith)
       (begun periods (in_order nat_cmp nat_cmp_total starts) (in_order nat_cmp nat_cmp_total ends) (in_order_moves nat_cmp nat_cmp_total starts) (in_order_sorted nat_cmp nat_cmp_total starts) (in_order_moves nat_cmp nat_cmp_total ends) (in_order_sorted nat_cmp nat_cmp_total ends))
 
--- the periods of a layering in another order are one too
-pub reordered : (periods layering sorted : List Period) → IsPermutation layering sorted → IsLayering periods layering → IsLayering periods sorted
-reordered periods layering sorted same is = record {
-  nested = All-permutation (λ p. All (λ q. TakesIn p q) sorted) layering sorted same (λ k d lt. All-permutation (λ q. TakesIn (get_or layering k d) q) layering sorted same (is.nested k d lt));
-  held_alike = λ t. sum_by-IsPermutation (λ (p : Period). cond (holds p t) 1 0) layering sorted same ∙ is.held_alike t;
-}
-
 ordered_layering_exists : (periods : List Period) → (layering : List Period) × IsLayering periods layering × IsSorted period_cmp layering
 ordered_layering_exists periods =
     let (layering, is) = layering_exists periods in
@@ -173,7 +166,8 @@ module _ (rows : List Fragment) where
       let group = x ∷ take front.len rest in
       let layering = ordered_layering_exists (map (λ f. f.period) group) in
       let new = table ++ rows_of x.values layering.0 in
-      let next = next_group rows (x ∷ rest) table new x (suc front.len) refl w (All-cons (λ g. g.values ≡ x.values) x (take front.len rest) refl front.alike) front.differs (record { layering = layering.0; is_layering = layering.1; in_order = layering.2; added = refl }) in
+      let split : x ∷ rest ≡ group ++ drop front.len rest = ap (λ l. x ∷ l) (sym (take-append-drop front.len rest)) in
+      let next = closes_group rows group (drop front.len rest) table new x.values (subst (λ l. Grouping rows l table) split w) (All-cons (λ g. g.values ≡ x.values) x (take front.len rest) refl front.alike) front.differs (record { layering = layering.0; is_layering = layering.1; in_order = layering.2; added = refl }) in
       grouped n (drop front.len rest) new (omega (arith, length-drop front.len rest)) next
 
   pub layers_exist : (table : List Fragment) × IsLayers (copies rows) table

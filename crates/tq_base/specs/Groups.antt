@@ -1,11 +1,12 @@
 -- A pass over groups of rows of equal values: what holds between two groups, and that each group keeps it.
-use Rattle.std.proofs.Common.{length, ◌<◌, ◌≤◌, ◌-◌, inl, inr, length-append, ◌≡◌, ◌≢◌, ℕ, zero, suc, ◌+◌, Bool, true, false, cond, List, [], ◌∷◌, ◌++◌, get_or, take, drop, map, sym, refl, ap, ◌∙◌, subst, arith, IfSome, slice_get, Some, None}
+use Rattle.std.proofs.Common.{append_assoc, append-nil, length, ◌<◌, ◌≤◌, ◌-◌, inl, inr, length-append, ◌≡◌, ◌≢◌, ℕ, zero, suc, ◌+◌, Bool, true, false, cond, List, [], ◌∷◌, ◌++◌, get_or, take, drop, map, sym, refl, ap, ◌∙◌, subst, arith, IfSome, slice_get, Some, None}
 use Rattle.std.specs.Prelude.{All, AllPairs, IsSorted, IsPermutation}
 use Rattle.std.specs.Ordering.{eq_by_cmp, is_lt, ordering_reverse, ordering_then, nat_cmp}
 use Rattle.std.specs.declared.cmp.Ordering.{Ordering}
 use Rattle.std.specs.declared.cmp.Ordering.TheVariants.{Less, Equal, Greater}
 use Rattle.std.proofs.lemmas.List.{take-append-drop, length-map, get_or-map, get_or_append_left, get_or-append_right}
 use Rattle.std.proofs.lemmas.Bool.{cases_lt}
+use Rattle.std.proofs.lemmas.Bool.Decides.{nat_tests}
 use Rattle.std.proofs.lemmas.Cmp.{tied_itself}
 use Rattle.std.specs.List.Sorted.{IsSortedBy}
 use Rattle.std.proofs.lemmas.List.Elements.{All-nil, All-cons, All-head, All-tail, All-append, All-weaker, All-map}
@@ -103,6 +104,10 @@ rows_alike v (p ∷ ps) = All-cons (λ f. f.values ≡ v) (record { values = v; 
 map-rows_of : (v : List Value) (ps : List Period) → map (λ (f : Fragment). f.period) (rows_of v ps) ≡ ps
 map-rows_of v [] = refl
 map-rows_of v (p ∷ ps) = ap (λ l. p ∷ l) (map-rows_of v ps)
+
+-- a period holds its own start
+holds_start : (p : Period) (n : ℕ) → n ≡ cond (holds p p.start) 1 0 → n ≡ 1
+holds_start p n is = let ordered : p.start < p.end = p.ordered in grind (arith, nat_tests)
 
 -- ---- the pass
 
@@ -244,22 +249,22 @@ grouping_ends rows table w = record {
   counted = λ v t. omega (arith, w.counted v t);
 }
 
--- the rows in front that have the values of the first
-pub next_group : (rows rest table new : List Fragment) (x : Fragment) (n : ℕ) → Some x ≡ slice_get rest 0 → Grouping rows rest table → All (λ f. f.values ≡ x.values) (take n rest) → IfSome (slice_get (drop n rest) 0) (λ f. f.values ≢ x.values) → AddsLayers x.values (take n rest) table new → Grouping rows (drop n rest) new
-next_group rows [] table new x n is w alike differs adds = cc
-next_group rows (y ∷ rest) table new x zero is w alike differs adds =
-    let same : x ≡ y = cc in
-    absurd (differs (ap (λ (f : Fragment). f.values) (sym same)))
-next_group rows (y ∷ rest) table new x (suc n) is w alike differs adds =
-    let same : x ≡ y = cc in
-    let group = y ∷ take n rest in
-    let others = drop n rest in
-    adds_group rows y (take n rest) others table new
-    (subst (λ l. Grouping rows l table) (ap (λ l. y ∷ l) (sym (take-append-drop n rest))) w)
-    (subst (λ (z : Fragment). All (λ f. f.values ≡ z.values) group) same alike)
-    (subst (λ (z : Fragment). IfSome (slice_get others 0) (λ f. f.values ≢ z.values)) same differs)
-    (subst (λ (z : Fragment). AddsLayers z.values group table new) same adds)
+-- one group, which may be empty, goes into the table
+pub closes_group : (rows group others table new : List Fragment) (v : List Value) → Grouping rows (group ++ others) table → All (λ f. f.values ≡ v) group → IfSome (slice_get others 0) (λ f. f.values ≢ v) → AddsLayers v group table new → Grouping rows others new
+closes_group rows [] others table new v w alike differs adds = subst (Grouping rows others) (sym (adds.added ∙ unchanged adds.layering adds.is_layering.held_alike)) w
+  where
+    unchanged : (ps : List Period) → ((t : ℕ) → held ps t ≡ 0) → table ++ rows_of v ps ≡ table
+    unchanged [] none = append-nil table
+    unchanged (p ∷ ps) none =
+        let ordered : p.start < p.end = p.ordered in
+        absurd (omega (arith, none p.start, held-cons p ps p.start, holds_start p _ refl))
+closes_group rows (x ∷ group) others table new v w alike differs adds =
+    let same : x.values ≡ v = All-head (λ f. f.values ≡ v) x group alike in
+    adds_group rows x group others table new w
+    (subst (λ u. All (λ f. f.values ≡ u) (x ∷ group)) (sym same) alike)
+    (subst (λ u. IfSome (slice_get others 0) (λ f. f.values ≢ u)) (sym same) differs)
+    (subst (λ u. AddsLayers u (x ∷ group) table new) (sym same) adds)
 
-pub none_left : (rest : List Fragment) → None ≡ slice_get rest 0 → rest ≡ []
-none_left [] is = refl
-none_left (x ∷ rest) is = cc
+-- the next row goes to the group
+pub joins_group : (rows group rest table : List Fragment) (row : Fragment) → Grouping rows (group ++ row ∷ rest) table → Grouping rows ((group ++ row ∷ []) ++ rest) table
+joins_group rows group rest table row w = subst (λ l. Grouping rows l table) (sym (append_assoc group (row ∷ []) rest)) w

@@ -3,7 +3,7 @@ use Rattle.std.proofs.Common.{◌≡◌, ℕ, suc, ◌+◌, ◌<◌, ◌≤◌, 
 use Rattle.std.specs.Prelude.{All, AllPairs, nat_le, IsSorted, IsPermutation}
 use Rattle.std.specs.Ordering.{nat_cmp}
 use Rattle.std.proofs.lemmas.List.{get_or_append_left, get_or_push, length-map, length-drop, drop_more}
-use Rattle.std.proofs.lemmas.List.Sorted.{IsNonDecreasingBy-from_sort, sum_by-IsPermutation, length_permutation}
+use Rattle.std.proofs.lemmas.List.Sorted.{All-permutation, IsNonDecreasingBy-from_sort, sum_by-IsPermutation, length_permutation}
 use Rattle.std.proofs.lemmas.List.Elements.{All-nil, All-cons, All-head, All-tail, All-push, All-weaker}
 use Rattle.std.proofs.lemmas.List.Quantifiers.{all_pairs_push}
 use Rattle.std.proofs.lemmas.List.Sums.{sum_by-cons, sum_by_push}
@@ -221,3 +221,10 @@ module _ (periods : List Period) {starts ends opened : List ℕ} {made : List Pe
 
   pub some_open_by : (e : ℕ) (ends' : List ℕ) → ends ≡ e ∷ ends' → All (λ s. e < s) starts → 0 < length opened
   some_open_by e ends' a after = some_open periods starts e ends' opened made after (rw a at w)
+
+-- the periods of a layering in another order are one too
+pub reordered : (periods layering sorted : List Period) → IsPermutation layering sorted → IsLayering periods layering → IsLayering periods sorted
+reordered periods layering sorted same is = record {
+  nested = All-permutation (λ p. All (λ q. TakesIn p q) sorted) layering sorted same (λ k d lt. All-permutation (λ q. TakesIn (get_or layering k d) q) layering sorted same (is.nested k d lt));
+  held_alike = λ t. sum_by-IsPermutation (λ (p : Period). cond (holds p t) 1 0) layering sorted same ∙ is.held_alike t;
+}

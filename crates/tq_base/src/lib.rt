@@ -6,11 +6,19 @@
 //! count, the one ordered, coalesced table that has just these copies at each instant.
 #![tactic(auto)]
 
-pub mod catalogue;
-pub mod fragment;
-pub mod items;
+mod catalogue;
+mod fragment;
+mod items;
 pub mod laws;
-pub mod name;
-pub mod number;
-pub mod period;
-pub mod value;
+mod name;
+mod number;
+mod period;
+mod value;
+
+pub use catalogue::{Catalogue, Column, Kind, MAX_TEXT, Schema};
+pub use fragment::Fragment;
+pub use items::Items;
+pub use name::{MAX_NAME, Name, RESERVED, fold_name, is_name, is_reserved, is_same_word};
+pub use number::{read_bound, read_instant, read_int, read_natural};
+pub use period::{Bound, FOREVER, Instant, Period};
+pub use value::{Text, Value, Values};

@@ -1,0 +1,49 @@
+use Rattle.std.proofs.Common.{◌≡◌, ◌≢◌, refl, ◌++◌, ◌∷◌, [], List, arith}
+use Rattle.std.specs.Prelude.{All}
+use Rattle.std.specs.Vec.Iter.{into_iter_items}
+use Rattle.std.proofs.lemmas.List.{nil_from_length}
+use Rattle.std.proofs.lemmas.List.Elements.{All-nil, All-cons, All-push}
+use Rattle.tq_base.specs.declared.fragment.Fragment.{Fragment}
+use Rattle.tq_base.specs.Groups.{Grouping, grouping_starts, grouping_ends, closes_group, joins_group}
+use Rattle.tq_table.proofs.coalescing.coalesce.Goals as goal
+use Rattle.tq_table.proofs.coalescing.coalesce.Goals.{then-begins_group+in_ok-add_layers, else-begins_group}
+
+pub rows-init : goal.rows-init
+rows-init c =
+    let all : into_iter_items c.into_iter-row-iterator.result ≡ c.sort_unstable.new.self.items = c.into_iter-row-iterator.ensures.into_iter_gives.0 in
+    record {
+      alike = ([], rw (c.new-group.ensures.items) (All-nil (λ f. f.values ≡ [])));
+      grouping = rw (c.new-group.ensures.items, c.new-table.ensures.items, all)
+          (grouping_starts c.args.rows.items c.sort_unstable.new.self.items c.sort_unstable.ensures.permutation c.sort_unstable.ensures.sorted);
+    }
+
+pub rows-preserved : goal.rows-preserved
+rows-preserved c =
+    let rows = c.args.rows.items in
+    let row = c.in-Some.row in
+    let rest = into_iter_items c.next.new.self in
+    let left : into_iter_items c.rows.row-iterator ≡ row ∷ rest = c.in-Some.ensures.steps.0 in
+    let (v, alike) = c.rows.invariant.alike in
+    let before : Grouping rows (c.rows.group.items ++ row ∷ rest) c.rows.table.items = rw left at c.rows.invariant.grouping in
+    elim c.if-begins_group.branch [
+      | then-begins_group+in_ok-add_layers w ↦
+          let differs : row.values ≢ v = w.if-begins_group.ensures.yes v (rw c.deref.ensures.value alike) in
+          record {
+            alike = (row.values, rw (c.in_ok-push.ensures.items, w.group-is, w.in_ok-add_layers.ensures.emptied) (All-cons (λ f. f.values ≡ row.values) row [] refl (All-nil (λ f. f.values ≡ row.values))));
+            grouping = rw (c.in_ok-push.ensures.items, w.group-is, w.in_ok-add_layers.ensures.emptied, w.table-is)
+                (closes_group rows c.rows.group.items (row ∷ rest) c.rows.table.items w.add_layers.new.table.items v before alike differs (w.in_ok-add_layers.ensures.added v alike));
+          }
+      | else-begins_group w ↦
+          let same : All (λ f. f.values ≡ row.values) c.rows.group.items = rw c.deref.ensures.value at (w.if-begins_group.ensures.no v (rw c.deref.ensures.value alike)) in
+          record {
+            alike = (row.values, rw (c.in_ok-push.ensures.items, w.group-is) (All-push (λ f. f.values ≡ row.values) c.rows.group.items row same refl));
+            grouping = rw (c.in_ok-push.ensures.items, w.group-is, w.table-is) (joins_group rows c.rows.group.items rest c.rows.table.items row before);
+          }
+    ]
+
+pub returns : goal.returns
+returns c =
+    let none : into_iter_items c.rows.row-iterator ≡ [] = nil_from_length (into_iter_items c.rows.row-iterator) (omega (arith, c.in-None.ensures.steps, c.rows.row-iterator.rest.ok.0)) in
+    let (v, alike) = c.rows.invariant.alike in
+    grouping_ends c.args.rows.items c.add_layers-2.new.table.items
+    (closes_group c.args.rows.items c.rows.group.items [] c.rows.table.items c.add_layers-2.new.table.items v (rw none at c.rows.invariant.grouping) alike tt (c.in_ok-add_layers-2.ensures.added v alike))

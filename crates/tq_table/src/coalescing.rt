@@ -1,0 +1,77 @@
+// Coalescing: the periods of each group of equal values are layered by themselves.
+
+ghost use Rattle.std.specs.Prelude.{◌≡◌, ◌≢◌, [], All, IfOk, List, OnOk, map};
+ghost use Rattle.std.specs.Bool.{OnTrue, OnFalse};
+ghost use Rattle.tq_base.specs.declared.value.Value.{Value};
+ghost use Rattle.tq_base.specs.Fragments.{copies};
+ghost use Rattle.tq_base.specs.Layers.{IsLayers};
+ghost use Rattle.tq_base.specs.Layering.{AddsLayers};
+
+use crate::layering::layered;
+use std::alloc::{AllocError, Global};
+use tq_base::{Fragment, Period};
+
+// The periods of the rows.
+fn periods_of(alloc: Global, rows: &[Fragment]) -> Result<Vec<Period>, AllocError>
+    ensures { IfOk result (λ v. v.items ≡ map (λ f. f.period) rows.now) }
+{
+    rows.iter().map(|row| row.period).collect(alloc)
+}
+
+// Whether the row has other values than the rows of the group, which are alike.
+fn begins_group(group: &[Fragment], row: &Fragment) -> bool
+    ensures yes { OnTrue result ((v : List Value) → All (λ f. f.values ≡ v) group.now → row.now.values ≢ v) }
+    ensures no { OnFalse result ((v : List Value) → All (λ f. f.values ≡ v) group.now
+        → All (λ f. f.values ≡ row.now.values) group.now) }
+{
+    match group.first() {
+        Some(first) => first.values != row.values,
+        None => false,
+    }
+}
+
+// Moves a group of rows that are alike into the table, as its layers.
+fn add_layers(
+    alloc: Global,
+    group: &mut Vec<Fragment>,
+    table: &mut Vec<Fragment>,
+) -> Result<(), AllocError>
+    ensures added { OnOk result ((v : List Value) → All (λ f. f.values ≡ v) group.old.items
+        → AddsLayers v group.old.items table.old.items table.new.items) }
+    ensures emptied { OnOk result (group.new.items ≡ []) }
+{
+    let periods = periods_of(alloc, group)?;
+    let layering = layered(alloc, &periods)?;
+    for period in &layering {
+        // The layering has no more periods than the group has rows.
+        let Some(row) = group.pop() else {
+            unreachable!()
+        };
+        let Fragment { values, .. } = row;
+        table.push(Fragment {
+            values,
+            period: *period,
+        })?;
+    }
+    group.clear();
+    Ok(())
+}
+
+/// The layers of the copies that go in: for each row of values and each count from 1 on, one row for
+/// each maximal run of instants at which at least so many copies are valid, in order of the values,
+/// then of the start, then of the end. Rows are moved, not copied.
+pub fn coalesce(alloc: Global, mut rows: Vec<Fragment>) -> Result<Vec<Fragment>, AllocError>
+    ensures { IfOk result (λ table. IsLayers (copies rows.items) table.items) }
+{
+    rows.sort_unstable();
+    let mut table = Vec::new(alloc);
+    let mut group = Vec::new(alloc);
+    'rows: for row in rows {
+        if begins_group(&group, &row) {
+            add_layers(alloc, &mut group, &mut table)?;
+        }
+        group.push(row)?;
+    }
+    add_layers(alloc, &mut group, &mut table)?;
+    Ok(table)
+}
