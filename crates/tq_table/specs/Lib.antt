@@ -1,1 +1,3 @@
 pub mod Sink
+pub mod Text
+pub mod Writing

@@ -9,6 +9,10 @@
 mod coalescing;
 mod layering;
 mod sink;
+mod table;
+mod text;
 
 pub use coalescing::coalesce;
 pub use sink::{Sink, WriteFault};
+pub use table::Table;
+pub use text::{table_text, write_table};

@@ -1,0 +1,37 @@
+-- The text of a table: CSV (RFC 4180) as the `csv` crate writes it by its defaults, lines ended by LF.
+use Rattle.std.specs.Prelude.{ℕ, ◌==◌, if◌then◌else◌, List, [], ◌∷◌, ◌++◌, map, decimal, codes, true}
+use Rattle.std.specs.Fmt.{signed_decimal}
+use Rattle.std.specs.List.{flat_map}
+use Rattle.csv.specs.Writing.{default_writer, row_text, with_flexible}
+use Rattle.csv.specs.declared.writer.WriterBuilder.{WriterBuilder}
+use Rattle.tq_base.specs.declared.value.Value.{Value}
+use Rattle.tq_base.specs.declared.value.Value.TheVariants.{Int, Text}
+use Rattle.tq_base.specs.declared.period.TheConstants.{FOREVER}
+use Rattle.tq_base.specs.declared.fragment.Fragment.{Fragment}
+use Rattle.tq_table.specs.declared.table.Table.{Table}
+
+-- fields parted by commas, quoted just where they hold a comma, a quote, CR or LF, quotes inside doubled
+abbrev pub answer_format : WriterBuilder
+answer_format = with_flexible default_writer true
+
+-- a number in decimal, a text as it is
+abbrev pub value_field : Value → List ℕ
+value_field (Int n) = signed_decimal n
+value_field (Text t) = t
+
+-- a bound in decimal; the last one is `forever`
+abbrev pub bound_field : ℕ → List ℕ
+bound_field bound = if bound == FOREVER then codes "forever" else decimal bound
+
+-- the values of a row, and the start and the end of its period
+abbrev pub row_fields : Fragment → List (List ℕ)
+row_fields row = map value_field row.values ++ (decimal row.period.start ∷ bound_field row.period.end ∷ [])
+
+-- the column names, and `from` and `to`
+abbrev pub header_fields : List (List ℕ) → List (List ℕ)
+header_fields columns = columns ++ (codes "from" ∷ codes "to" ∷ [])
+
+-- the header's line, and a line for each row
+abbrev pub text_of : Table → List ℕ
+text_of table =
+    row_text answer_format (header_fields table.columns) ++ flat_map (λ row. row_text answer_format (row_fields row)) table.rows

@@ -1,0 +1,116 @@
+// The text of a table.
+
+ghost use Rattle.std.specs.Prelude.{◌≡◌, [], ◌++◌, ◌∷◌, IfOk, List, OnOk, ℕ};
+ghost use Rattle.std.specs.Io.KnownBytes.{Appends};
+ghost use Rattle.csv.specs.Records.{fields_of, partial_of};
+ghost use Rattle.csv.specs.Writing.{row_text};
+ghost use Rattle.tq_table.specs.Text.{answer_format, bound_field, header_fields, row_fields, text_of, value_field};
+ghost use Rattle.tq_table.specs.Sink.{AppendsPrefix, one_more};
+ghost use Rattle.tq_table.specs.Writing.{HasWritten};
+
+use crate::sink::{Sink, WriteFault};
+use crate::table::Table;
+use csv::{ByteRecord, Writer, WriterBuilder};
+use itoa::Buffer;
+use std::alloc::{AllocError, Global};
+use std::io::Write;
+use tq_base::{Bound, FOREVER, Fragment, Name, Value};
+
+fn push_value(record: &mut ByteRecord, value: &Value) -> Result<(), AllocError>
+    requires { partial_of record.old ≡ [] }
+    ensures fields { OnOk result (fields_of record.new ≡ fields_of record.old ++ value_field value.now ∷ []) }
+    ensures partial { OnOk result (partial_of record.new ≡ []) }
+{
+    match value {
+        Value::Int(number) => record.push_field(Buffer::new().format(*number).as_bytes()),
+        Value::Text(text) => record.push_field(text.get().as_bytes()),
+    }
+}
+
+fn push_bound(record: &mut ByteRecord, bound: Bound) -> Result<(), AllocError>
+    requires { partial_of record.old ≡ [] }
+    ensures fields { OnOk result (fields_of record.new ≡ fields_of record.old ++ bound_field bound ∷ []) }
+    ensures partial { OnOk result (partial_of record.new ≡ []) }
+{
+    if bound.number() == FOREVER {
+        return record.push_field(b"forever");
+    }
+    record.push_field(Buffer::new().format(bound.number()).as_bytes())
+}
+
+// Makes the record that of the header.
+fn fill_header(record: &mut ByteRecord, columns: &[Name]) -> Result<(), AllocError>
+    ensures { OnOk result (fields_of record.new ≡ header_fields columns.now) }
+{
+    record.clear();
+    for column in columns {
+        record.push_field(column.bytes())?;
+    }
+    record.push_field(b"from")?;
+    record.push_field(b"to")
+}
+
+// Makes the record that of a row.
+fn fill_row(record: &mut ByteRecord, row: &Fragment) -> Result<(), AllocError>
+    ensures { OnOk result (fields_of record.new ≡ row_fields row.now) }
+{
+    record.clear();
+    for value in row.values.get() {
+        push_value(record, value)?;
+    }
+    let start = row.period.start.number();
+    record.push_field(Buffer::new().format(start).as_bytes())?;
+    push_bound(record, row.period.end)
+}
+
+// Writes the record. Over a vector only memory can fail.
+fn write_line(writer: &mut Writer<Vec<u8>>, record: &ByteRecord) -> Result<(), AllocError>
+    ensures { (text : List ℕ) → HasWritten writer.old text
+        → OnOk result (HasWritten writer.new (text ++ row_text answer_format (fields_of record.now))) }
+{
+    match writer.write_byte_record(record) {
+        Ok(()) => Ok(()),
+        Err(_) => Err(AllocError),
+    }
+}
+
+/// The text of a table: a line of the column names, `from` and `to`, and a line for each row, its
+/// values, start and end; CSV after RFC 4180, lines ended by LF, fields quoted where they have to be.
+pub fn table_text(alloc: Global, table: &Table) -> Result<Vec<u8>, AllocError>
+    ensures { IfOk result (λ text. text.items ≡ text_of table.now) }
+{
+    let mut writer = WriterBuilder::new()
+        .flexible(true)
+        .from_writer(Vec::new(alloc));
+    let mut record = ByteRecord::new(alloc);
+    fill_header(&mut record, table.columns.get())?;
+    write_line(&mut writer, &record)?;
+    for row in table.rows.get() {
+        fill_row(&mut record, row)?;
+        write_line(&mut writer, &record)?;
+    }
+    match writer.into_inner() {
+        Ok(text) => Ok(text),
+        Err(_) => Err(AllocError),
+    }
+}
+
+/// Writes the text of a table, made whole first. `Write` comes where the sink's writer failed, and a
+/// prefix then went out; `OutOfMemory` writes nothing.
+pub fn write_table<W: Write>(
+    alloc: Global,
+    table: &Table,
+    sink: &mut Sink<W>,
+) -> Result<(), WriteFault>
+    ensures whole { OnOk result (Appends (W.contents sink.old.writer) (W.contents sink.new.writer) (text_of table.now)) }
+    ensures unfailed { OnOk result (sink.new.failed ≡ sink.old.failed) }
+    ensures write { result ≡ Err WriteFault.Write
+        → AppendsPrefix (W.contents sink.old.writer) (W.contents sink.new.writer) (text_of table.now) }
+    ensures failed { result ≡ Err WriteFault.Write → sink.new.failed ≡ one_more sink.old.failed }
+    ensures out_of_memory { result ≡ Err WriteFault.OutOfMemory → sink.new ≡ sink.old }
+{
+    match table_text(alloc, table) {
+        Ok(text) => sink.send(&text),
+        Err(_) => Err(WriteFault::OutOfMemory),
+    }
+}
