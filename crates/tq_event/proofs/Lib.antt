@@ -1,0 +1,3 @@
+pub mod FieldLemmas
+pub mod FieldUtf8
+pub mod RecordLemmas

@@ -1,0 +1,276 @@
+-- What loading a table's file means: the first fault, in the order of records and checks, or the table
+-- and its entries. Records are those that the `csv` crate reads. The form of files is this project's own.
+use Rattle.std.specs.Prelude.{◌≡◌, ℕ, ◌+◌, ◌-◌, ◌==◌, ◌&&◌, ◌||◌, ℤ, not, nat_lt, Bool, true, false, if◌then◌else◌, List, [], ◌∷◌, ◌++◌, length, take, drop, Option, Some, None, Result, Ok, Err, codes, sum_by, count_by, slice_get, IsSomeAnd, IsSorted, IsPermutation, take_while}
+use Rattle.std.specs.List.{AllZip, before_first, after_first, list_any}
+use Rattle.std.specs.Option.{option_map_or}
+use Rattle.std.specs.Ordering.{nat_cmp, bool_cmp, on, then_cmp}
+use Rattle.std.specs.declared.cmp.Ordering.{Ordering}
+use Rattle.std.specs.Str.{bytes_eq, is_utf8, str_eq_ignore_ascii_case}
+use Rattle.csv.specs.Reading.{default_config, is_bom, records, strip_bom}
+use Rattle.tq_base.specs.declared.value.Value.{Value}
+use Rattle.tq_base.specs.declared.value.Value.TheVariants.{Int, Text}
+use Rattle.tq_base.specs.declared.catalogue.Kind.{Kind}
+use Rattle.tq_base.specs.declared.catalogue.Kind.TheVariants as kind
+use Rattle.tq_base.specs.declared.catalogue.Column.{Column}
+use Rattle.tq_base.specs.declared.catalogue.Schema.{Schema}
+use Rattle.tq_base.specs.declared.period.TheConstants.{FOREVER}
+use Rattle.tq_base.specs.Names.{folded_name}
+use Rattle.tq_base.specs.Numbers.{int_of, instant_of, bound_of}
+use Rattle.tq_event.specs.declared.event.Event.{Event}
+use Rattle.tq_event.specs.declared.event.Event.TheVariants.{Start, End}
+use Rattle.tq_event.specs.declared.entry.Entry.{Entry}
+use Rattle.tq_event.specs.declared.mark.Mark.{Mark}
+use Rattle.tq_event.specs.declared.file.TableFile.{TableFile}
+use Rattle.tq_event.specs.declared.file.Loaded.{Loaded}
+use Rattle.tq_event.specs.declared.fault.LoadFaultKind.{LoadFaultKind}
+use Rattle.tq_event.specs.declared.fault.LoadFaultKind.TheVariants.{BadHeader, DuplicateName, FieldCount, BadInt, TextTooLong, BadPeriod, NotUtf8, TooManyTables, TooManyColumns, TooManyEvents, OutOfMemory}
+use Rattle.tq_event.specs.declared.fault.LoadFault.{LoadFault}
+
+-- ---- records
+
+-- every record of a file: those that the `csv` crate reads with no header handling, flexible and
+-- untrimmed; a byte order mark in front is left out
+abbrev pub csv_records : List ℕ → List (List (List ℕ))
+csv_records bytes = records default_config (strip_bom bytes)
+
+-- whether a text begins with a byte order mark
+abbrev pub begins_with_mark : List ℕ → Bool
+begins_with_mark [] = false
+begins_with_mark (a ∷ []) = false
+begins_with_mark (a ∷ b ∷ []) = false
+begins_with_mark (a ∷ b ∷ c ∷ rest) = is_bom a b c
+
+abbrev pub is_marked_twice : List ℕ → Bool
+is_marked_twice bytes = begins_with_mark bytes && begins_with_mark (strip_bom bytes)
+
+-- what follows a check: nothing after a fault
+abbrev pub and_then : {A B E : Type 0} → Result A E → (A → Result B E) → Result B E
+and_then (Err fault) next = Err fault
+and_then (Ok value) next = next value
+
+-- ---- the header
+
+-- `int` or `text`, in any ASCII case
+abbrev pub kind_of : List ℕ → Option Kind
+kind_of word =
+    if str_eq_ignore_ascii_case (codes "int") word then Some kind.Int
+    else (if str_eq_ignore_ascii_case (codes "text") word then Some kind.Text else None)
+
+abbrev pub make_column : Option (List ℕ) → Option Kind → Option Column
+make_column (Some name) (Some k) = Some (record { name = name; kind = k })
+make_column (Some name) None = None
+make_column None k = None
+
+-- `NAME:int` or `NAME:text`
+abbrev pub column_of : List ℕ → Option Column
+column_of field = make_column (folded_name (before_first (λ b. b == 58) field)) (kind_of (after_first (λ b. b == 58) field))
+
+abbrev pub is_text : Kind → Bool
+is_text kind.Int = false
+is_text kind.Text = true
+
+-- whether a column of the name stands among these
+abbrev pub has_column : List Column → List ℕ → Bool
+has_column columns name = list_any (λ (c : Column). bytes_eq c.name name) columns
+
+-- what a field of the header makes of the columns before it; the first column is one of numbers
+abbrev pub next_columns : List Column → Option Column → Result (List Column) LoadFaultKind
+next_columns columns None = Err BadHeader
+next_columns columns (Some c) =
+    if (length columns == 0) && is_text c.kind then Err BadHeader
+    else (if has_column columns c.name then Err DuplicateName else Ok (columns ++ c ∷ []))
+
+-- the columns that the fields make after these, from the left
+abbrev pub columns_after : List Column → List (List ℕ) → Result (List Column) LoadFaultKind
+columns_after columns [] = Ok columns
+columns_after columns (field ∷ fields) = and_then (next_columns columns (column_of field)) (λ more. columns_after more fields)
+
+-- the last two fields are `from` and `to`, in any ASCII case
+abbrev pub is_period_header : List (List ℕ) → Bool
+is_period_header [] = false
+is_period_header (a ∷ []) = false
+is_period_header (a ∷ b ∷ []) = str_eq_ignore_ascii_case (codes "from") a && str_eq_ignore_ascii_case (codes "to") b
+is_period_header (a ∷ b ∷ c ∷ rest) = false
+
+-- what stands before the last two fields, and these two
+abbrev pub value_fields : List (List ℕ) → List (List ℕ)
+value_fields fields = take (length fields - 2) fields
+
+abbrev pub period_fields : List (List ℕ) → List (List ℕ)
+period_fields fields = drop (length fields - 2) fields
+
+-- the columns of a header
+abbrev pub header_of : List (List ℕ) → Result (List Column) LoadFaultKind
+header_of fields =
+    if nat_lt (length fields) 3 || not (is_period_header (period_fields fields)) then Err BadHeader
+    else (if nat_lt 16 (length (value_fields fields)) then Err TooManyColumns
+    else columns_after [] (value_fields fields))
+
+-- the columns of a file of these records
+abbrev pub first_header : List (List (List ℕ)) → Result (List Column) LoadFaultKind
+first_header [] = Err BadHeader
+first_header (fields ∷ rest) = header_of fields
+
+abbrev pub columns_of : List ℕ → Result (List Column) LoadFaultKind
+columns_of bytes = if is_marked_twice bytes then Err BadHeader else first_header (csv_records bytes)
+
+-- ---- the data records
+
+abbrev pub number_value : Option ℤ → Result Value LoadFaultKind
+number_value None = Err BadInt
+number_value (Some n) = Ok (Int n)
+
+-- the value that a field holds
+abbrev pub value_of : Kind → List ℕ → Result Value LoadFaultKind
+value_of kind.Int field = number_value (int_of field)
+value_of kind.Text field =
+    if not (is_utf8 field) then Err NotUtf8
+    else (if nat_lt 1000 (length field) then Err TextTooLong else Ok (Text field))
+
+-- the values that the fields hold, after these, from the left
+abbrev pub values_after : List Value → List Column → List (List ℕ) → Result (List Value) LoadFaultKind
+values_after values [] fields = Ok values
+values_after values (c ∷ columns) [] = Ok values
+values_after values (c ∷ columns) (field ∷ fields) =
+    and_then (value_of c.kind field) (λ value. values_after (values ++ value ∷ []) columns fields)
+
+-- an instant and a bound above it
+abbrev pub make_period : Option ℕ → Option ℕ → Result (ℕ × ℕ) LoadFaultKind
+make_period (Some from) (Some to) = if nat_lt from to then Ok (from, to) else Err BadPeriod
+make_period (Some from) None = Err BadPeriod
+make_period None to = Err BadPeriod
+
+abbrev pub period_of : List (List ℕ) → Result (ℕ × ℕ) LoadFaultKind
+period_of [] = Err BadPeriod
+period_of (a ∷ []) = Err BadPeriod
+period_of (a ∷ b ∷ rest) = make_period (instant_of a) (bound_of b)
+
+-- the row that a record tells: as many fields as the header has, then the values, then the period
+abbrev pub entry_of : ℕ → List Column → List (List ℕ) → Result Entry LoadFaultKind
+entry_of table columns fields =
+    if not (length fields == length columns + 2) then Err FieldCount
+    else and_then (values_after [] columns (value_fields fields)) (λ values.
+    and_then (period_of (period_fields fields)) (λ period.
+    Ok (record { table = table; values = values; from = period.0; to = period.1 })))
+
+-- a start, and an end unless that is `forever`
+abbrev pub event_count : Entry → ℕ
+event_count entry = if entry.to == FOREVER then 1 else 2
+
+-- what an entry makes of those before it, where so many events are allowed
+abbrev pub next_entries : ℕ → List Entry → Entry → Result (List Entry) LoadFaultKind
+next_entries limit entries entry =
+    if nat_lt limit (sum_by event_count entries + event_count entry) then Err TooManyEvents else Ok (entries ++ entry ∷ [])
+
+-- the fault of a record of a table
+abbrev pub at_record : {A : Type 0} → ℕ → ℕ → Result A LoadFaultKind → Result A LoadFault
+at_record table number (Err fault) = Err (record { kind = fault; table = table; number = number })
+at_record table number (Ok value) = Ok value
+
+-- the entries of the records, from the one of this number on, after these entries
+abbrev pub entries_after : ℕ → ℕ → List Column → ℕ → List Entry → List (List (List ℕ)) → Result (List Entry) LoadFault
+entries_after limit table columns number entries [] = Ok entries
+entries_after limit table columns number entries (fields ∷ records) =
+    and_then (at_record table number (and_then (entry_of table columns fields) (next_entries limit entries)))
+    (λ more. entries_after limit table columns (number + 1) more records)
+
+-- ---- tables
+
+-- the tables and the entries of some files
+pub record Contents : Type 0 where
+  pub tables : List Schema
+  pub entries : List Entry
+
+abbrev pub has_table : List Schema → List ℕ → Bool
+has_table tables name = list_any (λ (s : Schema). bytes_eq s.name name) tables
+
+-- the name of the next table, its file as such being record 0
+abbrev pub table_name : List Schema → Option (List ℕ) → Result (List ℕ) LoadFaultKind
+table_name tables None = Err BadHeader
+table_name tables (Some name) = if has_table tables name then Err DuplicateName else Ok name
+
+abbrev pub next_name : List Schema → List ℕ → Result (List ℕ) LoadFaultKind
+next_name tables name = if nat_lt (length tables) 16 then table_name tables (folded_name name) else Err TooManyTables
+
+-- what a table's bytes hold: its columns, and the entries of its records after those of the tables before it
+abbrev pub table_contents : ℕ → ℕ → List Entry → List ℕ → Result (List Column × List Entry) LoadFault
+table_contents limit table before bytes =
+    and_then (at_record table 1 (columns_of bytes)) (λ columns.
+    and_then (entries_after limit table columns 2 before (drop 1 (csv_records bytes))) (λ entries.
+    Ok (columns, entries)))
+
+-- what a file makes of those before it
+abbrev pub next_contents : ℕ → Contents → TableFile → Result Contents LoadFault
+next_contents limit before file =
+    let table = length before.tables in
+    and_then (at_record table 0 (next_name before.tables file.name)) (λ name.
+    and_then (table_contents limit table before.entries file.bytes) (λ read.
+    Ok (record { tables = before.tables ++ record { name = name; columns = read.0 } ∷ []; entries = read.1 })))
+
+abbrev pub contents_after : ℕ → Contents → List TableFile → Result Contents LoadFault
+contents_after limit before [] = Ok before
+contents_after limit before (file ∷ files) = and_then (next_contents limit before file) (λ more. contents_after limit more files)
+
+-- what files hold, or the first fault in the order of tables, records and checks
+abbrev pub contents_of : List TableFile → ℕ → Result Contents LoadFault
+contents_of files limit = contents_after limit (record { tables = []; entries = [] }) files
+
+-- what a growth that was refused is answered by
+abbrev pub out_of_memory : LoadFault
+out_of_memory = record { kind = OutOfMemory; table = 0; number = 0 }
+
+-- ---- events
+
+-- by the time, then ends before starts, then by the entries' order, which is that of tables and records
+abbrev pub mark_cmp : Mark → Mark → Ordering
+mark_cmp = then_cmp (then_cmp (on (λ m. m.at) nat_cmp) (on (λ m. m.starts) bool_cmp)) (on (λ m. m.entry) nat_cmp)
+
+abbrev pub marks_of_entry : ℕ → Entry → List Mark
+marks_of_entry number entry =
+    record { at = entry.from; starts = true; entry = number }
+    ∷ (if entry.to == FOREVER then [] else record { at = entry.to; starts = false; entry = number } ∷ [])
+
+-- a start for each entry, and an end unless it is valid forever
+abbrev pub marks_from : ℕ → List Entry → List Mark
+marks_from number [] = []
+marks_from number (entry ∷ entries) = marks_of_entry number entry ++ marks_from (number + 1) entries
+
+-- whether the mark is the start of the entry
+abbrev pub starts_entry : ℕ → Mark → Bool
+starts_entry number mark = mark.starts && (mark.entry == number)
+
+abbrev pub table_at : List Entry → ℕ → ℕ
+table_at entries number = option_map_or (λ (entry : Entry). entry.table) (slice_get entries number) 0
+
+-- whether the mark starts a row of the table
+abbrev pub starts_in : List Entry → ℕ → Mark → Bool
+starts_in entries table mark = mark.starts && (table_at entries mark.entry == table)
+
+-- the number of an entry's row: how many rows of its table start before it
+abbrev pub row_number : List Entry → List Mark → ℕ → ℕ
+row_number entries marks number =
+    count_by (starts_in entries (table_at entries number)) (take_while (λ m. not (starts_entry number m)) marks)
+
+-- the event of a mark
+abbrev pub event_at : List Entry → List Mark → Mark → Entry → Event
+event_at entries marks mark entry =
+    if mark.starts then Start entry.table entry.values mark.at
+    else End entry.table (row_number entries marks mark.entry) mark.at
+
+abbrev pub IsEventAt : List Entry → List Mark → Mark → Event → Type 0
+IsEventAt entries marks mark event = IsSomeAnd (slice_get entries mark.entry) (λ entry. event ≡ event_at entries marks mark entry)
+
+-- the events are those of the entries' starts and ends, in order
+pub record AreEventsOf (entries : List Entry) (events : List Event) : Type 0 where
+  pub marks : List Mark
+  pub all : IsPermutation (marks_from 0 entries) marks
+  pub ordered : IsSorted mark_cmp marks
+  pub as_many : length events ≡ length marks
+  pub each : AllZip (IsEventAt entries marks) marks events
+
+-- the files were loaded
+pub record IsLoaded (files : List TableFile) (limit : ℕ) (loaded : Loaded) : Type 0 where
+  pub contents : Contents
+  pub is_contents : contents_of files limit ≡ Ok contents
+  pub catalogue : loaded.catalogue.tables ≡ contents.tables
+  pub events : AreEventsOf contents.entries loaded.events

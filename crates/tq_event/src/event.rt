@@ -1,0 +1,42 @@
+// An event starts or ends a row.
+
+ghost use Rattle.std.specs.Prelude.{◌≡◌, IfOk};
+
+use std::alloc::AllocError;
+use tq_base::{Instant, Values};
+
+/// What happens to a table at an instant: a row of these values starts, or the row of this number
+/// ends. Tables are numbered from 0, and so are the rows of each table, in the order of their starts.
+#[derive(Drop, Debug)]
+pub enum Event {
+    Start {
+        table: u32,
+        values: Values,
+        at: Instant,
+    },
+    End {
+        table: u32,
+        row: u32,
+        at: Instant,
+    },
+}
+
+impl Event {
+    /// An equal event.
+    pub fn try_copy(&self) -> Result<Event, AllocError>
+        ensures { IfOk result (λ event. event ≡ self.now) }
+    {
+        match self {
+            Event::Start { table, values, at } => Ok(Event::Start {
+                table: *table,
+                values: values.try_copy()?,
+                at: *at,
+            }),
+            Event::End { table, row, at } => Ok(Event::End {
+                table: *table,
+                row: *row,
+                at: *at,
+            }),
+        }
+    }
+}

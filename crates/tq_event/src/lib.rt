@@ -1,0 +1,25 @@
+//! Histories: events that start and end rows of tables, and the history that a table file holds.
+//!
+//! `load` reads a file of CSV and gives the catalogue and the one list of events that its records
+//! make, ordered by time, or the first fault in the order of tables, records and checks. What a
+//! history means, the rows of a table as of its first n events and the values valid at an instant,
+//! stands in `specs/`.
+#![tactic(auto)]
+
+mod entries;
+mod entry;
+mod event;
+mod fault;
+mod file;
+mod header;
+pub mod laws;
+mod load;
+mod mark;
+mod order;
+mod reading;
+mod records;
+
+pub use event::Event;
+pub use fault::{LoadFault, LoadFaultKind};
+pub use file::{Loaded, TableFile};
+// pub use load::{MAX_EVENTS, load};

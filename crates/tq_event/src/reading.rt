@@ -1,0 +1,116 @@
+// What a data record of a file holds.
+
+ghost use Rattle.std.specs.Prelude.{◌≡◌, ◌≢◌, ◌+◌, ◌≤◌, [], Err, IfErr, IfOk, Ok, length};
+ghost use Rattle.csv.specs.Records.{fields_of};
+ghost use Rattle.tq_event.specs.Loading.{entry_of, make_period, period_fields, period_of, value_fields, value_of, values_after};
+
+use crate::entry::Entry;
+use crate::fault::LoadFaultKind;
+use crate::records::field_at;
+use csv::ByteRecord;
+use std::alloc::{AllocError, Global};
+use std::str;
+use tq_base::{
+    Bound, Column, Instant, Kind, MAX_TEXT, Text, Value, Values, read_bound, read_instant, read_int,
+};
+
+// The text that a field holds.
+fn read_text(alloc: Global, field: &[u8]) -> Result<Value, LoadFaultKind>
+    ensures ok { IfOk result (λ value. value_of Kind.Text field.now ≡ Ok value) }
+    ensures fault { IfErr result (λ fault. fault ≢ LoadFaultKind.OutOfMemory → value_of Kind.Text field.now ≡ Err fault) }
+{
+    let Ok(text) = str::from_utf8(field) else {
+        return Err(LoadFaultKind::NotUtf8);
+    };
+    if field.len() > MAX_TEXT {
+        return Err(LoadFaultKind::TextTooLong);
+    }
+    let text = String::from_str(alloc, text)?;
+    Ok(Value::Text(Text::of(text)))
+}
+
+// The value that a field holds.
+fn read_value(alloc: Global, kind: Kind, field: &[u8]) -> Result<Value, LoadFaultKind>
+    ensures ok { IfOk result (λ value. value_of kind field.now ≡ Ok value) }
+    ensures fault { IfErr result (λ fault. fault ≢ LoadFaultKind.OutOfMemory → value_of kind field.now ≡ Err fault) }
+{
+    match kind {
+        Kind::Int => match read_int(field) {
+            Some(number) => Ok(Value::Int(i128::from(number))),
+            None => Err(LoadFaultKind::BadInt),
+        },
+        Kind::Text => read_text(alloc, field),
+    }
+}
+
+// The values that the record holds, one for each column.
+fn read_values(
+    alloc: Global,
+    columns: &[Column],
+    record: &ByteRecord,
+) -> Result<Values, LoadFaultKind>
+    requires { length (fields_of record.now) ≡ length columns.now + 2 }
+    ensures ok { IfOk result (λ values. values_after [] columns.now (value_fields (fields_of record.now)) ≡ Ok values) }
+    ensures fault { IfErr result (λ fault. fault ≢ LoadFaultKind.OutOfMemory
+        → values_after [] columns.now (value_fields (fields_of record.now)) ≡ Err fault) }
+{
+    let mut values = Vec::with_capacity(alloc, columns.len())?;
+    'columns: for (place, column) in columns.iter().enumerate() {
+        let value = read_value(alloc, column.kind, field_at(record, place))?;
+        values.push(value).map_err(AllocError::from)?;
+    }
+    Ok(Values::of(values))
+}
+
+// The instant and the bound above it.
+fn make_period(from: Option<Instant>, to: Option<Bound>) -> Result<(Instant, Bound), LoadFaultKind>
+    ensures { result ≡ make_period from to }
+{
+    match (from, to) {
+        (Some(from), Some(to)) => {
+            if from.number() < to.number() {
+                Ok((from, to))
+            } else {
+                Err(LoadFaultKind::BadPeriod)
+            }
+        }
+        (Some(_), None) => Err(LoadFaultKind::BadPeriod),
+        (None, _) => Err(LoadFaultKind::BadPeriod),
+    }
+}
+
+// The period that the last two fields tell.
+fn read_period(record: &ByteRecord) -> Result<(Instant, Bound), LoadFaultKind>
+    requires { 2 ≤ length (fields_of record.now) }
+    ensures { result ≡ period_of (period_fields (fields_of record.now)) }
+{
+    let width = record.len();
+    let from = field_at(record, width - 2);
+    let to = field_at(record, width - 1);
+    make_period(read_instant(from), read_bound(to))
+}
+
+/// The row that a record tells, of the table of this number and these columns.
+pub fn read_entry(
+    alloc: Global,
+    table: u32,
+    columns: &[Column],
+    record: &ByteRecord,
+) -> Result<Entry, LoadFaultKind>
+    ensures ok { IfOk result (λ entry. entry_of table columns.now (fields_of record.now) ≡ Ok entry) }
+    ensures fault { IfErr result (λ fault. fault ≢ LoadFaultKind.OutOfMemory
+        → entry_of table columns.now (fields_of record.now) ≡ Err fault) }
+{
+    let width = record.len();
+    if width < 2 || width - 2 != columns.len() {
+        return Err(LoadFaultKind::FieldCount);
+    }
+    let values = read_values(alloc, columns, record)?;
+    let (from, to) = read_period(record)?;
+    Ok(Entry {
+        table,
+        values,
+        from,
+        to,
+    })
+}
