@@ -1,3 +1,6 @@
 pub mod FieldLemmas
 pub mod FieldUtf8
+pub mod LoadLemmas
+pub mod MarkLemmas
+pub mod PlacingLemmas
 pub mod RecordLemmas

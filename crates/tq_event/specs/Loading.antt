@@ -260,13 +260,17 @@ event_at entries marks mark entry =
 abbrev pub IsEventAt : List Entry → List Mark → Mark → Event → Type 0
 IsEventAt entries marks mark event = IsSomeAnd (slice_get entries mark.entry) (λ entry. event ≡ event_at entries marks mark entry)
 
+-- the events are those of the marks, one by one
+pub record HaveEvents (entries : List Entry) (marks : List Mark) (events : List Event) : Type 0 where
+  pub as_many : length events ≡ length marks
+  pub each : AllZip (IsEventAt entries marks) marks events
+
 -- the events are those of the entries' starts and ends, in order
 pub record AreEventsOf (entries : List Entry) (events : List Event) : Type 0 where
   pub marks : List Mark
   pub all : IsPermutation (marks_from 0 entries) marks
   pub ordered : IsSorted mark_cmp marks
-  pub as_many : length events ≡ length marks
-  pub each : AllZip (IsEventAt entries marks) marks events
+  pub events_are : HaveEvents entries marks events
 
 -- the files were loaded
 pub record IsLoaded (files : List TableFile) (limit : ℕ) (loaded : Loaded) : Type 0 where

@@ -1,6 +1,6 @@
 // The entries so far, and how many events they make.
 
-ghost use Rattle.std.specs.Prelude.{◌≡◌, ◌≢◌, ◌≤◌, [], Err, IfErr, OnOk, Ok, sum_by};
+ghost use Rattle.std.specs.Prelude.{◌≡◌, ◌≢◌, ◌<◌, ◌≤◌, [], Err, IfErr, OnOk, Ok, sum_by};
 ghost use Rattle.tq_event.specs.Loading.{event_count};
 
 use crate::entry::Entry;
@@ -55,6 +55,7 @@ impl Entries {
         requires within { sum_by event_count self.old ≤ limit }
         ensures ok { OnOk result (next_entries limit self.old entry ≡ Ok self.new) }
         ensures within { OnOk result (sum_by event_count self.new ≤ limit) }
+        ensures grown { OnOk result (sum_by event_count self.old < sum_by event_count self.new) }
         ensures fault { IfErr result (λ fault. fault ≢ LoadFaultKind.OutOfMemory → next_entries limit self.old entry ≡ Err fault) }
     {
         let events = self.events + event_count(&entry);

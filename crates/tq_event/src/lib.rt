@@ -22,4 +22,4 @@ mod records;
 pub use event::Event;
 pub use fault::{LoadFault, LoadFaultKind};
 pub use file::{Loaded, TableFile};
-// pub use load::{MAX_EVENTS, load};
+pub use load::MAX_EVENTS;

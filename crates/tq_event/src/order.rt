@@ -1,1 +1,100 @@
-// order
+// The events that entries make, in order.
+
+ghost use Rattle.std.specs.Prelude.{◌≡◌, ◌+◌, ◌<◌, ◌≤◌, All, IfOk, IsPermutation, IsSorted, length, vec_len};
+ghost use Rattle.tq_event.specs.Loading.{AreEventsOf, HaveEvents, mark_cmp, marks_from};
+
+use crate::entry::Entry;
+use crate::event::Event;
+use crate::mark::Mark;
+use std::alloc::{AllocError, Global};
+use std::mem;
+use tq_base::{Instant, Values};
+
+// The start of each entry, and its end unless that is `forever`.
+fn marks_of(alloc: Global, entries: &[Entry]) -> Result<Vec<Mark>, AllocError>
+    requires { length entries.now ≤ 16777216 }
+    ensures { IfOk result (λ marks. marks.items ≡ marks_from 0 entries.now) }
+{
+    let mut marks = Vec::new(alloc);
+    'entries: for (place, item) in entries.iter().enumerate() {
+        let entry = place as u32;
+        let at = item.from;
+        marks.push(Mark {
+            at,
+            starts: true,
+            entry,
+        })?;
+        if let Some(at) = Instant::new(item.to.number()) {
+            marks.push(Mark {
+                at,
+                starts: false,
+                entry,
+            })?;
+        }
+    }
+    Ok(marks)
+}
+
+// The event that starts an entry: it takes the values, and the row gets the next number of its table.
+fn start_entry(
+    alloc: Global,
+    entry: &mut Entry,
+    row: &mut u32,
+    next_row: &mut u32,
+    at: Instant,
+) -> Event
+    requires { next_row.old < 4294967295 }
+    ensures event { result ≡ Event.Start entry.old.table entry.old.values at }
+    ensures table { entry.new.table ≡ entry.old.table }
+    ensures row { row.new ≡ next_row.old }
+    ensures next { next_row.new ≡ next_row.old + 1 }
+{
+    *row = *next_row;
+    *next_row += 1;
+    let values = mem::replace(&mut entry.values, Values::of(Vec::new(alloc)));
+    Event::Start {
+        table: entry.table,
+        values,
+        at,
+    }
+}
+
+// The events of the marks, which are those of the entries in order.
+fn place_events(
+    alloc: Global,
+    tables: usize,
+    mut entries: Vec<Entry>,
+    marks: &[Mark],
+) -> Result<Vec<Event>, AllocError>
+    requires all { IsPermutation (marks_from 0 entries.items) marks.now }
+    requires ordered { IsSorted mark_cmp marks.now }
+    requires periods { All (λ e. e.from < e.to) entries.items }
+    requires tables { All (λ e. e.table < tables) entries.items }
+    requires few { length marks.now < 4294967296 }
+    ensures { IfOk result (λ events. HaveEvents entries.items marks.now events.items) }
+{
+    let mut next_rows = vec![in alloc; 0u32; tables]?;
+    let mut rows = vec![in alloc; 0u32; entries.len()]?;
+    let mut events = Vec::with_capacity(alloc, marks.len())?;
+    'marks: for mark in marks {
+        let number = mark.entry as usize;
+        let table = entries[number].table;
+        let event = if mark.starts {
+            start_entry(
+                alloc,
+                &mut entries[number],
+                &mut rows[number],
+                &mut next_rows[table as usize],
+                mark.at,
+            )
+        } else {
+            Event::End {
+                table,
+                row: rows[number],
+                at: mark.at,
+            }
+        };
+        events.push(event)?;
+    }
+    Ok(events)
+}

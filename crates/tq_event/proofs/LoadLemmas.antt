@@ -1,0 +1,48 @@
+-- One step of loading a table.
+use Rattle.std.proofs.Common.{◌≡◌, ◌≢◌, ℕ, ◌+◌, Bool, true, false, List, [], ◌∷◌, ◌++◌, Result, Ok, Err, drop, refl, sym, ap, ◌∙◌}
+use Rattle.tq_base.specs.declared.catalogue.Column.{Column}
+use Rattle.tq_event.specs.declared.entry.Entry.{Entry}
+use Rattle.tq_event.specs.declared.fault.LoadFault.{LoadFault}
+use Rattle.tq_event.specs.declared.fault.LoadFaultKind.{LoadFaultKind}
+use Rattle.tq_event.specs.declared.fault.LoadFaultKind.TheVariants.{BadHeader, OutOfMemory}
+use Rattle.tq_event.specs.Loading.{and_then, at_record, columns_of, csv_records, entries_after, entry_of, header_of, is_marked_twice, next_entries, out_of_memory, table_contents}
+
+abbrev pub named : ℕ → ℕ → LoadFaultKind → LoadFault
+named table number kind = record { kind = kind; table = table; number = number }
+
+-- a fault that is not out of memory is named by its kind, which is not that either
+pub known_kind : (kind : LoadFaultKind) (fault : LoadFault) → (kind ≡ OutOfMemory → fault ≡ out_of_memory) → fault.kind ≢ OutOfMemory → kind ≢ OutOfMemory
+known_kind kind fault told known same = known (ap (λ (f : LoadFault). f.kind) (told same))
+
+module _ (limit table : ℕ) (before : List Entry) (bytes : List ℕ) where
+  pub header_fault : (kind : LoadFaultKind) (fault : LoadFault) → columns_of bytes ≡ Err kind → fault ≡ named table 1 kind → table_contents limit table before bytes ≡ Err fault
+  header_fault kind fault e named_it = rw (e, named_it) refl
+
+  pub columns_first : (fields : List (List ℕ)) (more : List (List (List ℕ))) → is_marked_twice bytes ≡ false → csv_records bytes ≡ fields ∷ more → columns_of bytes ≡ header_of fields
+  columns_first fields more marked split = rw (marked, split) refl
+
+  pub columns_none : is_marked_twice bytes ≡ false → csv_records bytes ≡ [] → columns_of bytes ≡ Err BadHeader
+  columns_none marked split = rw (marked, split) refl
+
+  pub columns_marked : is_marked_twice bytes ≡ true → columns_of bytes ≡ Err BadHeader
+  columns_marked marked = rw marked refl
+
+  pub read_ok : (columns : List Column) (entries : List Entry) → columns_of bytes ≡ Ok columns
+      → entries_after limit table columns 2 before (drop 1 (csv_records bytes)) ≡ Ok entries → table_contents limit table before bytes ≡ Ok (columns, entries)
+  read_ok columns entries e f = rw (e, f) refl
+
+  pub read_fault : (columns : List Column) (fault : LoadFault) → columns_of bytes ≡ Ok columns
+      → entries_after limit table columns 2 before (drop 1 (csv_records bytes)) ≡ Err fault → table_contents limit table before bytes ≡ Err fault
+  read_fault columns fault e f = rw (e, f) refl
+
+module _ (limit table : ℕ) (columns : List Column) (number : ℕ) (entries : List Entry) (fields : List (List ℕ)) (more left : List (List (List ℕ))) (split : left ≡ fields ∷ more) where
+  pub entry_fault : (kind : LoadFaultKind) (fault : LoadFault) → entry_of table columns fields ≡ Err kind → fault ≡ named table number kind → entries_after limit table columns number entries left ≡ Err fault
+  entry_fault kind fault e named_it = rw (split, e, named_it) refl
+
+  pub add_fault : (entry : Entry) (kind : LoadFaultKind) (fault : LoadFault) → entry_of table columns fields ≡ Ok entry → next_entries limit entries entry ≡ Err kind
+      → fault ≡ named table number kind → entries_after limit table columns number entries left ≡ Err fault
+  add_fault entry kind fault e f named_it = rw (split, e) (rw f (rw named_it refl))
+
+  pub add_ok : (entry : Entry) (new : List Entry) → entry_of table columns fields ≡ Ok entry → next_entries limit entries entry ≡ Ok new
+      → entries_after limit table columns number entries left ≡ entries_after limit table columns (number + 1) new more
+  add_ok entry new e f = rw (split, e) (rw f refl)
