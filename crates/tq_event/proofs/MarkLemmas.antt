@@ -1,5 +1,5 @@
 -- What the marks of entries are, in any order, and in the order of time.
-use Rattle.std.proofs.Common.{◌≡◌, ◌≢◌, ℕ, zero, suc, ◌+◌, ◌-◌, ◌<◌, ◌≤◌, eqb, Bool, true, false, cond, ◌&&◌, ◌||◌, ◌==◌, not, List, [], ◌∷◌, ◌++◌, Option, Some, None, length, get_or, take, drop, slice_get, nat_le, nat_lt, refl, sym, ap, subst, ◌∙◌, arith, inl, inr, ◌⊎◌, count_by, if◌then◌else◌}
+use Rattle.std.proofs.Common.{◌≡◌, ◌≢◌, ℕ, zero, suc, ◌+◌, ◌-◌, ◌*◌, ◌<◌, ◌≤◌, eqb, Bool, true, false, cond, ◌&&◌, ◌||◌, ◌==◌, not, List, [], ◌∷◌, ◌++◌, Option, Some, None, length, get_or, take, drop, slice_get, nat_le, nat_lt, refl, sym, ap, subst, ◌∙◌, arith, inl, inr, ◌⊎◌, count_by, if◌then◌else◌, length-append}
 use Rattle.std.specs.Prelude.{All, Any, IsSorted, IsPermutation, take_while}
 use Rattle.std.specs.List.{list_any, position_or_len}
 use Rattle.std.specs.Ordering.{is_lt, nat_cmp, bool_cmp, ordering_then}
@@ -78,6 +78,7 @@ no_start n j [] below = refl
 no_start n j (e ∷ entries) below =
     let other : tally (n == j) ≡ 0 = grind (arith, nat_tests) in
     omega (arith, sum_by-append (counted j) (marks_of_entry n e) (marks_from (n + 1) entries), starts_own n j e (e.to == FOREVER), other, no_start (n + 1) j entries (omega arith))
+
 pub one_start : (n j : ℕ) (entries : List Entry) → n ≤ j → j < n + length entries → count_by (starts_entry j) (marks_from n entries) ≡ 1
 one_start n j [] low high = absurd (omega arith)
 one_start n j (e ∷ entries) low high = elim (cases_lt n j) [
@@ -182,3 +183,13 @@ module _ (entries : List Entry) (marks : List Mark) (all : IsPermutation (marks_
       contradicts a b less far =
           let yes : is_lt (mark_cmp a b) ≡ true = ap (λ r. is_lt (ordering_then (ordering_then r (bool_cmp a.starts b.starts)) (nat_cmp a.entry b.entry))) (sym (nat_cmp_is a.at b.at Less less)) in
           cc (yes, far)
+
+-- an entry has one mark or two
+pub few_marks : (n : ℕ) (entries : List Entry) → length (marks_from n entries) ≤ 2 * length entries
+few_marks n [] = omega arith
+few_marks n (e ∷ entries) =
+    omega (arith, length-append (marks_of_entry n e) (marks_from (n + 1) entries), one_or_two (e.to == FOREVER), few_marks (n + 1) entries)
+  where
+    one_or_two : (b : Bool) → let marks : List Mark = record { at = e.from; starts = true; entry = n } ∷ (if b then [] else record { at = e.to; starts = false; entry = n } ∷ []) in length marks ≤ 2
+    one_or_two true = omega arith
+    one_or_two false = omega arith

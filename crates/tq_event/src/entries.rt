@@ -19,7 +19,7 @@ pub struct Entries {
 
 impl Model for Entries {
     ghost use Rattle.std.specs.Prelude.{◌≡◌, List, sum_by};
-ghost use Rattle.tq_event.specs.Loading.{event_count};
+    ghost use Rattle.tq_event.specs.Loading.{event_count};
     ghost use Rattle.tq_event.specs.declared.entry.Entry.{Entry as OneEntry};
     ghost use Rattle.tq_event.specs.Loading.{event_count};
 

@@ -98,3 +98,19 @@ fn place_events(
     }
     Ok(events)
 }
+
+/// The events that the entries make, in order: by the time, ends before starts, then by the entries.
+pub fn order_events(
+    alloc: Global,
+    tables: usize,
+    entries: Vec<Entry>,
+) -> Result<Vec<Event>, AllocError>
+    requires few { vec_len entries ≤ 16777216 }
+    requires periods { All (λ e. e.from < e.to) entries.items }
+    requires tables { All (λ e. e.table < tables) entries.items }
+    ensures { IfOk result (λ events. AreEventsOf entries.items events.items) }
+{
+    let mut marks = marks_of(alloc, &entries)?;
+    marks.sort_unstable();
+    place_events(alloc, tables, entries, &marks)
+}

@@ -31,14 +31,14 @@ pub index_mut-requires-then-mark-2 : goal.index_mut-requires-then-mark-2
 index_mut-requires-then-mark-2 c =
     let e = c.index.result.now in
     let below = table_below_by c.args.entries.items c.args.marks.now c.args.tables c.requires.all c.marks.mark-index c.mark-item.result c.mark-item.result e c.marks.entries.items c.marks.rows.items c.marks.next_rows.items c.marks.events.items
-        c.marks-test.true c.mark-item.is c.requires.tables c.marks.invariant in
+    c.marks-test.true c.mark-item.is c.requires.tables c.marks.invariant in
     omega (arith, below, ap (λ (x : Entry). x.table) c.index.ensures, c.marks.invariant.next_len, c.marks.next_rows.ok.0)
 
 pub start_entry-event-requires : goal.start_entry-event-requires
 start_entry-event-requires c =
     let e = c.index.result.now in
     let small = table_below_by c.args.entries.items c.args.marks.now c.args.tables c.requires.all c.marks.mark-index c.mark-item.result c.mark-item.result e c.marks.entries.items c.marks.rows.items c.marks.next_rows.items c.marks.events.items
-        c.marks-test.true c.mark-item.is c.requires.tables c.marks.invariant in
+    c.marks-test.true c.mark-item.is c.requires.tables c.marks.invariant in
     let table : e.table < c.args.tables = omega (arith, small, ap (λ (x : Entry). x.table) c.index.ensures) in
     let count = c.marks.invariant.next_are e.table table in
     let few = few_started c.args.entries.items c.args.marks.now c.args.tables c.requires.all c.marks.mark-index e.table (omega (arith, c.marks-test.true)) in

@@ -7,6 +7,7 @@ use crate::entries::Entries;
 use crate::fault::{LoadFault, LoadFaultKind};
 use crate::file::{Loaded, TableFile};
 use crate::header::read_header;
+use crate::order::order_events;
 use crate::reading::read_entry;
 use crate::records::{is_marked_twice, next_record, record_reader};
 use csv::ByteRecord;
@@ -133,4 +134,27 @@ fn load_file(
         .push(Schema { name, columns })
         .map_err(AllocError::from)?;
     Ok(())
+}
+
+/// Loads files into a catalogue and one list of events: for each data record a start and, unless `to`
+/// is `forever`, an end, ordered by time, ends before starts, table, record. The first fault is
+/// answered, in the order of tables, records and checks; `OutOfMemory` where a growth was refused.
+pub fn load(alloc: Global, files: &[TableFile], limit: u32) -> Result<Loaded, LoadFault>
+    requires { limit ≤ MAX_EVENTS }
+    ensures loaded { IfOk result (IsLoaded files.now limit) }
+    ensures fault { IfErr result (λ fault. fault.kind ≢ LoadFaultKind.OutOfMemory → contents_of files.now limit ≡ Err fault) }
+    ensures out_of_memory { IfErr result (λ fault. fault.kind ≡ LoadFaultKind.OutOfMemory → fault ≡ out_of_memory) }
+{
+    let mut tables = Vec::new(alloc);
+    let mut entries = Entries::new(alloc);
+    'files: for file in files {
+        load_file(alloc, limit, &mut tables, &mut entries, file)?;
+    }
+    let events = order_events(alloc, tables.len(), entries.into_vec())?;
+    Ok(Loaded {
+        catalogue: Catalogue {
+            tables: Items::of(tables),
+        },
+        events: Items::of(events),
+    })
 }

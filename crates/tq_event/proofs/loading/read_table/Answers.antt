@@ -4,7 +4,7 @@ use Rattle.tq_event.specs.declared.fault.LoadFaultKind.{LoadFaultKind}
 use Rattle.tq_event.specs.declared.fault.LoadFaultKind.TheVariants.{BadHeader, OutOfMemory}
 use Rattle.tq_event.specs.Loading.{csv_records, entries_after}
 use Rattle.tq_event.proofs.LoadLemmas.{known_kind, header_fault, columns_first, columns_none, read_ok, read_fault, entry_fault, add_fault, add_ok}
-use Rattle.tq_event.proofs.load.read_table.Goals as goal
+use Rattle.tq_event.proofs.loading.read_table.Goals as goal
 
 bad_header : (BadHeader ≡ OutOfMemory) → ⊥
 bad_header e = cc

@@ -2,7 +2,7 @@
 use Rattle.std.proofs.Common.{◌≡◌, ◌≤◌, ◌+◌, ℕ, List, Ok, drop, sum_by}
 use Rattle.tq_event.specs.Loading.{columns_of, csv_records, entries_after, event_count}
 use Rattle.tq_event.specs.Reading.{HasLeft}
-use Rattle.tq_event.proofs.load.read_table.Given as goal
+use Rattle.tq_event.proofs.loading.read_table.Given as goal
 
 abbrev pub invariant-records : goal.invariant-records
 invariant-records l = record {
