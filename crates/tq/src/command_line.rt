@@ -92,6 +92,7 @@ fn tq_command<'a>(alloc: Global) -> Result<Command<'a>, AllocError> {
         .about(ABOUT)
         .after_help(FORMS)
         .no_binary_name(true)
+        .bin_name("tq")?
         .subcommand_required(true)
         .subcommand(ask_command(alloc)?)
 }
