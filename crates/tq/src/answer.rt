@@ -1,4 +1,4 @@
-// A stand-in for the answer: it writes the bytes of the tables. The real one takes its place.
+// A stand-in for the answer, with the faults of the real one: it writes the bytes of the tables.
 
 use std::alloc::Global;
 use std::io::Write;
@@ -11,17 +11,50 @@ pub struct TableFile {
     pub bytes: Vec<u8>,
 }
 
+/// What is wrong with a table.
+#[derive(Clone, Copy, Debug)]
+pub enum LoadFaultKind {
+    BadHeader = 1,
+}
+
+/// The first fault of the tables: of which table, and at which record.
+#[derive(Clone, Copy, Debug)]
+pub struct LoadFault {
+    pub kind: LoadFaultKind,
+    pub table: u32,
+    pub number: u32,
+}
+
+/// What is wrong with the text of a statement.
+#[derive(Clone, Copy, Debug)]
+pub enum SqlFaultKind {
+    UnexpectedToken = 2,
+}
+
+/// A fault of a statement's text, and its byte offset.
+#[derive(Clone, Copy, Debug)]
+pub struct SqlFault {
+    pub kind: SqlFaultKind,
+    pub at: u32,
+}
+
+/// What is wrong with a statement over these tables.
+#[derive(Clone, Copy, Debug)]
+pub enum PlanFault {
+    UnknownTable = 1,
+}
+
 /// Why there is no answer.
-#[derive(Clone, Copy, Debug, PartialEq, Eq)]
+#[derive(Clone, Copy, Debug)]
 pub enum AnswerFault {
-    Load { table: u32, number: u32 },
-    Sql { at: u32 },
-    Plan,
+    Load(LoadFault),
+    Sql(SqlFault),
+    Plan(PlanFault),
     Write,
     OutOfMemory,
 }
 
-/// Writes the answer of a statement over the tables.
+/// Writes the bytes of the tables, where the statement has some of its own.
 pub fn answer_bytes<R, W: Write>(
     _rt: &R,
     _alloc: Global,
@@ -31,9 +64,22 @@ pub fn answer_bytes<R, W: Write>(
     sink: &mut Sink<W>,
 ) -> Result<(), AnswerFault> {
     if statement.is_empty() {
-        return Err(AnswerFault::Sql { at: 0 });
+        return Err(AnswerFault::Sql(SqlFault {
+            kind: SqlFaultKind::UnexpectedToken,
+            at: 0,
+        }));
     }
     for table in tables {
+        if table.bytes.is_empty() {
+            return Err(AnswerFault::Load(LoadFault {
+                kind: LoadFaultKind::BadHeader,
+                table: 0,
+                number: 1,
+            }));
+        }
+        if table.name.is_empty() {
+            return Err(AnswerFault::Plan(PlanFault::UnknownTable));
+        }
         match sink.send(&table.bytes) {
             Ok(()) => {}
             Err(WriteFault::Write) => return Err(AnswerFault::Write),

@@ -1,6 +1,6 @@
 // The command line: what the program was asked, with names, paths and statements as their bytes.
 
-ghost use Rattle.std.specs.Prelude.{◌≤◌};
+ghost use Rattle.std.specs.Prelude.{◌≡◌, ◌≤◌, [], ◌∷◌, ◌++◌, IfOk, IfErr, Contains};
 
 use crate::words::bytes_of;
 use clap::error::ErrorKind;
@@ -36,6 +36,10 @@ pub enum CommandLineFault {
 }
 
 impl From<AllocError> for CommandLineFault {
+    ghost use Rattle.tq.specs.declared.command_line.CommandLineFault.TheVariants.{OutOfMemory};
+
+    ghost from_gives = { λ _ fault. fault ≡ OutOfMemory };
+
     fn from(_error: AllocError) -> CommandLineFault {
         CommandLineFault::OutOfMemory
     }
@@ -121,7 +125,7 @@ fn ask_command<'a>(alloc: Global) -> Result<Command<'a>, AllocError> {
     command.arg(table)?.arg(workers)?.arg(statement)
 }
 
-// What `tq ask` was asked. Each table is split at its first `=`.
+// What `tq ask` was asked.
 fn read_ask(alloc: Global, ask: &ArgMatches<'_>) -> Result<AskRequest, CommandLineFault> {
     let options = ask.get_strs("table").unwrap_or(&[]);
     if options.len() > TABLE_LIMIT {
@@ -129,13 +133,9 @@ fn read_ask(alloc: Global, ask: &ArgMatches<'_>) -> Result<AskRequest, CommandLi
     }
     let mut tables = Vec::new(alloc);
     for option in options {
-        let Some((name, path)) = option.split_once('=') else {
-            return Err(CommandLineFault::BadCommandLine);
-        };
-        let name = bytes_of(alloc, name)?;
-        let path = bytes_of(alloc, path)?;
+        let word = bytes_of(alloc, option)?;
         tables
-            .push(TableOption { name, path })
+            .push(split_table(alloc, &word)?)
             .map_err(AllocError::from)?;
     }
     let workers = ask.get_one::<u32>("workers").unwrap_or(0);
@@ -148,6 +148,20 @@ fn read_ask(alloc: Global, ask: &ArgMatches<'_>) -> Result<AskRequest, CommandLi
         workers,
         statement,
     })
+}
+
+// A table's name and path: what stands before and after the first `=`. Without one the word is refused.
+fn split_table(alloc: Global, word: &[u8]) -> Result<TableOption, CommandLineFault>
+    ensures split { IfOk result (λ table. word.now ≡ table.name.items ++ 61 ∷ table.path.items) }
+    ensures first { IfOk result (λ table. ¬ (Contains table.name.items 61)) }
+    ensures refused { IfErr result (λ fault. fault ≡ CommandLineFault.BadCommandLine → ¬ (Contains word.now 61)) }
+{
+    let Some(place) = word.iter().position(|byte| *byte == b'=') else {
+        return Err(CommandLineFault::BadCommandLine);
+    };
+    let name = word[..place].to_vec(alloc)?;
+    let path = word[place + 1..].to_vec(alloc)?;
+    Ok(TableOption { name, path })
 }
 
 #[cfg(test)]

@@ -26,17 +26,17 @@ use words::read_words;
 fn read_table<R: Files + AllocGlobal>(rt: &R, option: TableOption) -> Result<TableFile, Refusal> {
     let TableOption { name, path } = option;
     let Ok(text) = str::from_utf8(&path) else {
-        return Err(Refusal::CannotRead { path });
+        return Err(Refusal::CannotRead(path));
     };
     let file = match fs::open(rt, text) {
         Ok(file) => file,
         Err(error) if error.kind() == ErrorKind::OutOfMemory => return Err(Refusal::OutOfMemory),
-        Err(_) => return Err(Refusal::CannotRead { path }),
+        Err(_) => return Err(Refusal::CannotRead(path)),
     };
     match read_file(rt.alloc(), &mut Source::over(file)) {
         Ok(bytes) => Ok(TableFile { name, bytes }),
         Err(FileFault::OutOfMemory) => Err(Refusal::OutOfMemory),
-        Err(FileFault::Read | FileFault::TooLarge) => Err(Refusal::CannotRead { path }),
+        Err(FileFault::Read | FileFault::TooLarge) => Err(Refusal::CannotRead(path)),
     }
 }
 

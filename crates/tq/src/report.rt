@@ -1,17 +1,23 @@
 // What the program prints where it gives no answer, and its status then.
 
-use crate::answer::AnswerFault;
+ghost use Rattle.std.specs.Prelude.{◌≡◌};
+ghost use Rattle.std.specs.Process.{exit_status};
+ghost use Rattle.tq.specs.Report.{status_of};
+
+use crate::answer::{AnswerFault, LoadFault, PlanFault, SqlFault};
 use crate::command_line::CommandLineFault;
 use std::alloc::AllocError;
 use std::io::{self, Write};
 use std::process::ExitCode;
 
-/// Why the program gave no answer.
+/// Why the program gave no answer: one of the lines that it prints.
 #[derive(Drop)]
 pub enum Refusal {
     BadCommandLine,
-    CannotRead { path: Vec<u8> },
-    Answer(AnswerFault),
+    CannotRead(Vec<u8>),
+    Load(LoadFault),
+    Statement(SqlFault),
+    Plan(PlanFault),
     WriteFailed,
     OutOfMemory,
 }
@@ -34,54 +40,49 @@ impl From<CommandLineFault> for Refusal {
 impl From<AnswerFault> for Refusal {
     fn from(fault: AnswerFault) -> Refusal {
         match fault {
+            AnswerFault::Load(fault) => Refusal::Load(fault),
+            AnswerFault::Sql(fault) => Refusal::Statement(fault),
+            AnswerFault::Plan(fault) => Refusal::Plan(fault),
             AnswerFault::Write => Refusal::WriteFailed,
             AnswerFault::OutOfMemory => Refusal::OutOfMemory,
-            AnswerFault::Load { .. } | AnswerFault::Sql { .. } | AnswerFault::Plan => {
-                Refusal::Answer(fault)
-            }
         }
     }
 }
 
 impl Refusal {
-    /// The status that the program ends with: 2 for a command line that is refused, else 1.
-    pub fn status(&self) -> ExitCode {
+    /// The status that the program ends with.
+    pub fn status(&self) -> ExitCode
+        ensures { exit_status result ≡ status_of self.now }
+    {
         match self {
             Refusal::BadCommandLine => ExitCode::from(2),
             _ => ExitCode::FAILURE,
         }
     }
 
-    /// Prints the one line of the refusal. A path is printed as its bytes.
+    /// Prints the one line of the refusal. A fault is printed by its name, a path as its bytes.
     pub fn print<W: Write>(&self, errors: &mut W) -> io::Result<()> {
         match self {
             Refusal::BadCommandLine => errors.write_all(b"tq: BadCommandLine\n"),
-            Refusal::CannotRead { path } => {
+            Refusal::CannotRead(path) => {
                 errors.write_all(b"tq: cannot read ")?;
                 errors.write_all(path)?;
                 errors.write_all(b"\n")
             }
-            Refusal::Answer(fault) => print_fault(*fault, errors),
+            Refusal::Load(
+                LoadFault {
+                    kind,
+                    table,
+                    number,
+                },
+            ) => writeln!(errors, "tq: load {kind:?} table {table} record {number}"),
+            Refusal::Statement(SqlFault { kind, at }) => {
+                writeln!(errors, "tq: statement {kind:?} at {at}")
+            }
+            Refusal::Plan(fault) => writeln!(errors, "tq: plan {fault:?}"),
             Refusal::WriteFailed => errors.write_all(b"tq: write failed\n"),
             Refusal::OutOfMemory => errors.write_all(b"tq: OutOfMemory\n"),
         }
-    }
-}
-
-// Prints the line of a fault of the tables or the statement.
-fn print_fault<W: Write>(fault: AnswerFault, errors: &mut W) -> io::Result<()> {
-    match fault {
-        AnswerFault::Load { table, number } => {
-            writeln!(
-                errors,
-                "tq: load {} table {table} record {number}",
-                "Stand-in"
-            )
-        }
-        AnswerFault::Sql { at } => writeln!(errors, "tq: statement {} at {at}", "Stand-in"),
-        AnswerFault::Plan => errors.write_all(b"tq: plan Stand-in\n"),
-        AnswerFault::Write => errors.write_all(b"tq: write failed\n"),
-        AnswerFault::OutOfMemory => errors.write_all(b"tq: OutOfMemory\n"),
     }
 }
 
