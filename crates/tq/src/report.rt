@@ -2,7 +2,7 @@
 
 ghost use Rattle.std.specs.Prelude.{◌≡◌};
 ghost use Rattle.std.specs.Process.{exit_status};
-ghost use Rattle.tq.specs.Report.{status_of};
+ghost use Rattle.tq.specs.Report.{refused_answer, refused_command_line, status_of};
 
 use crate::answer::{AnswerFault, LoadFault, PlanFault, SqlFault};
 use crate::command_line::CommandLineFault;
@@ -23,12 +23,18 @@ pub enum Refusal {
 }
 
 impl From<AllocError> for Refusal {
+    ghost use Rattle.tq.specs.declared.report.Refusal.TheVariants.{OutOfMemory};
+
+    ghost from_gives = { λ _ refusal. refusal ≡ OutOfMemory };
+
     fn from(_error: AllocError) -> Refusal {
         Refusal::OutOfMemory
     }
 }
 
 impl From<CommandLineFault> for Refusal {
+    ghost from_gives = { λ fault refusal. refusal ≡ refused_command_line fault };
+
     fn from(fault: CommandLineFault) -> Refusal {
         match fault {
             CommandLineFault::BadCommandLine => Refusal::BadCommandLine,
@@ -38,6 +44,8 @@ impl From<CommandLineFault> for Refusal {
 }
 
 impl From<AnswerFault> for Refusal {
+    ghost from_gives = { λ fault refusal. refusal ≡ refused_answer fault };
+
     fn from(fault: AnswerFault) -> Refusal {
         match fault {
             AnswerFault::Load(fault) => Refusal::Load(fault),
