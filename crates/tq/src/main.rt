@@ -22,21 +22,24 @@ use std::{fs, io, str};
 use tq_table::Sink;
 use words::read_words;
 
-// The bytes of a table's file. A path that is no UTF-8 names no file.
+// The bytes of the file at a path. One that is no UTF-8 names no file.
+fn read_path<R: Files + AllocGlobal>(rt: &R, path: &[u8]) -> Result<Vec<u8>, FileFault> {
+    let Ok(path) = str::from_utf8(path) else {
+        return Err(FileFault::Read);
+    };
+    match fs::open(rt, path) {
+        Ok(file) => read_file(rt.alloc(), &mut Source::over(file)),
+        Err(error) if error.kind() == ErrorKind::OutOfMemory => Err(FileFault::OutOfMemory),
+        Err(_) => Err(FileFault::Read),
+    }
+}
+
+// A table's name, and the bytes of its file.
 fn read_table<R: Files + AllocGlobal>(rt: &R, option: TableOption) -> Result<TableFile, Refusal> {
     let TableOption { name, path } = option;
-    let Ok(text) = str::from_utf8(&path) else {
-        return Err(Refusal::CannotRead(path));
-    };
-    let file = match fs::open(rt, text) {
-        Ok(file) => file,
-        Err(error) if error.kind() == ErrorKind::OutOfMemory => return Err(Refusal::OutOfMemory),
-        Err(_) => return Err(Refusal::CannotRead(path)),
-    };
-    match read_file(rt.alloc(), &mut Source::over(file)) {
+    match read_path(rt, &path) {
         Ok(bytes) => Ok(TableFile { name, bytes }),
-        Err(FileFault::OutOfMemory) => Err(Refusal::OutOfMemory),
-        Err(FileFault::Read | FileFault::TooLarge) => Err(Refusal::CannotRead(path)),
+        Err(fault) => Err(Refusal::of_file(fault, path)),
     }
 }
 

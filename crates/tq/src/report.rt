@@ -2,10 +2,11 @@
 
 ghost use Rattle.std.specs.Prelude.{◌≡◌};
 ghost use Rattle.std.specs.Process.{exit_status};
-ghost use Rattle.tq.specs.Report.{refused_answer, refused_command_line, status_of};
+ghost use Rattle.tq.specs.Report.{refused_answer, refused_command_line, refused_file, status_of};
 
 use crate::answer::{AnswerFault, LoadFault, PlanFault, SqlFault};
 use crate::command_line::CommandLineFault;
+use crate::source::FileFault;
 use std::alloc::AllocError;
 use std::io::{self, Write};
 use std::process::ExitCode;
@@ -58,6 +59,16 @@ impl From<AnswerFault> for Refusal {
 }
 
 impl Refusal {
+    /// The refusal of a file that was not read.
+    pub fn of_file(fault: FileFault, path: Vec<u8>) -> Refusal
+        ensures { result ≡ refused_file fault path }
+    {
+        match fault {
+            FileFault::Read | FileFault::TooLarge => Refusal::CannotRead(path),
+            FileFault::OutOfMemory => Refusal::OutOfMemory,
+        }
+    }
+
     /// The status that the program ends with.
     pub fn status(&self) -> ExitCode
         ensures { exit_status result ≡ status_of self.now }
