@@ -1,4 +1,23 @@
+# `make` proves and builds the program and prints a first answer, `make test` is the gate, and
+# `make bench` measures the program beside what one would write without it.
+SHELL := /bin/bash
+.SHELLFLAGS := -eu -o pipefail -c
+.PHONY: answer build test bench
+
+answer: build
+	bin/tq ask --table emp=examples/emp.csv "VALIDTIME SELECT name FROM emp"
+
+# Tells each function that was checked. A first build takes minutes, a later one what changed.
+build:
+	@echo "proving and building bin/tq (minutes at first; the log is crates/tq/out/build.log)"
+	@mkdir -p bin crates/tq/out
+	@cd crates/tq && { rt run -- --help 2>&1 | tee out/build.log | sed -u -n '/^checked /p'; } \
+		|| { grep -E 'error|no proof|not proved' out/build.log; exit 1; }
+	@cp crates/tq/out/tq bin/tq
+
 # The gate: proves every crate and its tests from nothing, tries the must-fail edits, runs tests and programs.
-.PHONY: test
 test:
 	rt ci
+
+bench: build
+	bench/run.sh

@@ -1,1 +1,3 @@
 pub mod Source
+pub mod Words
+pub mod Report

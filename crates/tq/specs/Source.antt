@@ -4,13 +4,13 @@ use Rattle.std.specs.Coded.{Coded, code_by, coded×, coded_ℕ}
 use Rattle.std.specs.Io.KnownBytes.{Consumes}
 
 -- A reader, how many reads of it were made, and how many of these failed. (This project's own.)
-pub record Source (R : Type 0) : Type 0 where
+pub record SourceState (R : Type 0) : Type 0 where
   pub reader : R
   pub reads : ℕ
   pub failed : ℕ
 
--- A source is stored as the triple of its fields.
-abbrev pub source_code : {R : Type 0} → Coded R → Coded (Source R)
+-- A source is stored as the triple of its fields. (This project's own.)
+abbrev pub source_code : {R : Type 0} → Coded R → Coded (SourceState R)
 source_code {R} code =
     code_by (R × (ℕ × ℕ)) (coded× code (coded× coded_ℕ coded_ℕ)) (λ s. (s.reader, (s.reads, s.failed)))
     (λ p. record { reader = p.0; reads = p.1.0; failed = p.1.1 }) (λ _. refl)

@@ -1,6 +1,88 @@
-//! The program `tq`.
+//! The program `tq`: `tq ask --table NAME=PATH [--workers N] STATEMENT` answers a sequenced query over
+//! a valid-time table in a CSV file. It reads the command line and the files, has the statement
+//! answered on standard output, and tells on standard error why there is no answer.
 #![tactic(auto)]
 
+mod answer;
+mod command_line;
+mod report;
 mod source;
+mod words;
 
-fn main() {}
+use answer::{TableFile, answer_bytes};
+use command_line::{AskRequest, Request, TableOption, read_command_line};
+use report::Refusal;
+use source::{FileFault, Source, read_file};
+use std::alloc::AllocError;
+use std::env::Env;
+use std::io::ErrorKind;
+use std::process::ExitCode;
+use std::rt::Files;
+use std::{fs, io, str};
+use tq_table::Sink;
+use words::read_words;
+
+// The bytes of the file at a path. One that is no UTF-8 names no file.
+fn read_path<R: Files + AllocGlobal>(rt: &R, path: &[u8]) -> Result<Vec<u8>, FileFault> {
+    let Ok(path) = str::from_utf8(path) else {
+        return Err(FileFault::Read);
+    };
+    match fs::open(rt, path) {
+        Ok(file) => read_file(rt.alloc(), &mut Source::over(file)),
+        Err(error) if error.kind() == ErrorKind::OutOfMemory => Err(FileFault::OutOfMemory),
+        Err(_) => Err(FileFault::Read),
+    }
+}
+
+// A table's name, and the bytes of its file.
+fn read_table<R: Files + AllocGlobal>(rt: &R, option: TableOption) -> Result<TableFile, Refusal> {
+    let TableOption { name, path } = option;
+    match read_path(rt, &path) {
+        Ok(bytes) => Ok(TableFile { name, bytes }),
+        Err(fault) => Err(Refusal::of_file(fault, path)),
+    }
+}
+
+// Answers a request on standard output, once all files are read.
+fn ask<R: Files + AllocGlobal + Print>(rt: &R, request: AskRequest) -> Result<(), Refusal> {
+    let AskRequest {
+        tables: options,
+        workers,
+        statement,
+    } = request;
+    let mut tables = Vec::new(rt.alloc());
+    for option in options {
+        tables
+            .push(read_table(rt, option)?)
+            .map_err(AllocError::from)?;
+    }
+    let mut sink = Sink::over(io::writer(rt));
+    answer_bytes(rt, rt.alloc(), &tables, &statement, workers, &mut sink)?;
+    Ok(())
+}
+
+// Does what the command line asks.
+fn run<R: Files + AllocGlobal + Env + Print>(rt: &R) -> Result<(), Refusal> {
+    let words = read_words(rt)?;
+    match read_command_line(rt.alloc(), &words)? {
+        Request::Ask(request) => ask(rt, request),
+        Request::Help(text) => match Sink::over(io::writer(rt)).send(text.as_bytes()) {
+            Ok(()) => Ok(()),
+            Err(_) => Err(Refusal::WriteFailed),
+        },
+    }
+}
+
+fn main(rt: HostRuntime) -> ExitCode {
+    match run(&rt) {
+        Ok(()) => ExitCode::SUCCESS,
+        Err(refusal) => {
+            // Where the line cannot be printed, the status still tells.
+            let _ = refusal.print(&mut rt.stderr());
+            refusal.status()
+        }
+    }
+}
+
+#[cfg(test)]
+mod tests;

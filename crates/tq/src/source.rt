@@ -33,9 +33,9 @@ pub struct Source<R> {
 }
 
 impl<R> Model for Source<R> {
-    ghost use Rattle.tq.specs.Source.{Source as Read, source_code};
+    ghost use Rattle.tq.specs.Source.{SourceState, source_code};
 
-    ghost Value = { Read R };
+    ghost Value = { SourceState R };
 
     ghost coded = { source_code R.code };
 

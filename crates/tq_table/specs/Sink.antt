@@ -4,12 +4,12 @@ use Rattle.std.specs.Coded.{Coded, code_by, coded×, coded_ℕ}
 use Rattle.std.specs.Io.KnownBytes.{Appends}
 
 -- A writer, and how many of its calls failed. (This project's own.)
-pub record Sink (W : Type 0) : Type 0 where
+pub record SinkState (W : Type 0) : Type 0 where
   pub writer : W
   pub failed : ℕ
 
--- A sink is stored as the pair of its fields.
-abbrev pub sink_code : {W : Type 0} → Coded W → Coded (Sink W)
+-- A sink is stored as the pair of its fields. (This project's own.)
+abbrev pub sink_code : {W : Type 0} → Coded W → Coded (SinkState W)
 sink_code {W} code =
     code_by (W × ℕ) (coded× code coded_ℕ) (λ s. (s.writer, s.failed)) (λ p. record { writer = p.0; failed = p.1 }) (λ _. refl)
 

@@ -26,9 +26,9 @@ pub struct Sink<W> {
 }
 
 impl<W> Model for Sink<W> {
-    ghost use Rattle.tq_table.specs.Sink.{Sink as Sent, sink_code};
+    ghost use Rattle.tq_table.specs.Sink.{SinkState, sink_code};
 
-    ghost Value = { Sent W };
+    ghost Value = { SinkState W };
 
     ghost coded = { sink_code W.code };
 

@@ -1,0 +1,62 @@
+"""Writes a payroll-like table of any number of rows: python3 bench/payroll.py ROWS [SEED] > emp.csv
+
+A person works for one department after another. Most periods meet the one before (a raise), some
+leave a gap, some overlap it (a second post), some rows stand twice, and the last period of many
+persons is open (`forever`). The same ROWS and SEED give the same bytes.
+"""
+
+import csv
+import random
+import sys
+
+DEPARTMENTS = ["toys", "food", "books", "garden", "music", "shoes", "R&D, lab", 'the "annex"']
+FIRST = ["ann", "bob", "cat", "dan", "eve", "fay", "gil", "hal", "ida", "jon", "kim", "lou"]
+LAST = ["adams", "brown", "clark", "davis", "evans", "frank", "o'hara", "van dyke", "young"]
+LAST_DAY = 20_000
+
+
+def person_rows(number, persons, random_source):
+    """The rows of one person, in the order of their periods."""
+    name = " ".join([random_source.choice(FIRST), random_source.choice(LAST), str(random_source.randrange(persons))])
+    department = random_source.choice(DEPARTMENTS)
+    start = random_source.randrange(LAST_DAY // 2)
+    rows = []
+    for _ in range(random_source.randint(1, 8)):
+        end = start + random_source.randint(30, 1_500)
+        rows.append([number, name, department, start, end])
+        if random_source.random() < 0.05:
+            rows.append(list(rows[-1]))
+        step = random_source.random()
+        if step < 0.15:
+            end += random_source.randint(1, 400)
+        elif step < 0.30:
+            end -= random_source.randint(1, end - start - 1)
+        if random_source.random() < 0.25:
+            department = random_source.choice(DEPARTMENTS)
+        start = end
+    if random_source.random() < 0.4:
+        rows[-1][4] = "forever"
+    return rows
+
+
+def write_table(output, rows, seed=1):
+    """Writes a header and just so many rows, in an order that tells nothing."""
+    random_source = random.Random(seed)
+    writer = csv.writer(output, lineterminator="\n")
+    writer.writerow(["emp:int", "name:text", "dept:text", "from", "to"])
+    persons = max(1, rows // 5)
+    number = 0
+    shelf = []
+    while rows > 0:
+        number += 1
+        shelf.extend(person_rows(number, persons, random_source))
+        if len(shelf) >= 10_000 or len(shelf) >= rows:
+            random_source.shuffle(shelf)
+            batch = shelf[:rows]
+            writer.writerows(batch)
+            rows -= len(batch)
+            shelf = []
+
+
+if __name__ == "__main__":
+    write_table(sys.stdout, int(sys.argv[1]), int(sys.argv[2]) if len(sys.argv) > 2 else 1)

@@ -1,0 +1,40 @@
+-- Which refusal each fault is, and the statuses that the program ends with.
+use Rattle.std.specs.Prelude.{ℕ, Vec}
+use Rattle.std.specs.declared.alloc.Global.{Global}
+use Rattle.tq.specs.declared.answer.AnswerFault.{AnswerFault}
+use Rattle.tq.specs.declared.answer.AnswerFault.TheVariants as answer
+use Rattle.tq.specs.declared.command_line.CommandLineFault.{CommandLineFault}
+use Rattle.tq.specs.declared.command_line.CommandLineFault.TheVariants as command_line
+use Rattle.tq.specs.declared.source.FileFault.{FileFault}
+use Rattle.tq.specs.declared.source.FileFault.TheVariants as source
+use Rattle.tq.specs.declared.report.Refusal.{Refusal}
+use Rattle.tq.specs.declared.report.Refusal.TheVariants.{BadCommandLine, CannotRead, Load, Statement, Plan, WriteFailed, OutOfMemory}
+
+-- The refusal of a command line with this fault. (This project's own.)
+abbrev pub refused_command_line : CommandLineFault → Refusal
+refused_command_line command_line.BadCommandLine = BadCommandLine
+refused_command_line command_line.OutOfMemory = OutOfMemory
+
+-- The refusal of a file at a path that was not read with this fault. (This project's own.)
+abbrev pub refused_file : FileFault → Vec ℕ Global → Refusal
+refused_file source.Read path = CannotRead path
+refused_file source.TooLarge path = CannotRead path
+refused_file source.OutOfMemory path = OutOfMemory
+
+-- The refusal of a question whose answer has this fault. (This project's own.)
+abbrev pub refused_answer : AnswerFault → Refusal
+refused_answer (answer.Load fault) = Load fault
+refused_answer (answer.Sql fault) = Statement fault
+refused_answer (answer.Plan fault) = Plan fault
+refused_answer answer.Write = WriteFailed
+refused_answer answer.OutOfMemory = OutOfMemory
+
+-- 2 for a command line that is refused, and 1 for every other refusal. (This project's own.)
+abbrev pub status_of : Refusal → ℕ
+status_of BadCommandLine = 2
+status_of (CannotRead path) = 1
+status_of (Load fault) = 1
+status_of (Statement fault) = 1
+status_of (Plan fault) = 1
+status_of WriteFailed = 1
+status_of OutOfMemory = 1

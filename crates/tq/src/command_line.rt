@@ -1,0 +1,168 @@
+// The command line: what the program was asked, with names, paths and statements as their bytes.
+
+ghost use Rattle.std.specs.Prelude.{◌≡◌, ◌≤◌, [], ◌∷◌, ◌++◌, IfOk, IfErr, Contains};
+
+use crate::words::bytes_of;
+use clap::error::ErrorKind;
+use clap::{Arg, ArgAction, ArgMatches, Command, Error, value_parser};
+use std::alloc::{AllocError, Global};
+use thiserror::Error;
+
+/// The most workers of one answer.
+pub const WORKER_LIMIT: u32 = 16;
+
+// The most tables of one question.
+const TABLE_LIMIT: usize = 1;
+
+const ABOUT: &str = "Answers sequenced queries over valid-time tables in CSV files.";
+
+// What both helps end with.
+const FORMS: &str = "\
+Statement:
+  VALIDTIME SELECT name, dept FROM emp
+
+Table file (the first column is a key; an open end is `forever`):
+  emp:int,name:text,dept:text,from,to
+  1,ann,toys,10,20
+  2,bob,food,15,forever";
+
+/// Why a command line was not read: it is none of `tq` (1), or it found no memory (2).
+#[derive(Clone, Copy, Debug, PartialEq, Eq, Error)]
+pub enum CommandLineFault {
+    #[error("the command line is refused")]
+    BadCommandLine = 1,
+    #[error("out of memory")]
+    OutOfMemory = 2,
+}
+
+impl From<AllocError> for CommandLineFault {
+    ghost use Rattle.tq.specs.declared.command_line.CommandLineFault.TheVariants.{OutOfMemory};
+
+    ghost from_gives = { λ _ fault. fault ≡ OutOfMemory };
+
+    fn from(_error: AllocError) -> CommandLineFault {
+        CommandLineFault::OutOfMemory
+    }
+}
+
+/// A table's name, and the path of its file.
+#[derive(Drop)]
+pub struct TableOption {
+    pub name: Vec<u8>,
+    pub path: Vec<u8>,
+}
+
+/// What `tq ask` was asked: the tables in the order of their options, 1 to 16 workers, and a statement.
+#[derive(Drop)]
+pub struct AskRequest {
+    pub tables: Vec<TableOption>,
+    pub workers: u32,
+    pub statement: Vec<u8>,
+    ghost some_workers: { 1 ≤ workers },
+    ghost few_workers: { workers ≤ 16 },
+}
+
+/// What the program was asked: to print this help, or to answer.
+#[derive(Drop)]
+pub enum Request {
+    Help(String),
+    Ask(AskRequest),
+}
+
+/// Reads the words after the program's name, each as `text_of` its bytes.
+pub fn read_command_line(alloc: Global, words: &[String]) -> Result<Request, CommandLineFault> {
+    let command = tq_command(alloc)?;
+    match command.try_get_matches_from(words) {
+        Ok(matches) => match matches.subcommand_matches("ask") {
+            Some(ask) => Ok(Request::Ask(read_ask(alloc, ask)?)),
+            None => Err(CommandLineFault::BadCommandLine),
+        },
+        Err(error) => help_text(alloc, &error),
+    }
+}
+
+// The help that was asked for, or the fault.
+fn help_text(alloc: Global, error: &Error) -> Result<Request, CommandLineFault> {
+    match error.kind() {
+        ErrorKind::DisplayHelp => Ok(Request::Help(format!(in alloc; "{error}")?)),
+        ErrorKind::OutOfMemory => Err(CommandLineFault::OutOfMemory),
+        _ => Err(CommandLineFault::BadCommandLine),
+    }
+}
+
+// The command line that the program reads.
+fn tq_command<'a>(alloc: Global) -> Result<Command<'a>, AllocError> {
+    Command::new(alloc, "tq")
+        .about(ABOUT)
+        .after_help(FORMS)
+        .no_binary_name(true)
+        .bin_name("tq")?
+        .subcommand_required(true)
+        .subcommand(ask_command(alloc)?)
+}
+
+// The command that answers a statement.
+fn ask_command<'a>(alloc: Global) -> Result<Command<'a>, AllocError> {
+    let table = Arg::new(alloc, "table")
+        .long("table")
+        .value_name("NAME=PATH")
+        .help("A table's name, and its CSV file")
+        .required(true)
+        .action(ArgAction::Append);
+    let workers = Arg::new(alloc, "workers")
+        .long("workers")
+        .value_name("N")
+        .help("How many workers may share the work, 1 to 16")
+        .value_parser(value_parser!(u32))
+        .default_value("1");
+    let statement = Arg::new(alloc, "statement")
+        .value_name("STATEMENT")
+        .help("What to ask")
+        .required(true);
+    let command = Command::new(alloc, "ask")
+        .about("Answers a statement on standard output")
+        .after_help(FORMS);
+    command.arg(table)?.arg(workers)?.arg(statement)
+}
+
+// What `tq ask` was asked.
+fn read_ask(alloc: Global, ask: &ArgMatches<'_>) -> Result<AskRequest, CommandLineFault> {
+    let options = ask.get_strs("table").unwrap_or(&[]);
+    if options.len() > TABLE_LIMIT {
+        return Err(CommandLineFault::BadCommandLine);
+    }
+    let mut tables = Vec::new(alloc);
+    for option in options {
+        let word = bytes_of(alloc, option)?;
+        tables
+            .push(split_table(alloc, &word)?)
+            .map_err(AllocError::from)?;
+    }
+    let workers = ask.get_one::<u32>("workers").unwrap_or(0);
+    if workers < 1 || workers > WORKER_LIMIT {
+        return Err(CommandLineFault::BadCommandLine);
+    }
+    let statement = bytes_of(alloc, ask.get_str("statement").unwrap_or(""))?;
+    Ok(AskRequest {
+        tables,
+        workers,
+        statement,
+    })
+}
+
+// A table's name and path: what stands before and after the first `=`. Without one the word is refused.
+fn split_table(alloc: Global, word: &[u8]) -> Result<TableOption, CommandLineFault>
+    ensures split { IfOk result (λ table. word.now ≡ table.name.items ++ 61 ∷ table.path.items) }
+    ensures first { IfOk result (λ table. ¬ (Contains table.name.items 61)) }
+    ensures refused { IfErr result (λ fault. fault ≡ CommandLineFault.BadCommandLine → ¬ (Contains word.now 61)) }
+{
+    let Some(place) = word.iter().position(|byte| *byte == b'=') else {
+        return Err(CommandLineFault::BadCommandLine);
+    };
+    let name = word[..place].to_vec(alloc)?;
+    let path = word[place + 1..].to_vec(alloc)?;
+    Ok(TableOption { name, path })
+}
+
+#[cfg(test)]
+mod tests;

@@ -1,0 +1,110 @@
+// Command lines that are read, answered with help, or refused.
+
+use super::{AskRequest, CommandLineFault, Request, read_command_line};
+use crate::words::text_of;
+use std::alloc::{AllocError, Global};
+use std::process::Abort;
+use std::test::Fail;
+
+// What these words ask.
+fn read(alloc: Global, words: &[&[u8]]) -> Result<Result<Request, CommandLineFault>, AllocError> {
+    let mut texts = Vec::new(alloc);
+    for word in words {
+        texts.push(text_of(alloc, word)?)?;
+    }
+    Ok(read_command_line(alloc, &texts))
+}
+
+fn assert_asks(
+    rt: &impl Abort,
+    read: Result<Request, CommandLineFault>,
+    wanted: (&[u8], &[u8], u32, &[u8]),
+) {
+    let (name, path, workers, statement) = wanted;
+    match read {
+        Ok(
+            Request::Ask(
+                AskRequest {
+                    tables,
+                    workers: some,
+                    statement: text,
+                },
+            ),
+        ) => {
+            assert_eq!(rt; tables.len(), 1);
+            assert_eq!(rt; tables[0].name.as_slice(), name);
+            assert_eq!(rt; tables[0].path.as_slice(), path);
+            assert_eq!(rt; some, workers);
+            assert_eq!(rt; text.as_slice(), statement);
+        }
+        _ => assert!(rt; false, "not read"),
+    }
+}
+
+#[test]
+fn names_paths_and_statements_keep_their_bytes(rt: HostRuntime) -> Result<(), Fail> {
+    let asked = read(rt.alloc(), &[b"ask", b"--table", b"emp=a=b.csv", b"S"])?;
+    assert_asks(&rt, asked, (b"emp", b"a=b.csv", 1, b"S"));
+    let asked = read(
+        rt.alloc(),
+        &[b"ask", b"--workers", b"16", b"--table==", b"\xC3\xFF'"],
+    )?;
+    assert_asks(&rt, asked, (b"", b"", 16, b"\xC3\xFF'"));
+    let asked = read(
+        rt.alloc(),
+        &[b"ask", b"--table", b"\x80\xC3\xA9=\xFF", b"--", b"-S"],
+    )?;
+    assert_asks(&rt, asked, (b"\x80\xC3\xA9", b"\xFF", 1, b"-S"));
+    Ok(())
+}
+
+// What the words of a line ask.
+fn read_line(alloc: Global, line: &str) -> Result<Result<Request, CommandLineFault>, AllocError> {
+    let mut words = Vec::new(alloc);
+    for word in line.split_ascii_whitespace() {
+        words.push(word.as_bytes())?;
+    }
+    read(alloc, &words)
+}
+
+#[test]
+fn other_command_lines_are_refused(rt: HostRuntime) -> Result<(), Fail> {
+    for line in [
+        "",
+        "session --table emp=e",
+        "ask S",
+        "ask --table emp=e",
+        "ask --table emp S",
+        "ask --table emp=e --table a=b S",
+        "ask --table emp=e --workers 0 S",
+        "ask --table emp=e --workers 17 S",
+        "ask --table emp=e --workers x S",
+        "ask --table emp=e S S",
+        "ask --table emp=e --unknown S",
+    ] {
+        match read_line(rt.alloc(), line)? {
+            Err(fault) => assert_eq!(rt; fault, CommandLineFault::BadCommandLine, "{line}"),
+            Ok(_) => assert!(rt; false, "{line}"),
+        }
+    }
+    Ok(())
+}
+
+// The help that a line asks for.
+fn help_of(alloc: Global, line: &str) -> Result<Option<String>, AllocError> {
+    match read_line(alloc, line)? {
+        Ok(Request::Help(text)) => Ok(Some(text)),
+        Ok(Request::Ask(_request)) => Ok(None),
+        Err(_fault) => Ok(None),
+    }
+}
+
+#[test]
+fn help_shows_a_statement_and_a_file(rt: HostRuntime) -> Result<(), Fail> {
+    for line in ["--help", "help", "ask --help", "ask -h", "help ask"] {
+        let text = help_of(rt.alloc(), line)?.ok_or("no help")?;
+        assert!(rt; text.as_str().contains("VALIDTIME SELECT"), "{text}");
+        assert!(rt; text.as_str().contains("emp:int,name:text"), "{text}");
+    }
+    Ok(())
+}

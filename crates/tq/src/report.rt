@@ -1,0 +1,109 @@
+// What the program prints where it gives no answer, and its status then.
+
+ghost use Rattle.std.specs.Prelude.{◌≡◌};
+ghost use Rattle.std.specs.Process.{exit_status};
+ghost use Rattle.tq.specs.Report.{refused_answer, refused_command_line, refused_file, status_of};
+
+use crate::answer::{AnswerFault, LoadFault, PlanFault, SqlFault};
+use crate::command_line::CommandLineFault;
+use crate::source::FileFault;
+use std::alloc::AllocError;
+use std::io::{self, Write};
+use std::process::ExitCode;
+
+/// Why the program gave no answer: one of the lines that it prints.
+#[derive(Drop)]
+pub enum Refusal {
+    BadCommandLine,
+    CannotRead(Vec<u8>),
+    Load(LoadFault),
+    Statement(SqlFault),
+    Plan(PlanFault),
+    WriteFailed,
+    OutOfMemory,
+}
+
+impl From<AllocError> for Refusal {
+    ghost use Rattle.tq.specs.declared.report.Refusal.TheVariants.{OutOfMemory};
+
+    ghost from_gives = { λ _ refusal. refusal ≡ OutOfMemory };
+
+    fn from(_error: AllocError) -> Refusal {
+        Refusal::OutOfMemory
+    }
+}
+
+impl From<CommandLineFault> for Refusal {
+    ghost from_gives = { λ fault refusal. refusal ≡ refused_command_line fault };
+
+    fn from(fault: CommandLineFault) -> Refusal {
+        match fault {
+            CommandLineFault::BadCommandLine => Refusal::BadCommandLine,
+            CommandLineFault::OutOfMemory => Refusal::OutOfMemory,
+        }
+    }
+}
+
+impl From<AnswerFault> for Refusal {
+    ghost from_gives = { λ fault refusal. refusal ≡ refused_answer fault };
+
+    fn from(fault: AnswerFault) -> Refusal {
+        match fault {
+            AnswerFault::Load(fault) => Refusal::Load(fault),
+            AnswerFault::Sql(fault) => Refusal::Statement(fault),
+            AnswerFault::Plan(fault) => Refusal::Plan(fault),
+            AnswerFault::Write => Refusal::WriteFailed,
+            AnswerFault::OutOfMemory => Refusal::OutOfMemory,
+        }
+    }
+}
+
+impl Refusal {
+    /// The refusal of a file that was not read.
+    pub fn of_file(fault: FileFault, path: Vec<u8>) -> Refusal
+        ensures { result ≡ refused_file fault path }
+    {
+        match fault {
+            FileFault::Read | FileFault::TooLarge => Refusal::CannotRead(path),
+            FileFault::OutOfMemory => Refusal::OutOfMemory,
+        }
+    }
+
+    /// The status that the program ends with.
+    pub fn status(&self) -> ExitCode
+        ensures { exit_status result ≡ status_of self.now }
+    {
+        match self {
+            Refusal::BadCommandLine => ExitCode::from(2),
+            _ => ExitCode::FAILURE,
+        }
+    }
+
+    /// Prints the one line of the refusal. A fault is printed by its name, a path as its bytes.
+    pub fn print<W: Write>(&self, errors: &mut W) -> io::Result<()> {
+        match self {
+            Refusal::BadCommandLine => errors.write_all(b"tq: BadCommandLine\n"),
+            Refusal::CannotRead(path) => {
+                errors.write_all(b"tq: cannot read ")?;
+                errors.write_all(path)?;
+                errors.write_all(b"\n")
+            }
+            Refusal::Load(
+                LoadFault {
+                    kind,
+                    table,
+                    number,
+                },
+            ) => writeln!(errors, "tq: load {kind:?} table {table} record {number}"),
+            Refusal::Statement(SqlFault { kind, at }) => {
+                writeln!(errors, "tq: statement {kind:?} at {at}")
+            }
+            Refusal::Plan(fault) => writeln!(errors, "tq: plan {fault:?}"),
+            Refusal::WriteFailed => errors.write_all(b"tq: write failed\n"),
+            Refusal::OutOfMemory => errors.write_all(b"tq: OutOfMemory\n"),
+        }
+    }
+}
+
+#[cfg(test)]
+mod tests;
