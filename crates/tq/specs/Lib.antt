@@ -1,3 +1,4 @@
-pub mod Source
-pub mod Words
 pub mod Report
+pub mod Source
+pub mod Statements
+pub mod Words

@@ -7,6 +7,7 @@ mod answer;
 mod command_line;
 mod report;
 mod source;
+mod statement;
 mod words;
 
 use answer::{TableFile, answer_bytes};
