@@ -1,2 +1,3 @@
 pub mod TokenLemmas
+pub mod RowLemmas
 pub mod StatementLemmas

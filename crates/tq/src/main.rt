@@ -5,7 +5,9 @@
 
 mod answer;
 mod command_line;
+mod plan;
 mod report;
+mod rows;
 mod source;
 mod statement;
 mod words;
