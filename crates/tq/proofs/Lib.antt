@@ -1,3 +1,4 @@
 pub mod TokenLemmas
+pub mod FaultLemmas
 pub mod RowLemmas
 pub mod StatementLemmas

@@ -1,11 +1,14 @@
 -- Statements that select columns of one table: VALIDTIME SELECT name {, name} FROM name [;].
 -- After the SQL/Temporal valid-time proposals; the tokens are this project's own.
-use Rattle.std.specs.Prelude.{ℕ, ◌==◌, ◌&&◌, ◌||◌, not, Bool, true, false, if◌then◌else◌, List, [], ◌∷◌, ◌++◌, length, ◌+◌, slice_get, nat_lt, Option, Some, None, codes, option_map}
+use Rattle.std.specs.Prelude.{◌≡◌, ℕ, ◌<◌, ◌≤◌, ◌⊎◌, ◌==◌, ◌&&◌, ◌||◌, not, Bool, true, false, if◌then◌else◌, List, [], ◌∷◌, ◌++◌, length, ◌+◌, slice_get, nat_lt, Option, Some, None, codes, option_map}
 use Rattle.std.specs.Char.{is_ascii_digit}
 use Rattle.std.specs.Option.{option_and_then}
 use Rattle.std.specs.Str.{str_eq_ignore_ascii_case}
 use Rattle.tq_base.specs.Names.{folded_name, is_name_byte}
 use Rattle.tq.specs.declared.statement.Statement.{Statement}
+use Rattle.tq.specs.declared.statement.SqlFault.{SqlFault}
+use Rattle.tq.specs.declared.statement.SqlFaultKind.TheVariants.{TooLong, UnexpectedToken}
+use Rattle.tq.specs.declared.statement.TheConstants.{MAX_STATEMENT}
 
 -- tab, line feed, carriage return and space stand between tokens
 abbrev pub is_space : ℕ → Bool
@@ -78,3 +81,9 @@ statement_of [] = None
 statement_of (first ∷ []) = None
 statement_of (first ∷ second ∷ rest) =
     if is_word (codes "validtime") first && is_word (codes "select") second then select_list [] rest else None
+
+-- the fault of a text that is no statement
+abbrev pub IsSqlFault : List ℕ → SqlFault → Type 0
+IsSqlFault bytes fault =
+    (fault.kind ≡ UnexpectedToken) × (statement_of (tokens_of bytes) ≡ None) × (length bytes ≤ MAX_STATEMENT)
+    ⊎ (fault ≡ record { kind = TooLong; at = MAX_STATEMENT }) × (MAX_STATEMENT < length bytes)

@@ -3,7 +3,7 @@
 ghost use Rattle.std.specs.Prelude.{◌≡◌, ◌≢◌, ◌<◌, ◌≤◌, ◌+◌, ◌⊎◌, ◌++◌, ◌∷◌, [], None, Some, IfErr, IfOk, OnOk, drop, length, map, slice_get};
 ghost use Rattle.std.specs.Option.{option_and_then};
 ghost use Rattle.tq_base.specs.Names.{folded_name};
-ghost use Rattle.tq.specs.Statements.{byte_token, ended, from_table, goes_on, is_some_and, is_space, is_word, past_semicolon, statement_of, tokens_of};
+ghost use Rattle.tq.specs.Statements.{IsSqlFault, byte_token, ended, from_table, goes_on, is_some_and, is_space, is_word, past_semicolon, statement_of, tokens_of};
 
 use std::alloc::{AllocError, Global};
 use thiserror::Error;
@@ -245,7 +245,7 @@ fn parse(alloc: Global, tokens: &[Token<'_>], end: usize) -> Result<Statement, S
 /// `UnexpectedToken` at the first token that no statement goes on with, or at the end.
 pub fn read(alloc: Global, bytes: &[u8]) -> Result<Statement, SqlFault>
     ensures statement { IfOk result (λ s. (length bytes.now ≤ MAX_STATEMENT) × (statement_of (tokens_of bytes.now) ≡ Some s)) }
-    ensures fault { IfErr result (λ f. f.kind ≢ SqlFaultKind.OutOfMemory → f.kind ≡ SqlFaultKind.UnexpectedToken × (statement_of (tokens_of bytes.now) ≡ None) × (length bytes.now ≤ MAX_STATEMENT) ⊎ f ≡ record { kind = SqlFaultKind.TooLong; at = MAX_STATEMENT } × (MAX_STATEMENT < length bytes.now)) }
+    ensures fault { IfErr result (λ f. f.kind ≢ SqlFaultKind.OutOfMemory → IsSqlFault bytes.now f) }
 {
     if bytes.len() > MAX_STATEMENT {
         return Err(SqlFault {
