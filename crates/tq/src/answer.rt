@@ -130,3 +130,6 @@ pub fn answer_bytes<W: Write>(
         Err(WriteFault::OutOfMemory) => Err(AnswerFault::OutOfMemory),
     }
 }
+
+#[cfg(test)]
+mod tests;

@@ -89,3 +89,6 @@ pub fn plan_statement(
         places: Items::of(places),
     })
 }
+
+#[cfg(test)]
+mod tests;

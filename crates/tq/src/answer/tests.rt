@@ -1,0 +1,251 @@
+// Answers and faults, written out.
+
+use super::{AnswerFault, answer, answer_bytes};
+use crate::plan::PlanFault;
+use crate::statement::{SqlFault, SqlFaultKind};
+use std::alloc::{AllocError, Global};
+use std::io::{self, ErrorKind, Write};
+use std::process::Abort;
+use std::test::Fail;
+use tq_base::Items;
+use tq_event::{LoadFault, LoadFaultKind, TableFile};
+use tq_table::Sink;
+
+const EMP: &[u8] = b"emp:int,name:text,dept:text,from,to
+1,ann,toys,10,20
+1,ann,toys,20,30
+2,bob,toys,15,25
+3,cat,food,5,forever
+";
+
+// The table files of these names and bytes.
+fn files_of(alloc: Global, tables: &[(&[u8], &[u8])]) -> Result<Vec<TableFile>, AllocError> {
+    let mut files = Vec::new(alloc);
+    for (name, bytes) in tables {
+        files.push(TableFile {
+            name: Items::of(name.to_vec(alloc)?),
+            bytes: Items::of(bytes.to_vec(alloc)?),
+        })?;
+    }
+    Ok(files)
+}
+
+// Has a statement answered over the tables, and compares what was written.
+fn assert_answers(
+    rt: &(impl Abort + AllocGlobal),
+    tables: &[(&[u8], &[u8])],
+    statement: &[u8],
+    wanted: &[u8],
+) -> Result<(), Fail> {
+    let files = files_of(rt.alloc(), tables)?;
+    let mut sink = Sink::over(Vec::new(rt.alloc()));
+    assert_eq!(rt;
+        answer_bytes(rt.alloc(), &files, statement, 16, &mut sink),
+        Ok(())
+    );
+    assert_eq!(rt; sink.failed(), 0);
+    assert_eq!(rt; sink.into_inner().as_slice(), wanted);
+    Ok(())
+}
+
+// Has a statement refused over the tables, with nothing written.
+fn assert_refuses(
+    rt: &(impl Abort + AllocGlobal),
+    tables: &[(&[u8], &[u8])],
+    statement: &[u8],
+    fault: AnswerFault,
+) -> Result<(), Fail> {
+    let files = files_of(rt.alloc(), tables)?;
+    let mut sink = Sink::over(Vec::new(rt.alloc()));
+    assert_eq!(rt;
+        answer_bytes(rt.alloc(), &files, statement, 1, &mut sink),
+        Err(fault)
+    );
+    assert_eq!(rt; sink.failed(), 0);
+    assert!(rt; sink.into_inner().is_empty());
+    Ok(())
+}
+
+#[test]
+fn meeting_rows_of_one_name_are_joined(rt: HostRuntime) -> Result<(), Fail> {
+    let wanted = b"name,from,to\nann,10,30\nbob,15,25\ncat,5,forever\n";
+    for statement in [
+        b"VALIDTIME SELECT name FROM emp".as_slice(),
+        b"validtime select NAME from EMP",
+        b"\t ValidTime\r\nSELECT  name\n\nFROM\temp ; ",
+        b"VALIDTIME SELECT name FROM emp;",
+    ] {
+        assert_answers(&rt, &[(b"emp", EMP)], statement, wanted)?;
+    }
+    Ok(())
+}
+
+#[test]
+fn columns_come_in_the_order_of_the_statement(rt: HostRuntime) -> Result<(), Fail> {
+    assert_answers(
+        &rt,
+        &[(b"emp", EMP)],
+        b"VALIDTIME SELECT Dept,emp , dept FROM emp",
+        b"dept,emp,dept,from,to\nfood,3,food,5,forever\ntoys,1,toys,10,30\ntoys,2,toys,15,25\n",
+    )
+}
+
+#[test]
+fn overlapping_copies_make_layers(rt: HostRuntime) -> Result<(), Fail> {
+    assert_answers(
+        &rt,
+        &[(b"p", b"k:int,v:text,from,to\n1,x,0,5\n2,x,3,9\n")],
+        b"VALIDTIME SELECT v FROM p",
+        b"v,from,to\nx,0,9\nx,3,5\n",
+    )
+}
+
+#[test]
+fn a_table_of_no_rows_gives_the_header(rt: HostRuntime) -> Result<(), Fail> {
+    assert_answers(
+        &rt,
+        &[(b"none", b"k:int,from,to\n")],
+        b"VALIDTIME SELECT k FROM none",
+        b"k,from,to\n",
+    )
+}
+
+#[test]
+fn each_of_many_copies_has_its_row(rt: HostRuntime) -> Result<(), Fail> {
+    let mut bytes = b"k:int,from,to\n".to_vec(rt.alloc())?;
+    let mut wanted = b"k,from,to\n".to_vec(rt.alloc())?;
+    for place in 0..33u32 {
+        let row = if place < 29 {
+            b"7,1,2\n".as_slice()
+        } else {
+            b"7,1,forever\n"
+        };
+        bytes.extend_from_slice(row)?;
+        wanted.extend_from_slice(row)?;
+    }
+    assert_answers(
+        &rt,
+        &[(b"full", &bytes)],
+        b"VALIDTIME SELECT k FROM full",
+        &wanted,
+    )
+}
+
+#[test]
+fn quoted_fields_go_in_and_out(rt: HostRuntime) -> Result<(), Fail> {
+    assert_answers(
+        &rt,
+        &[(
+            b"t",
+            b"\xEF\xBB\xBFid:int,note:text,from,to\r\n1,\"a, \"\"b\"\"\",0,3\r\n",
+        )],
+        b"VALIDTIME SELECT note FROM t",
+        b"note,from,to\n\"a, \"\"b\"\"\",0,3\n",
+    )
+}
+
+#[test]
+fn the_table_of_the_statement_is_read(rt: HostRuntime) -> Result<(), Fail> {
+    assert_answers(
+        &rt,
+        &[
+            (b"a", b"k:int,from,to\n1,1,5\n1,7,8\n"),
+            (b"B", b"k:int,from,to\n2,5,9\n3,1,forever\n2,6,7\n"),
+        ],
+        b"VALIDTIME SELECT k FROM b",
+        b"k,from,to\n2,5,9\n2,6,7\n3,1,forever\n",
+    )
+}
+
+#[test]
+fn an_unknown_table_or_column_is_refused(rt: HostRuntime) -> Result<(), Fail> {
+    for (statement, fault) in [
+        (
+            b"VALIDTIME SELECT name FROM boss".as_slice(),
+            PlanFault::UnknownTable,
+        ),
+        (b"VALIDTIME SELECT age FROM boss", PlanFault::UnknownTable),
+        (b"VALIDTIME SELECT age FROM emp", PlanFault::UnknownColumn),
+        (
+            b"VALIDTIME SELECT name, age FROM emp",
+            PlanFault::UnknownColumn,
+        ),
+    ] {
+        assert_refuses(&rt, &[(b"emp", EMP)], statement, AnswerFault::Plan(fault))?;
+    }
+    Ok(())
+}
+
+#[test]
+fn files_come_before_the_statement_and_it_before_its_plan(rt: HostRuntime) -> Result<(), Fail> {
+    let load = AnswerFault::Load(LoadFault {
+        kind: LoadFaultKind::BadPeriod,
+        table: 0,
+        number: 2,
+    });
+    let bad = b"id:int,from,to\n1,7,7\n".as_slice();
+    assert_refuses(&rt, &[(b"emp", bad)], b"SELECT", load)?;
+    assert_refuses(&rt, &[(b"emp", bad)], b"VALIDTIME SELECT a FROM b", load)?;
+    let sql = AnswerFault::Sql(SqlFault {
+        kind: SqlFaultKind::UnexpectedToken,
+        at: 28,
+    });
+    assert_refuses(&rt, &[(b"emp", EMP)], b"VALIDTIME SELECT age FROM b ,", sql)
+}
+
+// Takes so many bytes, and then fails. It counts its calls.
+#[derive(Drop)]
+struct FailingWriter {
+    taken: Vec<u8>,
+    room: usize,
+    calls: u32,
+}
+
+impl Write for FailingWriter {
+    fn write(&mut self, buf: &[u8]) -> io::Result<usize> {
+        self.calls = self.calls.saturating_add(1);
+        if self.room == 0 {
+            return Err(io::Error::from(ErrorKind::Other));
+        }
+        let taken = buf.len().min(self.room);
+        self.taken.extend_from_slice(&buf[..taken])?;
+        self.room -= taken;
+        Ok(taken)
+    }
+
+    fn flush(&mut self) -> io::Result<()> {
+        Ok(())
+    }
+}
+
+#[test]
+fn a_failed_write_leaves_a_prefix(rt: HostRuntime) -> Result<(), Fail> {
+    let files = files_of(rt.alloc(), &[(b"emp", EMP)])?;
+    let statement = b"VALIDTIME SELECT name FROM emp";
+    let mut writer = FailingWriter {
+        taken: Vec::new(rt.alloc()),
+        room: 5,
+        calls: 0,
+    };
+    let mut sink = Sink::over(&mut writer);
+    let written = answer_bytes(rt.alloc(), &files, statement, 1, &mut sink);
+    assert_eq!(rt; written, Err(AnswerFault::Write));
+    assert_eq!(rt; sink.failed(), 1);
+    assert_eq!(rt; writer.taken.as_slice(), b"name,".as_slice());
+    assert_eq!(rt; writer.calls, 2);
+    Ok(())
+}
+
+#[test]
+fn an_answer_is_a_table(rt: HostRuntime) -> Result<(), Fail> {
+    let files = files_of(rt.alloc(), &[(b"emp", EMP)])?;
+    match answer(rt.alloc(), &files, b"VALIDTIME SELECT name, emp FROM emp") {
+        Ok(table) => {
+            assert_eq!(rt; table.columns.get().len(), 2);
+            assert_eq!(rt; table.columns.get()[1].bytes(), b"emp".as_slice());
+            assert_eq!(rt; table.rows.get().len(), 3);
+        }
+        Err(fault) => assert!(rt; false, "{fault:?}"),
+    }
+    Ok(())
+}
