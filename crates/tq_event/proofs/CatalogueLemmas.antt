@@ -2,7 +2,7 @@
 use Rattle.std.proofs.Common.{◌≡◌, ◌≢◌, ℕ, ℤ, suc, zero, ◌+◌, ◌-◌, ◌^◌, ◌<◌, ◌≤◌, ◌==◌, ◌&&◌, ◌||◌, not, Bool, true, false, if◌then◌else◌, List, [], ◌∷◌, ◌++◌, Option, Some, None, Result, Ok, Err, length, map, take, drop, get_or, slice_get, nat_le, nat_lt, refl, sym, ap, subst, ◌∙◌, arith, length-append}
 use Rattle.std.specs.Prelude.{All, AllPairs, IfSome, IsSomeAnd, FitsSigned, pos, negsuc, neg_ℤ, option_map}
 use Rattle.std.specs.Int.{w64}
-use Rattle.std.specs.List.{list_any, list_all}
+use Rattle.std.specs.List.{after_first, before_first, list_any, list_all}
 use Rattle.std.specs.Str.{bytes_eq, is_utf8}
 use Rattle.std.specs.Str.Parse.{digits_value}
 use Rattle.std.proofs.lemmas.Bool.{or_parts}
@@ -24,7 +24,8 @@ use Rattle.tq_event.specs.declared.entry.Entry.{Entry}
 use Rattle.tq_event.specs.declared.fault.LoadFaultKind.{LoadFaultKind}
 use Rattle.tq_event.specs.declared.fault.LoadFaultKind.TheVariants.{BadHeader, BadInt, DuplicateName, FieldCount, NotUtf8, TextTooLong, TooManyColumns, TooManyTables}
 use Rattle.tq_event.specs.declared.file.TableFile.{TableFile}
-use Rattle.tq_event.specs.Loading.{Contents, and_then, at_record, column_of, columns_after, columns_of, contents_after, contents_of, csv_records, entries_after, entry_of, first_header, has_column, has_table, header_of, is_marked_twice, is_period_header, is_text, next_columns, next_contents, next_name, number_value, period_fields, period_of, table_contents, table_name, value_fields, value_of, values_after}
+use Rattle.tq_event.specs.Loading.{Contents, and_then, at_record, kind_of, make_column, column_of, columns_after, columns_of, contents_after, contents_of, csv_records, entries_after, entry_of, first_header, has_column, has_table, header_of, is_marked_twice, is_period_header, is_text, next_columns, next_contents, next_name, number_value, period_fields, period_of, table_contents, table_name, value_fields, value_of, values_after}
+use Rattle.tq_event.specs.Laws.{HasFoldedNames, IsFoldedName}
 use Rattle.tq_event.proofs.LoadedLemmas.{all_entries, at_record_passed, entry_is_of, passed}
 
 bytes_eq-self : (bytes : List ℕ) → bytes_eq bytes bytes ≡ true
@@ -51,6 +52,18 @@ no_column (c ∷ columns) name e =
 record AreColumns (columns : List Column) : Type 0 where
   pub names : AllPairs (λ a b. a ≢ b) (column_names columns)
   pub key : IfSome (slice_get columns 0) (λ c. c.kind ≡ kind.Int)
+  pub folded : All (λ c. IsFoldedName c.name) columns
+
+-- a column's name is folded
+column_folded : (field : List ℕ) (c : Column) → column_of field ≡ Some c → IsFoldedName c.name
+column_folded field c e = by (folded_name (before_first (λ b. b == 58) field)) refl (kind_of (after_first (λ b. b == 58) field)) e
+  where
+    by : (o : Option (List ℕ)) → folded_name (before_first (λ b. b == 58) field) ≡ o → (k : Option Kind) → make_column o k ≡ Some c → IsFoldedName c.name
+    by None i k e = cc
+    by (Some name) i None e = cc
+    by (Some name) i (Some k) e =
+        let same : record { name = name; kind = k } ≡ c = cc (e) in
+        (before_first (λ b. b == 58) field, i ∙ ap (λ (x : Column). Some x.name) same)
 
 pushed_names : (columns : List Column) (c : Column) → AllPairs (λ a b. a ≢ b) (column_names columns) → has_column columns c.name ≡ false → AllPairs (λ a b. a ≢ b) (column_names (columns ++ c ∷ []))
 pushed_names columns c names none =
@@ -65,9 +78,9 @@ pushed_key : (columns : List Column) (c : Column) → IfSome (slice_get columns 
 pushed_key [] c key e = int_kind c.kind e
 pushed_key (d ∷ columns) c key e = key
 
-column_step : (columns more : List Column) (o : Option Column) → next_columns columns o ≡ Ok more → AreColumns columns → AreColumns more × (length more ≡ length columns + 1)
-column_step columns more None e are = cc
-column_step columns more (Some c) e are = by ((length columns == 0) && is_text c.kind) refl (has_column columns c.name) refl e
+column_step : (columns more : List Column) (o : Option Column) → ((c : Column) → o ≡ Some c → IsFoldedName c.name) → next_columns columns o ≡ Ok more → AreColumns columns → AreColumns more × (length more ≡ length columns + 1)
+column_step columns more None folded e are = cc
+column_step columns more (Some c) folded e are = by ((length columns == 0) && is_text c.kind) refl (has_column columns c.name) refl e
   where
     by : (t : Bool) → ((length columns == 0) && is_text c.kind) ≡ t → (u : Bool) → has_column columns c.name ≡ u
         → (if t then Err BadHeader else (if u then Err DuplicateName else Ok (columns ++ c ∷ []))) ≡ Ok more → AreColumns more × (length more ≡ length columns + 1)
@@ -76,7 +89,7 @@ column_step columns more (Some c) e are = by ((length columns == 0) && is_text c
     by false i false j e =
         let same : columns ++ c ∷ [] ≡ more = cc (e) in
         subst (λ cs. AreColumns cs × (length cs ≡ length columns + 1)) same
-        (record { names = pushed_names columns c are.names j; key = pushed_key columns c are.key i }, length-append columns (c ∷ []))
+        (record { names = pushed_names columns c are.names j; key = pushed_key columns c are.key i; folded = All-push (λ (x : Column). IsFoldedName x.name) columns c are.folded (folded c refl) }, length-append columns (c ∷ []))
 
 columns_step : (columns : List Column) (fields : List (List ℕ)) (out : List Column) → columns_after columns fields ≡ Ok out → AreColumns columns → AreColumns out × (length out ≡ length columns + length fields)
 columns_step columns [] out e are =
@@ -84,12 +97,12 @@ columns_step columns [] out e are =
     subst (λ cs. AreColumns cs × (length cs ≡ length columns + 0)) same (are, omega arith)
 columns_step columns (field ∷ fields) out e are =
     let p = passed (next_columns columns (column_of field)) _ out e in
-    let one = column_step columns p.value (column_of field) p.was are in
+    let one = column_step columns p.value (column_of field) (column_folded field) p.was are in
     let rest = columns_step p.value fields out p.then_is one.0 in
     (rest.0, omega (arith, one.1, rest.1))
 
 no_columns : AreColumns []
-no_columns = record { names = λ i j d lt below. absurd (omega arith); key = tt }
+no_columns = record { names = λ i j d lt below. absurd (omega arith); key = tt; folded = All-nil (λ (c : Column). IsFoldedName c.name) }
 
 -- 1 to 16 columns
 record AreTableColumns (columns : List Column) : Type 0 where
@@ -137,6 +150,7 @@ no_table (s ∷ tables) name e =
 record IsNewName (tables : List Schema) (name : List ℕ) : Type 0 where
   pub few : length tables < 16
   pub new : All (λ n. n ≢ name) (table_names tables)
+  pub folded : IsFoldedName name
 
 new_name : (tables : List Schema) (name read : List ℕ) → next_name tables name ≡ Ok read → IsNewName tables read
 new_name tables name read e = by (nat_lt (length tables) 16) refl e
@@ -149,8 +163,16 @@ new_name tables name read e = by (nat_lt (length tables) 16) refl e
     named None e = cc
     named (Some n) e = free n (has_table tables n) refl e
 
+    written : (o : Option (List ℕ)) → folded_name name ≡ o → table_name tables o ≡ Ok read → IsFoldedName read
+    written None i e = cc
+    written (Some n) i e = one (has_table tables n) e
+      where
+        one : (u : Bool) → (if u then Err DuplicateName else Ok n) ≡ Ok read → IsFoldedName read
+        one true e = cc
+        one false e = let same : n ≡ read = cc (e) in (name, i ∙ ap Some same)
+
     by : (t : Bool) → nat_lt (length tables) 16 ≡ t → (if t then table_name tables (folded_name name) else Err TooManyTables) ≡ Ok read → IsNewName tables read
-    by true i e = record { few = grind (arith, nat_tests); new = named (folded_name name) e }
+    by true i e = record { few = grind (arith, nat_tests); new = named (folded_name name) e; folded = written (folded_name name) refl e }
     by false i e = cc
 
 -- the tables of a catalogue
@@ -158,13 +180,15 @@ pub record AreTables (tables : List Schema) : Type 0 where
   pub few : length tables ≤ 16
   pub names : AllPairs (λ a b. a ≢ b) (table_names tables)
   pub each : All IsTable tables
+  pub folded : All HasFoldedNames tables
 
-pushed_table : (tables : List Schema) (s : Schema) → AreTables tables → IsNewName tables s.name → IsTable s → AreTables (tables ++ s ∷ [])
-pushed_table tables s are new is = record {
+pushed_table : (tables : List Schema) (s : Schema) → AreTables tables → IsNewName tables s.name → IsTable s → HasFoldedNames s → AreTables (tables ++ s ∷ [])
+pushed_table tables s are new is names = record {
   few = omega (arith, length-append tables (s ∷ []), new.few);
   names = subst (AllPairs (λ a b. a ≢ b)) (sym (map-append (λ (x : Schema). x.name) tables (s ∷ [])))
       (all_pairs_push (λ a b. a ≢ b) (table_names tables) s.name are.names new.new);
   each = All-push IsTable tables s are.each is;
+  folded = All-push HasFoldedNames tables s are.folded names;
 }
 
 -- ---- values
@@ -300,7 +324,7 @@ file_loaded limit before after file is good =
     made name columns entries new are e =
         let s : Schema = record { name = name; columns = columns } in
         record {
-          tables = pushed_table before.tables s good.tables new (record { some = are.some; few = are.few; names = are.are.names; key = are.are.key });
+          tables = pushed_table before.tables s good.tables new (record { some = are.some; few = are.few; names = are.are.names; key = are.are.key }) (new.folded, are.are.folded);
           stored = all_entries limit (length before.tables) columns (Stored (before.tables ++ s ∷ []))
               (λ fields x told. stored_last before.tables s x (entry_is_of (length before.tables) columns fields x told).1 (entry_fits (length before.tables) columns fields x told))
               2 before.entries (drop 1 (csv_records file.bytes)) entries e
@@ -316,9 +340,12 @@ files_loaded limit before after (file ∷ files) is good =
 pub contents_loaded : (limit : ℕ) (files : List TableFile) (contents : Contents) → contents_of files limit ≡ Ok contents → AreLoaded contents
 contents_loaded limit files contents is =
     files_loaded limit (record { tables = []; entries = [] }) contents files is
-    (record { tables = record { few = omega arith; names = λ i j d lt below. absurd (omega arith); each = All-nil IsTable }; stored = All-nil (Stored []) })
+    (record { tables = record { few = omega arith; names = λ i j d lt below. absurd (omega arith); each = All-nil IsTable; folded = All-nil HasFoldedNames }; stored = All-nil (Stored []) })
 
 pub is_catalogue : (catalogue : Catalogue) (tables : List Schema) → catalogue.tables ≡ tables → AreTables tables → IsCatalogue catalogue
 is_catalogue catalogue tables same are =
     let there : AreTables catalogue.tables = subst AreTables (sym same) are in
     record { few = there.few; names = there.names; each = there.each }
+
+pub are_folded : (catalogue : Catalogue) (tables : List Schema) → catalogue.tables ≡ tables → AreTables tables → All HasFoldedNames catalogue.tables
+are_folded catalogue tables same are = subst (All HasFoldedNames) (sym same) are.folded

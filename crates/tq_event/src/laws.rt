@@ -1,7 +1,7 @@
 //! Laws of histories and of loading.
 
 ghost use Rattle.tq_event.specs.History.{PrefixLaw};
-ghost use Rattle.tq_event.specs.Laws.{LoadedIsCatalogue, LoadedIsHistory, LoadedIsUnique, LoadedIsWithin};
+ghost use Rattle.tq_event.specs.Laws.{LoadedIsCatalogue, LoadedIsHistory, LoadedIsUnique, LoadedIsWithin, LoadedNamesAreFolded};
 
 /// What is valid as of the first events stays as it is while a history grows.
 pub fn prefixes_agree()
@@ -23,6 +23,11 @@ pub fn loaded_is_within()
 /// columns, whose names differ and of which the first is of numbers.
 pub fn loaded_is_catalogue()
     ensures { LoadedIsCatalogue }
+{}
+
+/// The names of tables and columns that were loaded are folded to lower case, and no reserved word.
+pub fn loaded_names_are_folded()
+    ensures { LoadedNamesAreFolded }
 {}
 
 /// The events that were loaded are a history: each is admissible after those before it.

@@ -5,7 +5,7 @@ use crate::LoadFaultKind::{
     BadHeader, BadInt, BadPeriod, DuplicateName, FieldCount, NotUtf8, OutOfMemory, TextTooLong,
     TooManyColumns, TooManyEvents, TooManyTables,
 };
-use crate::{LoadFault, LoadFaultKind, MAX_TABLES, load};
+use crate::{LoadFault, LoadFaultKind, MAX_EVENTS, MAX_TABLES, load};
 use std::alloc::{AllocError, Global};
 use std::test::Fail;
 
@@ -219,6 +219,29 @@ fn a_cut_file_is_refused_where_it_was_cut(rt: HostRuntime) {
     ] {
         assert_eq!(rt; fault_of(rt.alloc(), &EMP[..len]), want, "{len}");
     }
+}
+
+#[test]
+fn each_kind_has_its_name_and_number(rt: HostRuntime) -> Result<(), Fail> {
+    for (kind, name, number) in [
+        (BadHeader, "BadHeader", 1),
+        (DuplicateName, "DuplicateName", 2),
+        (FieldCount, "FieldCount", 3),
+        (BadInt, "BadInt", 4),
+        (TextTooLong, "TextTooLong", 5),
+        (BadPeriod, "BadPeriod", 6),
+        (NotUtf8, "NotUtf8", 7),
+        (TooManyTables, "TooManyTables", 8),
+        (TooManyColumns, "TooManyColumns", 9),
+        (TooManyEvents, "TooManyEvents", 10),
+        (OutOfMemory, "OutOfMemory", 11),
+    ] {
+        let text = format!(in rt.alloc(); "{kind}")?;
+        assert_eq!(rt; text.as_str(), name);
+        assert_eq!(rt; kind as u32, number);
+    }
+    assert_eq!(rt; MAX_EVENTS, 16_777_216);
+    Ok(())
 }
 
 #[test]

@@ -114,5 +114,9 @@ fn a_failed_write_leaves_a_prefix(rt: HostRuntime) -> Result<(), Fail> {
     );
     assert_eq!(rt; sink.failed(), 1);
     assert_eq!(rt; sink.into_inner().taken.as_slice(), b"name,".as_slice());
+    assert_eq!(rt;
+        [WriteFault::Write as u32, WriteFault::OutOfMemory as u32],
+        [1, 2]
+    );
     Ok(())
 }
