@@ -40,14 +40,15 @@ impl Gate for Open {
 }
 
 /// The results of all pieces in order of their numbers, run on the calling thread. It waits for nobody.
-/// `AllocError` where a piece answered it, or where the list of results could not grow.
+/// `AllocError` where a piece answered it, or where there was no memory for the list of results.
 pub fn run_here<W: Work>(alloc: Global, work: &W) -> Result<Vec<W::Out>, AllocError>
 where
     W::Out: Drop,
     ensures { IfOk result (λ v. IsResultList (W.relates work.now) (W.count work.now) v.items) }
 {
-    let mut results = Vec::new(alloc);
-    for i in 0..work.pieces() {
+    let pieces = work.pieces();
+    let mut results = Vec::with_capacity(alloc, pieces as usize)?;
+    for i in 0..pieces {
         results.push(work.run(i)?)?;
     }
     Ok(results)

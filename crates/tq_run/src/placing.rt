@@ -11,7 +11,7 @@ use std::alloc::{AllocError, Global};
 fn empty_places<X: Drop>(alloc: Global, count: u32) -> Result<Vec<Option<X>>, AllocError>
     ensures { IfOk result (λ v. vec_len v ≡ count) }
 {
-    let mut places = Vec::new(alloc);
+    let mut places = Vec::with_capacity(alloc, count as usize)?;
     for _ in 0..count {
         places.push(None)?;
     }
@@ -43,7 +43,7 @@ where
     requires { AllFilled (W.relates work.now) (W.count work.now) places.items }
     ensures { IfOk result (λ v. IsResultList (W.relates work.now) (W.count work.now) v.items) }
 {
-    let mut results = Vec::new(alloc);
+    let mut results = Vec::with_capacity(alloc, places.len())?;
     for place in places {
         let Some(x) = place else { unreachable!() };
         results.push(x)?;

@@ -106,7 +106,7 @@ fn other_claimants(
     ensures each { IfOk result (λ v. (k : ℕ) (d : _) → k < vec_len v → IsFresh claims.now (slice_index_or v.items k d)) }
     ensures first { IfOk result (λ v. IsFresh claims.now first.new × Leads (vec_len v) 0 first.new) }
 {
-    let mut others = Vec::new(alloc);
+    let mut others = Vec::with_capacity(alloc, workers as usize - 1)?;
     for _ in 1..workers {
         others.push(claims.split(first)?)?;
     }
