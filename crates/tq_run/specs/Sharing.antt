@@ -1,5 +1,5 @@
 -- What a worker brings back, and results at their places. This project's own.
-use Rattle.std.specs.Prelude.{◌≡◌, ℕ, ◌+◌, ◌<◌, false, true, List, [], length, map, All, Option, IsSomeAnd, slice_index_or}
+use Rattle.std.specs.Prelude.{◌≡◌, ℕ, ◌<◌, false, true, List, [], length, map, All, Option, IsSomeAnd, slice_index_or}
 use Rattle.tq_run.specs.ClaimRule.{ClaimsValue, ClaimantValue, IsClaimantOf}
 
 -- the numbers that stand beside the results
@@ -17,6 +17,10 @@ IsFresh claims c = IsClaimantOf claims c × (c.knows.told ≡ false) × (c.knows
 -- the first claimant, from which n were split and to which m were joined
 abbrev pub Leads : ℕ → ℕ → ClaimantValue → Type 0
 Leads n m c = (c.knows.first ≡ true) × (c.knows.splits ≡ n) × (c.knows.joins ≡ m)
+
+-- The first claimant, to which none was joined, and the others are to claim that many pieces, of which none was claimed.
+abbrev pub AreReady : ClaimsValue → ℕ → ClaimantValue → List ClaimantValue → Type 0
+AreReady claims count first others = (claims.pieces ≡ count) × IsFresh claims first × Leads first.knows.splits 0 first × All (IsFresh claims) others
 
 -- The claimant was told that no piece is left, and these are the results of the pieces on its list.
 abbrev pub IsShare : {A : Type 0} → ClaimsValue → (ℕ → A → Type 0) → ClaimantValue → List (ℕ × A) → Type 0

@@ -102,6 +102,8 @@ impl Claims {
         requires untold { by.old.knows.told ≡ false }
         ensures of { IsClaimantOf self.now by.new }
         ensures piece { IfSome result (λ n. n < self.now.pieces) }
+
+        // It has as many numbers below it as its claimant took before.
         ensures above { IfSome result (λ n. length by.old.knows.taken ≤ n) }
         ensures listed { IfSome result (λ n. by.new.knows ≡ after_taking by.old.knows n) }
         ensures none { IfNone result (by.new.knows ≡ after_none by.old.knows) }

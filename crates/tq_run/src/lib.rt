@@ -5,8 +5,8 @@
 //! of `run_here` and of `run_with` is one and the same: as many results as pieces, and the result at place i is
 //! one of piece i. It is proved for every number of workers and every way in which the pieces fall to them.
 //!
-//! `Claims` stand on `atomic_table`. Below them stands nothing; above them `placing` and `workers` know of the
-//! shared word only what the contracts of `Claims` say.
+//! `Claims` stand on the crate `atomic_table`. The workers know of the shared word only what the contracts of
+//! `Claims` say, and nothing here knows what a piece is.
 #![tactic(auto)]
 
 mod claiming;

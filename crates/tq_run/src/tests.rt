@@ -48,10 +48,11 @@ impl Work for Refuses {
     }
 }
 
-// Whether each piece had arrived at the gate when it was run.
+// Whether each piece had arrived at the gate when it was run. It counts the runs.
 #[derive(Drop)]
 struct SeesArrivals<'a> {
     gate: &'a Counts,
+    runs: AtomicU64,
     pieces: u32,
 }
 
@@ -67,6 +68,7 @@ impl Work for SeesArrivals<'_> {
     }
 
     fn run(&self, i: u32) -> Result<bool, AllocError> {
+        self.runs.fetch_add(1, Ordering::SeqCst);
         match self.gate.of_each.get(i as usize) {
             Some(count) => Ok(count.load(Ordering::SeqCst) == 1),
             None => Ok(false),
@@ -160,13 +162,31 @@ fn each_piece_arrives_once_before_it_is_run(rt: HostRuntime) -> Result<(), Fail>
         };
         let work = SeesArrivals {
             gate: &gate,
+            runs: AtomicU64::new(0),
             pieces: 1000,
         };
         let results = run_with(&rt, rt.alloc(), workers, &work, &gate)?;
         assert_eq!(rt; results.len(), 1000);
         assert!(rt; results.iter().all(|seen| *seen), "{workers} workers");
         assert_eq!(rt; gate.all.load(Ordering::SeqCst), 1000);
+        assert_eq!(rt; work.runs.load(Ordering::SeqCst), 1000, "{workers} workers");
     }
+    Ok(())
+}
+
+#[test]
+fn each_piece_is_run_once_here(rt: HostRuntime) -> Result<(), Fail> {
+    let gate = Counts {
+        all: AtomicU64::new(0),
+        of_each: Vec::new(rt.alloc()),
+    };
+    let work = SeesArrivals {
+        gate: &gate,
+        runs: AtomicU64::new(0),
+        pieces: 1000,
+    };
+    assert_eq!(rt; run_here(rt.alloc(), &work)?.len(), 1000);
+    assert_eq!(rt; work.runs.load(Ordering::SeqCst), 1000);
     Ok(())
 }
 

@@ -1,8 +1,8 @@
 // Several workers, of which each claims piece after piece.
-ghost use Rattle.std.specs.Prelude.{◌≡◌, ℕ, ◌+◌, ◌-◌, ◌<◌, ◌≤◌, ◌++◌, [], ◌∷◌, true, false, IfOk, OnOk, length, vec_len, slice_index_or};
-ghost use denote.Param.Send.{IsSync, IsSend, Frees};
+ghost use Rattle.std.specs.Prelude.{◌≡◌, ℕ, ◌+◌, ◌-◌, ◌<◌, ◌≤◌, ◌++◌, [], ◌∷◌, true, false, IfOk, OnOk, length, vec_len, All};
+ghost use denote.Param.Send.{IsSync};
 ghost use Rattle.tq_run.specs.Results.{IsResultList};
-ghost use Rattle.tq_run.specs.Sharing.{IsFresh, IsShare, Leads};
+ghost use Rattle.tq_run.specs.Sharing.{AreReady, IsFresh, IsShare, Leads};
 
 use crate::claiming::{Claimant, Claims};
 use crate::pieces::{Gate, Work};
@@ -47,7 +47,9 @@ where
     requires pieces { claims.now.pieces ≡ W.count work.now }
     requires fresh { IsFresh claims.now by }
     ensures share { IfOk result (λ s. IsShare claims.now (W.relates work.now) s.by s.done.items) }
-    ensures leads { IfOk result (λ s. (s.by.knows.first ≡ by.knows.first) × (s.by.knows.splits ≡ by.knows.splits) × (s.by.knows.joins ≡ by.knows.joins)) }
+    ensures first { IfOk result (λ s. s.by.knows.first ≡ by.knows.first) }
+    ensures splits { IfOk result (λ s. s.by.knows.splits ≡ by.knows.splits) }
+    ensures joins { IfOk result (λ s. s.by.knows.joins ≡ by.knows.joins) }
 {
     let mut done = Vec::new(alloc);
     while let Some(i) = claims.take(&mut by) {
@@ -70,10 +72,9 @@ fn work_among<R: Threads + Sync, W: Work + Sync, G: Gate + Sync>(
 ) -> Result<Share<W::Out>, AllocError>
 where
     W::Out: Send + Drop,
-    requires pieces { claims.now.pieces ≡ W.count work.now }
-    requires first { IsFresh claims.now first × Leads first.knows.splits 0 first }
-    requires others { (k : ℕ) (d : _) → k < vec_len others → IsFresh claims.now (slice_index_or others.items k d) }
-    ensures { IfOk result (λ s. IsShare claims.now (W.relates work.now) s.by s.done.items × Leads first.knows.splits (vec_len others) s.by) }
+    requires { AreReady claims.now (W.count work.now) first others.items }
+    ensures share { IfOk result (λ s. IsShare claims.now (W.relates work.now) s.by s.done.items) }
+    ensures leads { IfOk result (λ s. Leads first.knows.splits (vec_len others) s.by) }
 {
     let Some(by) = others.pop() else {
         return work_off(alloc, claims, work, gate, first);
@@ -83,8 +84,10 @@ where
         ensures { IfOk result (λ s. IsShare claims.entry.now (W.relates work.entry.now) s.by s.done.items) }
     { work_off(alloc, claims, work, gate, by) };
     let ours = move || -> Result<Share<W::Out>, AllocError>
-        requires { IsSync R.row × IsSync W.row × IsSync G.row × (claims.now.pieces ≡ W.count work.now) × (IsFresh claims.now first × Leads first.knows.splits 0 first) × ((k : ℕ) (d : _) → k < vec_len others → IsFresh claims.now (slice_index_or others.items k d)) }
-        ensures { IfOk result (λ s. IsShare claims.entry.now (W.relates work.entry.now) s.by s.done.items × Leads first.knows.splits (vec_len others) s.by) }
+        requires { IsSync R.row × IsSync W.row × IsSync G.row
+            × AreReady claims.now (W.count work.now) first others.items }
+        ensures { IfOk result (λ s. IsShare claims.entry.now (W.relates work.entry.now) s.by s.done.items
+            × Leads first.knows.splits (vec_len others) s.by) }
     { work_among(rt, alloc, claims, work, gate, first, others) };
     let (theirs, ours) = join(rt, theirs, ours);
     let mut all = ours?;
@@ -101,10 +104,13 @@ fn other_claimants(
     first: &mut Claimant,
     workers: u32,
 ) -> Result<Vec<Claimant>, AllocError>
-    requires workers { (1 ≤ workers) × (workers ≤ 16) }
-    requires first { IsFresh claims.now first.old × Leads 0 0 first.old }
-    ensures each { IfOk result (λ v. (k : ℕ) (d : _) → k < vec_len v → IsFresh claims.now (slice_index_or v.items k d)) }
-    ensures first { IfOk result (λ v. IsFresh claims.now first.new × Leads (vec_len v) 0 first.new) }
+    requires some { 1 ≤ workers }
+    requires at_most { workers ≤ 16 }
+    requires fresh { IsFresh claims.now first.old }
+    requires leads { Leads 0 0 first.old }
+    ensures each { IfOk result (λ v. All (IsFresh claims.now) v.items) }
+    ensures fresh { IfOk result (λ _. IsFresh claims.now first.new) }
+    ensures leads { IfOk result (λ v. Leads (vec_len v) 0 first.new) }
 {
     let mut others = Vec::with_capacity(alloc, workers as usize - 1)?;
     for _ in 1..workers {
@@ -125,7 +131,8 @@ pub fn run_with<R: Threads + Sync, W: Work + Sync, G: Gate + Sync>(
 ) -> Result<Vec<W::Out>, AllocError>
 where
     W::Out: Send + Drop,
-    requires { (1 ≤ workers) × (workers ≤ 16) }
+    requires some { 1 ≤ workers }
+    requires at_most { workers ≤ 16 }
     ensures { IfOk result (λ v. IsResultList (W.relates work.now) (W.count work.now) v.items) }
 {
     let (claims, mut first) = Claims::new(alloc, work.pieces())?;

@@ -1,4 +1,4 @@
-use Rattle.std.proofs.Common.{◌≡◌, ◌+◌, ◌++◌, ◌∷◌, [], IsSomeAnd, length, sym, ap, ◌∙◌, subst, append_assoc, length-append}
+use Rattle.std.proofs.Common.{◌++◌, ◌∷◌, [], IsSomeAnd, length, sym, ap, ◌∙◌, subst, append_assoc, length-append}
 use Rattle.std.specs.Vec.Iter.{into_iter_items}
 use Rattle.tq_run.specs.Results.{IsResultList}
 use Rattle.tq_run.proofs.Places.{next_filled, results_next}

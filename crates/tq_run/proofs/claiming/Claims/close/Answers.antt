@@ -1,4 +1,4 @@
-use Rattle.std.proofs.Common.{subst, ap, sym, ◌∙◌, ℕ}
+use Rattle.std.proofs.Common.{subst, ap, sym, ◌∙◌}
 use Rattle.tq_run.specs.Counting.{EachOnce}
 use Rattle.tq_run.specs.ClaimRule.{ClaimsValue, ClaimantValue}
 use Rattle.tq_run.proofs.RuleKept.{closes}

@@ -1,4 +1,4 @@
-use Rattle.std.proofs.Common.{rules, arith, sym, ap, ◌∙◌}
+use Rattle.std.proofs.Common.{rules, arith, ap, ◌∙◌}
 use Rattle.tq_run.specs.ClaimRule.{ClaimantValue}
 use Rattle.tq_run.proofs.RuleKept.{splits}
 use Rattle.tq_run.proofs.claiming.Claims.split.Goals as goal

@@ -1,4 +1,4 @@
-use Rattle.std.proofs.Common.{rules, sym, ap, ◌∙◌}
+use Rattle.std.proofs.Common.{rules, ap, ◌∙◌}
 use Rattle.tq_run.specs.ClaimRule.{ClaimantValue}
 use Rattle.tq_run.proofs.RuleKept.{takes}
 use Rattle.tq_run.proofs.claiming.Claims.take.Goals as goal
