@@ -69,7 +69,7 @@ def main():
     for workers in (1, 2, 4, 7, 16):
         print(f"  as a piece claimed by {workers:2} worker(s)     {ratio('with', steps, workers) / steps:8.1f}")
     alone = ratio("start", runs, 1) / runs
-    print("a run that finds no piece, in steps of the loop:")
+    print("a run of as many pieces as workers, in steps of the loop:")
     print(f"  on the calling thread alone            {alone:8.0f}")
     for workers in (2, 4, 7, 16):
         cost = ratio("start", runs, workers) / runs

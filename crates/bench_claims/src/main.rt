@@ -2,7 +2,7 @@
 //! prints the same. `bench/claims.py` times it from outside.
 //!
 //! `bench_claims loop N` runs N steps in a plain loop, `here N` the same as pieces on the calling thread, `with N W`
-//! the same among W workers, and `start N W` makes N runs of W workers that find no piece. Without words it does a
+//! the same among W workers, and `start N W` makes N runs of W workers and as many pieces. Without words it does a
 //! little of each.
 #![tactic(auto)]
 
@@ -58,13 +58,13 @@ fn run_loop(alloc: Global, steps: u32) -> Result<Vec<u32>, AllocError> {
     Ok(results)
 }
 
-// How many of the runs over no pieces gave a list.
+// How many of the runs over as many pieces as workers gave a list.
 fn started<R: Threads + Sync>(rt: &R, alloc: Global, runs: u32, workers: u32) -> u32
     requires { (1 ≤ workers) × (workers ≤ 16) }
 {
     let mut given = 0u32;
     for _ in 0..runs {
-        if run_with(rt, alloc, workers, &Steps { pieces: 0 }, &Open).is_ok() {
+        if run_with(rt, alloc, workers, &Steps { pieces: workers }, &Open).is_ok() {
             given = given.saturating_add(1);
         }
     }

@@ -10,17 +10,17 @@ use Rattle.tq_run.specs.Counting.{times}
 
 -- what callers see of claims: the shared word, and the piece count
 pub record ClaimsValue : Type 0 where
-  pub table : TableId
+  pub word : TableId
   pub pieces : ℕ
 
 -- what callers see of a claimant: the word on which it claims, and what it knows
 pub record ClaimantValue : Type 0 where
-  pub table : TableId
+  pub word : TableId
   pub knows : SeatView
 
--- the claimant claims on that word, with that piece count
+-- The claimant is one of these claims: it claims on their word, with their piece count.
 abbrev pub IsClaimantOf : ClaimsValue → ClaimantValue → Type 0
-IsClaimantOf claims c = (c.table ≡ claims.table) × (c.knows.pieces ≡ claims.pieces)
+IsClaimantOf claims c = (c.word ≡ claims.word) × (c.knows.pieces ≡ claims.pieces)
 
 -- what the first seat knows at the start
 abbrev pub opening_view : ℕ → SeatView

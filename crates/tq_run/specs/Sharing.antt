@@ -18,7 +18,7 @@ IsFresh claims c = IsClaimantOf claims c × (c.knows.told ≡ false) × (c.knows
 abbrev pub Leads : ℕ → ℕ → ClaimantValue → Type 0
 Leads n m c = (c.knows.first ≡ true) × (c.knows.splits ≡ n) × (c.knows.joins ≡ m)
 
--- The first claimant, to which none was joined, and the others are to claim that many pieces, of which none was claimed.
+-- These claimants have claimed nothing of that many pieces, and none was joined to the first one yet.
 abbrev pub AreReady : ClaimsValue → ℕ → ClaimantValue → List ClaimantValue → Type 0
 AreReady claims count first others = (claims.pieces ≡ count) × IsFresh claims first × Leads first.knows.splits 0 first × All (IsFresh claims) others
 

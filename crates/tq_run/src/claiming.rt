@@ -50,7 +50,7 @@ pub struct Claims {
 impl Model for Claims {
     ghost Value = { ClaimsValue };
 
-    ghost view = { λ c. record { table = c.table.shared.table_id; pieces = c.pieces } };
+    ghost view = { λ c. record { word = c.table.shared.table_id; pieces = c.pieces } };
 
     ghost invariant = { λ c. (c.table.shared.key ≡ c.pieces) × (c.table.shared.table_id.words ≡ 1) × (c.table.shared.table_id.slots ≡ 0) };
 }
@@ -64,7 +64,7 @@ pub struct Claimant {
 impl Model for Claimant {
     ghost Value = { ClaimantValue };
 
-    ghost view = { λ c. record { table = c.seat.table_id; knows = c.seat.me.0 } };
+    ghost view = { λ c. record { word = c.seat.table_id; knows = c.seat.me.0 } };
 
     ghost invariant = { λ c. (c.seat.me.1 ≡ []) × (c.seat.me.0.spent ≡ false) };
 }
@@ -119,7 +119,7 @@ impl Claims {
     /// The first claimant takes in another one with its numbers. It takes no memory.
     pub fn join(&self, first: &mut Claimant, other: Claimant)
         requires of { IsClaimantOf self.now first.old }
-        requires other_of { other.table ≡ self.now.table }
+        requires other_of { other.word ≡ self.now.word }
         requires first { first.old.knows.first ≡ true }
         ensures of { IsClaimantOf self.now first.new }
         ensures joined { first.new.knows ≡ after_join first.old.knows other.knows }
@@ -131,7 +131,7 @@ impl Claims {
     /// The end, once the first claimant was told `None` and has taken in all others: its list holds each number
     /// below the piece count once. It takes no memory.
     pub fn close(self, first: Claimant)
-        requires of { first.table ≡ self.table }
+        requires of { first.word ≡ self.word }
         requires first { first.knows.first ≡ true }
         requires told { first.knows.told ≡ true }
         requires joined { first.knows.joins ≡ first.knows.splits }

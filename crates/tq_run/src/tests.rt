@@ -1,10 +1,11 @@
-ghost use Rattle.std.specs.Prelude.{◌≡◌, ◌*◌};
+ghost use Rattle.std.specs.Prelude.{◌≡◌, ◌*◌, ◌^◌, ◌<◌, ◌≤◌, IfOk, length, map, slice_index};
 
 use super::*;
-use std::alloc::AllocError;
+use std::alloc::{AllocError, Global};
 use std::sync::atomic::{AtomicBool, AtomicU64, Ordering};
 use std::test::Fail;
 use std::thread;
+use std::thread::Threads;
 
 // The square of each piece's number.
 #[derive(Drop)]
@@ -26,6 +27,44 @@ impl Work for Squares {
     fn run(&self, i: u32) -> Result<u64, AllocError> {
         Ok(u64::from(i) * u64::from(i))
     }
+}
+
+// Each row doubled, a row a piece.
+#[derive(Drop)]
+struct Doubles<'a> {
+    rows: &'a [u32],
+    ghost small: { length rows.now < 2 ^ 32 },
+}
+
+impl Work for Doubles<'_> {
+    type Out = u64;
+
+    ghost count = { λ s. length s.rows.now };
+
+    ghost relates = { λ s i x. x ≡ 2 * slice_index s.rows.now i };
+
+    fn pieces(&self) -> u32 {
+        self.rows.len() as u32
+    }
+
+    fn run(&self, i: u32) -> Result<u64, AllocError> {
+        Ok(2 * u64::from(self.rows[i as usize]))
+    }
+}
+
+// Proved from the contract of `run_with` alone: a caller knows its results exactly.
+fn doubled<R: Threads + Sync>(
+    rt: &R,
+    alloc: Global,
+    workers: u32,
+    rows: &[u32],
+) -> Result<Vec<u64>, AllocError>
+    requires small { length rows.now < 2 ^ 32 }
+    requires some { 1 ≤ workers }
+    requires at_most { workers ≤ 16 }
+    ensures { IfOk result (λ v. v.items ≡ map (λ x. 2 * x) rows.now) }
+{
+    run_with(rt, alloc, workers, &Doubles { rows }, &Open)
 }
 
 // Finds no memory for piece 2.
@@ -129,6 +168,13 @@ fn squares_stand_in_order(rt: HostRuntime) -> Result<(), Fail> {
             "{workers} workers"
         );
     }
+    Ok(())
+}
+
+#[test]
+fn a_caller_knows_its_results(rt: HostRuntime) -> Result<(), Fail> {
+    let rows = doubled(&rt, rt.alloc(), 3, &[3, 1, 2, 9])?;
+    assert_eq!(rt; rows.as_slice(), [6, 2, 4, 18].as_slice());
     Ok(())
 }
 

@@ -120,8 +120,8 @@ fn other_claimants(
 }
 
 /// The results of all pieces in order of their numbers, run by 1 to 16 workers, of which the calling thread is one.
-/// A worker whose thread cannot be started is done without; each thread is joined, so the call returns when the
-/// pieces do. `AllocError` where a piece answered it, or where one of the call's own lists could not grow.
+/// No more start than there are pieces, one whose thread cannot be started is done without, and each is joined, so
+/// the call returns when the pieces do. `AllocError` where a piece answered it, or where a list could not grow.
 pub fn run_with<R: Threads + Sync, W: Work + Sync, G: Gate + Sync>(
     rt: &R,
     alloc: Global,
@@ -135,7 +135,9 @@ where
     requires at_most { workers ≤ 16 }
     ensures { IfOk result (λ v. IsResultList (W.relates work.now) (W.count work.now) v.items) }
 {
-    let (claims, mut first) = Claims::new(alloc, work.pieces())?;
+    let pieces = work.pieces();
+    let (claims, mut first) = Claims::new(alloc, pieces)?;
+    let workers = workers.min(pieces.max(1));
     let others = other_claimants(alloc, &claims, &mut first, workers)?;
     let Share { by, done } = work_among(rt, alloc, &claims, work, gate, first, others)?;
     claims.close(by);
