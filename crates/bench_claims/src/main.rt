@@ -1,9 +1,9 @@
-//! Runs pieces of a known cost in several ways, and prints what came out: never a time, so that each run of it
-//! prints the same. `bench/claims.py` times it from outside.
+//! Runs pieces of a known cost in several ways, and prints what came out: never a time, so that each run of
+//! it prints the same. `bench/claims.py` times it from outside.
 //!
-//! `bench_claims loop N` runs N steps in a plain loop, `here N` the same as pieces on the calling thread, `with N W`
-//! the same among W workers, and `start N W` makes N runs of W workers and as many pieces. Without words it does a
-//! little of each.
+//! `bench_claims loop N` runs N steps in a plain loop, `here N` the same as pieces on the calling thread,
+//! `with N W` the same among W workers, and `start N W` makes N runs of W workers and as many pieces. Without
+//! words it does a little of each.
 #![tactic(auto)]
 
 ghost use Rattle.std.specs.Prelude.{◌≡◌, ◌≤◌, ◌^◌, ◌*◌, ◌%◌};

@@ -8,7 +8,7 @@ use Rattle.atomic_table.specs.Table.{State, Me, step, keeps, stepped, Allows, Sp
 use Rattle.atomic_table.proofs.Lists.{at_set, at_snoc}
 use Rattle.tq_run.specs.declared.seat_view.SeatView.{SeatView}
 use Rattle.tq_run.specs.Counting.{times, EachOnce}
-use Rattle.tq_run.specs.ClaimRule.{times_in_all, is_marked, is_spent, helper_view, after_split, after_join, spent_view, after_taking, after_none, Fits, Claimed, ClaimTells}
+use Rattle.tq_run.specs.ClaimRule.{times_in_all, is_marked, is_spent, added_view, after_split, after_join, spent_view, after_taking, after_none, Fits, Claimed, ClaimTells}
 use Rattle.tq_run.proofs.Counts.{times-append, times_here, times_elsewhere}
 use Rattle.tq_run.proofs.Views.{sum-set, sum-snoc, le-sum, marked-length, marked_one, one_left}
 
@@ -142,9 +142,9 @@ takes p slots id m untold fresh s r _ at _ =
 off : false ≡ true → ⊥
 off e = true≢false (sym e)
 
-pub splits : (p id : ℕ) (v : SeatView) → v.first ≡ true → v.spent ≡ false → v.splits < 15 → Splits (Claimed p) id v (after_split v) (helper_view v)
+pub splits : (p id : ℕ) (v : SeatView) → v.first ≡ true → v.spent ≡ false → v.splits < 15 → Splits (Claimed p) id v (after_split v) (added_view v)
 splits p id v lead fresh few s r at =
-    let left : SeatView = after_split v in let right : SeatView = helper_view v in let views : List SeatView = set s.views id left in
+    let left : SeatView = after_split v in let right : SeatView = added_view v in let views : List SeatView = set s.views id left in
     let mine = r.each id v at in let l = mine.leads lead in
     let l1 = l.1 in let l2 = l.2 in
     let long : length (views ++ right ∷ []) ≡ length s.views + 1 = length-append views (right ∷ []) ∙ ap (λ z. z + 1) (length-set s.views id left) in

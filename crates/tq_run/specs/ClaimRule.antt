@@ -27,8 +27,8 @@ abbrev pub opening_view : ℕ → SeatView
 opening_view p = record { first = true; pieces = p; splits = 0; joins = 0; taken = []; told = false; spent = false }
 
 -- what a new seat beside it knows
-abbrev pub helper_view : SeatView → SeatView
-helper_view v = record { first = false; pieces = v.pieces; splits = 0; joins = 0; taken = []; told = false; spent = false }
+abbrev pub added_view : SeatView → SeatView
+added_view v = record { first = false; pieces = v.pieces; splits = 0; joins = 0; taken = []; told = false; spent = false }
 
 -- the first one has one more beside it
 abbrev pub after_split : SeatView → SeatView

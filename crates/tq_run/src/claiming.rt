@@ -1,7 +1,7 @@
 // Numbers of pieces, each claimed once, on one shared word.
 ghost use Rattle.std.specs.Prelude.{◌≡◌, ◌<◌, ◌≤◌, [], true, false, IfOk, IsOk, IfSome, IfNone, length};
 ghost use Rattle.tq_run.specs.Counting.{EachOnce};
-ghost use Rattle.tq_run.specs.ClaimRule.{ClaimsValue, ClaimantValue, Claimed, ClaimTells, IsClaimantOf, opening_view, helper_view, after_split, after_join, spent_view, after_taking, after_none};
+ghost use Rattle.tq_run.specs.ClaimRule.{ClaimsValue, ClaimantValue, Claimed, ClaimTells, IsClaimantOf, opening_view, added_view, after_split, after_join, spent_view, after_taking, after_none};
 
 use crate::seat_view::SeatView;
 use atomic_table::{Join, Play, Seat, Split, Table, TableRule};
@@ -30,7 +30,7 @@ struct Beside;
 impl Split<SeatView> for Beside {
     ghost left = { after_split };
 
-    ghost right = { helper_view };
+    ghost right = { added_view };
 }
 
 impl Join<SeatView> for Beside {
@@ -52,7 +52,9 @@ impl Model for Claims {
 
     ghost view = { λ c. record { word = c.table.shared.table_id; pieces = c.pieces } };
 
-    ghost invariant = { λ c. (c.table.shared.key ≡ c.pieces) × (c.table.shared.table_id.words ≡ 1) × (c.table.shared.table_id.slots ≡ 0) };
+    ghost invariant = { λ c. (c.table.shared.key ≡ c.pieces)
+        × (c.table.shared.table_id.words ≡ 1)
+        × (c.table.shared.table_id.slots ≡ 0) };
 }
 
 /// One that claims numbers. It has no bytes and may go to another thread.
@@ -70,7 +72,8 @@ impl Model for Claimant {
 }
 
 impl Claims {
-    /// Claims on this many pieces, with their first claimant. `AllocError` where there was no memory for the word.
+    /// Claims on this many pieces, with their first claimant.
+    /// `AllocError` where there was no memory for the word.
     pub fn new(alloc: Global, pieces: u32) -> Result<(Claims, Claimant), AllocError>
         ensures pieces { IfOk result (λ r. r.0.pieces ≡ pieces) }
         ensures of { IfOk result (λ r. IsClaimantOf r.0 r.1) }
@@ -89,7 +92,7 @@ impl Claims {
         ensures of { IsClaimantOf self.now first.new }
         ensures counted { first.new.knows ≡ after_split first.old.knows }
         ensures new_of { IfOk result (λ c. IsClaimantOf self.now c) }
-        ensures new_knows { IfOk result (λ c. c.knows ≡ helper_view first.old.knows) }
+        ensures new_knows { IfOk result (λ c. c.knows ≡ added_view first.old.knows) }
     {
         let seat = self.table.shared.split_seat::<Beside>(&mut first.seat);
         Ok(Claimant { seat })
@@ -128,8 +131,8 @@ impl Claims {
         self.table.shared.join_seat::<Beside>(&mut first.seat, seat);
     }
 
-    /// The end, once the first claimant was told `None` and has taken in all others: its list holds each number
-    /// below the piece count once. It takes no memory.
+    /// The end, once the first claimant was told `None` and has taken in all others: its list holds each
+    /// number below the piece count once. It takes no memory.
     pub fn close(self, first: Claimant)
         requires of { first.word ≡ self.word }
         requires first { first.knows.first ≡ true }

@@ -58,8 +58,8 @@ where
     Ok(Share { by, done })
 }
 
-// Each claimant of `others` works in a thread of its own where one can be started, and else here. `first` works on
-// the calling thread, and takes the others in.
+// Each claimant of `others` works in a thread of its own where one can be started, and else here. `first` works
+// on the calling thread, and takes the others in.
 #[cycle(workers)]
 fn work_among<R: Threads + Sync, W: Work + Sync, G: Gate + Sync>(
     rt: &R,
@@ -108,6 +108,7 @@ fn other_claimants(
     requires at_most { workers ≤ 16 }
     requires fresh { IsFresh claims.now first.old }
     requires leads { Leads 0 0 first.old }
+    ensures many { IfOk result (λ v. vec_len v + 1 ≡ workers) }
     ensures each { IfOk result (λ v. All (IsFresh claims.now) v.items) }
     ensures fresh { IfOk result (λ _. IsFresh claims.now first.new) }
     ensures leads { IfOk result (λ v. Leads (vec_len v) 0 first.new) }
@@ -119,8 +120,8 @@ fn other_claimants(
     Ok(others)
 }
 
-/// The results of all pieces in order of their numbers, run by 1 to 16 workers, of which the calling thread is one.
-/// No more start than there are pieces, one whose thread cannot be started is done without, and each is joined, so
+/// The results of all pieces in order of their numbers, run by 1 to 16 workers, the calling thread among them.
+/// No more start than there are pieces; one whose thread cannot be started is done without; each is joined, so
 /// the call returns when the pieces do. `AllocError` where a piece answered it, or where a list could not grow.
 pub fn run_with<R: Threads + Sync, W: Work + Sync, G: Gate + Sync>(
     rt: &R,
