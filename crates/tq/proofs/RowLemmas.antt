@@ -91,7 +91,7 @@ closed-append : (table next : ℕ) (rows more : List OpenRow) (events : List Eve
 closed-append table next [] more events = ap (λ n. closed table n more events) (let same : next ≡ next + 0 = omega arith in same)
 closed-append table next (row ∷ rows) more events =
     ap (λ l. with_end (end_of table next events) row ∷ l)
-      (closed-append table (next + 1) rows more events ∙ ap (λ n. closed table (next + 1) rows events ++ closed table n more events) (let same : next + 1 + length rows ≡ next + suc (length rows) = omega arith in same))
+    (closed-append table (next + 1) rows more events ∙ ap (λ n. closed table (next + 1) rows events ++ closed table n more events) (let same : next + 1 + length rows ≡ next + suc (length rows) = omega arith in same))
 
 closed-other : (table next t number at : ℕ) (rows : List OpenRow) (events : List Event) → (t == table) ≡ false → closed table next rows (End t number at ∷ events) ≡ closed table next rows events
 closed-other table next t number at [] events other = refl

@@ -31,11 +31,7 @@ fn push_copy(copy: &mut Vec<Value>, values: &[Value], place: usize) -> Result<()
 }
 
 // Copies of the values at these places.
-fn select_values(
-    alloc: Global,
-    values: &[Value],
-    places: &[usize],
-) -> Result<Values, AllocError>
+fn select_values(alloc: Global, values: &[Value], places: &[usize]) -> Result<Values, AllocError>
     ensures { IfOk result (λ copy. copy ≡ selected places.now values.now) }
 {
     let mut copy = Vec::with_capacity(alloc, places.len())?;

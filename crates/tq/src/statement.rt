@@ -76,11 +76,7 @@ fn goes_on(word: &[u8], byte: u8) -> bool
 }
 
 // Ends the word so far, if there is one.
-fn push_word<'a>(
-    tokens: &mut Vec<Token<'a>>,
-    at: usize,
-    text: &'a [u8],
-) -> Result<(), AllocError>
+fn push_word<'a>(tokens: &mut Vec<Token<'a>>, at: usize, text: &'a [u8]) -> Result<(), AllocError>
     ensures { OnOk result (map (λ t. t.text.now) tokens.new.items ≡ map (λ t. t.text.now) tokens.old.items ++ ended text.entry.now []) }
 {
     if text.is_empty() {
@@ -152,11 +148,7 @@ fn is_word_at(tokens: &[Token<'_>], place: usize, word: &[u8]) -> bool
 }
 
 // The name that the token at a place writes.
-fn name_at(
-    alloc: Global,
-    tokens: &[Token<'_>],
-    place: usize,
-) -> Result<Option<Name>, AllocError>
+fn name_at(alloc: Global, tokens: &[Token<'_>], place: usize) -> Result<Option<Name>, AllocError>
     ensures { IfOk result (λ name. name ≡ option_and_then folded_name (slice_get (map (λ t. t.text.now) tokens.now) place)) }
 {
     match tokens.get(place) {

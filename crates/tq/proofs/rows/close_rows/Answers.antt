@@ -12,8 +12,8 @@ rows-preserved c =
     let left : into_iter_items c.rows.row-iterator ≡ c.in-Some.row ∷ into_iter_items c.next.new.self = c.in-Some.ensures.steps.0 in
     record {
       counted = λ v t.
-        let before = ap (λ l. copies c.rows.fragments.items v t + occurrences (open_at l t) v) (sym left) ∙ c.rows.invariant.counted v t in
-        omega (arith, before, occurrences-open c.in-Some.row (into_iter_items c.next.new.self) v t, c.in_ok-push_fragment.ensures v t);
+          let before = ap (λ l. copies c.rows.fragments.items v t + occurrences (open_at l t) v) (sym left) ∙ c.rows.invariant.counted v t in
+          omega (arith, before, occurrences-open c.in-Some.row (into_iter_items c.next.new.self) v t, c.in_ok-push_fragment.ensures v t);
     }
 
 -- src/rows.rt:150:1

@@ -10,5 +10,5 @@ use Rattle.tq.proofs.rows.read_rows.Goals as goal
 pub returns : goal.returns
 returns c v t =
     let all : open_at c.in_ok-rows.rows.items t ≡ rows_at c.args.events.now c.args.plan.now t =
-        ap (λ l. open_at l t) c.in_ok-rows.ensures ∙ ap (λ places. open_at (map (open_row places) (rows_from c.args.plan.now.table 0 c.args.events.now)) t) c.get.ensures ∙ open_at-history c.args.events.now c.args.plan.now t in
+    ap (λ l. open_at l t) c.in_ok-rows.ensures ∙ ap (λ places. open_at (map (open_row places) (rows_from c.args.plan.now.table 0 c.args.events.now)) t) c.get.ensures ∙ open_at-history c.args.events.now c.args.plan.now t in
     rw (ap (λ l. occurrences l v) all) at (c.close_rows.ensures v t)

@@ -7,5 +7,5 @@ use Rattle.tq.proofs.rows.select_values.Goals as goal
 pub places-preserved : goal.places-preserved
 places-preserved c = record {
   copies = ap (λ l. l ++ selected (drop (c.places.place-index + 1) c.args.places.now) c.args.values.now) c.in_ok-push_copy.ensures
-    ∙ place_more c.places.copy.items c.args.values.now c.args.places.now c.places.place-index c.places-test.true c.places.invariant.copies;
+      ∙ place_more c.places.copy.items c.args.values.now c.args.places.now c.places.place-index c.places-test.true c.places.invariant.copies;
 }

@@ -27,16 +27,19 @@ pub columns-preserved : goal.columns-preserved
 columns-preserved c = record {
   placed = omega (arith, word_within (is_word comma) (map (λ t. t.text.now) c.args.tokens.now) (c.columns.place + 1) (sym c.if-not-is_word_at-3.ensures), length-map c.args.tokens.now (λ t. t.text.now));
   statement = c.columns.invariant.statement
-    ∙ column_then c.columns.columns.items (map (λ t. t.text.now) c.args.tokens.now) c.columns.place c.in-Some.column (sym c.in_ok-column.ensures ∙ c.in-Some.is)
-    ∙ comma_then (c.columns.columns.items ++ c.in-Some.column ∷ []) (map (λ t. t.text.now) c.args.tokens.now) (c.columns.place + 1) (sym c.if-not-is_word_at-3.ensures)
-    ∙ ap (λ l. select_list l (drop (c.columns.place + 1 + 1) (map (λ t. t.text.now) c.args.tokens.now))) (sym c.in_ok-push_column.ensures);
+      ∙ column_then c.columns.columns.items (map (λ t. t.text.now) c.args.tokens.now) c.columns.place c.in-Some.column (sym c.in_ok-column.ensures ∙ c.in-Some.is)
+      ∙ comma_then (c.columns.columns.items ++ c.in-Some.column ∷ []) (map (λ t. t.text.now) c.args.tokens.now) (c.columns.place + 1) (sym c.if-not-is_word_at-3.ensures)
+      ∙ ap (λ l. select_list l (drop (c.columns.place + 1 + 1) (map (λ t. t.text.now) c.args.tokens.now))) (sym c.in_ok-push_column.ensures);
 }
 
 -- src/statement.rt:231:9
 pub returns-then-not-is_word_at-4-clause-fault : goal.returns-then-not-is_word_at-4-clause-fault
-returns-then-not-is_word_at-4-clause-fault c other = (c.unexpected-then-not-is_word_at-4.ensures, c.columns.invariant.statement
-    ∙ column_then c.columns.columns.items (map (λ t. t.text.now) c.args.tokens.now) c.columns.place c.in-Some.column (sym c.in_ok-column.ensures ∙ c.in-Some.is)
-    ∙ neither_then (c.columns.columns.items ++ c.in-Some.column ∷ []) (map (λ t. t.text.now) c.args.tokens.now) (c.columns.place + 1) (sym c.if-not-is_word_at-3.ensures) (sym c.if-not-is_word_at-4.ensures))
+returns-then-not-is_word_at-4-clause-fault c other = (
+  c.unexpected-then-not-is_word_at-4.ensures,
+  c.columns.invariant.statement
+      ∙ column_then c.columns.columns.items (map (λ t. t.text.now) c.args.tokens.now) c.columns.place c.in-Some.column (sym c.in_ok-column.ensures ∙ c.in-Some.is)
+      ∙ neither_then (c.columns.columns.items ++ c.in-Some.column ∷ []) (map (λ t. t.text.now) c.args.tokens.now) (c.columns.place + 1) (sym c.if-not-is_word_at-3.ensures) (sym c.if-not-is_word_at-4.ensures),
+)
 
 -- past `from`
 after : (c : goal.After-read_table) → statement_of (map (λ t. t.text.now) c.args.tokens.now) ≡ from_table c.push_column.new.columns.items (drop (c.columns.place + 1 + 1) (map (λ t. t.text.now) c.args.tokens.now))

@@ -16,5 +16,5 @@ returns-then-past-tokens-clause-fault c other = (c.unexpected-then-past-tokens.e
 pub returns-clause-statement : goal.returns-clause-statement
 returns-clause-statement c =
     at_end c.args.columns.items (map (λ t. t.text.now) c.args.tokens.now) c.args.place c.in-Some.table (sym c.in_ok-table.ensures ∙ c.in-Some.is)
-      (omega (arith, c.if-past-tokens.false, c.past_semicolon-past.ensures, length-map c.args.tokens.now (λ t. t.text.now)))
+    (omega (arith, c.if-past-tokens.false, c.past_semicolon-past.ensures, length-map c.args.tokens.now (λ t. t.text.now)))
     ∙ rw c.of.ensures refl

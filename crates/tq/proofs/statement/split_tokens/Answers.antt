@@ -16,7 +16,7 @@ pub bytes-preserved : goal.bytes-preserved
 bytes-preserved c = record {
   begun = omega arith;
   texts =
-    ap (λ l. l ++ tokens_after (take (c.bytes.place + 1 - (c.bytes.place + 1)) (drop (c.bytes.place + 1) c.args.bytes.now)) (drop (c.bytes.place + 1) c.args.bytes.now))
+      ap (λ l. l ++ tokens_after (take (c.bytes.place + 1 - (c.bytes.place + 1)) (drop (c.bytes.place + 1) c.args.bytes.now)) (drop (c.bytes.place + 1) c.args.bytes.now))
       (c.in_ok-push_byte.ensures ∙ ap (λ l. l ++ byte_token (get_or c.args.bytes.now c.bytes.place 0)) c.in_ok-push_word.ensures)
-    ∙ word_ends c.args.bytes.now c.bytes.start c.bytes.place (get_or c.args.bytes.now c.bytes.place 0) (map (λ t. t.text.now) c.bytes.tokens.items) c.bytes.invariant.begun c.bytes-test.true refl (sym c.goes_on.ensures ∙ c.if-goes_on.false) c.bytes.invariant.texts;
+      ∙ word_ends c.args.bytes.now c.bytes.start c.bytes.place (get_or c.args.bytes.now c.bytes.place 0) (map (λ t. t.text.now) c.bytes.tokens.items) c.bytes.invariant.begun c.bytes-test.true refl (sym c.goes_on.ensures ∙ c.if-goes_on.false) c.bytes.invariant.texts;
 }
