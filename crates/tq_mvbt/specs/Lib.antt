@@ -1,0 +1,6 @@
+pub mod NodeState
+pub mod Points
+pub mod Shape
+pub mod Steps
+pub mod Copies
+pub mod Loose

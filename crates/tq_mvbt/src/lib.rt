@@ -1,0 +1,15 @@
+//! A multiversion B-tree: the keys that live at any version, after Becker, Gschwind, Ohler, Seeger and
+//! Widmayer 1996, with numbers of this project.
+//!
+//! Each `insert` and each `delete` has a version of its own, and the tree answers for every version up to
+//! the last one. A node holds up to 32 entries and a region, a range of keys over an interval of versions;
+//! at each version the regions of the leaves tile the keys. A change first reserves every node that it can
+//! need, and then can't fail. What stands on a `Tree` is its one invariant, `IsTree` of specs/Tree.antt.
+#![tactic(auto)]
+
+mod entry;
+mod node;
+mod replace;
+mod steps;
+
+pub use node::{Link, Node};
