@@ -17,3 +17,4 @@ pub mod Settled
 pub mod Parents
 pub mod Grown
 pub mod Rising
+pub mod Leaves

@@ -127,3 +127,13 @@ pub record IsStanding (level : ℕ) (nodes : List NodeState) (number : ℕ) : Ty
   pub stands : slice_get nodes number ≡ Some node
   pub at_level : node.level ≡ level
   pub died : node.died ≡ now
+
+-- the nodes of a tree before an update, whose key never lived where it is to live
+pub record IsReady (version key : ℕ) (alive : Bool) (nodes : List NodeState) : Type 0 where
+  pub before : ℕ
+  pub lives : ℕ → ℕ → Bool
+  pub height : ℕ → ℕ
+  pub later : before < version
+  pub never : alive ≡ true → (v : ℕ) → lives key v ≡ false
+  pub forest : IsForest before lives height nodes
+  pub filled : All IsFilled nodes

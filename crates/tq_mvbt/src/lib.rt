@@ -11,5 +11,6 @@ mod entry;
 mod node;
 mod replace;
 mod steps;
+mod update;
 
 pub use node::{Link, Node};
