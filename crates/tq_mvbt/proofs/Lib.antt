@@ -18,3 +18,4 @@ pub mod Parents
 pub mod Grown
 pub mod Rising
 pub mod Leaves
+pub mod Roots

@@ -8,7 +8,7 @@ use Rattle.std.proofs.lemmas.List.Sums.{sum_by-append, sum_by-cons}
 use Rattle.tq_mvbt.specs.declared.entry.Entry.{Entry}
 use Rattle.tq_mvbt.specs.NodeState.{NodeState}
 use Rattle.tq_mvbt.specs.Points.{now, within}
-use Rattle.tq_mvbt.specs.Shape.{top, tally, at_point, Tiles, IsBranch, IsNode, IsForest}
+use Rattle.tq_mvbt.specs.Shape.{top, tally, at_point, Tiles, IsBranch, IsNode, IsForest, raised}
 use Rattle.tq_mvbt.specs.Steps.{retired, fresh}
 use Rattle.tq_mvbt.specs.Copies.{IsInside, IsCopy}
 use Rattle.tq_mvbt.proofs.Lists.{all_at, all_both}
@@ -17,10 +17,6 @@ use Rattle.tq_mvbt.proofs.Laws.{node_begins}
 use Rattle.tq_mvbt.proofs.Copies.{ended_node, begun}
 use Rattle.tq_mvbt.proofs.Ending.{IsEnding}
 use Rattle.tq_mvbt.proofs.Replaced.{IsLater, IsEntryFor, IsMade, node_moves, branch_stays}
-
--- the height from a version on
-abbrev pub raised : (ℕ → ℕ) → ℕ → ℕ → ℕ → ℕ
-raised height version levels v = cond (nat_le version v) levels (height v)
 
 module _ (version : ℕ) (lives : ℕ → ℕ → Bool) (height : ℕ → ℕ) (level : ℕ) (old mid more : List NodeState) (ended : ℕ → Bool)
     (small : version < now)

@@ -4,3 +4,4 @@ pub mod Shape
 pub mod Steps
 pub mod Copies
 pub mod Loose
+pub mod Directory

@@ -2,7 +2,7 @@
 use Rattle.std.specs.Prelude.{◌≡◌, ◌≢◌, ℕ, ◌+◌, ◌-◌, ◌<◌, ◌≤◌, Bool, true, false, List, All, take, drop, length, slice_get, Some, ◌⊎◌, count_by}
 use Rattle.tq_mvbt.specs.NodeState.{NodeState}
 use Rattle.tq_mvbt.specs.Points.{now, within, is_live}
-use Rattle.tq_mvbt.specs.Shape.{top, IsForest, IsEnough, IsFilled, live_at, with_life}
+use Rattle.tq_mvbt.specs.Shape.{top, IsForest, IsEnough, IsFilled, live_at, with_life, raised}
 
 -- a node from before the version, whose last entries, and no others, began at the version
 pub record IsFromBefore (version last : ℕ) (n : NodeState) : Type 0 where
@@ -137,3 +137,9 @@ pub record IsReady (version key : ℕ) (alive : Bool) (nodes : List NodeState) :
   pub never : alive ≡ true → (v : ℕ) → lives key v ≡ false
   pub forest : IsForest before lives height nodes
   pub filled : All IsFilled nodes
+
+-- a tree that was so many levels high from the version on is now as high as given from there on
+abbrev pub HeightChanges : ℕ → ℕ → ℕ → List NodeState → List NodeState → Type 0
+HeightChanges version levels levels' old new =
+    (lives : ℕ → ℕ → Bool) (height : ℕ → ℕ) → ((v : ℕ) → version ≤ v → v < now → height v ≡ levels)
+    → IsForest version lives height old → IsForest version lives (raised height version levels') new

@@ -104,3 +104,7 @@ pub record IsFound (nodes : List NodeState) (level key number : ℕ) : Type 0 wh
 -- the lives, where the key's from the version on is as the test says
 abbrev pub with_life : (ℕ → ℕ → Bool) → ℕ → ℕ → Bool → ℕ → ℕ → Bool
 with_life lives key version alive k v = cond (nat_eq k key && nat_le version v) alive (lives k v)
+
+-- the height, where from the version on it is as given
+abbrev pub raised : (ℕ → ℕ) → ℕ → ℕ → ℕ → ℕ
+raised height version levels v = cond (nat_le version v) levels (height v)

@@ -10,6 +10,7 @@
 mod entry;
 mod node;
 mod replace;
+mod root;
 mod steps;
 mod update;
 
