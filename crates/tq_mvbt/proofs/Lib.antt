@@ -19,3 +19,8 @@ pub mod Grown
 pub mod Rising
 pub mod Leaves
 pub mod Roots
+pub mod Known
+pub mod Among
+pub mod Heights
+pub mod Lifetimes
+pub mod Trees

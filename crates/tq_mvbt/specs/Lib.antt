@@ -5,3 +5,4 @@ pub mod Steps
 pub mod Copies
 pub mod Loose
 pub mod Directory
+pub mod TreeState

@@ -12,6 +12,8 @@ mod node;
 mod replace;
 mod root;
 mod steps;
+mod tree;
 mod update;
 
 pub use node::{Link, Node};
+pub use tree::Tree;
