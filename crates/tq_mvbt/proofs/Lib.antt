@@ -24,3 +24,4 @@ pub mod Among
 pub mod Heights
 pub mod Lifetimes
 pub mod Trees
+pub mod Leafward

@@ -6,3 +6,4 @@ pub mod Copies
 pub mod Loose
 pub mod Directory
 pub mod TreeState
+pub mod Regions

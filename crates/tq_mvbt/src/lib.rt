@@ -9,6 +9,8 @@
 
 mod entry;
 mod node;
+mod numbers;
+mod region;
 mod replace;
 mod root;
 mod steps;
@@ -16,4 +18,6 @@ mod tree;
 mod update;
 
 pub use node::{Link, Node};
+pub use numbers::NodeNos;
+pub use region::Region;
 pub use tree::Tree;

@@ -4,9 +4,11 @@ ghost use Rattle.std.specs.Prelude.{◌≡◌, ◌≢◌, ℕ, ◌+◌, ◌<◌,
 ghost use Rattle.std.specs.Option.{option_to_list};
 ghost use Rattle.tq_mvbt.specs.Shape.{with_life};
 ghost use Rattle.tq_mvbt.specs.Directory.{root_of};
+ghost use Rattle.tq_mvbt.specs.Regions.{regions_from};
 ghost use Rattle.tq_mvbt.specs.TreeState.{lives_of, HasLife, IsTree, IsRootAt};
 
 use crate::node::Node;
+use crate::region::{Region, regions};
 use crate::root::{Root, TOP, find_root, leaf_of, settle_root};
 use crate::update::update;
 use std::alloc::{AllocError, Global};
@@ -155,6 +157,15 @@ impl Tree {
         )?;
         self.version = version;
         Ok(())
+    }
+
+    /// The regions of the leaves in the order of their numbers; the meter counts at least one read a leaf.
+    /// Out of memory: nothing is given.
+    pub fn leaf_regions(&self, meter: &mut Meter) -> Result<Vec<Region>, AllocError>
+        ensures regions { IfOk result (λ rs. rs.items ≡ regions_from 0 self.now.nodes) }
+        ensures counted { IfOk result (λ rs. min (meter.old + length rs.items) u64.MAX ≤ meter.new) }
+    {
+        regions(self.alloc, &self.nodes, meter)
     }
 }
 
