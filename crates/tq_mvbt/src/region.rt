@@ -1,6 +1,6 @@
 //! The regions of the leaves.
 
-ghost use Rattle.std.specs.Prelude.{◌≡◌, ◌+◌, ◌≤◌, length, min, IfOk};
+ghost use Rattle.std.specs.Prelude.{◌≡◌, ◌+◌, ◌<◌, ◌≤◌, length, min, All, IfOk};
 ghost use Rattle.tq_mvbt.specs.Regions.{region_for, regions_from};
 
 use crate::node::Node;
@@ -26,7 +26,7 @@ pub struct Region {
 }
 
 // The region of a leaf.
-fn region_of(alloc: Global, number: u32, node: &Node) -> Region
+fn region_at(alloc: Global, number: u32, node: &Node) -> Region
     ensures { result ≡ region_for number node.now }
 {
     Region {
@@ -46,13 +46,14 @@ pub(crate) fn regions(
     meter: &mut Meter,
 ) -> Result<Vec<Region>, AllocError>
     ensures regions { IfOk result (λ rs. rs.items ≡ regions_from 0 nodes.now.nodes) }
+    ensures in_range { IfOk result (λ rs. All (λ r. r.node.0 < length nodes.now.nodes) rs.items) }
     ensures counted { IfOk result (λ rs. min (meter.old + length rs.items) u64.MAX ≤ meter.new) }
 {
     let mut found = Vec::new(alloc);
     for i in 0..nodes.len() {
         let node = nodes.read(NodeNo(i), meter);
         if node.is_leaf() {
-            found.push(region_of(alloc, i, node))?;
+            found.push(region_at(alloc, i, node))?;
         }
     }
     Ok(found)

@@ -1,6 +1,6 @@
 //! The tree and its calls.
 
-ghost use Rattle.std.specs.Prelude.{◌≡◌, ◌≢◌, ℕ, ◌+◌, ◌<◌, ◌≤◌, ◌++◌, ◌^◌, true, false, length, min, slice_get, Some, IsTrue, ◌↔◌, OnOk, OnErr, IfOk, vec_len, vec_capacity};
+ghost use Rattle.std.specs.Prelude.{◌≡◌, ◌≢◌, ℕ, ◌+◌, ◌<◌, ◌≤◌, ◌++◌, ◌^◌, true, false, length, min, slice_get, Some, IsTrue, ◌↔◌, OnOk, OnErr, IfOk, All, vec_len, vec_capacity};
 ghost use Rattle.std.specs.Option.{option_to_list};
 ghost use Rattle.tq_mvbt.specs.Shape.{with_life};
 ghost use Rattle.tq_mvbt.specs.Directory.{root_of};
@@ -163,6 +163,7 @@ impl Tree {
     /// Out of memory: nothing is given.
     pub fn leaf_regions(&self, meter: &mut Meter) -> Result<Vec<Region>, AllocError>
         ensures regions { IfOk result (λ rs. rs.items ≡ regions_from 0 self.now.nodes) }
+        ensures in_range { IfOk result (λ rs. All (λ r. r.node.0 < length self.now.nodes) rs.items) }
         ensures counted { IfOk result (λ rs. min (meter.old + length rs.items) u64.MAX ≤ meter.new) }
     {
         regions(self.alloc, &self.nodes, meter)
