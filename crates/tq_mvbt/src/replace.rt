@@ -80,6 +80,7 @@ fn key_beside(node: &Node, above: &Node) -> u128
     ensures low { above.now.low ≤ result }
     ensures high { result < above.now.high }
     ensures side { (result ≡ node.now.high) ⊎ (result + 1 ≡ node.now.low) }
+    ensures right { node.now.high < above.now.high → result ≡ node.now.high }
 {
     if node.high() < above.high() {
         node.high()

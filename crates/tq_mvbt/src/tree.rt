@@ -124,13 +124,11 @@ impl Tree {
         apply(
             &mut self.nodes,
             &mut self.roots,
-            self.version,
+            &mut self.version,
             key,
             version,
             true,
-        )?;
-        self.version = version;
-        Ok(())
+        )
     }
 
     /// The key is dead from the version on.
@@ -150,13 +148,11 @@ impl Tree {
         apply(
             &mut self.nodes,
             &mut self.roots,
-            self.version,
+            &mut self.version,
             key,
             version,
             false,
-        )?;
-        self.version = version;
-        Ok(())
+        )
     }
 
     /// The regions of the leaves in the order of their numbers; the meter counts at least one read a leaf.
@@ -184,28 +180,31 @@ fn push_root(roots: &mut Vec<Root>, next: Option<Root>)
 fn apply(
     nodes: &mut Arena<Node>,
     roots: &mut Vec<Root>,
-    before: u32,
+    last_version: &mut u32,
     key: u128,
     version: u32,
     alive: bool,
 ) -> Result<(), AllocError>
-    requires tree { IsTree before nodes.old.nodes roots.old.items }
-    requires later { before < version }
+    requires tree { IsTree last_version.old nodes.old.nodes roots.old.items }
+    requires later { last_version.old < version }
     requires small { version ≤ 16777216 }
     requires key { key < 79228162514264337593543950336 }
     requires never { alive ≡ true → (v : ℕ) → lives_of nodes.old.nodes key v ≡ false }
     ensures tree { OnOk result (IsTree version nodes.new.nodes roots.new.items) }
+    ensures version { OnOk result (last_version.new ≡ version) }
     ensures lives { OnOk result ((k v : ℕ) → k < 79228162514264337593543950336 → v < 4294967295 → lives_of nodes.new.nodes k v ≡ with_life (lives_of nodes.old.nodes) key version alive k v) }
     ensures others { OnOk result ((k v : ℕ) → k ≢ key → lives_of nodes.new.nodes k v ≡ lives_of nodes.old.nodes k v) }
     ensures past { OnOk result ((v : ℕ) → v < version → root_of roots.new.items v ≡ root_of roots.old.items v) }
     ensures nodes { OnErr result (nodes.new.nodes ≡ nodes.old.nodes) }
     ensures roots { OnErr result (roots.new.items ≡ roots.old.items) }
+    ensures same_version { OnErr result (last_version.new ≡ last_version.old) }
 {
-    let root = find_root(roots, before);
+    let root = find_root(roots, *last_version);
     nodes.reserve(2 * root.levels + 1)?;
     roots.reserve(1)?;
     let last = update(nodes, root.node, root.levels - 1, key, version, alive);
     let next = settle_root(nodes, root, last, version);
     push_root(roots, next);
+    *last_version = version;
     Ok(())
 }

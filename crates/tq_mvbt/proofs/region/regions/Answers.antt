@@ -23,11 +23,12 @@ loop-i-preserved c =
             ap (λ v. v.items) w.found-is ∙ index_more i nodes n c.loop-i.found.items c.read-node.ensures.node (λ z. let t = w.if-is_leaf.ensures.1 z in cc) inv.regions
       ];
       in_range = elim c.if-is_leaf.branch [
-          then-is_leaf+in_ok-push w ↦
+        | then-is_leaf+in_ok-push w ↦
             (let items : c.if-is_leaf.found.items ≡ c.loop-i.found.items ++ w.region_at.result ∷ [] = ap (λ v. v.items) w.found-is ∙ w.in_ok-push.ensures.items in
-             let here : w.region_at.result.node.0 < length nodes = (let a : w.region_at.result.node.0 ≡ i = ap (λ (r : Region). r.node.0) w.region_at.ensures in let b = slice_get_within nodes i n c.read-node.ensures.node in omega arith) in
-             rw items (All-append (λ (r : Region). r.node.0 < length nodes) c.loop-i.found.items (w.region_at.result ∷ []) inv.in_range (All-cons (λ (r : Region). r.node.0 < length nodes) w.region_at.result [] here (All-nil (λ (r : Region). r.node.0 < length nodes)))))
-        | else-is_leaf w ↦ subst (λ (rs : List Region). All (λ (r : Region). r.node.0 < length nodes) rs) (sym (ap (λ v. v.items) w.found-is)) inv.in_range ];
+            let here : w.region_at.result.node.0 < length nodes = (let a : w.region_at.result.node.0 ≡ i = ap (λ (r : Region). r.node.0) w.region_at.ensures in let b = slice_get_within nodes i n c.read-node.ensures.node in omega arith) in
+            rw items (All-append (λ (r : Region). r.node.0 < length nodes) c.loop-i.found.items (w.region_at.result ∷ []) inv.in_range (All-cons (λ (r : Region). r.node.0 < length nodes) w.region_at.result [] here (All-nil (λ (r : Region). r.node.0 < length nodes)))))
+        | else-is_leaf w ↦ subst (λ (rs : List Region). All (λ (r : Region). r.node.0 < length nodes) rs) (sym (ap (λ v. v.items) w.found-is)) inv.in_range
+      ];
       counted = (let a = inv.counted in let b = c.read-node.ensures.counted in omega arith);
       few = elim c.if-is_leaf.branch [
         | then-is_leaf+in_ok-push w ↦

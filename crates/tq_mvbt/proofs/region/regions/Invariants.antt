@@ -6,8 +6,8 @@ use Rattle.tq_mvbt.proofs.region.regions.Given as goal
 
 abbrev pub invariant-loop-i : goal.invariant-loop-i
 invariant-loop-i l = record {
-    regions : l.found.items ≡ regions_from 0 (take l.i l.nodes.nodes);
-    in_range : All (λ (r : Region). r.node.0 < length l.nodes.nodes) l.found.items;
-    counted : min (l.initial.meter + l.i) 18446744073709551615 ≤ l.meter;
-    few : length l.found.items ≤ l.i
-  }
+  regions : l.found.items ≡ regions_from 0 (take l.i l.nodes.nodes);
+  in_range : All (λ (r : Region). r.node.0 < length l.nodes.nodes) l.found.items;
+  counted : min (l.initial.meter + l.i) 18446744073709551615 ≤ l.meter;
+  few : length l.found.items ≤ l.i;
+}

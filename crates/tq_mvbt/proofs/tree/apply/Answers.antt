@@ -14,52 +14,52 @@ few before nodes roots r tree is = let s = tree.small in subst (λ (x : Root). x
 
 pub overflow_mul-root : goal.overflow_mul-root
 overflow_mul-root c =
-    let f = few c.args.before c.args.nodes.now.nodes c.args.roots.now.items c.find_root-root.result c.requires.tree (c.find_root-root.ensures ∙ ap (λ rs. root_of rs c.args.before) c.deref.ensures.value) in
+    let f = few c.args.last_version.now c.args.nodes.now.nodes c.args.roots.now.items c.find_root-root.result c.requires.tree (c.find_root-root.ensures ∙ ap (λ rs. root_of rs c.args.last_version.now) c.deref.ensures.value) in
     omega arith
 
 pub overflow_add-root : goal.overflow_add-root
 overflow_add-root c =
-    let f = few c.args.before c.args.nodes.now.nodes c.args.roots.now.items c.find_root-root.result c.requires.tree (c.find_root-root.ensures ∙ ap (λ rs. root_of rs c.args.before) c.deref.ensures.value) in
+    let f = few c.args.last_version.now c.args.nodes.now.nodes c.args.roots.now.items c.find_root-root.result c.requires.tree (c.find_root-root.ensures ∙ ap (λ rs. root_of rs c.args.last_version.now) c.deref.ensures.value) in
     omega arith
 
 pub reserve-requires : goal.reserve-requires
 reserve-requires c =
-    let f = few c.args.before c.args.nodes.now.nodes c.args.roots.now.items c.find_root-root.result c.requires.tree (c.find_root-root.ensures ∙ ap (λ rs. root_of rs c.args.before) c.deref.ensures.value) in
+    let f = few c.args.last_version.now c.args.nodes.now.nodes c.args.roots.now.items c.find_root-root.result c.requires.tree (c.find_root-root.ensures ∙ ap (λ rs. root_of rs c.args.last_version.now) c.deref.ensures.value) in
     let b = c.requires.tree.bounded in
     let s = c.requires.tree.small in
     omega arith
 
 pub update-last-requires-clause-found : goal.update-last-requires-clause-found
 update-last-requires-clause-found c =
-    let is : c.find_root-root.result ≡ root_of c.args.roots.now.items c.args.before = c.find_root-root.ensures ∙ ap (λ rs. root_of rs c.args.before) c.deref.ensures.value in
-    let found = root_found c.args.before c.args.nodes.now.nodes c.args.roots.now.items c.requires.tree c.args.key c.requires.key in
+    let is : c.find_root-root.result ≡ root_of c.args.roots.now.items c.args.last_version.now = c.find_root-root.ensures ∙ ap (λ rs. root_of rs c.args.last_version.now) c.deref.ensures.value in
+    let found = root_found c.args.last_version.now c.args.nodes.now.nodes c.args.roots.now.items c.requires.tree c.args.key c.requires.key in
     let here = subst (λ (r : Root). IsFound c.args.nodes.now.nodes (r.levels - 1) c.args.key r.node) (sym is) found in
     subst (λ (ns : List NodeState). IsFound ns (c.find_root-root.result.levels - 1) c.args.key c.find_root-root.result.node) (sym c.reserve.ensures.nodes) here
 
 pub settle_root-next-requires-clause-few_levels : goal.settle_root-next-requires-clause-few_levels
 settle_root-next-requires-clause-few_levels c =
-    let f = few c.args.before c.args.nodes.now.nodes c.args.roots.now.items c.find_root-root.result c.requires.tree (c.find_root-root.ensures ∙ ap (λ rs. root_of rs c.args.before) c.deref.ensures.value) in
+    let f = few c.args.last_version.now c.args.nodes.now.nodes c.args.roots.now.items c.find_root-root.result c.requires.tree (c.find_root-root.ensures ∙ ap (λ rs. root_of rs c.args.last_version.now) c.deref.ensures.value) in
     omega arith
 
 pub settle_root-next-requires-clause-whole : goal.settle_root-next-requires-clause-whole
 settle_root-next-requires-clause-whole c =
-    let is : c.find_root-root.result ≡ root_of c.args.roots.now.items c.args.before = c.find_root-root.ensures ∙ ap (λ rs. root_of rs c.args.before) c.deref.ensures.value in
+    let is : c.find_root-root.result ≡ root_of c.args.roots.now.items c.args.last_version.now = c.find_root-root.ensures ∙ ap (λ rs. root_of rs c.args.last_version.now) c.deref.ensures.value in
     let mid = c.update-last.new.nodes.nodes in
     let grows : Grows c.args.version (c.find_root-root.result.levels - 1) c.args.nodes.now.nodes mid = subst (λ (ns : List NodeState). Grows c.args.version (c.find_root-root.result.levels - 1) ns mid) c.reserve.ensures.nodes c.update-last.ensures.grows in
     subst (λ (r : Root). IsTop c.args.version mid r) (sym is)
-    (top_grows c.args.before c.args.nodes.now.nodes c.args.roots.now.items c.requires.tree c.args.version mid c.requires.later (subst (λ (r : Root). Grows c.args.version (r.levels - 1) c.args.nodes.now.nodes mid) is grows))
+    (top_grows c.args.last_version.now c.args.nodes.now.nodes c.args.roots.now.items c.requires.tree c.args.version mid c.requires.later (subst (λ (r : Root). Grows c.args.version (r.levels - 1) c.args.nodes.now.nodes mid) is grows))
 
 pub returns-clause-tree : goal.returns-clause-tree
 returns-clause-tree c =
     let nodes = c.args.nodes.now.nodes in
     let mid = c.update-last.new.nodes.nodes in
     let r = c.find_root-root.result in
-    let is : r ≡ root_of c.args.roots.now.items c.args.before = c.find_root-root.ensures ∙ ap (λ rs. root_of rs c.args.before) c.deref.ensures.value in
+    let is : r ≡ root_of c.args.roots.now.items c.args.last_version.now = c.find_root-root.ensures ∙ ap (λ rs. root_of rs c.args.last_version.now) c.deref.ensures.value in
     let keyed : KeyChanges c.args.version c.args.key c.args.alive nodes mid = subst (λ (ns : List NodeState). KeyChanges c.args.version c.args.key c.args.alive ns mid) c.reserve.ensures.nodes c.update-last.ensures.keyed in
     let grows : Grows c.args.version (r.levels - 1) nodes mid = subst (λ (ns : List NodeState). Grows c.args.version (r.levels - 1) ns mid) c.reserve.ensures.nodes c.update-last.ensures.grows in
     let len : length mid ≤ length nodes + 2 * (r.levels - 1) = subst (λ (ns : List NodeState). length mid ≤ length ns + 2 * (r.levels - 1)) c.reserve.ensures.nodes c.update-last.ensures.len in
     let s = c.settle_root-next.ensures in
-    let all = updated c.args.before c.args.version c.args.key c.args.alive nodes mid c.settle_root-next.new.nodes.nodes c.args.roots.now.items r c.settle_root-next.result
+    let all = updated c.args.last_version.now c.args.version c.args.key c.args.alive nodes mid c.settle_root-next.new.nodes.nodes c.args.roots.now.items r c.settle_root-next.result
     c.requires.tree c.requires.later c.requires.small c.requires.key c.requires.never is keyed grows len s.same s.height s.from s.top s.filled s.grows s.len in
     rw (c.push_root.ensures, c.reserve-2.ensures.items) all
 
@@ -68,12 +68,12 @@ returns-clause-lives c =
     let nodes = c.args.nodes.now.nodes in
     let mid = c.update-last.new.nodes.nodes in
     let r = c.find_root-root.result in
-    let is : r ≡ root_of c.args.roots.now.items c.args.before = c.find_root-root.ensures ∙ ap (λ rs. root_of rs c.args.before) c.deref.ensures.value in
+    let is : r ≡ root_of c.args.roots.now.items c.args.last_version.now = c.find_root-root.ensures ∙ ap (λ rs. root_of rs c.args.last_version.now) c.deref.ensures.value in
     let keyed : KeyChanges c.args.version c.args.key c.args.alive nodes mid = subst (λ (ns : List NodeState). KeyChanges c.args.version c.args.key c.args.alive ns mid) c.reserve.ensures.nodes c.update-last.ensures.keyed in
     let grows : Grows c.args.version (r.levels - 1) nodes mid = subst (λ (ns : List NodeState). Grows c.args.version (r.levels - 1) ns mid) c.reserve.ensures.nodes c.update-last.ensures.grows in
     let len : length mid ≤ length nodes + 2 * (r.levels - 1) = subst (λ (ns : List NodeState). length mid ≤ length ns + 2 * (r.levels - 1)) c.reserve.ensures.nodes c.update-last.ensures.len in
     let s = c.settle_root-next.ensures in
-    updated_lives c.args.before c.args.version c.args.key c.args.alive nodes mid c.settle_root-next.new.nodes.nodes c.args.roots.now.items r c.settle_root-next.result
+    updated_lives c.args.last_version.now c.args.version c.args.key c.args.alive nodes mid c.settle_root-next.new.nodes.nodes c.args.roots.now.items r c.settle_root-next.result
     c.requires.tree c.requires.later c.requires.small c.requires.key c.requires.never is keyed grows len s.same s.height s.from s.top s.filled s.grows s.len
 
 pub returns-clause-others : goal.returns-clause-others
@@ -81,12 +81,12 @@ returns-clause-others c =
     let nodes = c.args.nodes.now.nodes in
     let mid = c.update-last.new.nodes.nodes in
     let r = c.find_root-root.result in
-    let is : r ≡ root_of c.args.roots.now.items c.args.before = c.find_root-root.ensures ∙ ap (λ rs. root_of rs c.args.before) c.deref.ensures.value in
+    let is : r ≡ root_of c.args.roots.now.items c.args.last_version.now = c.find_root-root.ensures ∙ ap (λ rs. root_of rs c.args.last_version.now) c.deref.ensures.value in
     let keyed : KeyChanges c.args.version c.args.key c.args.alive nodes mid = subst (λ (ns : List NodeState). KeyChanges c.args.version c.args.key c.args.alive ns mid) c.reserve.ensures.nodes c.update-last.ensures.keyed in
     let grows : Grows c.args.version (r.levels - 1) nodes mid = subst (λ (ns : List NodeState). Grows c.args.version (r.levels - 1) ns mid) c.reserve.ensures.nodes c.update-last.ensures.grows in
     let len : length mid ≤ length nodes + 2 * (r.levels - 1) = subst (λ (ns : List NodeState). length mid ≤ length ns + 2 * (r.levels - 1)) c.reserve.ensures.nodes c.update-last.ensures.len in
     let s = c.settle_root-next.ensures in
-    updated_others c.args.before c.args.version c.args.key c.args.alive nodes mid c.settle_root-next.new.nodes.nodes c.args.roots.now.items r c.settle_root-next.result
+    updated_others c.args.last_version.now c.args.version c.args.key c.args.alive nodes mid c.settle_root-next.new.nodes.nodes c.args.roots.now.items r c.settle_root-next.result
     c.requires.tree c.requires.later c.requires.small c.requires.key c.requires.never is keyed grows len s.same s.height s.from s.top s.filled s.grows s.len
 
 pub returns-clause-past : goal.returns-clause-past
@@ -94,11 +94,11 @@ returns-clause-past c =
     let nodes = c.args.nodes.now.nodes in
     let mid = c.update-last.new.nodes.nodes in
     let r = c.find_root-root.result in
-    let is : r ≡ root_of c.args.roots.now.items c.args.before = c.find_root-root.ensures ∙ ap (λ rs. root_of rs c.args.before) c.deref.ensures.value in
+    let is : r ≡ root_of c.args.roots.now.items c.args.last_version.now = c.find_root-root.ensures ∙ ap (λ rs. root_of rs c.args.last_version.now) c.deref.ensures.value in
     let keyed : KeyChanges c.args.version c.args.key c.args.alive nodes mid = subst (λ (ns : List NodeState). KeyChanges c.args.version c.args.key c.args.alive ns mid) c.reserve.ensures.nodes c.update-last.ensures.keyed in
     let grows : Grows c.args.version (r.levels - 1) nodes mid = subst (λ (ns : List NodeState). Grows c.args.version (r.levels - 1) ns mid) c.reserve.ensures.nodes c.update-last.ensures.grows in
     let len : length mid ≤ length nodes + 2 * (r.levels - 1) = subst (λ (ns : List NodeState). length mid ≤ length ns + 2 * (r.levels - 1)) c.reserve.ensures.nodes c.update-last.ensures.len in
     let s = c.settle_root-next.ensures in
-    let all = updated_roots c.args.before c.args.version c.args.key c.args.alive nodes mid c.settle_root-next.new.nodes.nodes c.args.roots.now.items r c.settle_root-next.result
+    let all = updated_roots c.args.last_version.now c.args.version c.args.key c.args.alive nodes mid c.settle_root-next.new.nodes.nodes c.args.roots.now.items r c.settle_root-next.result
     c.requires.tree c.requires.later c.requires.small c.requires.key c.requires.never is keyed grows len s.same s.height s.from s.top s.filled s.grows s.len in
     rw (c.push_root.ensures, c.reserve-2.ensures.items) all
