@@ -2,3 +2,8 @@
 .PHONY: test
 test:
 	rt ci
+
+# Times the tree beside a BTreeMap of the standard library.
+.PHONY: bench
+bench:
+	bench/tree.sh
