@@ -13,7 +13,7 @@ use Rattle.tq_mvbt.specs.Shape.{tally, listed, IsRow, IsBranch, IsPlaced, IsNode
 use Rattle.tq_mvbt.specs.Steps.{fresh, retired, IsDivided}
 use Rattle.tq_mvbt.specs.Copies.{IsInside, IsCopy}
 use Rattle.tq_mvbt.proofs.Lists.{all_both}
-use Rattle.tq_mvbt.proofs.Laws.{IsMarked, covers-filter_live, covers-elsewhere}
+use Rattle.tq_mvbt.proofs.Losses.{IsMarked, covers-filter_live, covers-elsewhere}
 
 -- ---- a node begins with what was copied
 

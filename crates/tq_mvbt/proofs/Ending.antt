@@ -9,7 +9,7 @@ use Rattle.tq_mvbt.specs.Points.{now, within, holds}
 use Rattle.tq_mvbt.specs.Shape.{top, tally, at_point, Tiles}
 use Rattle.tq_mvbt.specs.Steps.{retired}
 use Rattle.tq_mvbt.proofs.Places.{at_set_same, at_set_other, two_pass}
-use Rattle.tq_mvbt.proofs.Laws.{node_ends}
+use Rattle.tq_mvbt.proofs.Losses.{node_ends}
 
 -- a point lies in one node of a level
 pub unique : (height : ℕ → ℕ) (nodes : List NodeState) (i j : ℕ) (m n : NodeState) (k v : ℕ) → Tiles height nodes → k < top → v < now → slice_get nodes i ≡ Some m → slice_get nodes j ≡ Some n → m.level ≡ n.level → holds k v m ≡ true → holds k v n ≡ true → i ≡ j

@@ -127,6 +127,33 @@ module _ (version : ℕ) (lives : ℕ → ℕ → Bool) (height : ℕ → ℕ) (
             let x = b.low in let y = b.high in let a = p.high in
             rw (sym x, sym y) (g (inr (omega arith)))
 
+    -- a live entry of an index node has not all of its keys, since another one lives
+    pub narrower_at : (i : ℕ) (n : NodeState) → slice_get nodes i ≡ Some n → within n.born n.died v ≡ true → 0 < n.level → (j : ℕ) (f : Entry) → slice_get n.entries j ≡ Some f → within f.born f.dead v ≡ true → (n.low < f.low) ⊎ (f.high < n.high)
+    narrower_at i n e alive index j f g t = split (nat_lt n.low f.low) (nat_lt f.high n.high) refl refl
+      where
+        alone : f.low ≤ n.low → n.high ≤ f.high → (m : ℕ) (x : Entry) → slice_get n.entries m ≡ Some x → within x.born x.dead v ≡ true → (b : Bool) → nat_eq m j ≡ b → m ≡ j
+        alone z1 z2 m x h u true s = grind (arith, nat_tests)
+        alone z1 z2 m x h u false s =
+            let node = each i n e in
+            let differ : m ≢ j = grind (arith, nat_tests) in
+            let p = all_at (IsPlaced version n) n.entries m x node.placed h in
+            let a = p.low in
+            let b = p.wide in
+            let c = p.high in
+            let held : holds x.low v n ≡ true = (let i1 : within n.low n.high x.low ≡ true = grind (arith, nat_tests) in rw (i1, alive) refl) in
+            let mine : covers x.low v x ≡ true = (let i1 : within x.low x.high x.low ≡ true = grind (arith, nat_tests) in rw (i1, u) refl) in
+            let its : covers x.low v f ≡ true = (let i1 : within f.low f.high x.low ≡ true = grind (arith, nat_tests) in rw (i1, t) refl) in
+            absurd (omega (arith, two_pass (covers x.low v) n.entries m j x f differ h g mine its, node.lists x.low v held, listed_most lives n.level x.low v))
+
+        split : (a b : Bool) → nat_lt n.low f.low ≡ a → nat_lt f.high n.high ≡ b → (n.low < f.low) ⊎ (f.high < n.high)
+        split true b s u = inl (grind (arith, nat_tests))
+        split false true s u = inr (grind (arith, nat_tests))
+        split false false s u =
+            let two = ((all_at IsFilled nodes i n filled e).enough v alive).index index in
+            let z1 : f.low ≤ n.low = grind (arith, nat_tests) in
+            let z2 : n.high ≤ f.high = grind (arith, nat_tests) in
+            absurd (omega (arith, two, count_one (λ x. within x.born x.dead v) n.entries j (λ m x k w. alone z1 z2 m x k w (nat_eq m j) refl)))
+
     -- a root above leaves
     pub root_keys : v < now → (level i : ℕ) (n : NodeState) → slice_get nodes i ≡ Some n → n.level ≡ suc level → within n.born n.died v ≡ true → n.low ≡ 0 → n.high ≡ top → 2 * 5 ^ (level + 1) ≤ among (living lives v) 0 top
     root_keys small level i n e l alive low high =
@@ -141,33 +168,12 @@ module _ (version : ℕ) (lives : ℕ → ℕ → Bool) (height : ℕ → ℕ) (
         times : (a b : ℕ) {c : ℕ} → 2 ≤ a → a * b ≤ c → 2 * b ≤ c
         times a b h g = grind arith
 
-        -- an entry with all keys would be the only one that lives
-        part_of : IsNode version lives nodes n → 2 ≤ live_at v n → (j : ℕ) (f : Entry) → slice_get n.entries j ≡ Some f → within f.born f.dead v ≡ true → (0 < f.low) ⊎ (f.high < top)
-        part_of node two j f g t = split (nat_lt 0 f.low) (nat_lt f.high top) refl refl
+        part_of : (j : ℕ) (f : Entry) → slice_get n.entries j ≡ Some f → within f.born f.dead v ≡ true → (0 < f.low) ⊎ (f.high < top)
+        part_of j f g t = part (narrower_at i n e alive (omega arith) j f g t)
           where
-            alone : f.low ≡ 0 → f.high ≡ top → (m : ℕ) (x : Entry) → slice_get n.entries m ≡ Some x → within x.born x.dead v ≡ true → (b : Bool) → nat_eq m j ≡ b → m ≡ j
-            alone z1 z2 m x h u true s = grind (arith, nat_tests)
-            alone z1 z2 m x h u false s =
-                let differ : m ≢ j = grind (arith, nat_tests) in
-                let p = all_at (IsPlaced version n) n.entries m x node.placed h in
-                let a = p.low in
-                let b = p.wide in
-                let c = p.high in
-                let held : holds x.low v n ≡ true = (let i1 : within n.low n.high x.low ≡ true = grind (arith, nat_tests) in rw (i1, alive) refl) in
-                let mine : covers x.low v x ≡ true = (let i1 : within x.low x.high x.low ≡ true = grind (arith, nat_tests) in rw (i1, u) refl) in
-                let its : covers x.low v f ≡ true = (let i1 : within f.low f.high x.low ≡ true = grind (arith, nat_tests) in rw (i1, t) refl) in
-                absurd (omega (arith, two_pass (covers x.low v) n.entries m j x f differ h g mine its, node.lists x.low v held, listed_most lives n.level x.low v))
-
-            split : (a b : Bool) → nat_lt 0 f.low ≡ a → nat_lt f.high top ≡ b → (0 < f.low) ⊎ (f.high < top)
-            split true b s u = inl (grind (arith, nat_tests))
-            split false true s u = inr (grind (arith, nat_tests))
-            split false false s u =
-                let p = all_at (IsPlaced version n) n.entries j f node.placed g in
-                let c = p.high in
-                let h = node.high in
-                let z1 : f.low ≡ 0 = grind (arith, nat_tests) in
-                let z2 : f.high ≡ top = grind (arith, nat_tests) in
-                absurd (omega (arith, two, count_one (λ e. within e.born e.dead v) n.entries j (λ m x k w. alone z1 z2 m x k w (nat_eq m j) refl)))
+            part : (n.low < f.low) ⊎ (f.high < n.high) → (0 < f.low) ⊎ (f.high < top)
+            part (inl h) = inl (omega arith)
+            part (inr h) = inr (omega arith)
 
         all_parts : IsNode version lives nodes n → 2 ≤ live_at v n → v < n.died → All (λ f. within f.born f.dead v ≡ true → 5 ^ (level + 1) ≤ among (living lives v) f.low (f.high - f.low)) n.entries
         all_parts node two d =
@@ -175,7 +181,7 @@ module _ (version : ℕ) (lives : ℕ → ℕ → Bool) (height : ℕ → ℕ) (
             let b = all_at (IsBranch nodes n) n.entries j f (node.branches (omega arith)) g in
             let x = b.low in
             let y = b.high in
-            let keys = many_keys level f.child b.child b.stands (let z = b.level in omega arith) (child_alive n d f b t) (narrow f b (part_of node two j f g t)) in
+            let keys = many_keys level f.child b.child b.stands (let z = b.level in omega arith) (child_alive n d f b t) (narrow f b (part_of j f g t)) in
             let keys' : 5 ^ (level + 1) ≤ among (living lives v) f.low (b.child.high - f.low) = subst (λ z. 5 ^ (level + 1) ≤ among (living lives v) z (b.child.high - z)) x keys in
             subst (λ z. 5 ^ (level + 1) ≤ among (living lives v) f.low (z - f.low)) y keys')
           where

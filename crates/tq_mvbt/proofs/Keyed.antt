@@ -13,7 +13,7 @@ use Rattle.tq_mvbt.specs.Steps.{edited, Changes}
 use Rattle.tq_arena.specs.Contents.{Contents}
 use Rattle.tq_mvbt.proofs.Lists.{all_at, all_both, count_alike}
 use Rattle.tq_mvbt.proofs.Places.{at_set_same, at_set_other, all_from_places}
-use Rattle.tq_mvbt.proofs.Laws.{is_beside, covers-ended_before, covers-ended_after}
+use Rattle.tq_mvbt.proofs.Losses.{is_beside, covers-ended_before, covers-ended_after}
 use Rattle.tq_mvbt.proofs.Ending.{unique}
 
 -- an entry of the key that begins at the version and lives

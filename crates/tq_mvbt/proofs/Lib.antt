@@ -1,5 +1,5 @@
 pub mod Lists
-pub mod Laws
+pub mod Losses
 pub mod Descent
 pub mod Divide
 pub mod Copies
@@ -24,4 +24,5 @@ pub mod Among
 pub mod Heights
 pub mod Lifetimes
 pub mod Trees
+pub mod Tiled
 pub mod Leafward

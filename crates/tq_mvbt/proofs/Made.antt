@@ -13,7 +13,7 @@ use Rattle.tq_arena.specs.Contents.{Contents}
 use Rattle.tq_mvbt.specs.Steps.{fresh, entry_for, PutsTwo, PutsNodes}
 use Rattle.tq_mvbt.specs.Copies.{IsInside, IsCopy}
 use Rattle.tq_mvbt.proofs.Places.{at_left, at_right}
-use Rattle.tq_mvbt.proofs.Laws.{node_begins, range_cut}
+use Rattle.tq_mvbt.proofs.Losses.{node_begins, range_cut}
 use Rattle.tq_mvbt.proofs.Copies.{begun, AreParts, parted}
 use Rattle.tq_mvbt.proofs.Replaced.{IsEntryFor, IsMade}
 

@@ -13,7 +13,7 @@ use Rattle.tq_mvbt.specs.Loose.{IsFromBefore, IsLoose, IsUnder, AreBeside, IsThi
 use Rattle.std.proofs.lemmas.List.Sorted.{IsPermutation-append_comm}
 use Rattle.std.proofs.lemmas.List.Sums.{count_by-le-length, length-filter}
 use Rattle.std.proofs.lemmas.Bool.Decides.{nat_tests}
-use Rattle.tq_mvbt.proofs.Laws.{range_cut}
+use Rattle.tq_mvbt.proofs.Losses.{range_cut}
 use Rattle.tq_mvbt.proofs.Lists.{all_at}
 use Rattle.tq_mvbt.proofs.Places.{at_set_other, at_left}
 use Rattle.tq_mvbt.proofs.Copies.{copied, joined, reordered}

@@ -13,7 +13,7 @@ use Rattle.tq_mvbt.specs.Steps.{retired, edited}
 use Rattle.tq_mvbt.specs.Copies.{IsInside}
 use Rattle.tq_mvbt.proofs.Lists.{all_at, all_both, count_alike}
 use Rattle.tq_mvbt.proofs.Places.{at_set_same, at_set_other, at_left, at_right, at_append, all_from_places}
-use Rattle.tq_mvbt.proofs.Laws.{is_beside, covers-ended_before, covers-ended_after}
+use Rattle.tq_mvbt.proofs.Losses.{is_beside, covers-ended_before, covers-ended_after}
 use Rattle.tq_mvbt.proofs.Descent.{child_stands}
 use Rattle.tq_mvbt.proofs.Copies.{ended_node}
 use Rattle.tq_mvbt.proofs.Ending.{unique, IsEnding}

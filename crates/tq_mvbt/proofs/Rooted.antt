@@ -13,7 +13,7 @@ use Rattle.tq_mvbt.specs.Steps.{retired, fresh}
 use Rattle.tq_mvbt.specs.Copies.{IsInside, IsCopy}
 use Rattle.tq_mvbt.proofs.Lists.{all_at, all_both}
 use Rattle.tq_mvbt.proofs.Places.{at_left, at_right, at_append, all_from_places, one_passes}
-use Rattle.tq_mvbt.proofs.Laws.{node_begins}
+use Rattle.tq_mvbt.proofs.Losses.{node_begins}
 use Rattle.tq_mvbt.proofs.Copies.{ended_node, begun}
 use Rattle.tq_mvbt.proofs.Ending.{IsEnding}
 use Rattle.tq_mvbt.proofs.Replaced.{IsLater, IsEntryFor, IsMade, node_moves, branch_stays}

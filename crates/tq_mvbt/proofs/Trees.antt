@@ -366,7 +366,7 @@ module _ (before version key : ℕ) (alive : Bool) (nodes mid new : List NodeSta
 -- one key lives from a version on, or up to one
 pub life_begins : (version key : ℕ) (nodes new : List NodeState) → version < now → key < top → ((v : ℕ) → lives_of nodes key v ≡ false) → ((k v : ℕ) → k < top → v < now → lives_of new k v ≡ with_life (lives_of nodes) key version true k v) → HasLife new key version now
 life_begins version key nodes new small kt never are =
-    record { lived = small; lives = λ v h. are key v kt h ∙ this_life (lives_of nodes) key version v true ∙ at v h (nat_le version v) refl }
+    record { lived = small; ends = omega arith; lives = λ v h. are key v kt h ∙ this_life (lives_of nodes) key version v true ∙ at v h (nat_le version v) refl }
   where
     at : (v : ℕ) → v < now → (b : Bool) → nat_le version v ≡ b → cond b true (lives_of nodes key v) ≡ within version now v
     at v h true s = let on : within version now v ≡ true = grind (arith, nat_tests) in sym on
@@ -374,7 +374,7 @@ life_begins version key nodes new small kt never are =
 
 pub life_ends : (before version key born : ℕ) (nodes new : List NodeState) → before < version → version < now → key < top → lives_of nodes key before ≡ true → ((k v : ℕ) → k < top → v < now → lives_of new k v ≡ with_life (lives_of nodes) key version false k v) → HasLife nodes key born now → HasLife new key born version
 life_ends before version key born nodes new later small kt alive are life =
-    record { lived = born_before; lives = λ v h. are key v kt h ∙ this_life (lives_of nodes) key version v false ∙ at v h (nat_le version v) refl }
+    record { lived = born_before; ends = omega arith; lives = λ v h. are key v kt h ∙ this_life (lives_of nodes) key version v false ∙ at v h (nat_le version v) refl }
   where
     born_before : born < version
     born_before =

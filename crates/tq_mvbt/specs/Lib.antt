@@ -7,3 +7,4 @@ pub mod Loose
 pub mod Directory
 pub mod TreeState
 pub mod Regions
+pub mod Tiling

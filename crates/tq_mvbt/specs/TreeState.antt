@@ -24,6 +24,7 @@ lives_of (n ∷ nodes) k v = (nat_eq n.level 0 && holds k v n && nat_lt 0 (count
 -- never dead, that is the mark 4,294,967,295
 pub record HasLife (nodes : List NodeState) (key born dead : ℕ) : Type 0 where
   pub lived : born < dead
+  pub ends : dead ≤ now
   pub lives : (v : ℕ) → v < now → lives_of nodes key v ≡ within born dead v
 
 -- the number of levels at a version

@@ -8,6 +8,7 @@
 #![tactic(auto)]
 
 mod entry;
+mod laws;
 mod node;
 mod numbers;
 mod region;
@@ -17,6 +18,7 @@ mod steps;
 mod tree;
 mod update;
 
+pub use laws::trees_tile;
 pub use node::{Link, Node};
 pub use numbers::NodeNos;
 pub use region::Region;
