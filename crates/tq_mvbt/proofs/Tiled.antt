@@ -1,21 +1,18 @@
 -- Every tree tiles keys and versions.
-use Rattle.std.proofs.Common.{◌≡◌, ◌≢◌, ℕ, zero, suc, ◌+◌, ◌<◌, ◌≤◌, ◌⊎◌, inl, inr, ◌↔◌, Bool, true, false, cond, ◌&&◌, List, [], ◌∷◌, ap, refl, sym, ◌∙◌, subst, arith, count_by, nat_lt, nat_le, nat_eq, slice_get, Some, None, Option, max, lit<}
-use Rattle.std.specs.Prelude.{All}
+use Rattle.std.proofs.Common.{◌≡◌, ◌≢◌, ℕ, ◌+◌, ◌<◌, ◌≤◌, ◌⊎◌, inl, inr, Bool, true, false, cond, ◌&&◌, List, [], ◌∷◌, ap, refl, sym, ◌∙◌, subst, arith, count_by, nat_lt, nat_le, nat_eq, slice_get, Some, None, max, lit<}
 use Rattle.std.proofs.lemmas.Bool.Decides.{nat_tests}
-use Rattle.std.proofs.lemmas.List.Elements.{All-head, All-tail}
 use Rattle.std.proofs.lemmas.List.Sums.{sum_by-cons}
 use Rattle.tq_mvbt.specs.declared.entry.Entry.{Entry}
-use Rattle.tq_mvbt.specs.declared.region.Region.{Region}
 use Rattle.tq_mvbt.specs.declared.root.Root.{Root}
 use Rattle.tq_mvbt.specs.NodeState.{NodeState}
 use Rattle.tq_mvbt.specs.Points.{now, within, covers, holds, end_of}
-use Rattle.tq_mvbt.specs.Shape.{top, tally, at_point, listed, live_at, IsRow, IsBranch, IsPlaced, IsNode, IsForest, IsFilled}
+use Rattle.tq_mvbt.specs.Shape.{top, tally, at_point, live_at, IsRow, IsBranch, IsPlaced, IsNode, IsFilled}
 use Rattle.tq_mvbt.specs.Directory.{root_of}
-use Rattle.tq_mvbt.specs.TreeState.{lives_of, height_of, HasLife, IsRootAt, IsTree}
+use Rattle.tq_mvbt.specs.TreeState.{lives_of, height_of, HasLife, IsTree}
 use Rattle.tq_mvbt.specs.Regions.{region_for, regions_from}
 use Rattle.tq_mvbt.specs.Tiling.{before_end, region_holds, Lists, Meets, IsChildAt, IsTiling}
 use Rattle.tq_mvbt.proofs.Lists.{all_at}
-use Rattle.tq_mvbt.proofs.Places.{two_pass, one_passes}
+use Rattle.tq_mvbt.proofs.Places.{one_passes}
 use Rattle.tq_mvbt.proofs.Counts.{some_passes}
 use Rattle.tq_mvbt.proofs.Ending.{unique}
 use Rattle.tq_mvbt.proofs.Heights.{narrower_at}
@@ -166,8 +163,7 @@ module _ (version : ℕ) (nodes : List NodeState) (roots : List Root) (tree : Is
       let same = born_is i j n e born dead at leaf stands life in
       let a = p.begins in let b = p.lived in let c = node.ends in let l = life.lived in let d = p.ends in let x = life.ends in
       either_end e.born e.dead born dead n.died (λ v. lives_of nodes e.low v) r.life life.lives same b l node.ends p.ends life.ends known
-
-    -- ---- children
+      -- ---- children
 
   child_at : (i j v : ℕ) (n : NodeState) (e : Entry) → slice_get nodes i ≡ Some n → 0 < n.level → within n.born n.died v ≡ true → slice_get n.entries j ≡ Some e → within e.born e.dead v ≡ true → IsChildAt nodes n e v
   child_at i j v n e at index alive stands live =

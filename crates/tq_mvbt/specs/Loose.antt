@@ -1,4 +1,4 @@
--- The nodes while an update goes up: one node may have too many entries or too few.
+-- The nodes while an update goes up: one node may have too many entries or too few (this project's own).
 use Rattle.std.specs.Prelude.{◌≡◌, ◌≢◌, ℕ, ◌+◌, ◌-◌, ◌<◌, ◌≤◌, Bool, true, false, List, All, take, drop, length, slice_get, Some, ◌⊎◌, count_by}
 use Rattle.tq_mvbt.specs.NodeState.{NodeState}
 use Rattle.tq_mvbt.specs.Points.{now, within, is_live}
@@ -60,6 +60,12 @@ pub record IsAmple (nodes : List NodeState) (number : ℕ) : Type 0 where
   pub node : NodeState
   pub stands : slice_get nodes number ≡ Some node
   pub many : 8 ≤ count_by is_live node.entries
+
+-- a node with an entry over, or with too few live ones
+pub record NeedsChange (nodes : List NodeState) (number least : ℕ) : Type 0 where
+  pub node : NodeState
+  pub stands : slice_get nodes number ≡ Some node
+  pub unfit : (32 < length node.entries) ⊎ (count_by is_live node.entries < least)
 
 -- the node has some keys of the other's, and not all
 pub record IsPart (n above : NodeState) : Type 0 where

@@ -1,4 +1,5 @@
--- Points of a key and a version: which entries and nodes hold one, and what ends.
+-- Points of a key and a version: which entries and nodes hold one, and what ends (Becker et al. 1996; the
+-- mark of what lives now is this project's own).
 use Rattle.std.specs.Prelude.{◌≡◌, ℕ, Bool, List, nat_le, nat_lt, nat_eq, cond, ◌&&◌, slice_get, Some, None, Option, true}
 use Rattle.tq_mvbt.specs.declared.entry.Entry.{Entry}
 use Rattle.tq_mvbt.specs.NodeState.{NodeState}

@@ -1,4 +1,5 @@
--- What a list of nodes has to be for a tree of versions. It speaks of points, each a key and a version.
+-- What a list of nodes has to be for a tree of versions. It speaks of points, each a key and a version
+-- (Becker et al. 1996, with 32 entries a node and 5 live ones).
 use Rattle.std.specs.Prelude.{◌≡◌, ℕ, ◌+◌, ◌<◌, ◌≤◌, Bool, true, List, nat_le, nat_lt, nat_eq, cond, ◌&&◌, All, count_by, length, slice_get, Some}
 use Rattle.tq_mvbt.specs.declared.entry.Entry.{Entry}
 use Rattle.tq_mvbt.specs.NodeState.{NodeState}

@@ -1,4 +1,4 @@
--- What one step does to the nodes of an arena.
+-- What one step does to the nodes of an arena (this project's own).
 use Rattle.std.specs.Prelude.{◌≡◌, ℕ, ◌+◌, ◌≤◌, ◌-◌, ◌<◌, List, [], ◌∷◌, ◌++◌, map, take, length, slice_get, slice_set, Some, IsPermutation, ◌/◌, All}
 use Rattle.tq_arena.specs.Contents.{Contents}
 use Rattle.tq_mvbt.specs.declared.entry.Entry.{Entry}

@@ -4,7 +4,8 @@
 //! Each `insert` and each `delete` has a version of its own, and the tree answers for every version up to
 //! the last one. A node holds up to 32 entries and a region, a range of keys over an interval of versions;
 //! at each version the regions of the leaves tile the keys. A change first reserves every node that it can
-//! need, and then can't fail. What stands on a `Tree` is its one invariant, `IsTree` of specs/Tree.antt.
+//! need, and then can't fail. What holds of every tree is `IsTree` of
+//! specs/TreeState.antt, and what follows for keys and versions is the law `trees_tile`.
 #![tactic(auto)]
 
 mod entry;

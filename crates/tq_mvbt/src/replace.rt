@@ -2,7 +2,7 @@
 
 ghost use Rattle.std.specs.Prelude.{◌≡◌, ◌+◌, ◌<◌, ◌≤◌, ◌⊎◌, length};
 ghost use Rattle.tq_mvbt.specs.Shape.{IsSomeForest};
-ghost use Rattle.tq_mvbt.specs.Loose.{IsForestBy, IsSettling, IsAmple, IsThin, IsPart, IsPartOf, IsUnder, IsStanding, AreBeside, Grows, StaysForest};
+ghost use Rattle.tq_mvbt.specs.Loose.{IsForestBy, IsSettling, NeedsChange, IsAmple, IsThin, IsPart, IsPartOf, IsUnder, IsStanding, AreBeside, Grows, StaysForest};
 
 use crate::node::Node;
 use crate::steps::{count_live, edit, push_nodes, retire};
@@ -119,6 +119,7 @@ pub(crate) fn replace(
     requires room { 2 ≤ nodes.old.room }
     requires forest { IsForestBy version nodes.old.nodes }
     requires settling { IsSettling version level last nodes.old.nodes number }
+    requires needed { NeedsChange nodes.old.nodes number 5 }
     requires part { IsPartOf nodes.old.nodes level number parent }
     ensures forest { StaysForest version nodes.old.nodes nodes.new.nodes }
     ensures settling { IsSettling version (level + 1) result nodes.new.nodes parent }

@@ -3,7 +3,7 @@
 ghost use Rattle.std.specs.Prelude.{◌≡◌, ℕ, ◌+◌, ◌-◌, ◌<◌, ◌≤◌, length, All, slice_get, IfSome, IfNone, MatchOption};
 ghost use Rattle.std.specs.List.Sorted.{IsNonDecreasingBy};
 ghost use Rattle.tq_mvbt.specs.Shape.{IsSomeForest, IsFound, IsFilled};
-ghost use Rattle.tq_mvbt.specs.Loose.{IsForestBy, IsSettling, Grows, HeightChanges};
+ghost use Rattle.tq_mvbt.specs.Loose.{IsForestBy, IsSettling, NeedsChange, Grows, HeightChanges};
 ghost use Rattle.tq_mvbt.specs.Directory.{root_of, IsTop};
 
 use crate::node::Node;
@@ -56,6 +56,8 @@ fn replace_root(nodes: &mut Arena<Node>, root: Root, last: usize, version: u32) 
     requires room { 3 ≤ nodes.old.room }
     requires forest { IsForestBy version nodes.old.nodes }
     requires settling { IsSettling version (root.levels - 1) last nodes.old.nodes root.node }
+    requires full_leaf { root.levels ≡ 1 → NeedsChange nodes.old.nodes root.node 0 }
+    requires unfit_index { 2 ≤ root.levels → NeedsChange nodes.old.nodes root.node 2 }
     requires whole { IsTop version nodes.old.nodes root }
     ensures height { HeightChanges version root.levels result.levels nodes.old.nodes nodes.new.nodes }
     ensures from { result.from ≡ version }

@@ -93,6 +93,7 @@ impl Tree {
     /// How many levels the tree has at the version, from 1 to 10.
     pub fn levels(&self, version: u32) -> u32
         ensures levels { result ≡ (root_of self.now.roots version).levels }
+        ensures some { version < 4294967295 → 1 ≤ result }
         ensures few { version < 4294967295 → result ≤ 10 }
     {
         find_root(&self.roots, version).levels
