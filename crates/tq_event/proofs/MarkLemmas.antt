@@ -118,6 +118,13 @@ module _ (entries : List Entry) (marks : List Mark) (all : IsPermutation (marks_
   starts_once j within =
       sum_by-IsPermutation (counted j) (marks_from 0 entries) marks all ∙ one_start 0 j entries (omega arith) (omega arith)
 
+  pub starts_listed : (j : ℕ) → j < length entries → list_any (starts_entry j) marks ≡ true
+  starts_listed j within = by (list_any (starts_entry j) marks) refl
+    where
+      by : (b : Bool) → list_any (starts_entry j) marks ≡ b → list_any (starts_entry j) marks ≡ true
+      by true e = e
+      by false e = absurd (omega (arith, starts_once j within, some_counted j marks e))
+
   -- before an entry's start no other mark starts it
   pub not_before_start : (k j : ℕ) (d : Mark) → j < length entries → k < length marks → starts_entry j (get_or marks k d) ≡ true → list_any (starts_entry j) (take k marks) ≡ false
   not_before_start k j d within here is =
@@ -153,7 +160,7 @@ module _ (entries : List Entry) (marks : List Mark) (all : IsPermutation (marks_
       let m = get_or marks k d in
       let stand = marks_stand k d here in
       let within : m.entry < length entries = omega (arith, stand.numbered, slice_get_within entries stand.place stand.entry stand.stands) in
-      let (p, x, below, is, starts_it) = Any-from_list_any (starts_entry m.entry) marks (started m.entry within (list_any (starts_entry m.entry) marks) refl) in
+      let (p, x, below, is, starts_it) = Any-from_list_any (starts_entry m.entry) marks (starts_listed m.entry within) in
       let same : get_or marks p d ≡ x = get_or_default marks p d x below ∙ is in
       let starts_here : starts_entry m.entry (get_or marks p d) ≡ true = rw same starts_it in
       elim (cases_lt p k) [
@@ -172,10 +179,6 @@ module _ (entries : List Entry) (marks : List Mark) (all : IsPermutation (marks_
             absurd (contradicts (get_or marks p d) m less far)
       ]
     where
-      started : (j : ℕ) → j < length entries → (b : Bool) → list_any (starts_entry j) marks ≡ b → list_any (starts_entry j) marks ≡ true
-      started j within true e = e
-      started j within false e = absurd (omega (arith, starts_once j within, some_counted j marks e))
-
       same_entry : (a b : ℕ) (x y : Entry) → a ≡ b → slice_get entries a ≡ Some x → slice_get entries b ≡ Some y → x ≡ y
       same_entry a b x y e f g = cc
 
