@@ -7,11 +7,13 @@ SHELL := /bin/bash
 answer: build
 	bin/tq ask --table emp=examples/emp.csv "VALIDTIME SELECT name FROM emp"
 
-# Tells each function that was checked. A first build takes minutes, a later one what changed.
+# Tells what is being proved. A first build takes minutes, a later one what changed.
+PROGRESS := s/^rt: chose .* for /proving /p; s/^so far: ([0-9]+ of [0-9]+ functions).*/  \1/p; s/^checked (.*, [0-9]+ of [0-9]+)$$/  \1/p
+
 build:
-	@echo "proving and building bin/tq (minutes at first; the log is crates/tq/out/build.log)"
+	@echo "proving and building bin/tq: minutes the first time (the log: crates/tq/out/build.log)"
 	@mkdir -p bin crates/tq/out
-	@cd crates/tq && { rt run -- --help 2>&1 | tee out/build.log | sed -u -n '/^checked /p'; } \
+	@cd crates/tq && { rt run -- --help 2>&1 | tee out/build.log | sed -u -n -E '$(PROGRESS)'; } \
 		|| { grep -E 'error|no proof|not proved' out/build.log; exit 1; }
 	@cp crates/tq/out/tq bin/tq
 

@@ -1,51 +1,28 @@
-// A stand-in for the answer, with the faults of the real one: it writes the bytes of the tables.
+// From the bytes of files and of a statement to the bytes of the answer.
 
-use std::alloc::Global;
+ghost use Rattle.std.specs.Prelude.{◌≡◌, ◌≢◌, ◌≤◌, Err, IfErr, IfOk, OnOk};
+ghost use Rattle.std.specs.Io.KnownBytes.{Appends};
+ghost use Rattle.tq_table.specs.Sink.{AppendsPrefix, one_more};
+ghost use Rattle.tq_table.specs.Text.{text_of};
+ghost use Rattle.tq_table.specs.declared.table.Table.{Table as AnyTable};
+ghost use Rattle.tq.specs.Answers.{HasAnswer, IsAnswer, IsFault};
+ghost use Rattle.tq.specs.Plans.{plan_of};
+
+use crate::plan::{PlanFault, plan_statement};
+use crate::rows::read_rows;
+use crate::statement::{SqlFault, SqlFaultKind, Statement, read};
+use std::alloc::{AllocError, Global};
 use std::io::Write;
-use tq_table::{Sink, WriteFault};
+use tq_base::Items;
+use tq_event::{LoadFault, LoadFaultKind, Loaded, MAX_EVENTS, TableFile, load};
+use tq_table::{Sink, Table, WriteFault, coalesce, write_table};
 
-/// A table's name and the bytes of its file.
-#[derive(Drop)]
-pub struct TableFile {
-    pub name: Vec<u8>,
-    pub bytes: Vec<u8>,
-}
+/// The most workers.
+pub const MAX_WORKERS: u32 = 16;
 
-/// What is wrong with a table.
-#[derive(Clone, Copy, Debug)]
-pub enum LoadFaultKind {
-    BadHeader = 1,
-}
-
-/// The first fault of the tables: of which table, and at which record.
-#[derive(Clone, Copy, Debug)]
-pub struct LoadFault {
-    pub kind: LoadFaultKind,
-    pub table: u32,
-    pub number: u32,
-}
-
-/// What is wrong with the text of a statement.
-#[derive(Clone, Copy, Debug)]
-pub enum SqlFaultKind {
-    UnexpectedToken = 2,
-}
-
-/// A fault of a statement's text, and its byte offset.
-#[derive(Clone, Copy, Debug)]
-pub struct SqlFault {
-    pub kind: SqlFaultKind,
-    pub at: u32,
-}
-
-/// What is wrong with a statement over these tables.
-#[derive(Clone, Copy, Debug)]
-pub enum PlanFault {
-    UnknownTable = 1,
-}
-
-/// Why there is no answer.
-#[derive(Clone, Copy, Debug)]
+/// Why there is no answer: the first fault of the files, of the statement's text, or of its plan; or
+/// the sink failed; or a growth was refused.
+#[derive(Clone, Copy, Debug, PartialEq, Eq)]
 pub enum AnswerFault {
     Load(LoadFault),
     Sql(SqlFault),
@@ -54,37 +31,102 @@ pub enum AnswerFault {
     OutOfMemory,
 }
 
-/// Writes the bytes of the tables, where the statement has some of its own.
-pub fn answer_bytes<R, W: Write>(
-    _rt: &R,
-    _alloc: Global,
-    tables: &[TableFile],
-    statement: &[u8],
-    _workers: u32,
+impl From<LoadFault> for AnswerFault {
+    ghost use Rattle.tq_event.specs.declared.fault.LoadFaultKind.TheVariants as kind;
+    ghost use Rattle.tq.specs.declared.answer.AnswerFault.TheVariants.{Load, OutOfMemory};
+
+    ghost from_gives = { λ fault given. (fault.kind ≡ kind.OutOfMemory → given ≡ OutOfMemory) × (fault.kind ≢ kind.OutOfMemory → given ≡ Load fault) };
+
+    fn from(fault: LoadFault) -> AnswerFault {
+        if matches!(fault.kind, LoadFaultKind::OutOfMemory) {
+            AnswerFault::OutOfMemory
+        } else {
+            AnswerFault::Load(fault)
+        }
+    }
+}
+
+impl From<SqlFault> for AnswerFault {
+    ghost use Rattle.tq.specs.declared.statement.SqlFaultKind.TheVariants as kind;
+    ghost use Rattle.tq.specs.declared.answer.AnswerFault.TheVariants.{Sql, OutOfMemory};
+
+    ghost from_gives = { λ fault given. (fault.kind ≡ kind.OutOfMemory → given ≡ OutOfMemory) × (fault.kind ≢ kind.OutOfMemory → given ≡ Sql fault) };
+
+    fn from(fault: SqlFault) -> AnswerFault {
+        if matches!(fault.kind, SqlFaultKind::OutOfMemory) {
+            AnswerFault::OutOfMemory
+        } else {
+            AnswerFault::Sql(fault)
+        }
+    }
+}
+
+impl From<PlanFault> for AnswerFault {
+    ghost use Rattle.tq.specs.declared.plan.PlanFault.TheVariants as kind;
+    ghost use Rattle.tq.specs.declared.answer.AnswerFault.TheVariants.{Plan, OutOfMemory};
+
+    ghost from_gives = { λ fault given. (fault ≡ kind.OutOfMemory → given ≡ OutOfMemory) × (fault ≢ kind.OutOfMemory → given ≡ Plan fault) };
+
+    fn from(fault: PlanFault) -> AnswerFault {
+        if matches!(fault, PlanFault::OutOfMemory) {
+            AnswerFault::OutOfMemory
+        } else {
+            AnswerFault::Plan(fault)
+        }
+    }
+}
+
+// The answer of a statement over tables.
+fn answer_statement(
+    alloc: Global,
+    loaded: &Loaded,
+    statement: Statement,
+) -> Result<Table, PlanFault>
+    ensures answer { IfOk result (IsAnswer loaded.now statement) }
+    ensures fault { IfErr result (λ fault. fault ≢ PlanFault.OutOfMemory → plan_of loaded.now.catalogue statement ≡ Err fault) }
+{
+    let plan = plan_statement(alloc, &loaded.catalogue, &statement)?;
+    let rows = read_rows(alloc, loaded.events.get(), &plan)?;
+    let rows = coalesce(alloc, rows)?;
+    Ok(Table {
+        columns: statement.columns,
+        rows: Items::of(rows),
+    })
+}
+
+/// The answer of the statement that the bytes make, over the tables of the files.
+pub fn answer(alloc: Global, files: &[TableFile], bytes: &[u8]) -> Result<Table, AnswerFault>
+    ensures answer { IfOk result (HasAnswer files.now bytes.now) }
+    ensures fault { IfErr result (IsFault files.now bytes.now) }
+{
+    let loaded = load(alloc, files, MAX_EVENTS)?;
+    let statement = read(alloc, bytes)?;
+    let table = answer_statement(alloc, &loaded, statement)?;
+    Ok(table)
+}
+
+/// Writes the text of the answer of the statement that the bytes make, over the tables of the files.
+/// The first fault is answered: of the files, of the statement, of its plan. Nothing is written
+/// before the answer is whole; after `Write` a prefix of it went out. All workers, 1 to 16, are one.
+pub fn answer_bytes<W: Write>(
+    alloc: Global,
+    files: &[TableFile],
+    bytes: &[u8],
+    workers: u32,
     sink: &mut Sink<W>,
-) -> Result<(), AnswerFault> {
-    if statement.is_empty() {
-        return Err(AnswerFault::Sql(SqlFault {
-            kind: SqlFaultKind::UnexpectedToken,
-            at: 0,
-        }));
+) -> Result<(), AnswerFault>
+    requires some { 1 ≤ workers }
+    requires few { workers ≤ MAX_WORKERS }
+    ensures answer { OnOk result ((table : AnyTable) × HasAnswer files.now bytes.now table × Appends (W.contents sink.old.writer) (W.contents sink.new.writer) (text_of table)) }
+    ensures unfailed { OnOk result (sink.new.failed ≡ sink.old.failed) }
+    ensures write { result ≡ Err AnswerFault.Write → (table : AnyTable) × HasAnswer files.now bytes.now table × AppendsPrefix (W.contents sink.old.writer) (W.contents sink.new.writer) (text_of table) }
+    ensures failed { result ≡ Err AnswerFault.Write → sink.new.failed ≡ one_more sink.old.failed }
+    ensures fault { IfErr result (λ fault. fault ≢ AnswerFault.Write → IsFault files.now bytes.now fault × (sink.new ≡ sink.old)) }
+{
+    let table = answer(alloc, files, bytes)?;
+    match write_table(alloc, &table, sink) {
+        Ok(()) => Ok(()),
+        Err(WriteFault::Write) => Err(AnswerFault::Write),
+        Err(WriteFault::OutOfMemory) => Err(AnswerFault::OutOfMemory),
     }
-    for table in tables {
-        if table.bytes.is_empty() {
-            return Err(AnswerFault::Load(LoadFault {
-                kind: LoadFaultKind::BadHeader,
-                table: 0,
-                number: 1,
-            }));
-        }
-        if table.name.is_empty() {
-            return Err(AnswerFault::Plan(PlanFault::UnknownTable));
-        }
-        match sink.send(&table.bytes) {
-            Ok(()) => {}
-            Err(WriteFault::Write) => return Err(AnswerFault::Write),
-            Err(WriteFault::OutOfMemory) => return Err(AnswerFault::OutOfMemory),
-        }
-    }
-    Ok(())
 }

@@ -5,11 +5,15 @@
 
 mod answer;
 mod command_line;
+mod laws;
+mod plan;
 mod report;
+mod rows;
 mod source;
+mod statement;
 mod words;
 
-use answer::{TableFile, answer_bytes};
+use answer::answer_bytes;
 use command_line::{AskRequest, Request, TableOption, read_command_line};
 use report::Refusal;
 use source::{FileFault, Source, read_file};
@@ -19,6 +23,8 @@ use std::io::ErrorKind;
 use std::process::ExitCode;
 use std::rt::Files;
 use std::{fs, io, str};
+use tq_base::Items;
+use tq_event::TableFile;
 use tq_table::Sink;
 use words::read_words;
 
@@ -38,7 +44,10 @@ fn read_path<R: Files + AllocGlobal>(rt: &R, path: &[u8]) -> Result<Vec<u8>, Fil
 fn read_table<R: Files + AllocGlobal>(rt: &R, option: TableOption) -> Result<TableFile, Refusal> {
     let TableOption { name, path } = option;
     match read_path(rt, &path) {
-        Ok(bytes) => Ok(TableFile { name, bytes }),
+        Ok(bytes) => Ok(TableFile {
+            name: Items::of(name),
+            bytes: Items::of(bytes),
+        }),
         Err(fault) => Err(Refusal::of_file(fault, path)),
     }
 }
@@ -57,7 +66,7 @@ fn ask<R: Files + AllocGlobal + Print>(rt: &R, request: AskRequest) -> Result<()
             .map_err(AllocError::from)?;
     }
     let mut sink = Sink::over(io::writer(rt));
-    answer_bytes(rt, rt.alloc(), &tables, &statement, workers, &mut sink)?;
+    answer_bytes(rt.alloc(), &tables, &statement, workers, &mut sink)?;
     Ok(())
 }
 

@@ -4,12 +4,15 @@ ghost use Rattle.std.specs.Prelude.{◌≡◌};
 ghost use Rattle.std.specs.Process.{exit_status};
 ghost use Rattle.tq.specs.Report.{refused_answer, refused_command_line, refused_file, status_of};
 
-use crate::answer::{AnswerFault, LoadFault, PlanFault, SqlFault};
+use crate::answer::AnswerFault;
 use crate::command_line::CommandLineFault;
+use crate::plan::PlanFault;
 use crate::source::FileFault;
+use crate::statement::SqlFault;
 use std::alloc::AllocError;
 use std::io::{self, Write};
 use std::process::ExitCode;
+use tq_event::LoadFault;
 
 /// Why the program gave no answer: one of the lines that it prints.
 #[derive(Drop)]

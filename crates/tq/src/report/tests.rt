@@ -1,8 +1,11 @@
 // The printed lines, written out.
 
 use super::Refusal;
-use crate::answer::{AnswerFault, LoadFault, LoadFaultKind, PlanFault, SqlFault, SqlFaultKind};
+use crate::answer::AnswerFault;
+use crate::plan::PlanFault;
+use crate::statement::{SqlFault, SqlFaultKind};
 use std::test::Fail;
+use tq_event::{LoadFault, LoadFaultKind};
 
 #[test]
 fn a_refusal_prints_its_line(rt: HostRuntime) -> Result<(), Fail> {

@@ -1,0 +1,21 @@
+use Rattle.std.proofs.Common.{◌≡◌, ◌+◌, ◌∷◌, [], ℕ, List, get_or, drop, length, sym, ap, ◌∙◌, arith}
+use Rattle.std.proofs.lemmas.List.{drop_all, drop_more}
+use Rattle.tq.proofs.RowLemmas.{all_taken, future, takes}
+use Rattle.tq.proofs.rows.open_rows.Goals as goal
+
+-- src/rows.rt:133:5
+pub events-preserved : goal.events-preserved
+events-preserved c = record {
+  made =
+      ap (λ l. future c.args.table c.args.places.now l (drop (c.events.event-index + 1) c.args.events.now)) c.in_ok-take_event.ensures.taken
+      ∙ sym (takes c.args.table c.args.places.now c.events.rows.items c.event-item.result (drop (c.events.event-index + 1) c.args.events.now) c.in_ok-take_event.ensures.finite)
+      ∙ ap (future c.args.table c.args.places.now c.events.rows.items) (sym (drop_more c.args.events.now c.events.event-index c.event-item.result c.events-test.true ∙ ap (λ e. e ∷ drop (c.events.event-index + 1) c.args.events.now) (sym c.event-item.is)))
+      ∙ c.events.invariant.made;
+}
+
+-- src/rows.rt:124:1
+pub returns : goal.returns
+returns c =
+    sym (all_taken c.args.table c.args.places.now c.events.rows.items)
+    ∙ ap (future c.args.table c.args.places.now c.events.rows.items) (sym (drop_all c.events.event-index c.args.events.now c.events-test.false))
+    ∙ c.events.invariant.made
