@@ -1,5 +1,5 @@
 -- Names of tables, columns and aliases. This project's own.
-use Rattle.std.specs.Prelude.{ℕ, Bool, true, false, ◌&&◌, ◌||◌, not, if◌then◌else◌, ◌==◌, nat_le, List, [], ◌∷◌, length, map, Option, Some, None, codes}
+use Rattle.std.specs.Prelude.{ℕ, Bool, false, ◌&&◌, ◌||◌, not, if◌then◌else◌, ◌==◌, nat_le, List, [], ◌∷◌, length, map, Option, Some, None, codes}
 use Rattle.std.specs.Char.{is_ascii_alphabetic, is_ascii_alphanumeric, is_ascii_uppercase, to_ascii_lowercase}
 use Rattle.std.specs.List.{list_all, list_any}
 use Rattle.std.specs.Str.{str_eq_ignore_ascii_case}

@@ -1,8 +1,8 @@
 -- Loaded tables are a catalogue, and loaded rows fit them.
-use Rattle.std.proofs.Common.{◌≡◌, ◌≢◌, ℕ, ℤ, suc, zero, ◌+◌, ◌-◌, ◌^◌, ◌<◌, ◌≤◌, ◌==◌, ◌&&◌, ◌||◌, not, Bool, true, false, if◌then◌else◌, List, [], ◌∷◌, ◌++◌, Option, Some, None, Result, Ok, Err, length, map, take, drop, get_or, slice_get, nat_le, nat_lt, refl, sym, ap, subst, ◌∙◌, arith, length-append}
-use Rattle.std.specs.Prelude.{All, AllPairs, IfSome, IsSomeAnd, FitsSigned, pos, negsuc, neg_ℤ, option_map}
+use Rattle.std.proofs.Common.{◌≡◌, ◌≢◌, ℕ, ℤ, suc, zero, ◌+◌, ◌-◌, ◌^◌, ◌<◌, ◌≤◌, ◌==◌, ◌&&◌, ◌||◌, not, Bool, true, false, if◌then◌else◌, List, [], ◌∷◌, ◌++◌, Option, Some, None, Ok, Err, length, map, drop, slice_get, nat_le, nat_lt, refl, sym, ap, subst, ◌∙◌, arith, length-append}
+use Rattle.std.specs.Prelude.{All, AllPairs, IfSome, IsSomeAnd, FitsSigned, pos, neg_ℤ, option_map}
 use Rattle.std.specs.Int.{w64}
-use Rattle.std.specs.List.{after_first, before_first, list_any, list_all}
+use Rattle.std.specs.List.{after_first, before_first}
 use Rattle.std.specs.Str.{bytes_eq, is_utf8}
 use Rattle.std.specs.Str.Parse.{digits_value}
 use Rattle.std.proofs.lemmas.Bool.{or_parts}
@@ -21,8 +21,7 @@ use Rattle.tq_base.specs.Catalogues.{Fit, IsCatalogue, IsOfKind, IsTable}
 use Rattle.tq_base.specs.Names.{folded_name}
 use Rattle.tq_base.specs.Numbers.{int_of, is_numeral, natural_up_to}
 use Rattle.tq_event.specs.declared.entry.Entry.{Entry}
-use Rattle.tq_event.specs.declared.fault.LoadFaultKind.{LoadFaultKind}
-use Rattle.tq_event.specs.declared.fault.LoadFaultKind.TheVariants.{BadHeader, BadInt, DuplicateName, FieldCount, NotUtf8, TextTooLong, TooManyColumns, TooManyTables}
+use Rattle.tq_event.specs.declared.fault.LoadFaultKind.TheVariants.{BadHeader, DuplicateName, FieldCount, NotUtf8, TextTooLong, TooManyColumns, TooManyTables}
 use Rattle.tq_event.specs.declared.file.TableFile.{TableFile}
 use Rattle.tq_event.specs.Loading.{Contents, and_then, at_record, kind_of, make_column, column_of, columns_after, columns_of, contents_after, contents_of, csv_records, entries_after, entry_of, first_header, has_column, has_table, header_of, is_marked_twice, is_period_header, is_text, next_columns, next_contents, next_name, number_value, period_fields, period_of, table_contents, table_name, value_fields, value_of, values_after}
 use Rattle.tq_event.specs.Laws.{HasFoldedNames, IsFoldedName}

@@ -1,7 +1,7 @@
 -- The events of entries that fit their tables are a history.
-use Rattle.std.proofs.Common.{◌≡◌, ◌≢◌, ℕ, suc, zero, ◌+◌, ◌-◌, ◌<◌, ◌≤◌, ◌==◌, ◌&&◌, not, Bool, true, false, cond, if◌then◌else◌, List, [], ◌∷◌, ◌++◌, Option, Some, None, length, take, drop, get_or, slice_get, count_by, sum_by, refl, sym, ap, subst, ◌∙◌, arith, inl, inr, ◌⊎◌, length-append}
+use Rattle.std.proofs.Common.{◌≡◌, ℕ, suc, zero, ◌+◌, ◌-◌, ◌<◌, ◌≤◌, ◌==◌, ◌&&◌, not, Bool, true, false, cond, if◌then◌else◌, List, [], ◌∷◌, ◌++◌, Option, Some, None, length, take, get_or, slice_get, sum_by, refl, sym, ap, subst, ◌∙◌, arith, inl, inr}
 use Rattle.std.specs.Prelude.{All, Contains, IfSome, IsSomeAnd, IsSorted, IsPermutation}
-use Rattle.std.specs.List.{AllZip, list_any}
+use Rattle.std.specs.List.{AllZip}
 use Rattle.std.specs.Ordering.{is_lt, nat_cmp, bool_cmp, ordering_then}
 use Rattle.std.specs.declared.cmp.Ordering.TheVariants.{Less}
 use Rattle.std.specs.Cmp.{nat_cmp_is}
@@ -17,16 +17,15 @@ use Rattle.std.proofs.lemmas.List.Sorted.{sum_by-IsPermutation, sorted_far, rank
 use Rattle.tq_base.specs.declared.catalogue.Catalogue.{Catalogue}
 use Rattle.tq_base.specs.declared.catalogue.Schema.{Schema}
 use Rattle.tq_base.specs.declared.period.TheConstants.{FOREVER}
-use Rattle.tq_base.specs.declared.value.Value.{Value}
 use Rattle.tq_base.specs.Catalogues.{Fit}
 use Rattle.tq_event.specs.declared.entry.Entry.{Entry}
 use Rattle.tq_event.specs.declared.event.Event.{Event}
 use Rattle.tq_event.specs.declared.event.Event.TheVariants.{Start, End}
 use Rattle.tq_event.specs.declared.mark.Mark.{Mark}
-use Rattle.tq_event.specs.History.{CanHappen, IsAdmissible, IsHistory, IsNotBefore, IsOpenBefore, Row, end_of, rows_from, rows_of, time_of}
-use Rattle.tq_event.specs.Loading.{AreEventsOf, HaveEvents, IsEventAt, event_at, mark_cmp, marks_from, marks_of_entry, row_number, starts_entry, starts_in, table_at}
+use Rattle.tq_event.specs.History.{CanHappen, IsHistory, IsNotBefore, IsOpenBefore, Row, end_of, rows_from, rows_of, time_of}
+use Rattle.tq_event.specs.Loading.{AreEventsOf, IsEventAt, event_at, mark_cmp, marks_from, marks_of_entry, row_number, starts_entry, starts_in, table_at}
 use Rattle.tq_event.proofs.CatalogueLemmas.{Stored}
-use Rattle.tq_event.proofs.MarkLemmas.{IsMarkFrom, mark_total, marks_stand, row_number_at, start_before_end, starts_listed}
+use Rattle.tq_event.proofs.MarkLemmas.{mark_total, marks_stand, row_number_at, start_before_end, starts_listed}
 
 abbrev tally : Bool → ℕ
 tally b = cond b 1 0
