@@ -50,6 +50,10 @@ pub record HasAnswer (files : List TableFile) (bytes : List ℕ) (table : Table)
   pub is_statement : statement_of (tokens_of bytes) ≡ Some statement
   pub is_answer : IsAnswer loaded statement table
 
+-- files and a statement have one answer at most
+abbrev pub AnswersAreUnique : Type 0
+AnswersAreUnique = (files : List TableFile) (bytes : List ℕ) (a b : Table) → HasAnswer files bytes a → HasAnswer files bytes b → a ≡ b
+
 -- the files were loaded, and the bytes are no statement
 pub record HasSqlFault (files : List TableFile) (bytes : List ℕ) (fault : SqlFault) : Type 0 where
   pub loaded : Loaded

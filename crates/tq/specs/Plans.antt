@@ -28,10 +28,10 @@ abbrev pub schema_plan : List (List ℕ) → ℕ → Option Schema → Result Pl
 schema_plan names table None = Err UnknownTable
 schema_plan names table (Some schema) = places_plan table (places_after schema.columns [] names)
 
-abbrev pub table_plan : Catalogue → List (List ℕ) → Option ℕ → Result Plan PlanFault
-table_plan catalogue names None = Err UnknownTable
-table_plan catalogue names (Some table) = schema_plan names table (slice_get catalogue.tables table)
+abbrev pub table_plan : List Schema → List (List ℕ) → Option ℕ → Result Plan PlanFault
+table_plan tables names None = Err UnknownTable
+table_plan tables names (Some table) = schema_plan names table (slice_get tables table)
 
 -- the plan of a statement, or its first fault: of the table, then of the columns
 abbrev pub plan_of : Catalogue → Statement → Result Plan PlanFault
-plan_of catalogue statement = table_plan catalogue statement.columns (table_number catalogue statement.table)
+plan_of catalogue statement = table_plan catalogue.tables statement.columns (table_number catalogue statement.table)

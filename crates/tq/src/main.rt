@@ -5,6 +5,7 @@
 
 mod answer;
 mod command_line;
+mod laws;
 mod plan;
 mod report;
 mod rows;

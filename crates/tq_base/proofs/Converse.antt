@@ -1,23 +1,21 @@
 -- Rows in order that are just the maximal runs are the layers.
-use Rattle.std.proofs.Common.{◌≡◌, ◌≢◌, ℕ, zero, suc, ◌+◌, ◌-◌, ◌<◌, ◌≤◌, eqb, Bool, true, false, cond, ◌&&◌, ◌||◌, List, [], ◌∷◌, length, get_or, sum_by, refl, sym, ap, ◌∙◌, subst, arith, inl, inr, ◌⊎◌}
-use Rattle.std.specs.Prelude.{All, AllPairs, Contains, IsSorted, nat_le, nat_lt}
+use Rattle.std.proofs.Common.{◌≡◌, ℕ, zero, suc, ◌+◌, ◌-◌, ◌<◌, ◌≤◌, eqb, Bool, true, false, cond, ◌||◌, List, [], ◌∷◌, length, get_or, sum_by, refl, sym, ap, ◌∙◌, subst, arith, inl, inr}
+use Rattle.std.specs.Prelude.{All, IsSorted}
 use Rattle.std.specs.List.{AllZip, IsDistinct, list_any, zip}
 use Rattle.std.proofs.lemmas.Bool.{cases_lt, or_cases, eqb-true}
 use Rattle.std.proofs.lemmas.Bool.Decides.{nat_tests}
-use Rattle.std.proofs.lemmas.List.Elements.{All-contains}
 use Rattle.std.proofs.lemmas.Map.Steps.{length-le_from_distinct_below, le-length_from_below}
-use Rattle.std.specs.Ordering.{eq_by_cmp}
 use Rattle.tq_base.specs.declared.period.TheConstants.{FOREVER}
 use Rattle.tq_base.specs.declared.value.Value.{Value}
 use Rattle.tq_base.specs.declared.period.Period.{Period}
 use Rattle.tq_base.specs.declared.fragment.Fragment.{Fragment}
-use Rattle.tq_base.specs.ValueOrder.{values_cmp, eq_from_same}
+use Rattle.tq_base.specs.ValueOrder.{eq_from_same}
 use Rattle.tq_base.specs.Fragments.{fragment_cmp}
 use Rattle.tq_base.specs.Periods.{holds}
 use Rattle.tq_base.specs.Copies.{tally, copies-sum_by}
 use Rattle.tq_base.specs.Layers.{TakesIn, IsCoalesced, IsLayers, IsRun, RowsAreRuns, EndsByForever}
 use Rattle.tq_base.proofs.Unique.{held_from}
-use Rattle.tq_base.proofs.Runs.{Labelled, Labels, Found, counts_at, levels_at, length-levels_at, all_labelled, found, found_run, distinct_levels, none_by_recursion}
+use Rattle.tq_base.proofs.Runs.{Labelled, Labels, counts_at, levels_at, length-levels_at, all_labelled, found, found_run, distinct_levels, none_by_recursion}
 
 -- ---- a run round an instant
 

@@ -1,5 +1,5 @@
 -- Layers exist: the sweep and the pass over groups, as functions on lists.
-use Rattle.std.proofs.Common.{◌≡◌, ◌≢◌, ℕ, zero, suc, ◌+◌, ◌<◌, ◌≤◌, Bool, true, false, cond, List, [], ◌∷◌, ◌++◌, length, get_or, take, drop, map, refl, sym, ap, ◌∙◌, subst, arith, inl, inr, IfSome, slice_get}
+use Rattle.std.proofs.Common.{◌≡◌, ◌≢◌, ℕ, zero, suc, ◌+◌, ◌<◌, ◌≤◌, Bool, true, false, cond, List, [], ◌∷◌, ◌++◌, length, get_or, take, drop, map, refl, sym, ap, subst, arith, inl, inr, IfSome, slice_get}
 use Rattle.std.specs.Prelude.{All, IsSorted, IsPermutation}
 use Rattle.std.specs.Cmp.{IsTotalOrder, nat_cmp_total}
 use Rattle.std.specs.Ordering.{eq_by_cmp, is_lt, is_gt, ordering_reverse, nat_cmp}
@@ -9,14 +9,13 @@ use Rattle.std.proofs.lemmas.Cmp.{upto}
 use Rattle.std.proofs.lemmas.Bool.{cases_lt}
 use Rattle.std.proofs.lemmas.List.{length-drop, take-append-drop}
 use Rattle.std.proofs.lemmas.List.Elements.{All-nil, All-cons, All-weaker}
-use Rattle.std.proofs.lemmas.List.Sorted.{IsPermutation-refl, IsPermutation-cons, IsPermutation-trans, IsPermutation-middle, IsPermutation-sym, All-permutation, sum_by-IsPermutation}
+use Rattle.std.proofs.lemmas.List.Sorted.{IsPermutation-refl, IsPermutation-cons, IsPermutation-trans, IsPermutation-middle, IsPermutation-sym, All-permutation}
 use Rattle.tq_base.specs.declared.period.Period.{Period}
 use Rattle.tq_base.specs.declared.value.Value.{Value}
 use Rattle.tq_base.specs.declared.fragment.Fragment.{Fragment}
 use Rattle.tq_base.specs.ValueOrder.{values_cmp, same_from_eq, eq_from_same}
 use Rattle.tq_base.specs.Fragments.{fragment_cmp, fragment_total, copies}
-use Rattle.tq_base.specs.Periods.{holds}
-use Rattle.tq_base.specs.Layers.{IsLayers, TakesIn}
+use Rattle.tq_base.specs.Layers.{IsLayers}
 use Rattle.tq_base.specs.Layering.{IsLayering, period_cmp, period_total}
 use Rattle.tq_base.specs.Layering.{rows_of}
 use Rattle.tq_base.specs.Sweep.{Sweep, begun, finished, reordered, opens, cancels, closes, some_open, opened_before, pairs_head}

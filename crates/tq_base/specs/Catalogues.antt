@@ -1,5 +1,5 @@
 -- Which values a table takes, and which lists of tables are a catalogue. This project's own.
-use Rattle.std.specs.Prelude.{◌≡◌, ◌≢◌, ℕ, ◌<◌, ◌≤◌, ℤ, FitsSigned, List, [], ◌∷◌, length, map, position, All, AllPairs, slice_get, IfSome, Option}
+use Rattle.std.specs.Prelude.{◌≡◌, ◌≢◌, ℕ, ◌<◌, ◌≤◌, FitsSigned, List, [], ◌∷◌, length, map, position, All, AllPairs, slice_get, IfSome, Option}
 use Rattle.std.specs.Int.{w64}
 use Rattle.std.specs.Str.{str_eq_ignore_ascii_case}
 use Rattle.tq_base.specs.declared.catalogue.Kind.{Kind}

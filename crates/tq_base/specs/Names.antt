@@ -1,9 +1,8 @@
 -- Names of tables, columns and aliases. This project's own.
-use Rattle.std.specs.Prelude.{ℕ, Bool, true, false, ◌&&◌, ◌||◌, not, if◌then◌else◌, ◌==◌, nat_le, List, [], ◌∷◌, length, map, Option, Some, None, codes}
+use Rattle.std.specs.Prelude.{ℕ, Bool, false, ◌&&◌, ◌||◌, not, if◌then◌else◌, ◌==◌, nat_le, List, [], ◌∷◌, length, map, Option, Some, None, codes}
 use Rattle.std.specs.Char.{is_ascii_alphabetic, is_ascii_alphanumeric, is_ascii_uppercase, to_ascii_lowercase}
 use Rattle.std.specs.List.{list_all, list_any}
 use Rattle.std.specs.Str.{str_eq_ignore_ascii_case}
-use Rattle.tq_base.specs.declared.name.TheConstants.{RESERVED}
 
 -- an ASCII letter or `_`
 abbrev pub is_name_start : ℕ → Bool
@@ -18,9 +17,15 @@ abbrev pub has_name_form : List ℕ → Bool
 has_name_form [] = false
 has_name_form (b ∷ bs) = is_name_start b && list_all is_name_byte bs
 
+-- the words of the language
+abbrev pub reserved_words : List (List ℕ)
+reserved_words =
+    codes "validtime" ∷ codes "period" ∷ codes "select" ∷ codes "from" ∷ codes "where" ∷ codes "group" ∷ codes "by" ∷ codes "and"
+    ∷ codes "or" ∷ codes "not" ∷ codes "count" ∷ codes "sum" ∷ codes "as" ∷ codes "except" ∷ codes "all" ∷ []
+
 -- a word of the language, in any ASCII case
 unfoldable pub is_reserved : List ℕ → Bool
-is_reserved bytes = list_any (λ word. str_eq_ignore_ascii_case word.now bytes) RESERVED
+is_reserved bytes = list_any (λ word. str_eq_ignore_ascii_case word bytes) reserved_words
 
 -- 1 to 64 bytes of the form of a name, and no reserved word
 abbrev pub is_name : List ℕ → Bool

@@ -116,7 +116,8 @@ fn place_of(tables: &[Schema], name: &[u8]) -> Option<usize>
 impl Catalogue {
     ghost use Rattle.tq_base.specs.Catalogues.{table_number};
 
-    /// The number of the table of this name, which may be written in any ASCII case.
+    /// The number of the table of this name, which may be written in any ASCII case; `None` where there
+    /// is none.
     pub fn table(&self, name: &[u8]) -> Option<u32>
         ensures { result ≡ table_number self.now name.now }
     {
@@ -126,7 +127,7 @@ impl Catalogue {
         }
     }
 
-    /// An equal catalogue.
+    /// An equal catalogue; `AllocError` where a growth was refused.
     pub fn try_copy(&self, alloc: Global) -> Result<Catalogue, AllocError>
         ensures { IfOk result (λ copy. copy ≡ self.now) }
     {

@@ -22,3 +22,6 @@ pub use name::{MAX_NAME, Name, RESERVED, fold_name, is_name, is_reserved, is_sam
 pub use number::{read_bound, read_instant, read_int, read_natural};
 pub use period::{Bound, FOREVER, Instant, Period};
 pub use value::{Text, Value, Values};
+
+#[cfg(test)]
+mod tests;

@@ -4,10 +4,10 @@ ghost use Rattle.std.specs.Prelude.{◌≡◌, ◌↔◌, ◌≤◌, ◌<◌, �
 
 use std::marker::Model;
 
-/// The number of `forever`.
+/// The number of `forever`, which is the last bound.
 pub const FOREVER: u64 = 1_000_000_000_000;
 
-/// A whole number below `FOREVER`.
+/// A whole number from 0 up to, and not including, `FOREVER`.
 #[derive(Clone, Copy, PartialEq, Eq, PartialOrd, Ord, Debug)]
 pub struct Instant {
     value: u64,
@@ -27,6 +27,7 @@ impl Model for Instant {
 }
 
 impl Instant {
+    /// The instant of this number; `None` where that is `FOREVER` or more.
     pub fn new(number: u64) -> Option<Instant>
         ensures valid { IsSome result ↔ (number < FOREVER) }
         ensures value { IfSome result (λ t. t ≡ number) }
@@ -38,6 +39,7 @@ impl Instant {
         }
     }
 
+    /// The instant's number.
     pub fn number(&self) -> u64
         ensures value { result ≡ self.now }
         ensures in_range { result < FOREVER }
@@ -66,6 +68,7 @@ impl Model for Bound {
 }
 
 impl Bound {
+    /// The bound of this number, `FOREVER` among them; `None` where it is more.
     pub fn new(number: u64) -> Option<Bound>
         ensures valid { IsSome result ↔ (number ≤ FOREVER) }
         ensures value { IfSome result (λ t. t ≡ number) }
@@ -77,6 +80,7 @@ impl Bound {
         }
     }
 
+    /// The bound's number, which is `FOREVER` for `forever`.
     pub fn number(&self) -> u64
         ensures value { result ≡ self.now }
         ensures in_range { result ≤ FOREVER }
@@ -96,6 +100,7 @@ pub struct Period {
 impl Period {
     ghost use Rattle.tq_base.specs.Periods.{IsOverlap, Meet, Overlap, holds};
 
+    /// The period of these ends; `None` where the start is not below the end.
     pub fn new(start: Instant, end: Bound) -> Option<Period>
         ensures valid { IsSome result ↔ (start < end) }
         ensures start { IfSome result (λ p. p.start ≡ start) }

@@ -1,7 +1,10 @@
+pub mod CatalogueLemmas
 pub mod FieldLemmas
 pub mod FieldUtf8
+pub mod HistoryLemmas
 pub mod LoadLemmas
 pub mod LoadedLemmas
 pub mod MarkLemmas
 pub mod PlacingLemmas
 pub mod RecordLemmas
+pub mod UniqueLemmas

@@ -1,11 +1,11 @@
 -- One step of loading a table.
-use Rattle.std.proofs.Common.{◌≡◌, ◌≢◌, ℕ, ◌+◌, Bool, true, false, List, [], ◌∷◌, ◌++◌, Result, Ok, Err, drop, refl, sym, ap, ◌∙◌}
+use Rattle.std.proofs.Common.{◌≡◌, ◌≢◌, ℕ, ◌+◌, true, false, List, [], ◌∷◌, Ok, Err, drop, refl, ap}
 use Rattle.tq_base.specs.declared.catalogue.Column.{Column}
 use Rattle.tq_event.specs.declared.entry.Entry.{Entry}
 use Rattle.tq_event.specs.declared.fault.LoadFault.{LoadFault}
 use Rattle.tq_event.specs.declared.fault.LoadFaultKind.{LoadFaultKind}
 use Rattle.tq_event.specs.declared.fault.LoadFaultKind.TheVariants.{BadHeader, OutOfMemory}
-use Rattle.tq_event.specs.Loading.{and_then, at_record, columns_of, csv_records, entries_after, entry_of, header_of, is_marked_twice, next_entries, out_of_memory, table_contents}
+use Rattle.tq_event.specs.Loading.{columns_of, csv_records, entries_after, entry_of, header_of, is_marked_twice, next_entries, out_of_memory, table_contents}
 
 abbrev pub named : ℕ → ℕ → LoadFaultKind → LoadFault
 named table number kind = record { kind = kind; table = table; number = number }

@@ -1,16 +1,14 @@
 -- What is known of entries that were loaded.
-use Rattle.std.proofs.Common.{◌≡◌, ◌≢◌, ℕ, ◌+◌, ◌-◌, ◌*◌, ◌<◌, ◌≤◌, ◌==◌, Bool, true, false, not, if◌then◌else◌, List, [], ◌∷◌, ◌++◌, Option, Some, None, Result, Ok, Err, length, drop, nat_lt, sum_by, refl, sym, ap, subst, ◌∙◌, arith, length-append}
+use Rattle.std.proofs.Common.{◌≡◌, ℕ, ◌+◌, ◌*◌, ◌<◌, ◌≤◌, ◌==◌, Bool, true, false, not, if◌then◌else◌, List, [], ◌∷◌, ◌++◌, Option, Some, None, Result, Ok, Err, length, drop, nat_lt, sum_by, refl, sym, ap, subst, arith, length-append}
 use Rattle.std.specs.Prelude.{All}
 use Rattle.std.proofs.lemmas.Bool.Decides.{nat_tests}
 use Rattle.std.proofs.lemmas.List.Elements.{All-nil, All-push, All-weaker}
-use Rattle.std.proofs.lemmas.List.Sums.{sum_by-cons, sum_by_push}
+use Rattle.std.proofs.lemmas.List.Sums.{sum_by-cons}
 use Rattle.tq_base.specs.declared.catalogue.Column.{Column}
-use Rattle.tq_base.specs.declared.catalogue.Schema.{Schema}
 use Rattle.tq_base.specs.declared.period.TheConstants.{FOREVER}
 use Rattle.tq_base.specs.declared.value.Value.{Value}
 use Rattle.tq_base.specs.Numbers.{bound_of, instant_of}
 use Rattle.tq_event.specs.declared.entry.Entry.{Entry}
-use Rattle.tq_event.specs.declared.fault.LoadFault.{LoadFault}
 use Rattle.tq_event.specs.declared.fault.LoadFaultKind.{LoadFaultKind}
 use Rattle.tq_event.specs.declared.fault.LoadFaultKind.TheVariants.{FieldCount, TooManyEvents, BadPeriod}
 use Rattle.tq_event.specs.declared.file.TableFile.{TableFile}

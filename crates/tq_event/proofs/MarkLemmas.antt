@@ -1,9 +1,9 @@
 -- What the marks of entries are, in any order, and in the order of time.
-use Rattle.std.proofs.Common.{◌≡◌, ◌≢◌, ℕ, zero, suc, ◌+◌, ◌-◌, ◌*◌, ◌<◌, ◌≤◌, eqb, Bool, true, false, cond, ◌&&◌, ◌||◌, ◌==◌, not, List, [], ◌∷◌, ◌++◌, Option, Some, None, length, get_or, take, drop, slice_get, nat_le, nat_lt, refl, sym, ap, subst, ◌∙◌, arith, inl, inr, ◌⊎◌, count_by, if◌then◌else◌, length-append}
-use Rattle.std.specs.Prelude.{All, Any, IsSorted, IsPermutation, take_while}
-use Rattle.std.specs.List.{list_any, position_or_len}
+use Rattle.std.proofs.Common.{◌≡◌, ℕ, suc, ◌+◌, ◌*◌, ◌<◌, ◌≤◌, Bool, true, false, cond, ◌||◌, ◌==◌, List, [], ◌∷◌, ◌++◌, Some, length, get_or, take, drop, slice_get, refl, sym, ap, ◌∙◌, arith, inl, inr, count_by, if◌then◌else◌, length-append}
+use Rattle.std.specs.Prelude.{All, IsSorted, IsPermutation}
+use Rattle.std.specs.List.{list_any}
 use Rattle.std.specs.Ordering.{is_lt, nat_cmp, bool_cmp, ordering_then}
-use Rattle.std.specs.declared.cmp.Ordering.TheVariants.{Less, Equal, Greater}
+use Rattle.std.specs.declared.cmp.Ordering.TheVariants.{Less}
 use Rattle.std.specs.Cmp.{IsTotalOrder, nat_cmp_is, nat_cmp_total, bool_cmp_total, on_total, then_total}
 use Rattle.std.proofs.lemmas.Bool.{and_parts, or_parts, cases_lt, eqb-true}
 use Rattle.std.proofs.lemmas.Bool.Decides.{nat_tests}
@@ -12,7 +12,7 @@ use Rattle.std.proofs.lemmas.List.{drop_more, get_or_default, take-append-drop, 
 use Rattle.std.proofs.lemmas.List.Elements.{All-nil, All-cons, All-append, All-weaker}
 use Rattle.std.proofs.lemmas.List.Folds.{list_any_at, Any-from_list_any}
 use Rattle.std.proofs.lemmas.List.Sums.{sum_by-cons, sum_by-append, position_or_len_is}
-use Rattle.std.proofs.lemmas.List.Sorted.{sum_by-IsPermutation, list_any-IsPermutation, All-permutation, sorted_far, ranks_by}
+use Rattle.std.proofs.lemmas.List.Sorted.{sum_by-IsPermutation, All-permutation, sorted_far, ranks_by}
 use Rattle.tq_base.specs.declared.period.TheConstants.{FOREVER}
 use Rattle.tq_event.specs.declared.entry.Entry.{Entry}
 use Rattle.tq_event.specs.declared.mark.Mark.{Mark}
@@ -118,6 +118,13 @@ module _ (entries : List Entry) (marks : List Mark) (all : IsPermutation (marks_
   starts_once j within =
       sum_by-IsPermutation (counted j) (marks_from 0 entries) marks all ∙ one_start 0 j entries (omega arith) (omega arith)
 
+  pub starts_listed : (j : ℕ) → j < length entries → list_any (starts_entry j) marks ≡ true
+  starts_listed j within = by (list_any (starts_entry j) marks) refl
+    where
+      by : (b : Bool) → list_any (starts_entry j) marks ≡ b → list_any (starts_entry j) marks ≡ true
+      by true e = e
+      by false e = absurd (omega (arith, starts_once j within, some_counted j marks e))
+
   -- before an entry's start no other mark starts it
   pub not_before_start : (k j : ℕ) (d : Mark) → j < length entries → k < length marks → starts_entry j (get_or marks k d) ≡ true → list_any (starts_entry j) (take k marks) ≡ false
   not_before_start k j d within here is =
@@ -153,7 +160,7 @@ module _ (entries : List Entry) (marks : List Mark) (all : IsPermutation (marks_
       let m = get_or marks k d in
       let stand = marks_stand k d here in
       let within : m.entry < length entries = omega (arith, stand.numbered, slice_get_within entries stand.place stand.entry stand.stands) in
-      let (p, x, below, is, starts_it) = Any-from_list_any (starts_entry m.entry) marks (started m.entry within (list_any (starts_entry m.entry) marks) refl) in
+      let (p, x, below, is, starts_it) = Any-from_list_any (starts_entry m.entry) marks (starts_listed m.entry within) in
       let same : get_or marks p d ≡ x = get_or_default marks p d x below ∙ is in
       let starts_here : starts_entry m.entry (get_or marks p d) ≡ true = rw same starts_it in
       elim (cases_lt p k) [
@@ -172,10 +179,6 @@ module _ (entries : List Entry) (marks : List Mark) (all : IsPermutation (marks_
             absurd (contradicts (get_or marks p d) m less far)
       ]
     where
-      started : (j : ℕ) → j < length entries → (b : Bool) → list_any (starts_entry j) marks ≡ b → list_any (starts_entry j) marks ≡ true
-      started j within true e = e
-      started j within false e = absurd (omega (arith, starts_once j within, some_counted j marks e))
-
       same_entry : (a b : ℕ) (x y : Entry) → a ≡ b → slice_get entries a ≡ Some x → slice_get entries b ≡ Some y → x ≡ y
       same_entry a b x y e f g = cc
 

@@ -1,10 +1,10 @@
 -- Making the events one by one: what holds after so many marks, and that each mark keeps it.
-use Rattle.std.proofs.Common.{◌≡◌, ◌≢◌, ℕ, zero, suc, ◌+◌, ◌<◌, ◌≤◌, Bool, true, false, cond, ◌&&◌, ◌||◌, ◌==◌, not, List, [], ◌∷◌, ◌++◌, Option, Some, None, length, get_or, set, take, drop, slice_get, refl, sym, ap, subst, ◌∙◌, arith, inl, inr, ◌⊎◌, count_by, if◌then◌else◌, length-append, length-set}
+use Rattle.std.proofs.Common.{◌≡◌, ◌≢◌, ℕ, ◌+◌, ◌<◌, ◌≤◌, Bool, true, false, cond, ◌&&◌, ◌||◌, ◌==◌, List, [], ◌∷◌, ◌++◌, Option, Some, length, get_or, set, take, slice_get, refl, sym, ap, subst, ◌∙◌, arith, inl, inr, ◌⊎◌, count_by, if◌then◌else◌, length-append, length-set}
 use Rattle.std.specs.Prelude.{All, IsSorted, IsPermutation, IsSomeAnd}
 use Rattle.std.specs.List.{AllZip, list_any}
 use Rattle.std.proofs.lemmas.Bool.{cases_lt, eqb-true}
 use Rattle.std.proofs.lemmas.Bool.Decides.{nat_tests}
-use Rattle.std.proofs.lemmas.Option.{get_or_from_slice_get, slice_get-get_or, slice_get_within}
+use Rattle.std.proofs.lemmas.Option.{get_or_from_slice_get, slice_get_within}
 use Rattle.std.proofs.lemmas.List.{length-take-le, take_more, get_or-set_same, get_or-set_other}
 use Rattle.std.proofs.lemmas.List.Folds.{list_any_more}
 use Rattle.std.proofs.lemmas.List.Sums.{sum_by-cons, sum_by_push}
@@ -12,8 +12,8 @@ use Rattle.tq_event.specs.declared.entry.Entry.{Entry}
 use Rattle.tq_event.specs.declared.mark.Mark.{Mark}
 use Rattle.tq_event.specs.declared.event.Event.{Event}
 use Rattle.tq_event.specs.declared.event.Event.TheVariants.{Start, End}
-use Rattle.tq_event.specs.Loading.{IsEventAt, HaveEvents, event_at, mark_cmp, marks_from, starts_entry, starts_in, row_number, table_at}
-use Rattle.tq_event.proofs.MarkLemmas.{IsMarkFrom, marks_stand, not_before_start, row_number_at, start_before_end}
+use Rattle.tq_event.specs.Loading.{IsEventAt, event_at, mark_cmp, marks_from, starts_entry, starts_in, row_number, table_at}
+use Rattle.tq_event.proofs.MarkLemmas.{marks_stand, not_before_start, row_number_at, start_before_end}
 
 -- after k marks: the events of these, how many rows of each table have started, the numbers of the rows
 -- that have, and the entries that have not

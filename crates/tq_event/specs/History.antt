@@ -1,6 +1,6 @@
 -- Histories: the rows of a table as of the first n events, and what is valid at an instant. After
 -- Snodgrass's valid-time tables; that a history is a list of events is this project's own.
-use Rattle.std.specs.Prelude.{◌≡◌, ℕ, ◌+◌, ◌-◌, ◌<◌, ◌≤◌, List, [], ◌∷◌, ◌++◌, length, take, map, filter, if◌then◌else◌, ◌==◌, ◌&&◌, nat_le, nat_lt, Contains, slice_get, IfSome, IsSomeAnd, count_by, Bool, true, false}
+use Rattle.std.specs.Prelude.{◌≡◌, ℕ, ◌+◌, ◌-◌, ◌<◌, ◌≤◌, List, [], ◌∷◌, ◌++◌, length, take, map, filter, if◌then◌else◌, ◌==◌, ◌&&◌, nat_le, nat_lt, Contains, slice_get, IfSome, IsSomeAnd}
 use Rattle.tq_base.specs.declared.value.Value.{Value}
 use Rattle.tq_base.specs.declared.period.TheConstants.{FOREVER}
 use Rattle.tq_base.specs.declared.catalogue.Catalogue.{Catalogue}

@@ -22,7 +22,7 @@ pub enum Event {
 }
 
 impl Event {
-    /// An equal event.
+    /// An equal event; `AllocError` where a growth was refused.
     pub fn try_copy(&self) -> Result<Event, AllocError>
         ensures { IfOk result (λ event. event ≡ self.now) }
     {

@@ -23,3 +23,6 @@ pub use event::Event;
 pub use fault::{LoadFault, LoadFaultKind};
 pub use file::{Loaded, TableFile};
 pub use loading::{MAX_EVENTS, MAX_TABLES, load};
+
+#[cfg(test)]
+mod tests;

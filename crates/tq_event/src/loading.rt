@@ -14,7 +14,7 @@ use csv::ByteRecord;
 use std::alloc::{AllocError, Global};
 use tq_base::{Catalogue, Column, Items, Name, Schema, fold_name};
 
-/// The most events that files may make.
+/// The most events that a load may be asked for.
 pub const MAX_EVENTS: u32 = 16_777_216;
 
 /// The most tables.
@@ -136,9 +136,10 @@ fn load_file(
     Ok(())
 }
 
-/// Loads files into a catalogue and one list of events: for each data record a start and, unless `to`
-/// is `forever`, an end, ordered by time, ends before starts, table, record. The first fault is
-/// answered, in the order of tables, records and checks; `OutOfMemory` where a growth was refused.
+/// Loads files into a catalogue and one list of at most `limit` events: for each data record a start
+/// and, unless `to` is `forever`, an end, ordered by time, ends before starts, table, record. The first
+/// fault is answered, in the order of tables, records and checks; `OutOfMemory` where a growth was
+/// refused.
 pub fn load(alloc: Global, files: &[TableFile], limit: u32) -> Result<Loaded, LoadFault>
     requires { limit ≤ MAX_EVENTS }
     ensures loaded { IfOk result (IsLoaded files.now limit) }

@@ -59,7 +59,8 @@ fn add_layers(
 
 /// The layers of the copies that go in: for each row of values and each count from 1 on, one row for
 /// each maximal run of instants at which at least so many copies are valid, in order of the values,
-/// then of the start, then of the end. Rows are moved, not copied.
+/// then of the start, then of the end. Rows are moved, not copied. `AllocError` where a growth was
+/// refused.
 pub fn coalesce(alloc: Global, mut rows: Vec<Fragment>) -> Result<Vec<Fragment>, AllocError>
     ensures { IfOk result (λ table. IsLayers (copies rows.items) table.items) }
 {

@@ -16,3 +16,6 @@ pub use coalescing::coalesce;
 pub use sink::{Sink, WriteFault};
 pub use table::Table;
 pub use text::{table_text, write_table};
+
+#[cfg(test)]
+mod tests;

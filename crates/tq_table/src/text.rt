@@ -76,6 +76,7 @@ fn write_line(writer: &mut Writer<Vec<u8>>, record: &ByteRecord) -> Result<(), A
 
 /// The text of a table: a line of the column names, `from` and `to`, and a line for each row, its
 /// values, start and end; CSV after RFC 4180, lines ended by LF, fields quoted where they have to be.
+/// `AllocError` where a growth was refused.
 pub fn table_text(alloc: Global, table: &Table) -> Result<Vec<u8>, AllocError>
     ensures { IfOk result (λ text. text.items ≡ text_of table.now) }
 {

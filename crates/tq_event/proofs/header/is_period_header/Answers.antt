@@ -1,4 +1,4 @@
-use Rattle.std.proofs.Common.{◌≡◌, sym, ◌∙◌, ◌∷◌, [], arith, refl}
+use Rattle.std.proofs.Common.{◌≡◌, ◌∷◌, [], arith, refl}
 use Rattle.csv.specs.Records.{fields_of}
 use Rattle.tq_event.specs.Loading.{period_fields}
 use Rattle.tq_event.proofs.FieldLemmas.{period_fields_are}

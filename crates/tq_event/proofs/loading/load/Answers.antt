@@ -1,4 +1,4 @@
-use Rattle.std.proofs.Common.{◌≡◌, ◌∙◌, Ok, Result, ap, arith, length, refl}
+use Rattle.std.proofs.Common.{◌≡◌, ◌∙◌, Ok, ap, arith, length, refl}
 use Rattle.std.proofs.lemmas.List.{drop_all}
 use Rattle.tq_event.specs.Loading.{contents_of}
 use Rattle.tq_event.proofs.LoadedLemmas.{contents_placeable, entries_within}

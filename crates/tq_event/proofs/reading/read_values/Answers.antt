@@ -1,10 +1,9 @@
-use Rattle.std.proofs.Common.{◌≡◌, ◌∙◌, ◌∷◌, ◌++◌, [], ◌+◌, ◌-◌, ◌<◌, true, length, drop, ap, arith, refl, sym, rules, get_or}
+use Rattle.std.proofs.Common.{◌≡◌, ◌∙◌, ◌∷◌, ◌++◌, [], ◌+◌, true, drop, ap, arith, refl, sym, rules}
 use Rattle.std.specs.Result.{is_ok}
 use Rattle.std.proofs.lemmas.List.{drop_more}
 use Rattle.std.proofs.lemmas.Result.{err_from_is_err_and}
 use Rattle.csv.specs.Records.{fields_of}
 use Rattle.tq_base.specs.declared.catalogue.Column.{Column}
-use Rattle.tq_event.specs.Loading.{value_fields, values_after}
 use Rattle.tq_event.proofs.FieldLemmas.{value_field_at}
 use Rattle.tq_event.proofs.reading.read_values.Goals as goal
 

@@ -1,9 +1,8 @@
-use Rattle.std.proofs.Common.{◌≡◌, ◌≢◌, refl, ◌++◌, ◌∷◌, [], List, arith}
+use Rattle.std.proofs.Common.{◌≡◌, ◌≢◌, refl, ◌++◌, ◌∷◌, [], arith}
 use Rattle.std.specs.Prelude.{All}
 use Rattle.std.specs.Vec.Iter.{into_iter_items}
 use Rattle.std.proofs.lemmas.List.{nil_from_length}
 use Rattle.std.proofs.lemmas.List.Elements.{All-nil, All-cons, All-push}
-use Rattle.tq_base.specs.declared.fragment.Fragment.{Fragment}
 use Rattle.tq_base.specs.Groups.{Grouping, grouping_starts, grouping_ends, closes_group, joins_group}
 use Rattle.tq_table.proofs.coalescing.coalesce.Goals as goal
 use Rattle.tq_table.proofs.coalescing.coalesce.Goals.{then-begins_group+in_ok-add_layers, else-begins_group}

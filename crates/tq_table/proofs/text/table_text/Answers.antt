@@ -1,8 +1,7 @@
-use Rattle.std.proofs.Common.{◌≡◌, ◌∙◌, ◌+◌, subst, ◌++◌, [], ◌∷◌, List, ℕ, ap, sym, get_or, take, refl}
+use Rattle.std.proofs.Common.{◌≡◌, ◌∙◌, ◌+◌, subst, ◌++◌, [], ◌∷◌, ap, sym, take, refl}
 use Rattle.std.specs.List.{flat_map}
 use Rattle.std.proofs.lemmas.List.{append-nil, flat_map_more, take_more}
 use Rattle.csv.specs.Writing.{row_text}
-use Rattle.csv.specs.Records.{fields_of}
 use Rattle.tq_base.specs.declared.fragment.Fragment.{Fragment}
 use Rattle.tq_table.specs.Text.{answer_format, header_fields, row_fields}
 use Rattle.tq_table.specs.Writing.{HasWritten}

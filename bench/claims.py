@@ -1,0 +1,81 @@
+#!/usr/bin/env python3
+"""Times what a claim and the start of a worker cost, beside a step of a plain loop.
+
+Usage: bench/claims.py [STEPS [RUNS]]   (20,000,000 steps and 2,000 runs where they are left out)
+
+It builds crates/bench_claims and runs it from outside. Each figure is the best of five runs, less the time of the
+program with nothing to do, and is printed as a ratio to one step of the plain loop, whose results are kept in a
+list too. Standard library only.
+"""
+
+import os
+import platform
+import subprocess
+import sys
+import time
+
+TOP = os.path.dirname(os.path.dirname(os.path.abspath(__file__)))
+CRATE = os.path.join(TOP, "crates", "bench_claims")
+PROGRAM = os.path.join(CRATE, "out", "bench_claims")
+
+
+def processor():
+    """The processor's name, as far as the system tells it."""
+    try:
+        with open("/proc/cpuinfo", encoding="utf-8") as lines:
+            for line in lines:
+                if line.startswith("model name"):
+                    return line.split(":", 1)[1].strip()
+    except OSError:
+        pass
+    return platform.processor() or platform.machine()
+
+
+def output(words):
+    done = subprocess.run([PROGRAM, *words], check=True, capture_output=True, text=True)
+    return done.stdout
+
+
+def seconds(*words):
+    """The best time of five runs."""
+    words = [str(word) for word in words]
+    best = None
+    for _ in range(5):
+        start = time.perf_counter()
+        output(words)
+        spent = time.perf_counter() - start
+        best = spent if best is None else min(best, spent)
+    return best
+
+
+def main():
+    steps = int(sys.argv[1]) if len(sys.argv) > 1 else 20_000_000
+    runs = int(sys.argv[2]) if len(sys.argv) > 2 else 2_000
+    subprocess.run(["rt", "run", "--", "loop", "1"], cwd=CRATE, check=True, capture_output=True)
+
+    digests = {output([way, str(steps)]).split(":", 1)[1] for way in ("loop", "here", "with")}
+    if len(digests) != 1:
+        sys.exit("the ways of running the steps differ in their results")
+
+    print(f"{processor()}, {os.cpu_count()} cores; {steps:,} steps, {runs:,} runs")
+    nothing = seconds("loop", 0)
+    step = (seconds("loop", steps) - nothing) / steps
+
+    def ratio(way, *words):
+        return (seconds(way, *words) - nothing) / step
+
+    print("one step (1.0 is a step of a plain loop that keeps its result):")
+    print(f"  as a piece on the calling thread       {ratio('here', steps) / steps:8.1f}")
+    for workers in (1, 2, 4, 7, 16):
+        print(f"  as a piece claimed by {workers:2} worker(s)     {ratio('with', steps, workers) / steps:8.1f}")
+    alone = ratio("start", runs, 1) / runs
+    print("a run of as many pieces as workers, in steps of the loop:")
+    print(f"  on the calling thread alone            {alone:8.0f}")
+    for workers in (2, 4, 7, 16):
+        cost = ratio("start", runs, workers) / runs
+        each = (cost - alone) / (workers - 1)
+        print(f"  {workers:2} workers                             {cost:8.0f}, {each:8.0f} for each thread started")
+
+
+if __name__ == "__main__":
+    main()

@@ -1,0 +1,109 @@
+//! Puts the same keys into a multiversion tree and into a map of the standard library, and prints counts.
+//!
+//!     bench_tree            2,000 keys with 1,000 deletes, in the tree
+//!     bench_tree tree N     N keys with N / 2 deletes, in the tree
+//!     bench_tree map N      the same in a BTreeMap, without versions
+//!     bench_tree keys N     the keys alone
+#![tactic(auto)]
+
+ghost use Rattle.std.specs.Prelude.{◌<◌};
+
+mod load;
+mod sizes;
+
+use load::Load;
+use sizes::Sizes;
+use std::alloc::{AllocError, Global};
+use std::collections::BTreeMap;
+use std::env;
+
+// The fronts of the keys, from a linear congruential generator.
+fn fronts(alloc: Global, count: u32) -> Result<Vec<u64>, AllocError> {
+    let mut all = Vec::new(alloc);
+    let mut state: u64 = 12345;
+    for _ in 0..count {
+        state = state
+            .wrapping_mul(6364136223846793005)
+            .wrapping_add(1442695040888963407);
+        all.push(state >> 20)?;
+    }
+    Ok(all)
+}
+
+// The place of the delete with the number, among so many keys; each place once, up to 7,919 keys apart.
+fn place(number: usize, count: usize) -> usize
+    requires { 0 < count }
+{
+    (number as u128 * 7919 % count as u128) as usize
+}
+
+// The tree with all the keys, and half of them deleted again.
+fn fill_tree(alloc: Global, fronts: &[u64]) -> Result<Load, AllocError> {
+    let mut load = Load::new(alloc)?;
+    let mut keys = Vec::new(alloc);
+    for front in fronts {
+        if let Some(key) = load.insert(*front)? {
+            keys.push(key)?;
+        }
+    }
+    for number in 0..keys.len() / 2 {
+        let at = place(number, keys.len());
+        if let Some(key) = keys.get(at) {
+            let _gone = load.delete(*key)?;
+        }
+    }
+    Ok(load)
+}
+
+// The map with all the keys, and half of them removed again.
+fn fill_map(alloc: Global, fronts: &[u64]) -> anyhow::Result<usize> {
+    let mut map: BTreeMap<u128, u32> = BTreeMap::new(alloc);
+    let mut keys = Vec::new(alloc);
+    for (row, front) in fronts.iter().enumerate() {
+        let key = *front as u128 * 4294967296 + row as u128 % 4294967296;
+        map.insert(key, 1)?;
+        keys.push(key)?;
+    }
+    for number in 0..keys.len() / 2 {
+        let at = place(number, keys.len());
+        if let Some(key) = keys.get(at) {
+            let _removed = map.remove(key);
+        }
+    }
+    Ok(map.len())
+}
+
+fn main(rt: HostRuntime) -> anyhow::Result<()> {
+    let alloc = rt.alloc();
+    let mut count: u32 = 2000;
+    let mut in_map = false;
+    let mut in_tree = true;
+    for (place, word) in env::args(&rt)?.enumerate() {
+        if place == 1 {
+            in_map = word.as_str() == "map";
+            in_tree = word.as_str() == "tree";
+        } else if place == 2 {
+            count = word.parse().unwrap_or(2000);
+        }
+    }
+    let fronts = fronts(alloc, count.min(11000000))?;
+    if in_tree {
+        let load = fill_tree(alloc, &fronts)?;
+        let sizes = Sizes::of(&load.tree)?;
+        println!(rt; "updates {}", load.tree.version())?;
+        println!(rt; "nodes {}, {} of them leaves", sizes.nodes, sizes.leaves)?;
+        println!(rt; "levels {}", load.tree.levels(load.tree.version()))?;
+        println!(rt; "entries {}", sizes.entries)?;
+        let updates = load.tree.version().max(1) as usize;
+        println!(rt;
+            "entries in 100 updates {}",
+            sizes.entries.saturating_mul(100) / updates
+        )?;
+        println!(rt; "bytes an update {}", sizes.bytes / updates)?;
+    } else if in_map {
+        println!(rt; "keys left {}", fill_map(alloc, &fronts)?)?;
+    } else {
+        println!(rt; "keys {}", fronts.len())?;
+    }
+    Ok(())
+}

@@ -1,0 +1,77 @@
+// Which rows a table takes, and where a table stands among others.
+
+use super::{pair, text};
+use crate::{Catalogue, Column, Items, Kind, MAX_TEXT, Schema, Value, Values, fold_name};
+use std::alloc::Global;
+use std::test::Fail;
+
+fn column(alloc: Global, name: &[u8], kind: Kind) -> Result<Column, Fail> {
+    let name = fold_name(alloc, name)?.ok_or("no name")?;
+    Ok(Column { name, kind })
+}
+
+// A table of a number and a text.
+fn table(alloc: Global, name: &[u8]) -> Result<Schema, Fail> {
+    let key = column(alloc, b"k", Kind::Int)?;
+    let note = column(alloc, b"note", Kind::Text)?;
+    let name = fold_name(alloc, name)?.ok_or("no name")?;
+    let columns = Items::of(vec![in alloc; key, note]?);
+    Ok(Schema { name, columns })
+}
+
+#[test]
+fn a_column_takes_values_of_its_kind_and_size(rt: HostRuntime) -> Result<(), Fail> {
+    let longest = Value::Text(crate::Text::of("x".repeat(rt.alloc(), MAX_TEXT)?));
+    let too_long = Value::Text(crate::Text::of("x".repeat(rt.alloc(), MAX_TEXT + 1)?));
+    for (value, int, as_text) in [
+        (Value::Int(9_223_372_036_854_775_807), true, false),
+        (Value::Int(-9_223_372_036_854_775_808), true, false),
+        (Value::Int(9_223_372_036_854_775_808), false, false),
+        (Value::Int(-9_223_372_036_854_775_809), false, false),
+        (longest, false, true),
+        (too_long, false, false),
+        (text(rt.alloc(), "")?, false, true),
+    ] {
+        assert_eq!(rt; Kind::Int.takes(&value), int);
+        assert_eq!(rt; Kind::Text.takes(&value), as_text);
+    }
+    Ok(())
+}
+
+#[test]
+fn a_row_has_a_value_for_each_column(rt: HostRuntime) -> Result<(), Fail> {
+    let schema = table(rt.alloc(), b"emp")?;
+    let swapped = vec![in rt.alloc(); text(rt.alloc(), "ann")?, Value::Int(1)]?;
+    let short = vec![in rt.alloc(); Value::Int(1)]?;
+    let long = vec![in rt.alloc(); Value::Int(1), text(rt.alloc(), "ann")?, Value::Int(1)]?;
+    assert!(rt; schema.fits(&pair(rt.alloc(), 1, "ann")?));
+    assert!(rt; !schema.fits(&pair(rt.alloc(), 1 << 63, "ann")?));
+    for values in [swapped, short, long, Vec::new(rt.alloc())] {
+        assert!(rt; !schema.fits(&Values::of(values)));
+    }
+    Ok(())
+}
+
+#[test]
+fn a_table_is_found_by_its_name(rt: HostRuntime) -> Result<(), Fail> {
+    let emp = table(rt.alloc(), b"Emp")?;
+    let dept = table(rt.alloc(), b"dept")?;
+    let tables = Items::of(vec![in rt.alloc(); emp, dept]?);
+    let catalogue = Catalogue { tables }.try_copy(rt.alloc())?;
+    for (name, number) in [
+        (b"emp".as_slice(), Some(0)),
+        (b"EMP", Some(0)),
+        (b"Dept", Some(1)),
+        (b"em", None),
+        (b"boss", None),
+        (b"", None),
+    ] {
+        assert_eq!(rt; catalogue.table(name), number, "{name:?}");
+    }
+    let schema = catalogue.tables.get().last().ok_or("no table")?;
+    let column = schema.columns.get().last().ok_or("no column")?;
+    assert_eq!(rt; schema.name.bytes(), b"dept".as_slice());
+    assert_eq!(rt; column.name.bytes(), b"note".as_slice());
+    assert_eq!(rt; column.kind, Kind::Text);
+    Ok(())
+}

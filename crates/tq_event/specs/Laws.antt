@@ -1,0 +1,39 @@
+-- What is known of files that were loaded. This project's own.
+use Rattle.std.specs.Prelude.{◌≡◌, ℕ, ◌≤◌, List, Some, length, All}
+use Rattle.tq_base.specs.declared.catalogue.Column.{Column}
+use Rattle.tq_base.specs.declared.catalogue.Schema.{Schema}
+use Rattle.tq_base.specs.Catalogues.{IsCatalogue}
+use Rattle.tq_base.specs.Names.{folded_name}
+use Rattle.tq_event.specs.declared.file.TableFile.{TableFile}
+use Rattle.tq_event.specs.declared.file.Loaded.{Loaded}
+use Rattle.tq_event.specs.History.{IsHistory}
+use Rattle.tq_event.specs.Loading.{IsLoaded}
+
+-- files hold one list of tables and one list of events
+abbrev pub LoadedIsUnique : Type 0
+LoadedIsUnique = (files : List TableFile) (limit : ℕ) (a b : Loaded) → IsLoaded files limit a → IsLoaded files limit b
+    → (a.catalogue.tables ≡ b.catalogue.tables) × (a.events ≡ b.events)
+
+-- the events stay within the limit
+abbrev pub LoadedIsWithin : Type 0
+LoadedIsWithin = (files : List TableFile) (limit : ℕ) (loaded : Loaded) → IsLoaded files limit loaded → length loaded.events ≤ limit
+
+-- the tables are a catalogue
+abbrev pub LoadedIsCatalogue : Type 0
+LoadedIsCatalogue = (files : List TableFile) (limit : ℕ) (loaded : Loaded) → IsLoaded files limit loaded → IsCatalogue loaded.catalogue
+
+-- some bytes write the name, which is folded
+abbrev pub IsFoldedName : List ℕ → Type 0
+IsFoldedName name = (bytes : List ℕ) × (folded_name bytes ≡ Some name)
+
+-- the table and its columns have folded names
+abbrev pub HasFoldedNames : Schema → Type 0
+HasFoldedNames schema = IsFoldedName schema.name × All (λ (c : Column). IsFoldedName c.name) schema.columns
+
+-- the tables and their columns have folded names
+abbrev pub LoadedNamesAreFolded : Type 0
+LoadedNamesAreFolded = (files : List TableFile) (limit : ℕ) (loaded : Loaded) → IsLoaded files limit loaded → All HasFoldedNames loaded.catalogue.tables
+
+-- the events are a history over these tables
+abbrev pub LoadedIsHistory : Type 0
+LoadedIsHistory = (files : List TableFile) (limit : ℕ) (loaded : Loaded) → IsLoaded files limit loaded → IsHistory loaded.catalogue loaded.events

@@ -1,0 +1,13 @@
+-- What is seen of a node of the tree.
+use Rattle.std.specs.Prelude.{ℕ, List}
+use Rattle.tq_mvbt.specs.declared.entry.Entry.{Entry}
+
+-- A node of a level (0 is a leaf), over the keys `low <= k < high` and the versions `born <= v < died`,
+-- where a node that stands now has the mark 4,294,967,295 for `died`; and its entries. (Becker et al. 1996.)
+pub record NodeState : Type 0 where
+  pub level : ℕ
+  pub low : ℕ
+  pub high : ℕ
+  pub born : ℕ
+  pub died : ℕ
+  pub entries : List Entry

@@ -1,0 +1,60 @@
+//! The regions of the leaves.
+
+ghost use Rattle.std.specs.Prelude.{◌≡◌, ◌+◌, ◌<◌, ◌≤◌, length, min, All, IfOk};
+ghost use Rattle.tq_mvbt.specs.Regions.{region_for, regions_from};
+
+use crate::node::Node;
+use crate::numbers::NodeNos;
+use std::alloc::{AllocError, Global};
+use tq_arena::{Arena, Meter, NodeNo};
+
+/// The region of a leaf: its keys `low <= k < high` at the versions `born <= v < died`.
+#[derive(Drop, Debug)]
+pub struct Region {
+    /// The number of the leaf.
+    pub node: NodeNo,
+    /// The least key.
+    pub low: u128,
+    /// The key just above.
+    pub high: u128,
+    /// The first version.
+    pub born: u32,
+    /// The first version after; none for a leaf that stands now.
+    pub died: Option<u32>,
+    /// The leaves whose place it took; none are kept yet.
+    pub links: NodeNos,
+}
+
+// The region of a leaf.
+fn region_at(alloc: Global, number: u32, node: &Node) -> Region
+    ensures { result ≡ region_for number node.now }
+{
+    Region {
+        node: NodeNo(number),
+        low: node.low(),
+        high: node.high(),
+        born: node.born(),
+        died: node.died(),
+        links: NodeNos::of(Vec::new(alloc)),
+    }
+}
+
+// The regions of the leaves in the order of their numbers; each node is read once.
+pub(crate) fn regions(
+    alloc: Global,
+    nodes: &Arena<Node>,
+    meter: &mut Meter,
+) -> Result<Vec<Region>, AllocError>
+    ensures regions { IfOk result (λ rs. rs.items ≡ regions_from 0 nodes.now.nodes) }
+    ensures in_range { IfOk result (λ rs. All (λ r. r.node.0 < length nodes.now.nodes) rs.items) }
+    ensures counted { IfOk result (λ rs. min (meter.old + length rs.items) u64.MAX ≤ meter.new) }
+{
+    let mut found = Vec::new(alloc);
+    for i in 0..nodes.len() {
+        let node = nodes.read(NodeNo(i), meter);
+        if node.is_leaf() {
+            found.push(region_at(alloc, i, node))?;
+        }
+    }
+    Ok(found)
+}

@@ -1,0 +1,135 @@
+//! A node that is too full or too empty gives way to others.
+
+ghost use Rattle.std.specs.Prelude.{◌≡◌, ◌+◌, ◌<◌, ◌≤◌, ◌⊎◌, length};
+ghost use Rattle.tq_mvbt.specs.Shape.{IsSomeForest};
+ghost use Rattle.tq_mvbt.specs.Loose.{IsForestBy, IsSettling, NeedsChange, IsAmple, IsThin, IsPart, IsPartOf, IsUnder, IsStanding, AreBeside, Grows, StaysForest};
+
+use crate::node::Node;
+use crate::steps::{count_live, edit, push_nodes, retire};
+use arrayvec::ArrayVec;
+use tq_arena::{Arena, Meter, NodeNo};
+
+// Replaces the node, whose last entries began at the version, by one or two; gives how many entries
+// the parent got.
+fn renew(
+    nodes: &mut Arena<Node>,
+    number: u32,
+    last: usize,
+    parent: u32,
+    level: u32,
+    version: u32,
+) -> usize
+    requires small { version < 4294967295 }
+    requires room { 2 ≤ nodes.old.room }
+    requires forest { IsForestBy version nodes.old.nodes }
+    requires settling { IsSettling version level last nodes.old.nodes number }
+    requires ample { IsAmple nodes.old.nodes number }
+    requires part { IsPartOf nodes.old.nodes level number parent }
+    ensures forest { StaysForest version nodes.old.nodes nodes.new.nodes }
+    ensures settling { IsSettling version (level + 1) result nodes.new.nodes parent }
+    ensures grows { Grows version (level + 1) nodes.old.nodes nodes.new.nodes }
+    ensures room { nodes.old.room ≤ nodes.new.room + 2 }
+    ensures len { length nodes.new.nodes ≤ length nodes.old.nodes + 2 }
+{
+    let mut copied = ArrayVec::new();
+    let (low, high) = retire(nodes, number, last, version, &mut copied);
+    let added = push_nodes(nodes, level, low, high, version, &mut copied);
+    edit(nodes, parent, low, high, version, &added);
+    added.len()
+}
+
+// Replaces the node, whose last entries began at the version, and the one beside it, by one or two;
+// gives how many entries the parent got.
+fn merge(
+    nodes: &mut Arena<Node>,
+    number: u32,
+    last: usize,
+    sibling: u32,
+    parent: u32,
+    level: u32,
+    version: u32,
+) -> usize
+    requires small { version < 4294967295 }
+    requires room { 2 ≤ nodes.old.room }
+    requires forest { IsForestBy version nodes.old.nodes }
+    requires settling { IsSettling version level last nodes.old.nodes number }
+    requires thin { IsThin nodes.old.nodes number }
+    requires part { IsPartOf nodes.old.nodes level number parent }
+    requires beside { AreBeside nodes.old.nodes number sibling }
+    requires under { IsUnder nodes.old.nodes sibling parent }
+    requires standing { IsStanding level nodes.old.nodes sibling }
+    ensures forest { StaysForest version nodes.old.nodes nodes.new.nodes }
+    ensures settling { IsSettling version (level + 1) result nodes.new.nodes parent }
+    ensures grows { Grows version (level + 1) nodes.old.nodes nodes.new.nodes }
+    ensures room { nodes.old.room ≤ nodes.new.room + 2 }
+    ensures len { length nodes.new.nodes ≤ length nodes.old.nodes + 2 }
+{
+    let mut copied = ArrayVec::new();
+    let (low, high) = retire(nodes, number, last, version, &mut copied);
+    let (its_low, its_high) = retire(nodes, sibling, 0, version, &mut copied);
+    let low = low.min(its_low);
+    let high = high.max(its_high);
+    let added = push_nodes(nodes, level, low, high, version, &mut copied);
+    edit(nodes, parent, low, high, version, &added);
+    added.len()
+}
+
+// A key of the parent just beside the node, above it if there is one.
+fn key_beside(node: &Node, above: &Node) -> u128
+    requires { IsPart node.now above.now }
+    ensures low { above.now.low ≤ result }
+    ensures high { result < above.now.high }
+    ensures side { (result ≡ node.now.high) ⊎ (result + 1 ≡ node.now.low) }
+    ensures right { node.now.high < above.now.high → result ≡ node.now.high }
+{
+    if node.high() < above.high() {
+        node.high()
+    } else {
+        node.low() - 1
+    }
+}
+
+// The node beside the node under the same parent, on the right if there is one.
+fn sibling_of(nodes: &Arena<Node>, number: u32, parent: u32, level: u32) -> u32
+    requires level { level < 4294967295 }
+    requires forest { IsSomeForest nodes.now.nodes }
+    requires part { IsPartOf nodes.now.nodes level number parent }
+    ensures beside { AreBeside nodes.now.nodes number result }
+    ensures under { IsUnder nodes.now.nodes result parent }
+    ensures standing { IsStanding level nodes.now.nodes result }
+{
+    let mut meter = Meter::new();
+    let node = nodes.read(NodeNo(number), &mut meter);
+    let above = nodes.read(NodeNo(parent), &mut meter);
+    above.child_at(key_beside(node, above)).unwrap()
+}
+
+// Replaces the node, alone or with the one beside it, by one or two; gives how many entries the
+// parent got.
+pub(crate) fn replace(
+    nodes: &mut Arena<Node>,
+    number: u32,
+    last: usize,
+    parent: u32,
+    level: u32,
+    version: u32,
+) -> usize
+    requires small { version < 4294967295 }
+    requires level { level < 4294967295 }
+    requires room { 2 ≤ nodes.old.room }
+    requires forest { IsForestBy version nodes.old.nodes }
+    requires settling { IsSettling version level last nodes.old.nodes number }
+    requires needed { NeedsChange nodes.old.nodes number 5 }
+    requires part { IsPartOf nodes.old.nodes level number parent }
+    ensures forest { StaysForest version nodes.old.nodes nodes.new.nodes }
+    ensures settling { IsSettling version (level + 1) result nodes.new.nodes parent }
+    ensures grows { Grows version (level + 1) nodes.old.nodes nodes.new.nodes }
+    ensures room { nodes.old.room ≤ nodes.new.room + 2 }
+    ensures len { length nodes.new.nodes ≤ length nodes.old.nodes + 2 }
+{
+    if count_live(nodes, number) >= 8 {
+        return renew(nodes, number, last, parent, level, version);
+    }
+    let sibling = sibling_of(nodes, number, parent, level);
+    merge(nodes, number, last, sibling, parent, level, version)
+}

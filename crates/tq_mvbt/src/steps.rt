@@ -1,0 +1,163 @@
+//! Steps on the nodes of an arena: finding, editing, ending and beginning them.
+
+ghost use Rattle.std.specs.Prelude.{◌≡◌, ◌+◌, ◌-◌, ◌<◌, ◌≤◌, ◌++◌, IsTrue, ◌↔◌, length, count_by, slice_get, IfSome, filter, IsPermutation};
+ghost use Rattle.std.specs.List.Sorted.{IsNonDecreasingBy};
+ghost use Rattle.arrayvec.specs.ArrayVec.{array_vec_len};
+ghost use Rattle.tq_mvbt.specs.Points.{is_live};
+ghost use Rattle.tq_mvbt.specs.Shape.{IsSomeForest, IsFound};
+ghost use Rattle.tq_mvbt.specs.Steps.{edited, retired, fresh, Changes, HasRoom, Puts, PutsTwo, PutsNodes};
+
+use crate::entry::{Entry, NOW};
+use crate::node::Node;
+use arrayvec::ArrayVec;
+use tq_arena::{Arena, Meter, NodeNo};
+
+// The child on the way to the key.
+pub(crate) fn child_of(nodes: &Arena<Node>, number: u32, level: u32, key: u128) -> u32
+    requires forest { IsSomeForest nodes.now.nodes }
+    requires index { 0 < level }
+    requires found { IsFound nodes.now.nodes level key number }
+    ensures { IsFound nodes.now.nodes (level - 1) key result }
+{
+    let mut meter = Meter::new();
+    let node = nodes.read(NodeNo(number), &mut meter);
+    node.child_at(key).unwrap()
+}
+
+// Ends the live entries of the range and appends the added ones.
+pub(crate) fn edit(
+    nodes: &mut Arena<Node>,
+    number: u32,
+    low: u128,
+    high: u128,
+    version: u32,
+    added: &[Entry],
+)
+    requires { HasRoom nodes.old.nodes number (length added.now) }
+    ensures { Changes nodes.old nodes.new number (edited low high version added.now) }
+{
+    nodes.change(NodeNo(number)).edit(low, high, version, added);
+}
+
+// Whether the node has no entry over, and enough of them live.
+pub(crate) fn fits(nodes: &Arena<Node>, number: u32, least: usize) -> bool
+    requires { number < length nodes.now.nodes }
+    ensures { IfSome (slice_get nodes.now.nodes number) (λ n. IsTrue result ↔ ((length n.entries ≤ 32) × (least ≤ count_by is_live n.entries))) }
+{
+    let mut meter = Meter::new();
+    nodes.read(NodeNo(number), &mut meter).fits(least)
+}
+
+// How many entries of the node live now.
+pub(crate) fn count_live(nodes: &Arena<Node>, number: u32) -> usize
+    requires { number < length nodes.now.nodes }
+    ensures { IfSome (slice_get nodes.now.nodes number) (λ n. result ≡ count_by is_live n.entries) }
+{
+    let mut meter = Meter::new();
+    nodes.read(NodeNo(number), &mut meter).count_live()
+}
+
+// Ends the node, takes its last entries off, and copies the live ones; gives the node's range.
+pub(crate) fn retire(
+    nodes: &mut Arena<Node>,
+    number: u32,
+    last: usize,
+    version: u32,
+    copied: &mut ArrayVec<Entry, 40>,
+) -> (u128, u128)
+    requires stands { number < length nodes.old.nodes }
+    requires last { IfSome (slice_get nodes.old.nodes number) (λ n. last ≤ length n.entries) }
+    requires room { IfSome (slice_get nodes.old.nodes number) (λ n. array_vec_len copied.old + count_by is_live n.entries ≤ 40) }
+    ensures nodes { Changes nodes.old nodes.new number (retired version last) }
+    ensures copied { IfSome (slice_get nodes.old.nodes number) (λ n. copied.new.items ≡ copied.old.items ++ filter is_live n.entries) }
+    ensures range { IfSome (slice_get nodes.old.nodes number) (λ n. (result.0 ≡ n.low) × (result.1 ≡ n.high)) }
+{
+    let node = nodes.change(NodeNo(number));
+    node.copy_live(copied);
+    let range = (node.low(), node.high());
+    node.retire(version, last);
+    range
+}
+
+// Puts in a node with the entries, and gives the entry for it.
+pub(crate) fn push_node(
+    nodes: &mut Arena<Node>,
+    level: u32,
+    low: u128,
+    high: u128,
+    version: u32,
+    copied: &[Entry],
+) -> Entry
+    requires room { 0 < nodes.old.room }
+    requires few { length copied.now ≤ 34 }
+    ensures { Puts nodes.old nodes.new (fresh level low high version copied.now) result }
+{
+    let number = nodes.push_reserved(Node::begin(level, low, high, version, copied));
+    Entry {
+        low,
+        high,
+        born: version,
+        dead: NOW,
+        child: number.0,
+    }
+}
+
+// Sorts entries by their low keys.
+fn sort_entries(entries: &mut [Entry])
+    ensures same { IsPermutation entries.old entries.new }
+    ensures len { length entries.new ≡ length entries.old }
+    ensures sorted { IsNonDecreasingBy (λ e. e.low) entries.new }
+{
+    entries.sort_unstable_by_key(|entry| entry.low);
+}
+
+// Sorts copied entries by their low keys.
+fn sort_copied(copied: &mut ArrayVec<Entry, 40>)
+    ensures same { IsPermutation copied.old.items copied.new.items }
+    ensures len { array_vec_len copied.new ≡ array_vec_len copied.old }
+    ensures sorted { IsNonDecreasingBy (λ e. e.low) copied.new.items }
+{
+    sort_entries(copied.as_mut_slice());
+}
+
+// Puts in two nodes with the entries, the smaller part below, and gives the entries for them.
+fn push_two(
+    nodes: &mut Arena<Node>,
+    level: u32,
+    low: u128,
+    high: u128,
+    version: u32,
+    copied: &mut ArrayVec<Entry, 40>,
+) -> ArrayVec<Entry, 2>
+    requires room { 2 ≤ nodes.old.room }
+    requires many { 25 ≤ array_vec_len copied.old }
+    ensures { PutsTwo nodes.old nodes.new level low high version copied.old.items result.items }
+{
+    sort_copied(copied);
+    let (lower, upper) = copied.as_slice().split_at(copied.len() / 2);
+    let middle = upper[0].low;
+    let mut added = ArrayVec::new();
+    added.push(push_node(nodes, level, low, middle, version, lower));
+    added.push(push_node(nodes, level, middle, high, version, upper));
+    added
+}
+
+// Puts in one node with the entries, or two where there are 25 or more, and gives the entries for them.
+pub(crate) fn push_nodes(
+    nodes: &mut Arena<Node>,
+    level: u32,
+    low: u128,
+    high: u128,
+    version: u32,
+    copied: &mut ArrayVec<Entry, 40>,
+) -> ArrayVec<Entry, 2>
+    requires room { 2 ≤ nodes.old.room }
+    ensures { PutsNodes nodes.old nodes.new level low high version copied.old.items result.items }
+{
+    if copied.len() >= 25 {
+        return push_two(nodes, level, low, high, version, copied);
+    }
+    let mut added = ArrayVec::new();
+    added.push(push_node(nodes, level, low, high, version, copied));
+    added
+}

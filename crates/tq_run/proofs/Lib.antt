@@ -1,0 +1,4 @@
+mod Counts
+mod Views
+mod RuleKept
+mod Places

@@ -1,0 +1,4 @@
+pub mod Results
+pub mod Counting
+pub mod ClaimRule
+pub mod Sharing
