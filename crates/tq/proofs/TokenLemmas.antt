@@ -57,13 +57,3 @@ word_ends bytes start place b front begun here is off whole =
 
     step : tokens_after (take (place - start) (drop start bytes)) (drop place bytes) ≡ ended (take (place - start) (drop start bytes)) (byte_token b ++ tokens_after [] (drop (place + 1) bytes))
     step = ap (tokens_after (take (place - start) (drop start bytes))) rest ∙ rw off refl
-
--- at the end
-pub word_last : (bytes : List ℕ) (start place : ℕ) (front : List (List ℕ)) → start ≤ place → length bytes ≤ place
-    → front ++ tokens_after (take (place - start) (drop start bytes)) (drop place bytes) ≡ tokens_of bytes
-    → front ++ ended (drop start bytes) [] ≡ tokens_of bytes
-word_last bytes start place front begun past whole =
-    sym (ap (λ l. front ++ tokens_after l []) word) ∙ sym (ap (λ l. front ++ tokens_after (take (place - start) (drop start bytes)) l) (drop_all place bytes past)) ∙ whole
-  where
-    word : take (place - start) (drop start bytes) ≡ drop start bytes
-    word = take_all (place - start) (drop start bytes) (omega (arith, length-drop start bytes))

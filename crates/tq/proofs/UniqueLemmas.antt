@@ -10,7 +10,6 @@ use Rattle.tq_base.specs.Fragments.{occurrences}
 use Rattle.tq_base.specs.Layers.{IsLayers, LayersAreUnique}
 use Rattle.tq_event.specs.declared.event.Event.{Event}
 use Rattle.tq_event.specs.declared.file.TableFile.{TableFile}
-use Rattle.tq_event.specs.declared.loading.TheConstants.{MAX_EVENTS}
 use Rattle.tq_event.specs.Laws.{LoadedIsUnique}
 use Rattle.tq_table.specs.declared.table.Table.{Table}
 use Rattle.tq.specs.declared.plan.Plan.{Plan}
@@ -41,7 +40,7 @@ one_answer loaded_once layers_once files bytes a b x y =
     ∙ ap (λ rows. record { columns = b.columns; rows = rows }) same_rows
   where
     loaded : (x.loaded.catalogue.tables ≡ y.loaded.catalogue.tables) × (x.loaded.events ≡ y.loaded.events)
-    loaded = loaded_once files MAX_EVENTS x.loaded y.loaded x.is_loaded y.is_loaded
+    loaded = loaded_once files 16777216 x.loaded y.loaded x.is_loaded y.is_loaded
 
     statements : x.statement ≡ y.statement
     statements = ap (statement_or x.statement) (sym x.is_statement ∙ y.is_statement)

@@ -9,7 +9,6 @@ use Rattle.tq_event.specs.declared.file.Loaded.{Loaded}
 use Rattle.tq_event.specs.History.{valid_at}
 use Rattle.tq_table.specs.declared.table.Table.{Table}
 use Rattle.tq_event.specs.declared.file.TableFile.{TableFile}
-use Rattle.tq_event.specs.declared.loading.TheConstants.{MAX_EVENTS}
 use Rattle.tq_event.specs.Loading.{IsLoaded, contents_of}
 use Rattle.tq.specs.declared.answer.AnswerFault.{AnswerFault}
 use Rattle.tq.specs.declared.answer.AnswerFault.TheVariants as answer
@@ -17,7 +16,6 @@ use Rattle.tq.specs.declared.plan.Plan.{Plan}
 use Rattle.tq.specs.declared.plan.PlanFault.{PlanFault}
 use Rattle.tq.specs.declared.statement.SqlFault.{SqlFault}
 use Rattle.tq.specs.declared.statement.Statement.{Statement}
-use Rattle.tq.specs.declared.statement.TheConstants.{MAX_STATEMENT}
 use Rattle.tq.specs.Plans.{plan_of}
 use Rattle.tq.specs.Statements.{IsSqlFault, statement_of, tokens_of}
 
@@ -44,9 +42,9 @@ pub record IsAnswer (loaded : Loaded) (statement : Statement) (table : Table) : 
 -- the table is the answer of the statement that the bytes make, over the tables of the files
 pub record HasAnswer (files : List TableFile) (bytes : List ℕ) (table : Table) : Type 0 where
   pub loaded : Loaded
-  pub is_loaded : IsLoaded files MAX_EVENTS loaded
+  pub is_loaded : IsLoaded files 16777216 loaded
   pub statement : Statement
-  pub is_short : length bytes ≤ MAX_STATEMENT
+  pub is_short : length bytes ≤ 65536
   pub is_statement : statement_of (tokens_of bytes) ≡ Some statement
   pub is_answer : IsAnswer loaded statement table
 
@@ -57,21 +55,21 @@ AnswersAreUnique = (files : List TableFile) (bytes : List ℕ) (a b : Table) →
 -- the files were loaded, and the bytes are no statement
 pub record HasSqlFault (files : List TableFile) (bytes : List ℕ) (fault : SqlFault) : Type 0 where
   pub loaded : Loaded
-  pub is_loaded : IsLoaded files MAX_EVENTS loaded
+  pub is_loaded : IsLoaded files 16777216 loaded
   pub is_fault : IsSqlFault bytes fault
 
 -- the files were loaded, and the statement that the bytes make means nothing over their tables
 pub record HasPlanFault (files : List TableFile) (bytes : List ℕ) (fault : PlanFault) : Type 0 where
   pub loaded : Loaded
-  pub is_loaded : IsLoaded files MAX_EVENTS loaded
+  pub is_loaded : IsLoaded files 16777216 loaded
   pub statement : Statement
-  pub is_short : length bytes ≤ MAX_STATEMENT
+  pub is_short : length bytes ≤ 65536
   pub is_statement : statement_of (tokens_of bytes) ≡ Some statement
   pub is_fault : plan_of loaded.catalogue statement ≡ Err fault
 
 -- why there is no answer: the first fault, of the files, the statement, or its plan
 abbrev pub IsFault : List TableFile → List ℕ → AnswerFault → Type 0
-IsFault files bytes (answer.Load fault) = contents_of files MAX_EVENTS ≡ Err fault
+IsFault files bytes (answer.Load fault) = contents_of files 16777216 ≡ Err fault
 IsFault files bytes (answer.Sql fault) = HasSqlFault files bytes fault
 IsFault files bytes (answer.Plan fault) = HasPlanFault files bytes fault
 IsFault files bytes answer.Write = ⊥

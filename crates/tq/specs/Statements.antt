@@ -8,7 +8,6 @@ use Rattle.tq_base.specs.Names.{folded_name, is_name_byte}
 use Rattle.tq.specs.declared.statement.Statement.{Statement}
 use Rattle.tq.specs.declared.statement.SqlFault.{SqlFault}
 use Rattle.tq.specs.declared.statement.SqlFaultKind.TheVariants.{TooLong, UnexpectedToken}
-use Rattle.tq.specs.declared.statement.TheConstants.{MAX_STATEMENT}
 
 -- tab, line feed, carriage return and space stand between tokens
 abbrev pub is_space : ℕ → Bool
@@ -85,5 +84,5 @@ statement_of (first ∷ second ∷ rest) =
 -- the fault of a text that is no statement
 abbrev pub IsSqlFault : List ℕ → SqlFault → Type 0
 IsSqlFault bytes fault =
-    (fault.kind ≡ UnexpectedToken) × (statement_of (tokens_of bytes) ≡ None) × (length bytes ≤ MAX_STATEMENT)
-    ⊎ (fault ≡ record { kind = TooLong; at = MAX_STATEMENT }) × (MAX_STATEMENT < length bytes)
+    (fault.kind ≡ UnexpectedToken) × (statement_of (tokens_of bytes) ≡ None) × (length bytes ≤ 65536)
+    ⊎ (fault ≡ record { kind = TooLong; at = 65536 }) × (65536 < length bytes)

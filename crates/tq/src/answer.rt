@@ -17,9 +17,6 @@ use tq_base::Items;
 use tq_event::{LoadFault, LoadFaultKind, Loaded, MAX_EVENTS, TableFile, load};
 use tq_table::{Sink, Table, WriteFault, coalesce, write_table};
 
-/// The most workers.
-pub const MAX_WORKERS: u32 = 16;
-
 /// Why there is no answer: the first fault of the files, of the statement's text, or of its plan; or
 /// the sink failed; or a growth was refused.
 #[derive(Clone, Copy, Debug, PartialEq, Eq)]
@@ -116,7 +113,7 @@ pub fn answer_bytes<W: Write>(
     sink: &mut Sink<W>,
 ) -> Result<(), AnswerFault>
     requires some { 1 ≤ workers }
-    requires few { workers ≤ MAX_WORKERS }
+    requires few { workers ≤ 16 }
     ensures answer { OnOk result ((table : AnyTable) × HasAnswer files.now bytes.now table × Appends (W.contents sink.old.writer) (W.contents sink.new.writer) (text_of table)) }
     ensures unfailed { OnOk result (sink.new.failed ≡ sink.old.failed) }
     ensures write { result ≡ Err AnswerFault.Write → (table : AnyTable) × HasAnswer files.now bytes.now table × AppendsPrefix (W.contents sink.old.writer) (W.contents sink.new.writer) (text_of table) }

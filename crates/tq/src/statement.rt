@@ -236,7 +236,7 @@ fn parse(alloc: Global, tokens: &[Token<'_>], end: usize) -> Result<Statement, S
 /// any ASCII case. Faults: `TooLong` at byte 65,536 where there are more bytes; else
 /// `UnexpectedToken` at the first token that no statement goes on with, or at the end.
 pub fn read(alloc: Global, bytes: &[u8]) -> Result<Statement, SqlFault>
-    ensures statement { IfOk result (λ s. (length bytes.now ≤ MAX_STATEMENT) × (statement_of (tokens_of bytes.now) ≡ Some s)) }
+    ensures statement { IfOk result (λ s. (length bytes.now ≤ 65536) × (statement_of (tokens_of bytes.now) ≡ Some s)) }
     ensures fault { IfErr result (λ f. f.kind ≢ SqlFaultKind.OutOfMemory → IsSqlFault bytes.now f) }
 {
     if bytes.len() > MAX_STATEMENT {

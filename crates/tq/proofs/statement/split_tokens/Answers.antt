@@ -1,7 +1,7 @@
 use Rattle.std.proofs.Common.{rules, ◌≡◌, ◌≢◌, ◌<◌, ◌≤◌, ◌+◌, ◌++◌, ◌∷◌, [], None, Some, IfErr, IfOk, OnOk, length, map, slice_get, ℕ, ◌-◌, ◌*◌, ◌/◌, ◌%◌, Bool, true, false, List, sym, refl, ap, ◌∙◌, drop, take, get_or, arith}
 use Rattle.std.proofs.lemmas.Result.{err_from_is_err_and}
 use Rattle.tq.specs.Statements.{byte_token, ended, goes_on, tokens_after, tokens_of}
-use Rattle.tq.proofs.TokenLemmas.{word_ends, word_last, word_more}
+use Rattle.tq.proofs.TokenLemmas.{word_ends, word_more}
 use Rattle.tq.proofs.statement.split_tokens.Goals as goal
 
 -- src/statement.rt:116:5
