@@ -25,8 +25,7 @@ fn read_text(alloc: Global, field: &[u8]) -> Result<Value, LoadFaultKind>
     if field.len() > MAX_TEXT {
         return Err(LoadFaultKind::TextTooLong);
     }
-    let text = String::from_str(alloc, text)?;
-    Ok(Value::Text(Text::of(text)))
+    Ok(Value::Text(Text::copy_of(alloc, text)?))
 }
 
 // The value that a field holds.

@@ -18,4 +18,4 @@ returns-then-field-gt-MAX_TEXT-clause-fault c known =
 pub returns-clause-ok : goal.returns-clause-ok
 returns-clause-ok c =
     let short : nat_lt 1000 (length c.args.field.now) ≡ false = grind (arith, nat_tests) in
-    rw (is_utf8-from_IsUtf8 c.args.field.now c.in-Ok.ensures.cases.1, short) (ap (λ (t : List ℕ). let r : Result Value LoadFaultKind = Ok (Text t) in r) (sym (c.of.ensures ∙ c.in_ok-text.ensures.ok ∙ c.in-Ok.ensures.cases.0)))
+    rw (is_utf8-from_IsUtf8 c.args.field.now c.in-Ok.ensures.cases.1, short) (ap (λ (t : List ℕ). let r : Result Value LoadFaultKind = Ok (Text t) in r) (sym (c.in_ok-copy_of.ensures ∙ c.in-Ok.ensures.cases.0)))
