@@ -1,0 +1,13 @@
+//! Statements of the language: the text of one to its parts, or the place where it goes wrong.
+//!
+//! `read` cuts the bytes into tokens and goes down the grammar over them. What a token is, which
+//! fault comes first, and which lists of tokens make which statement, the grammar as a relation,
+//! stands in `specs/`. Names are not looked up here: a statement that reads may still name a table
+//! that is not there.
+#![tactic(auto)]
+
+mod fault;
+mod statement;
+
+pub use fault::{SqlFault, SqlFaultKind};
+pub use statement::{ColumnRef, Cond, Item, Query, Sign, SourceRef, Statement, Term, What};
