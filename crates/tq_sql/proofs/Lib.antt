@@ -1,0 +1,2 @@
+pub mod TokenLemmas
+pub mod Utf8Lemmas

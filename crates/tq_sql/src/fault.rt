@@ -1,6 +1,6 @@
 // Why a text is no statement.
 
-use std::alloc::AllocError;
+use std::alloc::{AllocError, AllocFailed};
 use thiserror::Error;
 
 /// What is wrong with the text of a statement.
@@ -44,6 +44,20 @@ impl From<AllocError> for SqlFault {
     ghost from_gives = { λ _ fault. fault ≡ out_of_memory };
 
     fn from(_error: AllocError) -> SqlFault {
+        SqlFault {
+            kind: SqlFaultKind::OutOfMemory,
+            at: 0,
+        }
+    }
+}
+
+impl<T: Drop> From<AllocFailed<T>> for SqlFault {
+    ghost use Rattle.std.specs.Prelude.{◌≡◌};
+    ghost use Rattle.tq_sql.specs.Faults.{out_of_memory};
+
+    ghost from_gives = { λ _ fault. fault ≡ out_of_memory };
+
+    fn from(_error: AllocFailed<T>) -> SqlFault {
         SqlFault {
             kind: SqlFaultKind::OutOfMemory,
             at: 0,

@@ -8,6 +8,10 @@
 
 mod fault;
 mod statement;
+mod texts;
+mod token;
+mod tokens;
+mod words;
 
 pub use fault::{SqlFault, SqlFaultKind};
 pub use statement::{ColumnRef, Cond, Item, Query, Sign, SourceRef, Statement, Term, What};
