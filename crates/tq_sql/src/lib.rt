@@ -6,12 +6,22 @@
 //! that is not there.
 #![tactic(auto)]
 
+mod columns;
+mod conditions;
+mod cursor;
 mod fault;
+pub mod laws;
+mod queries;
+mod reading;
 mod statement;
 mod texts;
 mod token;
 mod tokens;
 mod words;
 
+pub use columns::MAX_SOURCES;
+pub use conditions::MAX_LEVELS;
 pub use fault::{SqlFault, SqlFaultKind};
+pub use reading::read;
 pub use statement::{ColumnRef, Cond, Item, Query, Sign, SourceRef, Statement, Term, What};
+pub use tokens::MAX_STATEMENT;
