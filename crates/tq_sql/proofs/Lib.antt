@@ -1,0 +1,12 @@
+pub mod ColumnLemmas
+pub mod ComparisonLemmas
+pub mod ConditionLemmas
+pub mod ItemLemmas
+pub mod KindLemmas
+pub mod LevelLemmas
+pub mod ListLemmas
+pub mod ListingLemmas
+pub mod ReaderLemmas
+pub mod StatementLemmas
+pub mod TokenLemmas
+pub mod Utf8Lemmas

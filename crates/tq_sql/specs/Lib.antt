@@ -1,0 +1,7 @@
+pub mod CursorView
+pub mod Descent
+pub mod Faults
+pub mod Grammar
+pub mod Laws
+pub mod Told
+pub mod Tokens

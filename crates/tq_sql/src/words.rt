@@ -1,0 +1,72 @@
+// Words: those of the language in any ASCII case, and names.
+
+ghost use Rattle.std.specs.Prelude.{◌≡◌, ◌≤◌, length, map};
+ghost use Rattle.std.specs.List.{prefix_len};
+ghost use Rattle.tq_base.specs.Names.{is_name_byte};
+ghost use Rattle.tq_sql.specs.Tokens as spec;
+
+use crate::token::TokenKind;
+use tq_base::{MAX_NAME, is_same_word};
+
+const KEYWORDS: [(&[u8], TokenKind); 15] = [
+    (b"validtime", TokenKind::Validtime),
+    (b"period", TokenKind::Period),
+    (b"select", TokenKind::Select),
+    (b"from", TokenKind::From),
+    (b"where", TokenKind::Where),
+    (b"group", TokenKind::Group),
+    (b"by", TokenKind::By),
+    (b"and", TokenKind::And),
+    (b"or", TokenKind::Or),
+    (b"not", TokenKind::Not),
+    (b"count", TokenKind::Count),
+    (b"sum", TokenKind::Sum),
+    (b"as", TokenKind::As),
+    (b"except", TokenKind::Except),
+    (b"all", TokenKind::All),
+];
+
+/// Whether the byte may stand in a word: an ASCII letter, a digit or `_`.
+pub fn is_word_byte(byte: u8) -> bool
+    ensures { result ≡ is_name_byte byte }
+{
+    byte.is_ascii_alphanumeric() || byte == b'_'
+}
+
+/// How many bytes from the front on belong to a word.
+pub fn word_length(bytes: &[u8]) -> usize
+    ensures value { result ≡ prefix_len is_name_byte bytes.now }
+    ensures within { result ≤ length bytes.now }
+{
+    for (place, byte) in bytes.iter().enumerate() {
+        if !is_word_byte(*byte) {
+            return place;
+        }
+    }
+    bytes.len()
+}
+
+// What a word is, if it is none that stood in the table before these rows.
+fn kind_among(mut table: &[(&[u8], TokenKind)], word: &[u8]) -> TokenKind
+    ensures { result ≡ spec.kind_among (map (λ row. (row.0.now, row.1)) table.entry.now) word.now }
+{
+    'table: while let [row, rest @ ..] = table {
+        if is_same_word(row.0, word) {
+            return row.1;
+        }
+        table = rest;
+    }
+    if word.len() <= MAX_NAME {
+        TokenKind::Name
+    } else {
+        TokenKind::LongWord
+    }
+}
+
+/// What a word is: one of the language, a name, or a word too long for one.
+#[tactic(auto, unfolding(crate::specs::Tokens::word_kind))]
+pub fn word_kind(word: &[u8]) -> TokenKind
+    ensures { result ≡ spec.word_kind word.now }
+{
+    kind_among(&KEYWORDS, word)
+}
