@@ -1,0 +1,66 @@
+-- Selection as a sum over fragments.
+use Rattle.std.specs.Prelude.{◌≡◌, ℕ, Bool, true, false, ◌&&◌, List, Option, sum_by, refl}
+use Rattle.std.specs.Ordering.{eq_by_cmp}
+use Rattle.std.proofs.Common.{cond, sym, ap, ◌∙◌}
+use Rattle.tq_base.specs.declared.value.Value.{Value}
+use Rattle.tq_base.specs.declared.period.Period.{Period}
+use Rattle.tq_base.specs.declared.fragment.Fragment.{Fragment}
+use Rattle.tq_base.specs.ValueOrder.{values_cmp}
+use Rattle.tq_base.specs.Periods.{holds, IsOverlap, Overlap}
+use Rattle.tq_base.specs.Fragments.{at, occurrences}
+use Rattle.tq_base.specs.Copies.{tally}
+use Rattle.tq_ops.specs.declared.condition.Test.{Test}
+use Rattle.tq_ops.specs.Ordinary.{admits, selection}
+use Rattle.tq_ops.proofs.Counting.{one_if, sum_by-zero, sum_by-filter, sum_by-at}
+use Rattle.tq_ops.proofs.Cutting.{holds-overlap, holds_apart}
+
+-- 1 where the fragment gives the selection these values at the instant
+abbrev pub selected : Period → Option Test → ℕ → List Value → Fragment → ℕ
+selected window test t v f = cond (holds window t) (cond (holds f.period t) (cond (admits test f.values) (one_if (eq_by_cmp values_cmp f.values v)) 0) 0) 0
+
+within : (b : Bool) (w : Fragment → ℕ) (fs : List Fragment) → sum_by (λ f. cond b (w f) 0) fs ≡ cond b (sum_by w fs) 0
+within true w fs = refl
+within false w fs = sum_by-zero fs
+
+pub selected-sum_by : (window : Period) (test : Option Test) (rows : List Fragment) (t : ℕ) (v : List Value) → sum_by (selected window test t v) rows ≡ cond (holds window t) (occurrences (selection test (at rows t)) v) 0
+selected-sum_by window test rows t v =
+    within (holds window t) (λ f. cond (holds f.period t) (cond (admits test f.values) (one_if (eq_by_cmp values_cmp f.values v)) 0) 0) rows
+    ∙ ap (λ n. cond (holds window t) n 0)
+    (sym (sum_by-filter (admits test) (λ u. one_if (eq_by_cmp values_cmp u v)) (at rows t)
+    ∙ sum_by-at (λ u. cond (admits test u) (one_if (eq_by_cmp values_cmp u v)) 0) rows t))
+
+-- a row that overlaps the window and passes
+pub selects : (window : Period) (test : Option Test) (f : Fragment) (both : Period) (u : List Value) → IsOverlap f.period window both → u ≡ f.values → admits test f.values ≡ true → (t : ℕ) (v : List Value) → tally v t (record { values = u; period = both }) ≡ selected window test t v f
+selects window test f both u is same passes t v =
+    ap (λ b. cond b (one_if (eq_by_cmp values_cmp u v)) 0) (holds-overlap f.period window both is t)
+    ∙ ap (λ w. cond (holds f.period t && holds window t) (one_if (eq_by_cmp values_cmp w v)) 0) same
+    ∙ cases (holds f.period t) (holds window t)
+    ∙ ap (λ b. cond (holds window t) (cond (holds f.period t) (cond b (one_if (eq_by_cmp values_cmp f.values v)) 0) 0) 0) (sym passes)
+  where
+    cases : (a b : Bool) → cond (a && b) (one_if (eq_by_cmp values_cmp f.values v)) 0 ≡ cond b (cond a (cond true (one_if (eq_by_cmp values_cmp f.values v)) 0) 0) 0
+    cases true true = refl
+    cases true false = refl
+    cases false true = refl
+    cases false false = refl
+
+-- a row that does not pass
+pub fails : (window : Period) (test : Option Test) (f : Fragment) → admits test f.values ≡ false → (t : ℕ) (v : List Value) → selected window test t v f ≡ 0
+fails window test f no' t v =
+    ap (λ b. cond (holds window t) (cond (holds f.period t) (cond b (one_if (eq_by_cmp values_cmp f.values v)) 0) 0) 0) no'
+    ∙ cases (holds window t) (holds f.period t)
+  where
+    cases : (a b : Bool) → let none : ℕ = 0 in cond a (cond b none none) none ≡ none
+    cases true true = refl
+    cases true false = refl
+    cases false true = refl
+    cases false false = refl
+
+-- a row that lies apart from the window
+pub lies_apart : (window : Period) (test : Option Test) (f : Fragment) → (Overlap f.period window → ⊥) → (t : ℕ) (v : List Value) → selected window test t v f ≡ 0
+lies_apart window test f apart t v = cases (holds f.period t) (holds window t) (holds_apart f.period window apart t)
+  where
+    cases : (a b : Bool) → (a && b) ≡ false → cond b (cond a (cond (admits test f.values) (one_if (eq_by_cmp values_cmp f.values v)) 0) 0) 0 ≡ 0
+    cases true true is = cc
+    cases true false is = refl
+    cases false true is = refl
+    cases false false is = refl

@@ -1,0 +1,17 @@
+//! The operators of ordinary queries on fragments: selection, join, projection and difference, each at
+//! every instant at once.
+//!
+//! What comes out of an operator is said instant by instant: the rows valid at an instant of the window
+//! are, duplicates counted, the ordinary operator's answer over the rows then valid in what went in.
+//! Outside the window nothing is valid. No operator evaluates a single instant: each sweeps over sorted
+//! starts and ends.
+#![tactic(auto)]
+
+mod condition;
+mod selection;
+
+pub use condition::{Compare, Operand, Test};
+pub use selection::{project, select};
+
+#[cfg(test)]
+mod tests;

@@ -1,0 +1,1 @@
+// Calls of the operators, with their rows written out.
