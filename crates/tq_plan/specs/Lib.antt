@@ -1,0 +1,6 @@
+pub mod Scope
+pub mod Conditions
+pub mod Steps
+pub mod Seen
+pub mod Windows
+pub mod Plans

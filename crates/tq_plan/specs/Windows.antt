@@ -1,0 +1,62 @@
+-- Windows as a statement writes them: `[`, an instant, `-`, a bound, `)`. This project's own.
+use Rattle.std.specs.Prelude.{◌≡◌, ℕ, ◌+◌, ◌-◌, ◌<◌, Bool, true, false, ◌&&◌, if◌then◌else◌, ◌==◌, nat_lt, List, [], ◌∷◌, length, take, drop, reverse, position, Option, Some, None, refl, slice_get, Result, Ok, Err}
+use Rattle.std.proofs.lemmas.Bool.Decides.{nat_tests}
+use Rattle.std.proofs.Common.{arith}
+use Rattle.tq_base.specs.Numbers.{instant_of, bound_of}
+use Rattle.tq_base.specs.declared.period.Period.{Period}
+use Rattle.tq_base.specs.declared.period.TheConstants.{FOREVER}
+use Rattle.tq_plan.specs.declared.fault.PlanFault.{PlanFault}
+use Rattle.tq_plan.specs.declared.fault.PlanFault.TheVariants.{BadWindow}
+
+ordered_if : (start end : ℕ) (b : Bool) → nat_lt start end ≡ b → Option Period
+ordered_if start end true is = Some record { start = start; end = end; ordered = grind (arith, nat_tests) }
+ordered_if start end false is = None
+
+-- the period from the start to the end, where the start is below it
+abbrev pub period_between : ℕ → ℕ → Option Period
+period_between start end = ordered_if start end (nat_lt start end) refl
+
+-- without the spaces in front
+abbrev pub front_trimmed : List ℕ → List ℕ
+front_trimmed [] = []
+front_trimmed (b ∷ bs) = if b == 32 then front_trimmed bs else b ∷ bs
+
+-- without the spaces in front and at the end
+abbrev pub trimmed : List ℕ → List ℕ
+trimmed bytes = reverse (front_trimmed (reverse (front_trimmed bytes)))
+
+abbrev pub between : Option ℕ → Option ℕ → Option Period
+between None end = None
+between (Some start) None = None
+between (Some start) (Some end) = period_between start end
+
+-- an instant before the dash at this place, and a bound after it
+abbrev pub around_dash : List ℕ → Option ℕ → Option Period
+around_dash inside None = None
+around_dash inside (Some dash) = between (instant_of (trimmed (take dash inside))) (bound_of (trimmed (drop (dash + 1) inside)))
+
+-- the period that the text writes, with spaces beside the instant and the bound
+abbrev pub window_of : List ℕ → Option Period
+window_of text =
+    let inside = take (length text - 2) (drop 1 text) in
+    if nat_lt 1 (length text) && is_at text 0 91 && is_at text (length text - 1) 41 then around_dash inside (position (λ b. b == 45) inside) else None
+  where
+    abbrev is : Option ℕ → ℕ → Bool
+    is None byte = false
+    is (Some b) byte = b == byte
+
+    abbrev is_at : List ℕ → ℕ → ℕ → Bool
+    is_at bytes place byte = is (slice_get bytes place) byte
+
+-- every instant
+abbrev pub always : Period
+always = record { start = 0; end = FOREVER; ordered = omega arith }
+
+abbrev pub window_or_fault : Option Period → Result Period PlanFault
+window_or_fault None = Err BadWindow
+window_or_fault (Some window) = Ok window
+
+-- the window of a statement: that which the text after PERIOD writes, or else every instant
+abbrev pub window_plan : Option (List ℕ) → Result Period PlanFault
+window_plan None = Ok always
+window_plan (Some text) = window_or_fault (window_of text)

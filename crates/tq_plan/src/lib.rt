@@ -1,0 +1,19 @@
+//! What a statement means over the tables that there are, and its answer.
+//!
+//! `plan` looks up the tables and columns that a statement names and refuses a statement that means
+//! nothing, by its first fault. What a plan's answer is, for every history and every count of its
+//! events, stands in `specs/`: at each instant of the window the ordinary statement over the rows
+//! then valid. `answer_list` evaluates the plans that can run today over a list of events.
+#![tactic(auto)]
+
+mod conditions;
+mod fault;
+mod planning;
+mod plans;
+mod queries;
+mod scope;
+mod windows;
+
+pub use fault::PlanFault;
+pub use planning::plan;
+pub use plans::{Output, Plan, QueryPlan};
