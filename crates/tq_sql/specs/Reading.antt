@@ -10,17 +10,26 @@ use Rattle.tq_sql.specs.Tokens.{Token, fault, tokens_of}
 abbrev pub Makes : List ℕ → Statement → Type 0
 Makes bytes s = (ts : List Token) × (tokens_of bytes ≡ Ok ts) × IsStatement ts s
 
+-- some statement begins with the tokens
+abbrev pub GoesOn : List Token → Type 0
+GoesOn ts = (more : List Token) × (s : Statement) × IsStatement (ts ++ more) s
+
+-- no statement goes on with the first token of the rest; where nothing is left, there is none so far
+abbrev pub StopsBefore : List Token → List Token → Type 0
+StopsBefore front [] = (s : Statement) → IsStatement front s → ⊥
+StopsBefore front (t ∷ rest) = GoesOn (front ++ t ∷ []) → ⊥
+
 -- where the first of the tokens begins, or the end of the text
 abbrev pub place_of : List ℕ → List Token → ℕ
 place_of bytes [] = length bytes
 place_of bytes (t ∷ ts) = t.at
 
--- the text has tokens, which make no statement, and the fault stands at one of them or at the end
-abbrev pub IsUnread : List ℕ → SqlFault → Type 0
-IsUnread bytes f =
-    (front : List Token) × (rest : List Token) × (tokens_of bytes ≡ Ok (front ++ rest)) × ((s : Statement) → IsStatement (front ++ rest) s → ⊥)
+-- the text has tokens, and the fault stands at the first with which no statement goes on, or at the end
+abbrev pub IsTokenFault : List ℕ → SqlFault → Type 0
+IsTokenFault bytes f =
+    (front : List Token) × (rest : List Token) × (tokens_of bytes ≡ Ok (front ++ rest)) × StopsBefore front rest
     × ((f ≡ fault UnexpectedToken (place_of bytes rest)) ⊎ (f ≡ fault TooDeep (place_of bytes rest)))
 
--- the first token fault from the left, or else a fault of the tokens
+-- the first fault from the left that leaves the text without tokens, or else that of its tokens
 abbrev pub IsSqlFault : List ℕ → SqlFault → Type 0
-IsSqlFault bytes f = (tokens_of bytes ≡ Err f) ⊎ IsUnread bytes f
+IsSqlFault bytes f = (tokens_of bytes ≡ Err f) ⊎ IsTokenFault bytes f
