@@ -1,15 +1,17 @@
 -- The place at which a text that makes no statement stops.
-use Rattle.std.proofs.Common.{◌≡◌, ◌≤◌, ◌<◌, ◌⊎◌, inl, inr, ℕ, zero, suc, ◌+◌, ◌-◌, Bool, true, false, cond, List, [], ◌∷◌, ◌++◌, length, refl, ap, sym, ◌∙◌, subst, arith, append_assoc, append-nil, ltb}
+use Rattle.std.proofs.Common.{◌≡◌, ◌≢◌, ◌≤◌, ◌<◌, ◌⊎◌, inl, inr, ℕ, zero, suc, ◌+◌, ◌-◌, Bool, true, false, cond, List, [], ◌∷◌, ◌++◌, length, refl, ap, sym, ◌∙◌, subst, arith, append_assoc, append-nil, ltb}
 use Rattle.std.specs.Prelude.{Option, Some, None, Result, Ok, Err, slice_get, option_map, unwrap_or, nat_lt}
 use Rattle.std.proofs.lemmas.Bool.Decides.{nat_tests}
 use Rattle.tq_sql.specs.declared.cursor.Refusal.{Refusal}
+use Rattle.tq_sql.specs.declared.cursor.Refusal.TheVariants.{Memory, TooDeep, Unexpected}
 use Rattle.tq_sql.specs.declared.fault.SqlFault.{SqlFault}
 use Rattle.tq_sql.specs.declared.fault.SqlFaultKind.TheVariants.{TooLong}
 use Rattle.tq_sql.specs.declared.statement.Statement.{Statement}
 use Rattle.tq_sql.specs.declared.token.TokenKind.{TokenKind}
 use Rattle.tq_sql.specs.Descent.{Outcome, statement_at}
+use Rattle.tq_sql.specs.Faults.{out_of_memory}
 use Rattle.tq_sql.specs.Grammar.{IsStatement}
-use Rattle.tq_sql.specs.Reading.{GoesOn, StopsBefore, place_of}
+use Rattle.tq_sql.specs.Reading.{GoesOn, IsTokenFault, StopsBefore, place_of, stopped_at}
 use Rattle.tq_sql.specs.Tokens.{Token, fault, is_space, then_rest, token_at, tokens_from, tokens_of, with_token}
 use Rattle.tq_sql.proofs.PlaceLemmas.{no_more, statement_steady}
 use Rattle.tq_sql.proofs.StatementLemmas.{no_statement}
@@ -71,3 +73,20 @@ stopped ts rest why is = let s = statement_steady.suffix ts in (s.0, s.1 ∙ ap 
 pub stops_before : (front rest : List Token) (why : Refusal) → statement_at (front ++ rest) ≡ Err (why, rest) → StopsBefore front rest
 stops_before front [] why is = λ s made. let P : List Token → Type 0 = λ z. IsStatement z s in no_statement (front ++ []) (why, []) is s (subst P (sym (append-nil front)) made)
 stops_before front (t ∷ rest) why is = λ goes_on. let P : List Token → Type 0 = λ z. IsStatement z goes_on.1 in no_more front t rest goes_on.0 why is goes_on.1 (subst P (append_assoc front (t ∷ []) goes_on.0) goes_on.2)
+
+-- what reading that stops says of the text
+pub token_fault : (bytes : List ℕ) (ts rest : List Token) (why : Refusal) (f : SqlFault) → tokens_of bytes ≡ Ok ts → (why ≢ Memory → statement_at ts ≡ Err (why, rest)) → f ≡ stopped_at why (place_of bytes rest) → f ≢ out_of_memory → IsTokenFault bytes f
+token_fault bytes ts rest Memory f whole stops is other = absurd (other is)
+token_fault bytes ts rest Unexpected f whole stops is other =
+    let e = stops (λ same. cc) in
+    let s = stopped ts rest Unexpected e in
+    let P : List Token → Type 0 = λ z. statement_at z ≡ Err (Unexpected, rest) in
+    (s.0, rest, whole ∙ ap (λ z. Ok z) s.1, stops_before s.0 rest Unexpected (subst P s.1 e), inl is)
+token_fault bytes ts rest TooDeep f whole stops is other =
+    let e = stops (λ same. cc) in
+    let s = stopped ts rest TooDeep e in
+    let P : List Token → Type 0 = λ z. statement_at z ≡ Err (TooDeep, rest) in
+    (s.0, rest, whole ∙ ap (λ z. Ok z) s.1, stops_before s.0 rest TooDeep (subst P s.1 e), inr is)
+
+pub fault_within : (bytes : List ℕ) (ts rest : List Token) (why : Refusal) → tokens_of bytes ≡ Ok ts → statement_at ts ≡ Err (why, rest) → place_of bytes rest ≤ 65536
+fault_within bytes ts rest why whole e = let s = stopped ts rest why e in place_within bytes s.0 rest (whole ∙ ap (λ z. Ok z) s.1)

@@ -95,7 +95,7 @@ unfolding what_at
 what_steady =
     bind_steady (eat k.Count) (λ is_count. cond is_count counted (eat k.Sum >>= (λ is_sum. cond is_sum summed plain))) (eat_steady k.Count)
     (λ is_count. either_steady is_count counted (eat k.Sum >>= (λ is_sum. cond is_sum summed plain)) counted_steady
-        (bind_steady (eat k.Sum) (λ is_sum. cond is_sum summed plain) (eat_steady k.Sum) (λ is_sum. either_steady is_sum summed plain summed_steady plain_steady)))
+    (bind_steady (eat k.Sum) (λ is_sum. cond is_sum summed plain) (eat_steady k.Sum) (λ is_sum. either_steady is_sum summed plain summed_steady plain_steady)))
 
 item_alias_steady : IsSteady item_alias_at
 unfolding item_alias_at
@@ -156,8 +156,8 @@ operand_steady =
     if_steady k.Number (number_at >>= (λ n. pure (term.Int n))) (λ ts. cond (sees k.Text ts) ((text_at >>= (λ s. pure (term.Text s))) ts) ((column_at >>= (λ x. pure (term.Column x))) ts))
     (bind_steady number_at (λ n. pure (term.Int n)) number_steady (λ n. pure_steady (term.Int n)))
     (if_steady k.Text (text_at >>= (λ s. pure (term.Text s))) (column_at >>= (λ x. pure (term.Column x)))
-        (bind_steady text_at (λ s. pure (term.Text s)) text_steady (λ s. pure_steady (term.Text s)))
-        (bind_steady column_at (λ x. pure (term.Column x)) column_steady (λ x. pure_steady (term.Column x))))
+    (bind_steady text_at (λ s. pure (term.Text s)) text_steady (λ s. pure_steady (term.Text s)))
+    (bind_steady column_at (λ x. pure (term.Column x)) column_steady (λ x. pure_steady (term.Column x))))
 
 signed_steady : (o : Option Sign) → IsSteady (signed o)
 signed_steady None = stop_steady Unexpected
@@ -201,8 +201,8 @@ not_steady (suc levels) =
     if_steady k.Not (λ ts. (not_at levels >>= (λ x. pure (c.Not x))) (next ts)) (λ ts. cond (sees k.Open ts) (closed (chain k.Or c.Or (chain k.And c.And (not_at levels))) (next ts)) (comparison_at ts))
     (next_steady (not_at levels >>= (λ x. pure (c.Not x))) (bind_steady (not_at levels) (λ x. pure (c.Not x)) inner (λ x. pure_steady (c.Not x))))
     (if_steady k.Open (λ ts. closed (chain k.Or c.Or (chain k.And c.And (not_at levels))) (next ts)) comparison_at
-        (next_steady (closed (chain k.Or c.Or (chain k.And c.And (not_at levels)))) (closed_steady (chain k.Or c.Or (chain k.And c.And (not_at levels))) (chains_steady (not_at levels) inner)))
-        comparison_steady)
+    (next_steady (closed (chain k.Or c.Or (chain k.And c.And (not_at levels)))) (closed_steady (chain k.Or c.Or (chain k.And c.And (not_at levels))) (chains_steady (not_at levels) inner)))
+    comparison_steady)
 
 or_steady : (levels : ℕ) → IsSteady (or_at levels)
 unfolding or_at and_at

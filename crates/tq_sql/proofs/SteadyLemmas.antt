@@ -115,8 +115,9 @@ next_steady {A} p steady = record { suffix = suffix; agrees = agrees }
 
     agrees : (t : Token) (rest more u v : List Token) → Same t rest more u v → AgreeingTo t rest more (p (next u)) (p (next v))
     agrees t rest more u v same = elim (same_next t rest more u v same) [
-        inl s ↦ steady.agrees t rest more (next u) (next v) s
-      | inr s ↦ inr (let less = shorter p steady (next u) in omega (arith, less, s)) ]
+      | inl s ↦ steady.agrees t rest more (next u) (next v) s
+      | inr s ↦ inr (let less = shorter p steady (next u) in omega (arith, less, s))
+    ]
 
 pub if_steady : {A : Type 0} (kind : TokenKind) (p q : List Token → Outcome A) → IsSteady p → IsSteady q → IsSteady (λ ts. cond (sees kind ts) (p ts) (q ts))
 unfolding sees

@@ -1,16 +1,27 @@
 // Reads a statement: its tokens first, and then a descent over them.
 
-ghost use Rattle.std.specs.Prelude.{◌≡◌, ◌≢◌, ◌≤◌, length, slice_get, option_map, unwrap_or, IfErr, IfOk};
+ghost use Rattle.std.specs.Prelude.{◌≡◌, ◌≢◌, ◌≤◌, IfErr, IfOk};
 ghost use Rattle.tq_sql.specs.Faults.{out_of_memory};
-ghost use Rattle.tq_sql.specs.Reading.{IsSqlFault, Makes, place_of};
-ghost use Rattle.tq_sql.specs.Tokens.{fault, tokens_of};
+ghost use Rattle.tq_sql.specs.Reading.{IsSqlFault, Makes, stopped_at};
 
 use crate::cursor::{Cursor, Refusal};
 use crate::fault::{SqlFault, SqlFaultKind};
 use crate::queries::statement;
 use crate::statement::Statement;
-use crate::tokens::{fault, tokens};
+use crate::tokens::{MAX_STATEMENT, fault, tokens};
 use std::alloc::Global;
+
+// The fault of reading that stops at a byte.
+fn stopped(why: Refusal, at: usize) -> SqlFault
+    requires { why ≢ Refusal.Memory → at ≤ MAX_STATEMENT }
+    ensures { result ≡ stopped_at why at }
+{
+    match why {
+        Refusal::Unexpected => fault(SqlFaultKind::UnexpectedToken, at),
+        Refusal::TooDeep => fault(SqlFaultKind::TooDeep, at),
+        Refusal::Memory => fault(SqlFaultKind::OutOfMemory, 0),
+    }
+}
 
 /// The statement that a text makes. Faults: `TooLong` at byte 65,536 where there are more bytes; else
 /// the first token fault from the left, `BadByte`, `NumberTooLarge` or `UnclosedText`; else
@@ -25,8 +36,6 @@ pub fn read(alloc: Global, bytes: &[u8]) -> Result<Statement, SqlFault>
     let at = cursor.offset().unwrap_or(bytes.len());
     match outcome {
         Ok(statement) => Ok(statement),
-        Err(Refusal::Unexpected) => Err(fault(SqlFaultKind::UnexpectedToken, at)),
-        Err(Refusal::TooDeep) => Err(fault(SqlFaultKind::TooDeep, at)),
-        Err(Refusal::Memory) => Err(fault(SqlFaultKind::OutOfMemory, 0)),
+        Err(why) => Err(stopped(why, at)),
     }
 }
