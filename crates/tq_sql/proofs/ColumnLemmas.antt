@@ -8,7 +8,7 @@ use Rattle.tq_sql.specs.declared.statement.ColumnRef.{ColumnRef}
 use Rattle.tq_base.specs.Names.{folded_name}
 use Rattle.tq_sql.specs.Tokens.{Token, same_kind}
 use Rattle.tq_sql.specs.Grammar.{After, Before, Pair, Optional, IsName, IsColumnOf, IsColumn}
-use Rattle.tq_sql.specs.Descent.{Outcome, Reader, and_then, pure, given, kind_at, next, sees, after, eat, expect, take_at, name_at, optional, column_of, column_at, ◌>>=◌}
+use Rattle.tq_sql.specs.Descent.{Outcome, Reader, and_then, pure, given, kind_at, next, sees, after, eat, expect, look, taken, name_at, optional, column_of, column_at, ◌>>=◌}
 use Rattle.tq_sql.proofs.ReaderLemmas.{IsReader, by_test, bind_ok, ok_pair, given_some, kind_seen, seen_here, next_of, after_seen, after_unseen, kind_of_first, or_false, same_itself}
 use Rattle.tq_sql.proofs.KindLemmas.{is_same}
 use Rattle.tq_sql.proofs.ConditionLemmas.{or_mark, dot, sees_kind}
@@ -16,31 +16,33 @@ use Rattle.tq_sql.proofs.ConditionLemmas.{or_mark, dot, sees_kind}
 abbrev pub nothing : TokenKind → Bool
 nothing kind = false
 
-pub take_some : (kind : TokenKind) (ts rest : List Token) (w : List ℕ) → take_at kind ts ≡ Ok (w, rest) → (t : Token) × (ts ≡ t ∷ rest) × (t.kind ≡ kind) × (w ≡ t.text)
-unfolding take_at
-take_some kind [] rest w e = cc
-take_some kind (t ∷ ts) rest w e = elim (by_test (same_kind t.kind kind) e) [
-  | inl s ↦ (let same = ok_pair t.text w ts rest s.1 in (t, ap (λ z. t ∷ z) same.1, is_same t.kind kind s.0, sym same.0))
+pub look_some : (kind : TokenKind) (ts mid : List Token) (w : List ℕ) → look kind ts ≡ Ok (w, mid) → (t : Token) × (ts ≡ t ∷ next mid) × (t.kind ≡ kind) × (w ≡ t.text)
+unfolding look
+look_some kind [] mid w e = cc
+look_some kind (t ∷ ts) mid w e = elim (by_test (same_kind t.kind kind) e) [
+  | inl s ↦ (let same = ok_pair t.text w (t ∷ ts) mid s.1 in (t, ap (λ z. t ∷ z) (sym (next_of t ts) ∙ ap next same.1), is_same t.kind kind s.0, sym same.0))
   | inr s ↦ cc
 ]
 
-pub take_here : (kind : TokenKind) (t : Token) (ts : List Token) → t.kind ≡ kind → take_at kind (t ∷ ts) ≡ Ok (t.text, ts)
-unfolding take_at
-take_here kind t ts e = rw (same_itself t.kind kind e) refl
+pub look_here : (kind : TokenKind) (t : Token) (ts : List Token) → t.kind ≡ kind → look kind (t ∷ ts) ≡ Ok (t.text, t ∷ ts)
+unfolding look
+look_here kind t ts e = rw (same_itself t.kind kind e) refl
 
 pub name_sound : (ts rest : List Token) (n : List ℕ) → name_at ts ≡ Ok (n, rest) → (front : List Token) × (ts ≡ front ++ rest) × IsName front n
 unfolding name_at
 name_sound ts rest n e =
-    let step = bind_ok (take_at k.Name ts) (λ w. given (folded_name w)) (n, rest) e in
-    let same = given_some (folded_name step.0) n step.1 rest step.3 in
-    let word = take_some k.Name ts step.1 step.0 step.2 in
-    (word.0 ∷ [], word.1 ∙ ap (λ z. word.0 ∷ z) same.1, (word.0, refl, word.2, ap folded_name (sym word.3) ∙ same.0))
+    let step = bind_ok (look k.Name ts) (λ w. given (folded_name w) >>= (λ x. taken x)) (n, rest) e in
+    let value = bind_ok (given (folded_name step.0) step.1) (λ x. taken x) (n, rest) step.3 in
+    let is = given_some (folded_name step.0) value.0 step.1 value.1 value.2 in
+    let same = ok_pair value.0 n (next value.1) rest value.3 in
+    let word = look_some k.Name ts step.1 step.0 step.2 in
+    (word.0 ∷ [], word.1 ∙ ap (λ z. word.0 ∷ z) (ap next is.1 ∙ same.1), (word.0, refl, word.2, ap folded_name (sym word.3) ∙ is.0 ∙ ap Some same.0))
 
 pub name_complete : (front rest : List Token) (n : List ℕ) → IsName front n → nothing (kind_at rest) ≡ false → name_at (front ++ rest) ≡ Ok (n, rest)
 unfolding name_at
 name_complete front rest n is stop =
     let here : front ++ rest ≡ is.0 ∷ rest = ap (λ z. z ++ rest) is.1 in
-    rw (here, take_here k.Name is.0 rest is.2, is.3) refl
+    rw (here, look_here k.Name is.0 rest is.2, is.3, next_of is.0 rest) refl
 
 pub name_reader : IsReader IsName nothing name_at
 name_reader = record { sound = name_sound; complete = name_complete }

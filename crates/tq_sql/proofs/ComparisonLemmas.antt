@@ -15,10 +15,10 @@ use Rattle.tq_sql.specs.declared.statement.Cond.{Cond}
 use Rattle.tq_sql.specs.declared.statement.Cond.TheVariants as c
 use Rattle.tq_sql.specs.Tokens.{Token, same_kind, unquoted}
 use Rattle.tq_sql.specs.Grammar.{After, Pair, IsName, IsColumnOf, IsColumn, IsText, IsOperand, IsComparison, kind_of, IsOr, IsNot, IsCondition}
-use Rattle.tq_sql.specs.Descent.{Outcome, and_then, pure, stop, given, kind_at, next, sees, take_at, number_at, text_at, column_at, operand_at, sign_of, signed, sign_at, comparison_at, or_at, and_at, not_at, ◌>>=◌}
+use Rattle.tq_sql.specs.Descent.{Outcome, and_then, pure, stop, given, kind_at, next, sees, look, taken, number_at, text_at, column_at, operand_at, sign_of, signed, sign_at, comparison_at, or_at, and_at, not_at, ◌>>=◌}
 use Rattle.tq_sql.proofs.ReaderLemmas.{IsReader, by_test, bind_ok, ok_pair, given_some, kind_seen, seen_here, next_of, kind_of_first, same_itself}
 use Rattle.tq_sql.proofs.ConditionLemmas.{dot, or_goes, not_reader, or_reader_of}
-use Rattle.tq_sql.proofs.ColumnLemmas.{nothing, take_some, take_here, column_reader}
+use Rattle.tq_sql.proofs.ColumnLemmas.{nothing, look_some, look_here, column_reader}
 
 seen_kind : (t : Token) (ts : List Token) (a b : TokenKind) (r : Bool) → t.kind ≡ a → same_kind a b ≡ r → sees b (t ∷ ts) ≡ r
 unfolding sees kind_at
@@ -27,27 +27,29 @@ seen_kind t ts a b r e d = ap (λ z. same_kind z b) e ∙ d
 number_sound : (ts rest : List Token) (n : ℤ) → number_at ts ≡ Ok (n, rest) → (front : List Token) × (ts ≡ front ++ rest) × IsOperand front (term.Int n)
 unfolding number_at
 number_sound ts rest n e =
-    let step = bind_ok (take_at k.Number ts) (λ w. given (int_of w)) (n, rest) e in
-    let value = given_some (int_of step.0) n step.1 rest step.3 in
-    let word = take_some k.Number ts step.1 step.0 step.2 in
-    (word.0 ∷ [], word.1 ∙ ap (λ z. word.0 ∷ z) value.1, (word.0, refl, word.2, ap int_of (sym word.3) ∙ value.0))
+    let step = bind_ok (look k.Number ts) (λ w. given (int_of w) >>= (λ x. taken x)) (n, rest) e in
+    let value = bind_ok (given (int_of step.0) step.1) (λ x. taken x) (n, rest) step.3 in
+    let is = given_some (int_of step.0) value.0 step.1 value.1 value.2 in
+    let same = ok_pair value.0 n (next value.1) rest value.3 in
+    let word = look_some k.Number ts step.1 step.0 step.2 in
+    (word.0 ∷ [], word.1 ∙ ap (λ z. word.0 ∷ z) (ap next is.1 ∙ same.1), (word.0, refl, word.2, ap int_of (sym word.3) ∙ is.0 ∙ ap Some same.0))
 
 number_complete : (front rest : List Token) (n : ℤ) → IsOperand front (term.Int n) → number_at (front ++ rest) ≡ Ok (n, rest)
 unfolding number_at
 number_complete front rest n is =
     let here : front ++ rest ≡ is.0 ∷ rest = ap (λ z. z ++ rest) is.1 in
-    rw (here, take_here k.Number is.0 rest is.2, is.3) refl
+    rw (here, look_here k.Number is.0 rest is.2, is.3, next_of is.0 rest) refl
 
-text_some : (b : Bool) (s x : List ℕ) (ts rest : List Token) → (cond b (pure s) (stop Unexpected)) ts ≡ Ok (x, rest) → (b ≡ true) × (s ≡ x) × (ts ≡ rest)
-text_some true s x ts rest e = let same = ok_pair s x ts rest e in (refl, same.0, same.1)
+text_some : (b : Bool) (s x : List ℕ) (ts rest : List Token) → (cond b (taken s) (stop Unexpected)) ts ≡ Ok (x, rest) → (b ≡ true) × (s ≡ x) × (next ts ≡ rest)
+text_some true s x ts rest e = let same = ok_pair s x (next ts) rest e in (refl, same.0, same.1)
 text_some false s x ts rest e = cc
 
 pub text_sound : (ts rest : List Token) (s : List ℕ) → text_at ts ≡ Ok (s, rest) → (front : List Token) × (ts ≡ front ++ rest) × IsText front s
 unfolding text_at
 text_sound ts rest s e =
-    let step = bind_ok (take_at k.Text ts) (λ w. cond (is_utf8 (unquoted w)) (pure (unquoted w)) (stop Unexpected)) (s, rest) e in
+    let step = bind_ok (look k.Text ts) (λ w. cond (is_utf8 (unquoted w)) (taken (unquoted w)) (stop Unexpected)) (s, rest) e in
     let value = text_some (is_utf8 (unquoted step.0)) (unquoted step.0) s step.1 rest step.3 in
-    let word = take_some k.Text ts step.1 step.0 step.2 in
+    let word = look_some k.Text ts step.1 step.0 step.2 in
     let valid : is_utf8 s ≡ true = ap is_utf8 (sym value.1) ∙ value.0 in
     (word.0 ∷ [], word.1 ∙ ap (λ z. word.0 ∷ z) value.2, (word.0, refl, word.2, sym value.1 ∙ ap unquoted word.3, valid))
 
@@ -56,7 +58,7 @@ unfolding text_at
 text_complete front rest s is =
     let here : front ++ rest ≡ is.0 ∷ rest = ap (λ z. z ++ rest) is.1 in
     let valid : is_utf8 (unquoted is.0.text) ≡ true = ap is_utf8 (sym is.3) ∙ is.4 in
-    rw (here, take_here k.Text is.0 rest is.2, valid) (ap (λ z. Ok (z, rest)) (sym is.3))
+    rw (here, look_here k.Text is.0 rest is.2, valid, next_of is.0 rest) (ap (λ z. Ok (z, rest)) (sym is.3))
 
 -- ---- what an operand begins with
 

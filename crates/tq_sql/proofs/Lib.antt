@@ -1,12 +1,15 @@
 pub mod ColumnLemmas
 pub mod ComparisonLemmas
 pub mod ConditionLemmas
+pub mod FaultLemmas
 pub mod ItemLemmas
 pub mod KindLemmas
 pub mod LevelLemmas
 pub mod ListLemmas
 pub mod ListingLemmas
+pub mod PlaceLemmas
 pub mod ReaderLemmas
 pub mod StatementLemmas
+pub mod SteadyLemmas
 pub mod TokenLemmas
 pub mod Utf8Lemmas

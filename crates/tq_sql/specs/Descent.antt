@@ -72,27 +72,34 @@ after kind ts = if sees kind ts then next ts else ts
 abbrev pub eat : TokenKind → Reader Bool
 eat kind = λ ts. Ok (sees kind ts, after kind ts)
 
-unfoldable pub take_at : TokenKind → Reader (List ℕ)
-take_at kind [] = stop Unexpected []
-take_at kind (t ∷ ts) = if same_kind t.kind kind then Ok (t.text, ts) else stop Unexpected (t ∷ ts)
+-- the bytes of the next token, which is to be of the kind and stays
+unfoldable pub look : TokenKind → Reader (List ℕ)
+look kind [] = stop Unexpected []
+look kind (t ∷ ts) = if same_kind t.kind kind then Ok (t.text, t ∷ ts) else stop Unexpected (t ∷ ts)
+
+-- the value, and past the next token
+abbrev pub taken : {A : Type 0} → A → Reader A
+taken x = λ ts. Ok (x, next ts)
 
 unfoldable pub expect : TokenKind → Reader (Unit {0})
 expect kind = λ ts. if sees kind ts then Ok (tt, next ts) else stop Unexpected ts
 
 unfoldable pub name_at : Reader (List ℕ)
 name_at = do
-  written ← take_at k.Name
-  given (folded_name written)
+  written ← look k.Name
+  name ← given (folded_name written)
+  taken name
 
 unfoldable pub number_at : Reader ℤ
 number_at = do
-  written ← take_at k.Number
-  given (int_of written)
+  written ← look k.Number
+  n ← given (int_of written)
+  taken n
 
 unfoldable pub text_at : Reader (List ℕ)
 text_at = do
-  written ← take_at k.Text
-  if is_utf8 (unquoted written) then pure (unquoted written) else stop Unexpected
+  written ← look k.Text
+  if is_utf8 (unquoted written) then taken (unquoted written) else stop Unexpected
 
 -- ---- lists and chains: the number bounds the turns, and each turn takes a token
 
@@ -278,6 +285,6 @@ abbrev pub Reads : {A : Type 0} → Outcome A → Result A Refusal → List Toke
 Reads outcome (Ok x) new = outcome ≡ Ok (x, new)
 Reads outcome (Err e) new = e ≢ Memory → outcome ≡ Err (e, new)
 
-abbrev pub TakesText : Outcome (List ℕ) → Result (Bor (List ℕ)) Refusal → List Token → Type 0
-TakesText outcome (Ok x) new = outcome ≡ Ok (x.now, new)
-TakesText outcome (Err e) new = (e ≢ Memory) × (outcome ≡ Err (e, new))
+abbrev pub Looks : Outcome (List ℕ) → Result (Bor (List ℕ)) Refusal → List Token → Type 0
+Looks outcome (Ok x) ts = outcome ≡ Ok (x.now, ts)
+Looks outcome (Err e) ts = (e ≢ Memory) × (outcome ≡ Err (e, ts))

@@ -3,5 +3,6 @@ pub mod Descent
 pub mod Faults
 pub mod Grammar
 pub mod Laws
+pub mod Reading
 pub mod Told
 pub mod Tokens

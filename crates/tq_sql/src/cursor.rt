@@ -3,7 +3,7 @@
 ghost use Rattle.std.specs.Prelude.{◌≡◌, ◌≢◌, ◌≤◌, ◌<◌, ◌++◌, ◌∷◌, [], length, map, option_map, slice_get, true, OnOk};
 ghost use Rattle.tq_sql.specs.Tokens as lexis;
 ghost use Rattle.tq_sql.specs.Descent as spec;
-ghost use Rattle.tq_sql.specs.Descent.{Reads, TakesText};
+ghost use Rattle.tq_sql.specs.Descent.{Looks, Reads};
 ghost use Rattle.tq_sql.specs.Told.{told};
 
 use crate::texts::unquoted;
@@ -165,17 +165,13 @@ impl<'a> Cursor<'a> {
         }
     }
 
-    // Takes the next token, which is to be of the kind, and gives its bytes.
-    #[tactic(auto, unfolding(crate::specs::Descent::take_at))]
-    fn take(&mut self, kind: TokenKind) -> Result<&'a [u8], Refusal>
-        ensures reads { TakesText (spec.take_at kind self.old) result self.new }
-        ensures shorter { length self.new ≤ length self.old }
+    // The bytes of the next token, which is to be of the kind.
+    #[tactic(auto, unfolding(crate::specs::Descent::look))]
+    fn look(&self, kind: TokenKind) -> Result<&'a [u8], Refusal>
+        ensures { Looks (spec.look kind self.now) result self.now }
     {
         match self.rest {
-            [token, rest @ ..] if is_same_kind(token.kind, kind) => {
-                self.rest = rest;
-                Ok(token.text)
-            }
+            [token, ..] if is_same_kind(token.kind, kind) => Ok(token.text),
             _ => Err(Refusal::Unexpected),
         }
     }
@@ -186,8 +182,12 @@ impl<'a> Cursor<'a> {
         ensures reads { Reads (spec.name_at self.old) result self.new }
         ensures shorter { length self.new ≤ length self.old }
     {
-        let written = self.take(TokenKind::Name)?;
-        fold_name(alloc, written)?.ok_or(Refusal::Unexpected)
+        let written = self.look(TokenKind::Name)?;
+        let Some(name) = fold_name(alloc, written)? else {
+            return Err(Refusal::Unexpected);
+        };
+        self.skip();
+        Ok(name)
     }
 
     /// Takes a number.
@@ -196,8 +196,12 @@ impl<'a> Cursor<'a> {
         ensures reads { Reads (spec.number_at self.old) result self.new }
         ensures shorter { length self.new ≤ length self.old }
     {
-        let written = self.take(TokenKind::Number)?;
-        read_int(written).ok_or(Refusal::Unexpected)
+        let written = self.look(TokenKind::Number)?;
+        let Some(number) = read_int(written) else {
+            return Err(Refusal::Unexpected);
+        };
+        self.skip();
+        Ok(number)
     }
 
     /// Takes a text: what stands inside its quotes, with each doubled quote made one.
@@ -206,10 +210,14 @@ impl<'a> Cursor<'a> {
         ensures reads { Reads (spec.text_at self.old) result self.new }
         ensures shorter { length self.new ≤ length self.old }
     {
-        let written = self.take(TokenKind::Text)?;
+        let written = self.look(TokenKind::Text)?;
         let bytes = unquoted(alloc, written)?;
         match std::str::from_utf8(&bytes) {
-            Ok(valid) => Ok(Text::of(String::from_str(alloc, valid)?)),
+            Ok(valid) => {
+                let text = Text::of(String::from_str(alloc, valid)?);
+                self.skip();
+                Ok(text)
+            }
             Err(_) => Err(Refusal::Unexpected),
         }
     }

@@ -25,3 +25,6 @@ pub use fault::{SqlFault, SqlFaultKind};
 pub use reading::read;
 pub use statement::{ColumnRef, Cond, Item, Query, Sign, SourceRef, Statement, Term, What};
 pub use tokens::MAX_STATEMENT;
+
+#[cfg(test)]
+mod tests;

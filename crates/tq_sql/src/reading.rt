@@ -1,31 +1,41 @@
-// Reads a statement: tokens first, and then a descent over them.
+// Reads a statement: its tokens first, and then a descent over them.
+
+ghost use Rattle.std.specs.Prelude.{◌≡◌, ◌≢◌, ◌≤◌, IfErr, IfOk};
+ghost use Rattle.tq_sql.specs.Faults.{out_of_memory};
+ghost use Rattle.tq_sql.specs.Reading.{IsSqlFault, Makes, stopped_at};
 
 use crate::cursor::{Cursor, Refusal};
 use crate::fault::{SqlFault, SqlFaultKind};
 use crate::queries::statement;
 use crate::statement::Statement;
-use crate::tokens::tokens;
+use crate::tokens::{MAX_STATEMENT, fault, tokens};
 use std::alloc::Global;
 
-/// The statement that a text makes.
-pub fn read(alloc: Global, bytes: &[u8]) -> Result<Statement, SqlFault> {
+// The fault of reading that stops at a byte.
+fn stopped(why: Refusal, at: usize) -> SqlFault
+    requires { why ≢ Refusal.Memory → at ≤ MAX_STATEMENT }
+    ensures { result ≡ stopped_at why at }
+{
+    match why {
+        Refusal::Unexpected => fault(SqlFaultKind::UnexpectedToken, at),
+        Refusal::TooDeep => fault(SqlFaultKind::TooDeep, at),
+        Refusal::Memory => fault(SqlFaultKind::OutOfMemory, 0),
+    }
+}
+
+/// The statement that a text makes. Faults: `TooLong` at byte 65,536 where there are more bytes; else
+/// the first token fault from the left, `BadByte`, `NumberTooLarge` or `UnclosedText`; else
+/// `UnexpectedToken` or `TooDeep` at the first token that no statement goes on with, or at the end.
+pub fn read(alloc: Global, bytes: &[u8]) -> Result<Statement, SqlFault>
+    ensures statement { IfOk result (λ s. Makes bytes.now s) }
+    ensures fault { IfErr result (λ f. f ≢ out_of_memory → IsSqlFault bytes.now f) }
+{
     let found = tokens(alloc, bytes)?;
     let mut cursor = Cursor::new(&found);
     let outcome = statement(alloc, &mut cursor);
-    let at = cursor.offset().unwrap_or(bytes.len()) as u32;
+    let at = cursor.offset().unwrap_or(bytes.len());
     match outcome {
         Ok(statement) => Ok(statement),
-        Err(Refusal::Unexpected) => Err(SqlFault {
-            kind: SqlFaultKind::UnexpectedToken,
-            at,
-        }),
-        Err(Refusal::TooDeep) => Err(SqlFault {
-            kind: SqlFaultKind::TooDeep,
-            at,
-        }),
-        Err(Refusal::Memory) => Err(SqlFault {
-            kind: SqlFaultKind::OutOfMemory,
-            at: 0,
-        }),
+        Err(why) => Err(stopped(why, at)),
     }
 }

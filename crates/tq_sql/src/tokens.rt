@@ -44,7 +44,8 @@ fn digits_length(bytes: &[u8]) -> usize
     bytes.len()
 }
 
-fn fault(kind: SqlFaultKind, at: usize) -> SqlFault
+/// A fault at a byte of a statement.
+pub fn fault(kind: SqlFaultKind, at: usize) -> SqlFault
     requires { at ≤ MAX_STATEMENT }
     ensures { result ≡ spec.fault kind at }
 {

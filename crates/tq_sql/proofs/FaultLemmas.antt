@@ -1,0 +1,92 @@
+-- The place at which a text that makes no statement stops.
+use Rattle.std.proofs.Common.{◌≡◌, ◌≢◌, ◌≤◌, ◌<◌, ◌⊎◌, inl, inr, ℕ, zero, suc, ◌+◌, ◌-◌, Bool, true, false, cond, List, [], ◌∷◌, ◌++◌, length, refl, ap, sym, ◌∙◌, subst, arith, append_assoc, append-nil, ltb}
+use Rattle.std.specs.Prelude.{Option, Some, None, Result, Ok, Err, slice_get, option_map, unwrap_or, nat_lt}
+use Rattle.std.proofs.lemmas.Bool.Decides.{nat_tests}
+use Rattle.tq_sql.specs.declared.cursor.Refusal.{Refusal}
+use Rattle.tq_sql.specs.declared.cursor.Refusal.TheVariants.{Memory, TooDeep, Unexpected}
+use Rattle.tq_sql.specs.declared.fault.SqlFault.{SqlFault}
+use Rattle.tq_sql.specs.declared.fault.SqlFaultKind.TheVariants.{TooLong}
+use Rattle.tq_sql.specs.declared.statement.Statement.{Statement}
+use Rattle.tq_sql.specs.declared.token.TokenKind.{TokenKind}
+use Rattle.tq_sql.specs.Descent.{Outcome, statement_at}
+use Rattle.tq_sql.specs.Faults.{out_of_memory}
+use Rattle.tq_sql.specs.Grammar.{IsStatement}
+use Rattle.tq_sql.specs.Reading.{GoesOn, IsTokenFault, StopsBefore, place_of, stopped_at}
+use Rattle.tq_sql.specs.Tokens.{Token, fault, is_space, then_rest, token_at, tokens_from, tokens_of, with_token}
+use Rattle.tq_sql.proofs.PlaceLemmas.{no_more, statement_steady}
+use Rattle.tq_sql.proofs.StatementLemmas.{no_statement}
+use Rattle.tq_sql.proofs.SteadyLemmas.{tail_of}
+
+-- ---- tokens begin within the text
+
+abbrev Within : ℕ → List Token → Type 0
+Within n [] = Unit {0}
+Within n (t ∷ ts) = (t.at ≤ n) × Within n ts
+
+ok_list : (a b : List Token) → ◌≡◌ {A = Result (List Token) SqlFault} (Ok a) (Ok b) → a ≡ b
+ok_list a b e = cc
+
+with_within : (n : ℕ) (t : Token) (r : Result (List Token) SqlFault) (ts : List Token) → t.at ≤ n → ((us : List Token) → r ≡ Ok us → Within n us) → with_token t r ≡ Ok ts → Within n ts
+with_within n t (Err e) ts le inner is = cc
+with_within n t (Ok us) ts le inner is = let P : List Token → Type 0 = λ z. Within n z in subst P (ok_list (t ∷ us) ts is) (le, inner us refl)
+
+rest_within : (n at : ℕ) (bytes : List ℕ) (rest : ℕ → Result (List Token) SqlFault) (r : Result (TokenKind × ℕ) SqlFault) (ts : List Token) → at ≤ n → ((left : ℕ) (us : List Token) → rest left ≡ Ok us → Within n us)
+    → then_rest at bytes rest r ≡ Ok ts → Within n ts
+rest_within n at bytes rest (Err e) ts le inner is = cc
+rest_within n at bytes rest (Ok t) ts le inner is = with_within n _ (rest (t.1 - 1)) ts le (inner (t.1 - 1)) is
+
+space_within : (n at b : ℕ) (bs : List ℕ) (space : Bool) (ts : List Token) → at ≤ n → ((left : ℕ) (us : List Token) → tokens_from left (suc at) bs ≡ Ok us → Within n us)
+    → cond space (tokens_from 0 (suc at) bs) (then_rest at (b ∷ bs) (λ left. tokens_from left (suc at) bs) (token_at at (b ∷ bs))) ≡ Ok ts → Within n ts
+space_within n at b bs true ts le inner is = inner 0 ts is
+space_within n at b bs false ts le inner is = rest_within n at (b ∷ bs) (λ left. tokens_from left (suc at) bs) (token_at at (b ∷ bs)) ts le inner is
+
+tokens_within : (n skip at : ℕ) (bytes : List ℕ) (ts : List Token) → at + length bytes ≤ n → tokens_from skip at bytes ≡ Ok ts → Within n ts
+tokens_within n skip at [] ts le is = let P : List Token → Type 0 = λ z. Within n z in subst P (ok_list [] ts is) tt
+tokens_within n (suc skip) at (b ∷ bs) ts le is = tokens_within n skip (suc at) bs ts (omega arith) is
+tokens_within n zero at (b ∷ bs) ts le is = space_within n at b bs (is_space b) ts (omega arith) (λ left us e. tokens_within n left (suc at) bs us (omega arith) e) is
+
+back_within : (n : ℕ) (front rest : List Token) → Within n (front ++ rest) → Within n rest
+back_within n [] rest w = w
+back_within n (t ∷ front) rest w = back_within n front rest w.1
+
+-- a text that has tokens is no longer than a statement may be
+text_within : (bytes : List ℕ) (ts : List Token) → tokens_of bytes ≡ Ok ts → (length bytes ≤ 65536) × Within (length bytes) ts
+text_within bytes ts is = by (nat_lt 65536 (length bytes)) refl is
+  where
+    by : (long : Bool) → nat_lt 65536 (length bytes) ≡ long → cond long (Err (fault TooLong 65536)) (tokens_from 0 0 bytes) ≡ Ok ts → (length bytes ≤ 65536) × Within (length bytes) ts
+    by true test e = cc
+    by false test e = (grind (arith, nat_tests), tokens_within (length bytes) 0 0 bytes ts (omega arith) e)
+
+pub place_within : (bytes : List ℕ) (front rest : List Token) → tokens_of bytes ≡ Ok (front ++ rest) → place_of bytes rest ≤ 65536
+place_within bytes front [] is = (text_within bytes (front ++ []) is).0
+place_within bytes front (t ∷ rest) is = let w = text_within bytes (front ++ t ∷ rest) is in omega (arith, w.0, (back_within (length bytes) front (t ∷ rest) w.1).0)
+
+pub place_is : (bytes : List ℕ) (rest : List Token) → place_of bytes rest ≡ unwrap_or (option_map (λ t. t.at) (slice_get rest 0)) (length bytes)
+place_is bytes [] = refl
+place_is bytes (t ∷ rest) = refl
+
+-- ---- where the descent stops
+
+pub stopped : (ts rest : List Token) (why : Refusal) → statement_at ts ≡ Err (why, rest) → (front : List Token) × (ts ≡ front ++ rest)
+stopped ts rest why is = let s = statement_steady.suffix ts in (s.0, s.1 ∙ ap (λ r. s.0 ++ tail_of r) is)
+
+pub stops_before : (front rest : List Token) (why : Refusal) → statement_at (front ++ rest) ≡ Err (why, rest) → StopsBefore front rest
+stops_before front [] why is = λ s made. let P : List Token → Type 0 = λ z. IsStatement z s in no_statement (front ++ []) (why, []) is s (subst P (sym (append-nil front)) made)
+stops_before front (t ∷ rest) why is = λ goes_on. let P : List Token → Type 0 = λ z. IsStatement z goes_on.1 in no_more front t rest goes_on.0 why is goes_on.1 (subst P (append_assoc front (t ∷ []) goes_on.0) goes_on.2)
+
+-- what reading that stops says of the text
+pub token_fault : (bytes : List ℕ) (ts rest : List Token) (why : Refusal) (f : SqlFault) → tokens_of bytes ≡ Ok ts → (why ≢ Memory → statement_at ts ≡ Err (why, rest)) → f ≡ stopped_at why (place_of bytes rest) → f ≢ out_of_memory → IsTokenFault bytes f
+token_fault bytes ts rest Memory f whole stops is other = absurd (other is)
+token_fault bytes ts rest Unexpected f whole stops is other =
+    let e = stops (λ same. cc) in
+    let s = stopped ts rest Unexpected e in
+    let P : List Token → Type 0 = λ z. statement_at z ≡ Err (Unexpected, rest) in
+    (s.0, rest, whole ∙ ap (λ z. Ok z) s.1, stops_before s.0 rest Unexpected (subst P s.1 e), inl is)
+token_fault bytes ts rest TooDeep f whole stops is other =
+    let e = stops (λ same. cc) in
+    let s = stopped ts rest TooDeep e in
+    let P : List Token → Type 0 = λ z. statement_at z ≡ Err (TooDeep, rest) in
+    (s.0, rest, whole ∙ ap (λ z. Ok z) s.1, stops_before s.0 rest TooDeep (subst P s.1 e), inr is)
+
+pub fault_within : (bytes : List ℕ) (ts rest : List Token) (why : Refusal) → tokens_of bytes ≡ Ok ts → statement_at ts ≡ Err (why, rest) → place_of bytes rest ≤ 65536
+fault_within bytes ts rest why whole e = let s = stopped ts rest why e in place_within bytes s.0 rest (whole ∙ ap (λ z. Ok z) s.1)
