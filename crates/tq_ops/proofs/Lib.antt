@@ -3,3 +3,7 @@ pub mod Counting
 pub mod Cutting
 pub mod Projecting
 pub mod Selecting
+pub mod Sweeping
+pub mod Changing
+pub mod Grouping
+pub mod Gathering

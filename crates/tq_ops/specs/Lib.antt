@@ -1,3 +1,5 @@
 pub mod Conditions
+pub mod Differences
 pub mod Ordinary
+pub mod Sides
 pub mod Steps

@@ -8,9 +8,12 @@
 #![tactic(auto)]
 
 mod condition;
+mod difference;
 mod selection;
+mod sides;
 
 pub use condition::{Compare, Operand, Test};
+pub use difference::except_all;
 pub use selection::{project, select};
 
 #[cfg(test)]
