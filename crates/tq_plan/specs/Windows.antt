@@ -1,6 +1,6 @@
 -- Windows as a statement writes them: `[`, an instant, `-`, a bound, `)`. This project's own.
-use Rattle.std.specs.Prelude.{◌≡◌, ℕ, ◌+◌, ◌-◌, ◌<◌, Bool, true, false, ◌&&◌, if◌then◌else◌, ◌==◌, nat_lt, List, [], ◌∷◌, length, take, drop, reverse, position, Option, Some, None, refl, slice_get, Result, Ok, Err}
-use Rattle.std.proofs.lemmas.Bool.Decides.{nat_tests}
+use Rattle.std.specs.Prelude.{◌≡◌, ℕ, ◌+◌, ◌-◌, ◌<◌, Bool, true, false, ◌&&◌, if◌then◌else◌, ◌==◌, nat_lt, List, [], ◌∷◌, length, take, drop, reverse, position, Option, Some, None, refl, slice_index, Result, Ok, Err}
+use Rattle.std.proofs.lemmas.Bool.{ltb-true}
 use Rattle.std.proofs.Common.{arith}
 use Rattle.tq_base.specs.Numbers.{instant_of, bound_of}
 use Rattle.tq_base.specs.declared.period.Period.{Period}
@@ -8,8 +8,8 @@ use Rattle.tq_base.specs.declared.period.TheConstants.{FOREVER}
 use Rattle.tq_plan.specs.declared.fault.PlanFault.{PlanFault}
 use Rattle.tq_plan.specs.declared.fault.PlanFault.TheVariants.{BadWindow}
 
-ordered_if : (start end : ℕ) (b : Bool) → nat_lt start end ≡ b → Option Period
-ordered_if start end true is = Some record { start = start; end = end; ordered = grind (arith, nat_tests) }
+abbrev pub ordered_if : (start end : ℕ) (b : Bool) → nat_lt start end ≡ b → Option Period
+ordered_if start end true is = Some record { start = start; end = end; ordered = ltb-true start end is }
 ordered_if start end false is = None
 
 -- the period from the start to the end, where the start is below it
@@ -35,18 +35,17 @@ abbrev pub around_dash : List ℕ → Option ℕ → Option Period
 around_dash inside None = None
 around_dash inside (Some dash) = between (instant_of (trimmed (take dash inside))) (bound_of (trimmed (drop (dash + 1) inside)))
 
+-- whether the text begins with `[` and ends with `)`
+abbrev pub is_bracketed : List ℕ → Bool
+is_bracketed text = nat_lt 1 (length text) && (slice_index text 0 == 91 && slice_index text (length text - 1) == 41)
+
+-- what stands between the first byte and the last
+abbrev pub inside_of : List ℕ → List ℕ
+inside_of text = take (length text - 2) (drop 1 text)
+
 -- the period that the text writes, with spaces beside the instant and the bound
 abbrev pub window_of : List ℕ → Option Period
-window_of text =
-    let inside = take (length text - 2) (drop 1 text) in
-    if nat_lt 1 (length text) && is_at text 0 91 && is_at text (length text - 1) 41 then around_dash inside (position (λ b. b == 45) inside) else None
-  where
-    abbrev is : Option ℕ → ℕ → Bool
-    is None byte = false
-    is (Some b) byte = b == byte
-
-    abbrev is_at : List ℕ → ℕ → ℕ → Bool
-    is_at bytes place byte = is (slice_get bytes place) byte
+window_of text = if is_bracketed text then around_dash (inside_of text) (position (λ b. b == 45) (inside_of text)) else None
 
 -- every instant
 abbrev pub always : Period
