@@ -4,3 +4,5 @@ pub mod Steps
 pub mod Seen
 pub mod Windows
 pub mod Plans
+pub mod Ordinary
+pub mod Answers

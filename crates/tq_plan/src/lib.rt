@@ -8,6 +8,7 @@
 
 mod conditions;
 mod fault;
+pub mod laws;
 mod planning;
 mod plans;
 mod queries;
