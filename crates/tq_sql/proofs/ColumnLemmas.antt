@@ -88,13 +88,13 @@ module _ {A : Type 0} (kind : TokenKind) (real : kind ≢ k.End) (R : List Token
 
 -- ---- columns
 
-dot_real : k.Dot ≢ k.End
+pub dot_real : k.Dot ≢ k.End
 dot_real e = cc
 
 second_reader : IsReader (Optional (After k.Dot IsName)) (or_mark k.Dot nothing) (optional k.Dot name_at)
 second_reader = optional_reader k.Dot dot_real IsName nothing name_at name_reader
 
-column_parts : (a b : List Token) (first : List ℕ) (second : Option (List ℕ)) → IsName a first → Optional (After k.Dot IsName) b second → IsColumn (a ++ b) (column_of first second)
+pub column_parts : (a b : List Token) (first : List ℕ) (second : Option (List ℕ)) → IsName a first → Optional (After k.Dot IsName) b second → IsColumn (a ++ b) (column_of first second)
 column_parts a b first None x y = let e : a ≡ a ++ b = sym (append-nil a) ∙ ap (λ z. a ++ z) (sym y) in let P : List Token → Type 0 = λ z. IsName z first in subst P e x
 column_parts a b first (Some second) x y = (a, b, refl, x, y)
 

@@ -186,7 +186,7 @@ none_real : (s : Sign) → sign_of k.End ≡ Some s → ⊥
 unfolding sign_of
 none_real s e = cc
 
-sign_sound : (ts rest : List Token) (s : Sign) → sign_at ts ≡ Ok (s, rest) → (t : Token) × (ts ≡ t ∷ rest) × (t.kind ≡ kind_of s)
+pub sign_sound : (ts rest : List Token) (s : Sign) → sign_at ts ≡ Ok (s, rest) → (t : Token) × (ts ≡ t ∷ rest) × (t.kind ≡ kind_of s)
 unfolding sign_at kind_at next
 sign_sound [] rest s e = absurd (none_real s (signed_some (sign_of k.End) s [] rest e).0)
 sign_sound (t ∷ ts) rest s e = let got = signed_some (sign_of t.kind) s (t ∷ ts) rest e in (t, ap (λ z. t ∷ z) got.1, sign_kind t.kind s got.0)
@@ -229,7 +229,7 @@ starter_not (term.Column x) = (refl, refl)
 starter_not (term.Int n) = (refl, refl)
 starter_not (term.Text s) = (refl, refl)
 
-starts : (ts rest : List Token) (x : Cond) → IsComparison ts x → (sees k.Not (ts ++ rest) ≡ false) × (sees k.Open (ts ++ rest) ≡ false)
+pub starts : (ts rest : List Token) (x : Cond) → IsComparison ts x → (sees k.Not (ts ++ rest) ≡ false) × (sees k.Open (ts ++ rest) ≡ false)
 starts ts rest x is =
     let first = begins_more (starter is.left) is.spelled.0 (is.spelled.1 ++ rest) (operand_begins is.spelled.0 is.left is.spelled.3) in
     let regrouped : ts ++ rest ≡ is.spelled.0 ++ (is.spelled.1 ++ rest) = ap (λ z. z ++ rest) is.spelled.2 ∙ append_assoc is.spelled.0 is.spelled.1 rest in

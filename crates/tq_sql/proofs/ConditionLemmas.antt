@@ -74,21 +74,21 @@ close_stops : or_goes k.Close ≡ false
 unfolding same_kind
 close_stops = refl
 
-and_dot : dot k.And ≡ false
+pub and_dot : dot k.And ≡ false
 unfolding same_kind
 and_dot = refl
 
-or_and_dot : and_goes k.Or ≡ false
+pub or_and_dot : and_goes k.Or ≡ false
 unfolding same_kind
 or_and_dot = refl
 
-and_real : k.And ≢ k.End
+pub and_real : k.And ≢ k.End
 and_real e = cc
 
-or_real : k.Or ≢ k.End
+pub or_real : k.Or ≢ k.End
 or_real e = cc
 
-not_real : k.Not ≢ k.End
+pub not_real : k.Not ≢ k.End
 not_real e = cc
 
 pub open_real : k.Open ≢ k.End

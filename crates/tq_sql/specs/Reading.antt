@@ -34,10 +34,11 @@ stopped_at Unexpected at = fault UnexpectedToken at
 stopped_at TooDeep at = fault kind.TooDeep at
 stopped_at Memory at = out_of_memory
 
--- the text has tokens, and the fault stands at the first with which no statement goes on, or at the end
+-- the text has tokens, and the fault stands at the first with which no statement goes on, or at the
+-- end; which of the two kinds it is, is not said
 abbrev pub IsTokenFault : List ℕ → SqlFault → Type 0
 IsTokenFault bytes f =
-    (front : List Token) × (rest : List Token) × (tokens_of bytes ≡ Ok (front ++ rest)) × StopsBefore front rest
+    (front : List Token) × (rest : List Token) × (tokens_of bytes ≡ Ok (front ++ rest)) × GoesOn front × StopsBefore front rest
     × ((f ≡ fault UnexpectedToken (place_of bytes rest)) ⊎ (f ≡ fault kind.TooDeep (place_of bytes rest)))
 
 -- the first fault from the left that leaves the text without tokens, or else that of its tokens
