@@ -6,17 +6,17 @@ use Rattle.tq_sql.specs.declared.cursor.Refusal.{Refusal}
 use Rattle.tq_sql.specs.declared.cursor.Refusal.TheVariants.{Memory, TooDeep, Unexpected}
 use Rattle.tq_sql.specs.declared.fault.SqlFault.{SqlFault}
 use Rattle.tq_sql.specs.declared.fault.SqlFaultKind.TheVariants.{TooLong}
-use Rattle.tq_sql.specs.declared.fault.SqlFaultKind.TheVariants as kind
 use Rattle.tq_sql.specs.declared.statement.Statement.{Statement}
 use Rattle.tq_sql.specs.declared.token.TokenKind.{TokenKind}
 use Rattle.tq_sql.specs.Descent.{Outcome, statement_at}
 use Rattle.tq_sql.specs.Faults.{out_of_memory}
 use Rattle.tq_sql.specs.Grammar.{IsStatement}
-use Rattle.tq_sql.specs.Reading.{GoesOn, IsSqlFault, IsTokenFault, Makes, StopsBefore, place_of, stopped_at}
+use Rattle.tq_sql.specs.Reading.{GoesOn, IsSqlFault, IsStop, Makes, StopsBefore, place_of, stopped_at}
 use Rattle.tq_sql.specs.Tokens.{Token, fault, is_space, then_rest, token_at, tokens_from, tokens_of, with_token}
-use Rattle.tq_sql.specs.Laws.{FaultsAreRefusals, PlacesAreUnique}
+use Rattle.tq_sql.specs.Laws.{FaultsAreRefusals, FaultsAreUnique, TextsAreDecided}
 use Rattle.tq_sql.proofs.PlaceLemmas.{no_more}
-use Rattle.tq_sql.proofs.StatementLemmas.{no_statement}
+use Rattle.tq_sql.proofs.OpenLemmas.{err_pair}
+use Rattle.tq_sql.proofs.StatementLemmas.{no_statement, statement_sound}
 use Rattle.tq_sql.proofs.ViableLemmas.{statement_open}
 
 -- ---- tokens begin within the text
@@ -77,18 +77,18 @@ stops_before front [] why is = λ s made. let P : List Token → Type 0 = λ z. 
 stops_before front (t ∷ rest) why is = λ goes_on. let P : List Token → Type 0 = λ z. IsStatement z goes_on.1 in no_more front t rest goes_on.0 why is goes_on.1 (subst P (append_assoc front (t ∷ []) goes_on.0) goes_on.2)
 
 -- what reading that stops says of the text
-pub token_fault : (bytes : List ℕ) (ts rest : List Token) (why : Refusal) (f : SqlFault) → tokens_of bytes ≡ Ok ts → (why ≢ Memory → statement_at ts ≡ Err (why, rest)) → f ≡ stopped_at why (place_of bytes rest) → f ≢ out_of_memory → IsTokenFault bytes f
-token_fault bytes ts rest Memory f whole stops is other = absurd (other is)
-token_fault bytes ts rest Unexpected f whole stops is other =
-    let e = stops (λ same. cc) in
-    let s = stopped ts rest Unexpected e in
-    let P : List Token → Type 0 = λ z. statement_at z ≡ Err (Unexpected, rest) in
-    (s.0, rest, whole ∙ ap (λ z. Ok z) s.1, s.2, stops_before s.0 rest Unexpected (subst P s.1 e), inl is)
-token_fault bytes ts rest TooDeep f whole stops is other =
-    let e = stops (λ same. cc) in
-    let s = stopped ts rest TooDeep e in
-    let P : List Token → Type 0 = λ z. statement_at z ≡ Err (TooDeep, rest) in
-    (s.0, rest, whole ∙ ap (λ z. Ok z) s.1, s.2, stops_before s.0 rest TooDeep (subst P s.1 e), inr is)
+pub stop_is : (bytes : List ℕ) (ts rest : List Token) (why : Refusal) → tokens_of bytes ≡ Ok ts → statement_at ts ≡ Err (why, rest) → IsStop bytes (stopped_at why (place_of bytes rest))
+stop_is bytes ts rest why whole e =
+    let s = stopped ts rest why e in
+    let P : List Token → Type 0 = λ z. statement_at z ≡ Err (why, rest) in
+    let here = subst P s.1 e in
+    (s.0, rest, why, whole ∙ ap (λ z. Ok z) s.1, s.2, stops_before s.0 rest why here, here, refl)
+
+-- .. where memory was not refused
+pub stop_told : (bytes : List ℕ) (ts rest : List Token) (why : Refusal) (f : SqlFault) → tokens_of bytes ≡ Ok ts → (why ≢ Memory → statement_at ts ≡ Err (why, rest)) → f ≡ stopped_at why (place_of bytes rest) → f ≢ out_of_memory → IsStop bytes f
+stop_told bytes ts rest why f whole stops is other =
+    let P : SqlFault → Type 0 = λ z. IsStop bytes z in
+    subst P (sym is) (stop_is bytes ts rest why whole (stops (λ same. other (is ∙ ap (λ z. stopped_at z (place_of bytes rest)) same))))
 
 pub fault_within : (bytes : List ℕ) (ts rest : List Token) (why : Refusal) → tokens_of bytes ≡ Ok ts → statement_at ts ≡ Err (why, rest) → place_of bytes rest ≤ 65536
 fault_within bytes ts rest why whole e = let s = stopped ts rest why e in place_within bytes s.0 rest (whole ∙ ap (λ z. Ok z) s.1)
@@ -106,9 +106,9 @@ no_whole front (t ∷ rest) s stops is = let P : List Token → Type 0 = λ z. I
 pub refusals : FaultsAreRefusals
 refusals bytes f s (inl is) makes = ok_or_fault makes.0 f (tokens_of bytes) makes.1 is
 refusals bytes f s (inr is) makes =
-    let same : makes.0 ≡ is.0 ++ is.1 = ok_list makes.0 (is.0 ++ is.1) (sym makes.1 ∙ is.2) in
+    let same : makes.0 ≡ is.0 ++ is.1 = ok_list makes.0 (is.0 ++ is.1) (sym makes.1 ∙ is.3) in
     let P : List Token → Type 0 = λ z. IsStatement z s in
-    no_whole is.0 is.1 s is.4 (subst P same makes.2)
+    no_whole is.0 is.1 s is.5 (subst P same makes.2)
 
 goes_on_before : (a b : List Token) → GoesOn (a ++ b) → GoesOn a
 goes_on_before a b on = let P : List Token → Type 0 = λ z. IsStatement z on.1 in (b ++ on.0, on.1, subst P (append_assoc a b on.0) on.2)
@@ -135,25 +135,33 @@ never_before a b c t us vs is_b is_c stops on =
     let Q : List Token → Type 0 = λ z. GoesOn z in
     subst P is_b stops (goes_on_before (a ++ t ∷ []) vs (subst Q is_c on))
 
-at_of : (bytes : List ℕ) (rest : List Token) (f : SqlFault) → (f ≡ fault kind.UnexpectedToken (place_of bytes rest)) ⊎ (f ≡ fault kind.TooDeep (place_of bytes rest)) → f.at ≡ place_of bytes rest
-at_of bytes rest f (inl e) = ap (λ z. z.at) e
-at_of bytes rest f (inr e) = ap (λ z. z.at) e
-
 err_fault : (f g : SqlFault) → ◌≡◌ {A = Result (List Token) SqlFault} (Err f) (Err g) → f ≡ g
 err_fault f g e = cc
 
-pub places : PlacesAreUnique
-places bytes f g (inl a) (inl b) = ap (λ z. z.at) (err_fault f g (sym a ∙ b))
-places bytes f g (inl a) (inr b) = absurd (ok_or_fault (b.0 ++ b.1) f (tokens_of bytes) b.2 a)
-places bytes f g (inr a) (inl b) = absurd (ok_or_fault (a.0 ++ a.1) g (tokens_of bytes) a.2 b)
-places bytes f g (inr a) (inr b) =
-    let same : a.0 ++ a.1 ≡ b.0 ++ b.1 = ok_list (a.0 ++ a.1) (b.0 ++ b.1) (sym a.2 ∙ b.2) in
-    let one : f.at ≡ place_of bytes a.1 = at_of bytes a.1 f a.5 in
-    let two : g.at ≡ place_of bytes b.1 = at_of bytes b.1 g b.5 in
+why_same : (ts us : List Token) (x y : Refusal) → ◌≡◌ {A = Outcome Statement} (Err (x, ts)) (Err (y, us)) → x ≡ y
+why_same ts us x y e = (err_pair x y ts us e).0
+
+pub one_fault : FaultsAreUnique
+one_fault bytes f g (inl a) (inl b) = err_fault f g (sym a ∙ b)
+one_fault bytes f g (inl a) (inr b) = absurd (ok_or_fault (b.0 ++ b.1) f (tokens_of bytes) b.3 a)
+one_fault bytes f g (inr a) (inl b) = absurd (ok_or_fault (a.0 ++ a.1) g (tokens_of bytes) a.3 b)
+one_fault bytes f g (inr a) (inr b) =
+    let same : a.0 ++ a.1 ≡ b.0 ++ b.1 = ok_list (a.0 ++ a.1) (b.0 ++ b.1) (sym a.3 ∙ b.3) in
     elim (cuts a.0 a.1 b.0 b.1 same) [
-      | inl s ↦ one ∙ ap (place_of bytes) s ∙ sym two
+        inl s ↦
+          (let why : a.2 ≡ b.2 = why_same a.1 b.1 a.2 b.2 (sym a.6 ∙ ap statement_at same ∙ b.6) in
+          a.7 ∙ ap (λ z. stopped_at z (place_of bytes a.1)) why ∙ ap (λ z. stopped_at b.2 (place_of bytes z)) s ∙ sym b.7)
       | inr s ↦ elim s [
-        | inl l ↦ absurd (never_before a.0 a.1 b.0 l.0 l.1 l.3 l.2 l.4 a.4 b.3)
-        | inr r ↦ absurd (never_before b.0 b.1 a.0 r.0 r.1 r.3 r.2 r.4 b.4 a.3)
-      ]
-    ]
+            inl l ↦ absurd (never_before a.0 a.1 b.0 l.0 l.1 l.3 l.2 l.4 a.5 b.4)
+          | inr r ↦ absurd (never_before b.0 b.1 a.0 r.0 r.1 r.3 r.2 r.4 b.5 a.4) ] ]
+
+read_or_not : (bytes : List ℕ) (ts : List Token) → tokens_of bytes ≡ Ok ts → (r : Outcome Statement) → statement_at ts ≡ r → ((s : Statement) × Makes bytes s) ⊎ ((f : SqlFault) × IsSqlFault bytes f)
+read_or_not bytes ts whole (Ok r) e = inl (r.0, (ts, whole, statement_sound ts r.1 r.0 e))
+read_or_not bytes ts whole (Err r) e = inr (stopped_at r.0 (place_of bytes r.1), inr (stop_is bytes ts r.1 r.0 whole e))
+
+cut_or_not : (bytes : List ℕ) (r : Result (List Token) SqlFault) → tokens_of bytes ≡ r → ((s : Statement) × Makes bytes s) ⊎ ((f : SqlFault) × IsSqlFault bytes f)
+cut_or_not bytes (Ok ts) e = read_or_not bytes ts e (statement_at ts) refl
+cut_or_not bytes (Err f) e = inr (f, inl e)
+
+pub decided : TextsAreDecided
+decided bytes = cut_or_not bytes (tokens_of bytes) refl

@@ -14,4 +14,6 @@ pub mod StatementLemmas
 pub mod SteadyLemmas
 pub mod TokenLemmas
 pub mod Utf8Lemmas
+pub mod ViableConditions
+pub mod ViableItems
 pub mod ViableLemmas

@@ -1,5 +1,5 @@
 -- Laws of the grammar and of faults.
-use Rattle.std.specs.Prelude.{◌≡◌, ℕ, List}
+use Rattle.std.specs.Prelude.{◌≡◌, ◌⊎◌, ℕ, List}
 use Rattle.tq_sql.specs.declared.fault.SqlFault.{SqlFault}
 use Rattle.tq_sql.specs.declared.statement.Statement.{Statement}
 use Rattle.tq_sql.specs.Grammar.{IsStatement}
@@ -14,6 +14,10 @@ StatementsAreUnique = (ts : List Token) (a b : Statement) → IsStatement ts a �
 abbrev pub FaultsAreRefusals : Type 0
 FaultsAreRefusals = (bytes : List ℕ) (f : SqlFault) (s : Statement) → IsSqlFault bytes f → Makes bytes s → ⊥
 
--- the text decides the byte at which a fault stands
-abbrev pub PlacesAreUnique : Type 0
-PlacesAreUnique = (bytes : List ℕ) (f g : SqlFault) → IsSqlFault bytes f → IsSqlFault bytes g → f.at ≡ g.at
+-- a text has one fault at most
+abbrev pub FaultsAreUnique : Type 0
+FaultsAreUnique = (bytes : List ℕ) (f g : SqlFault) → IsSqlFault bytes f → IsSqlFault bytes g → f ≡ g
+
+-- each text makes a statement or has a fault
+abbrev pub TextsAreDecided : Type 0
+TextsAreDecided = (bytes : List ℕ) → ((s : Statement) × Makes bytes s) ⊎ ((f : SqlFault) × IsSqlFault bytes f)

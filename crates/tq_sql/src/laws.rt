@@ -1,6 +1,6 @@
 //! Laws of the grammar and of faults: functions with an empty body, whose contract is the law.
 
-ghost use Rattle.tq_sql.specs.Laws.{FaultsAreRefusals, PlacesAreUnique, StatementsAreUnique};
+ghost use Rattle.tq_sql.specs.Laws.{FaultsAreRefusals, FaultsAreUnique, StatementsAreUnique, TextsAreDecided};
 
 /// A list of tokens makes one statement at most.
 pub fn statements_are_unique()
@@ -12,7 +12,12 @@ pub fn faults_are_refusals()
     ensures { FaultsAreRefusals }
 {}
 
-/// The text decides the byte at which a fault stands.
-pub fn places_are_unique()
-    ensures { PlacesAreUnique }
+/// A text has one fault at most.
+pub fn faults_are_unique()
+    ensures { FaultsAreUnique }
+{}
+
+/// Each text makes a statement or has a fault.
+pub fn texts_are_decided()
+    ensures { TextsAreDecided }
 {}
