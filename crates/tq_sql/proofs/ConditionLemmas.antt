@@ -1,14 +1,14 @@
 -- The readers of conditions.
-use Rattle.std.proofs.Common.{◌≡◌, ◌≢◌, ◌≤◌, ◌<◌, ◌⊎◌, inl, inr, ℕ, zero, suc, ◌+◌, ◌-◌, Bool, true, false, ◌||◌, cond, List, [], ◌∷◌, ◌++◌, length, refl, ap, sym, ◌∙◌, subst, arith, append_assoc, length-append}
-use Rattle.std.specs.Prelude.{Option, Some, None, Ok, Err}
+use Rattle.std.proofs.Common.{◌≡◌, ◌≢◌, ◌≤◌, inl, inr, ℕ, zero, suc, Bool, false, ◌||◌, List, [], ◌∷◌, ◌++◌, length, refl, ap, sym, ◌∙◌, arith, append_assoc, length-append}
+use Rattle.std.specs.Prelude.{Ok}
 use Rattle.tq_sql.specs.declared.token.TokenKind.{TokenKind}
 use Rattle.tq_sql.specs.declared.token.TokenKind.TheVariants as k
 use Rattle.tq_sql.specs.declared.statement.Cond.{Cond}
 use Rattle.tq_sql.specs.declared.statement.Cond.TheVariants as c
 use Rattle.tq_sql.specs.Tokens.{Token, same_kind}
-use Rattle.tq_sql.specs.Grammar.{Rule, After, Before, Pair, More, Listed, join, IsChain, IsAnd, IsOr, IsComparison, IsNegation, IsNot}
-use Rattle.tq_sql.specs.Descent.{Outcome, Reader, and_then, pure, kind_at, next, sees, after, eat, expect, more_from, chain, comparison_at, closed, not_at, and_at, or_at, ◌>>=◌}
-use Rattle.tq_sql.proofs.ReaderLemmas.{IsReader, by_test, bind_ok, ok_pair, kind_seen, seen_here, next_of, kind_of_first, or_false, same_itself, added, more_length, more_stops, more_complete, more_sound}
+use Rattle.tq_sql.specs.Grammar.{join, IsChain, IsAnd, IsOr, IsComparison, IsNot}
+use Rattle.tq_sql.specs.Descent.{Outcome, pure, kind_at, next, sees, expect, more_from, chain, comparison_at, closed, not_at, ◌>>=◌}
+use Rattle.tq_sql.proofs.ReaderLemmas.{IsReader, by_test, bind_ok, ok_pair, kind_seen, seen_here, next_of, kind_of_first, or_false, added, more_length, more_stops, more_complete, more_sound}
 
 -- ---- chains
 

@@ -1,9 +1,9 @@
 -- The place at which a text that makes no statement stops.
-use Rattle.std.proofs.Common.{◌≡◌, ◌≢◌, ◌≤◌, ◌<◌, ◌⊎◌, inl, inr, ℕ, zero, suc, ◌+◌, ◌-◌, Bool, true, false, cond, List, [], ◌∷◌, ◌++◌, length, refl, ap, sym, ◌∙◌, subst, arith, append_assoc, append-nil, ltb}
-use Rattle.std.specs.Prelude.{Option, Some, None, Result, Ok, Err, slice_get, option_map, unwrap_or, nat_lt}
+use Rattle.std.proofs.Common.{◌≡◌, ◌≢◌, ◌≤◌, ◌⊎◌, inl, inr, ℕ, zero, suc, ◌+◌, ◌-◌, Bool, true, false, cond, List, [], ◌∷◌, ◌++◌, length, refl, ap, sym, ◌∙◌, subst, arith, append_assoc, append-nil}
+use Rattle.std.specs.Prelude.{Result, Ok, Err, slice_get, option_map, unwrap_or, nat_lt}
 use Rattle.std.proofs.lemmas.Bool.Decides.{nat_tests}
 use Rattle.tq_sql.specs.declared.cursor.Refusal.{Refusal}
-use Rattle.tq_sql.specs.declared.cursor.Refusal.TheVariants.{Memory, TooDeep, Unexpected}
+use Rattle.tq_sql.specs.declared.cursor.Refusal.TheVariants.{Memory}
 use Rattle.tq_sql.specs.declared.fault.SqlFault.{SqlFault}
 use Rattle.tq_sql.specs.declared.fault.SqlFaultKind.TheVariants.{TooLong}
 use Rattle.tq_sql.specs.declared.statement.Statement.{Statement}
@@ -148,12 +148,14 @@ one_fault bytes f g (inr a) (inl b) = absurd (ok_or_fault (a.0 ++ a.1) g (tokens
 one_fault bytes f g (inr a) (inr b) =
     let same : a.0 ++ a.1 ≡ b.0 ++ b.1 = ok_list (a.0 ++ a.1) (b.0 ++ b.1) (sym a.3 ∙ b.3) in
     elim (cuts a.0 a.1 b.0 b.1 same) [
-        inl s ↦
+      | inl s ↦
           (let why : a.2 ≡ b.2 = why_same a.1 b.1 a.2 b.2 (sym a.6 ∙ ap statement_at same ∙ b.6) in
           a.7 ∙ ap (λ z. stopped_at z (place_of bytes a.1)) why ∙ ap (λ z. stopped_at b.2 (place_of bytes z)) s ∙ sym b.7)
       | inr s ↦ elim s [
-            inl l ↦ absurd (never_before a.0 a.1 b.0 l.0 l.1 l.3 l.2 l.4 a.5 b.4)
-          | inr r ↦ absurd (never_before b.0 b.1 a.0 r.0 r.1 r.3 r.2 r.4 b.5 a.4) ] ]
+        | inl l ↦ absurd (never_before a.0 a.1 b.0 l.0 l.1 l.3 l.2 l.4 a.5 b.4)
+        | inr r ↦ absurd (never_before b.0 b.1 a.0 r.0 r.1 r.3 r.2 r.4 b.5 a.4)
+      ]
+    ]
 
 read_or_not : (bytes : List ℕ) (ts : List Token) → tokens_of bytes ≡ Ok ts → (r : Outcome Statement) → statement_at ts ≡ r → ((s : Statement) × Makes bytes s) ⊎ ((f : SqlFault) × IsSqlFault bytes f)
 read_or_not bytes ts whole (Ok r) e = inl (r.0, (ts, whole, statement_sound ts r.1 r.0 e))

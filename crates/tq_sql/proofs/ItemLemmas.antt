@@ -1,6 +1,6 @@
 -- The readers of items, sources and the columns of a group.
-use Rattle.std.proofs.Common.{◌≡◌, ◌≢◌, ◌⊎◌, inl, inr, ℕ, Bool, true, false, ◌||◌, cond, List, [], ◌∷◌, ◌++◌, refl, ap, sym, ◌∙◌, subst, append_assoc}
-use Rattle.std.specs.Prelude.{Option, Some, None, Ok, Err}
+use Rattle.std.proofs.Common.{◌≡◌, ◌≢◌, inl, inr, ℕ, Bool, true, false, List, [], ◌∷◌, ◌++◌, refl, ap, sym, ◌∙◌, subst, append_assoc}
+use Rattle.std.specs.Prelude.{Option, Some, None, Ok}
 use Rattle.tq_sql.specs.declared.statement.ColumnRef.{ColumnRef}
 use Rattle.tq_sql.specs.declared.statement.Item.{Item}
 use Rattle.tq_sql.specs.declared.statement.SourceRef.{SourceRef}
@@ -9,12 +9,12 @@ use Rattle.tq_sql.specs.declared.statement.What.TheVariants as what
 use Rattle.tq_sql.specs.declared.token.TokenKind.{TokenKind}
 use Rattle.tq_sql.specs.declared.token.TokenKind.TheVariants as k
 use Rattle.tq_sql.specs.Tokens.{Token, same_kind}
-use Rattle.tq_sql.specs.Grammar.{After, Before, Pair, Optional, Listed, IsNothing, IsName, IsColumn, IsWhat, IsItem, IsAlias, IsSource, IsGroup}
-use Rattle.tq_sql.specs.Descent.{Outcome, Reader, and_then, pure, kind_at, next, sees, after, eat, expect, behind, optional, listed, name_at, column_at, what_at, item_alias_at, item_at, items_at, source_alias_at, source_at, columns_at, group_at, ◌>>=◌}
+use Rattle.tq_sql.specs.Grammar.{After, Before, Optional, Listed, IsNothing, IsName, IsColumn, IsWhat, IsItem, IsAlias, IsSource, IsGroup}
+use Rattle.tq_sql.specs.Descent.{Reader, and_then, pure, kind_at, next, sees, expect, name_at, column_at, what_at, item_alias_at, item_at, items_at, source_alias_at, source_at, columns_at, group_at, ◌>>=◌}
 use Rattle.tq_sql.proofs.ReaderLemmas.{IsReader, bind_ok, ok_pair, kind_seen, seen_here, next_of, after_seen, after_unseen, kind_of_first, or_false}
 use Rattle.tq_sql.proofs.ConditionLemmas.{or_mark, sees_kind, dot, seen_kind, expect_some, expect_here, open_real, close_real}
 use Rattle.tq_sql.proofs.ColumnLemmas.{nothing, name_reader, optional_reader, column_reader}
-use Rattle.tq_sql.proofs.ComparisonLemmas.{Begins, begins_more, begins_sees, column_begins}
+use Rattle.tq_sql.proofs.ComparisonLemmas.{begins_more, begins_sees, column_begins}
 use Rattle.tq_sql.proofs.ListingLemmas.{behind_reader, listed_reader, optional_stops}
 
 pub count_real : k.Count ≢ k.End

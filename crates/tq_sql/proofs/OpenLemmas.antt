@@ -1,13 +1,13 @@
 -- Readers that stop before a token only where what they took can still be gone on with.
-use Rattle.std.proofs.Common.{◌≡◌, ◌≢◌, ◌≤◌, ◌<◌, ◌⊎◌, inl, inr, ℕ, zero, suc, ◌+◌, ◌-◌, Bool, true, false, cond, List, [], ◌∷◌, ◌++◌, length, refl, ap, sym, ◌∙◌, subst, arith, append_assoc, append-nil}
+use Rattle.std.proofs.Common.{◌≡◌, ◌≢◌, ◌≤◌, ◌⊎◌, inl, inr, ℕ, zero, suc, Bool, true, false, List, [], ◌∷◌, ◌++◌, length, refl, ap, sym, ◌∙◌, arith, append_assoc, append-nil}
 use Rattle.std.specs.Prelude.{Option, Some, None, Ok, Err}
 use Rattle.tq_sql.specs.declared.cursor.Refusal.{Refusal}
 use Rattle.tq_sql.specs.declared.token.TokenKind.{TokenKind}
 use Rattle.tq_sql.specs.declared.token.TokenKind.TheVariants as k
-use Rattle.tq_sql.specs.Tokens.{Token, same_kind}
-use Rattle.tq_sql.specs.Grammar.{After, Before, Pair, Optional, More, Listed}
-use Rattle.tq_sql.specs.Descent.{Outcome, Reader, and_then, pure, kind_at, next, sees, after, eat, expect, behind, optional, more_from, listed, listed_up_to, ◌>>=◌}
-use Rattle.tq_sql.proofs.ReaderLemmas.{IsReader, by_test, bind_ok, ok_pair, kind_seen, after_seen, after_unseen}
+use Rattle.tq_sql.specs.Tokens.{Token}
+use Rattle.tq_sql.specs.Grammar.{After, Before, Pair, Optional, More}
+use Rattle.tq_sql.specs.Descent.{Outcome, and_then, pure, next, sees, expect, behind, optional, more_from, ◌>>=◌}
+use Rattle.tq_sql.proofs.ReaderLemmas.{by_test, kind_seen, after_seen, after_unseen}
 use Rattle.tq_sql.proofs.ConditionLemmas.{expect_some}
 
 -- a value of the rule begins with the tokens

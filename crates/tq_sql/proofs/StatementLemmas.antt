@@ -1,6 +1,6 @@
 -- The readers of queries and of whole statements.
-use Rattle.std.proofs.Common.{◌≡◌, ◌≢◌, ◌≤◌, ◌⊎◌, inl, inr, ℕ, suc, ◌-◌, Bool, true, false, ◌||◌, cond, List, [], ◌∷◌, ◌++◌, length, refl, ap, sym, ◌∙◌, subst, arith, append_assoc, append-nil}
-use Rattle.std.specs.Prelude.{Option, Some, None, Result, Ok, Err}
+use Rattle.std.proofs.Common.{◌≡◌, ◌≢◌, ◌≤◌, inl, inr, ℕ, ◌-◌, Bool, true, false, ◌||◌, List, [], ◌∷◌, ◌++◌, length, refl, ap, sym, ◌∙◌, subst, append_assoc}
+use Rattle.std.specs.Prelude.{Option, Ok, Err}
 use Rattle.tq_sql.specs.declared.columns.TheConstants.{MAX_SOURCES}
 use Rattle.tq_sql.specs.declared.cursor.Refusal.{Refusal}
 use Rattle.tq_sql.specs.declared.statement.ColumnRef.{ColumnRef}
@@ -9,19 +9,18 @@ use Rattle.tq_sql.specs.declared.statement.Item.{Item}
 use Rattle.tq_sql.specs.declared.statement.Query.{Query}
 use Rattle.tq_sql.specs.declared.statement.SourceRef.{SourceRef}
 use Rattle.tq_sql.specs.declared.statement.Statement.{Statement}
-use Rattle.tq_sql.specs.declared.statement.Term.TheVariants as term
 use Rattle.tq_sql.specs.declared.token.TokenKind.{TokenKind}
 use Rattle.tq_sql.specs.declared.token.TokenKind.TheVariants as k
 use Rattle.tq_sql.specs.Tokens.{Token, same_kind}
-use Rattle.tq_sql.specs.Grammar.{After, Before, Pair, Optional, Listed, IsNothing, IsColumn, IsItem, IsSource, IsText, IsCondition, IsOr, IsNot, IsGroup, IsQuery, IsEnd, IsStatement}
-use Rattle.tq_sql.specs.Descent.{Outcome, Reader, and_then, pure, kind_at, next, sees, after, eat, expect, behind, optional, listed_up_to, text_at, items_at, source_at, sources_at, or_at, condition_at, group_at, query_at, window_at, right_at, ended, end_at, body_at, statement_at, ◌>>=◌}
+use Rattle.tq_sql.specs.Grammar.{After, Pair, Optional, Listed, IsItem, IsSource, IsText, IsCondition, IsGroup, IsQuery, IsEnd, IsStatement}
+use Rattle.tq_sql.specs.Descent.{Outcome, pure, kind_at, next, sees, expect, behind, text_at, items_at, source_at, sources_at, or_at, condition_at, group_at, query_at, window_at, right_at, ended, end_at, body_at, statement_at, ◌>>=◌}
 use Rattle.tq_sql.specs.Laws.{StatementsAreUnique}
 use Rattle.tq_sql.proofs.ReaderLemmas.{IsReader, bind_ok, ok_pair, kind_seen, seen_here, next_of, after_seen, after_unseen, kind_of_first, or_false}
-use Rattle.tq_sql.proofs.ConditionLemmas.{or_mark, sees_kind, dot, or_goes, expect_some, expect_here}
+use Rattle.tq_sql.proofs.ConditionLemmas.{or_mark, or_goes, expect_some, expect_here}
 use Rattle.tq_sql.proofs.ColumnLemmas.{nothing, optional_reader}
 use Rattle.tq_sql.proofs.ComparisonLemmas.{condition_reader, text_sound, text_complete}
 use Rattle.tq_sql.proofs.ItemLemmas.{items_goes, items_reader, source_goes, source_reader, group_goes, group_reader, group_stops}
-use Rattle.tq_sql.proofs.ListingLemmas.{behind_reader, few_complete, few_sound, after_stops, optional_stops}
+use Rattle.tq_sql.proofs.ListingLemmas.{behind_reader, few_complete, few_sound, optional_stops}
 
 pub select_real : k.Select ≢ k.End
 select_real e = cc

@@ -1,40 +1,23 @@
 -- Where the descent stops, a statement begins with the tokens before that place.
-use Rattle.std.proofs.Common.{◌≡◌, ◌≢◌, ◌≤◌, ◌⊎◌, inl, inr, ℕ, zero, suc, ◌+◌, ◌-◌, Bool, true, false, ◌||◌, cond, List, [], ◌∷◌, ◌++◌, length, refl, ap, sym, ◌∙◌, subst, arith, append_assoc, append-nil, length-append, lit≤}
-use Rattle.std.specs.Prelude.{Option, Some, None, Ok, Err, codes}
-use Rattle.std.specs.Str.{is_utf8}
-use Rattle.std.proofs.lemmas.Str.{IsUtf8-nil, is_utf8-from_IsUtf8}
-use Rattle.tq_base.specs.Names.{folded_name, is_reserved}
-use Rattle.tq_base.specs.Numbers.{int_of}
-use Rattle.tq_sql.specs.declared.columns.TheConstants.{MAX_SOURCES}
+use Rattle.std.proofs.Common.{◌≡◌, inl, inr, ℕ, Bool, true, false, List, [], ◌∷◌, ◌++◌, refl, ap, sym, ◌∙◌, subst, append-nil, lit≤}
+use Rattle.std.specs.Prelude.{Option, None, Ok, Err}
 use Rattle.tq_sql.specs.declared.cursor.Refusal.{Refusal}
-use Rattle.tq_sql.specs.declared.cursor.Refusal.TheVariants.{TooDeep, Unexpected}
+use Rattle.tq_sql.specs.declared.cursor.Refusal.TheVariants.{Unexpected}
 use Rattle.tq_sql.specs.declared.statement.ColumnRef.{ColumnRef}
 use Rattle.tq_sql.specs.declared.statement.Cond.{Cond}
-use Rattle.tq_sql.specs.declared.statement.Cond.TheVariants as c
 use Rattle.tq_sql.specs.declared.statement.Item.{Item}
 use Rattle.tq_sql.specs.declared.statement.Query.{Query}
-use Rattle.tq_sql.specs.declared.statement.Sign.{Sign}
-use Rattle.tq_sql.specs.declared.statement.Sign.TheVariants as sign
 use Rattle.tq_sql.specs.declared.statement.SourceRef.{SourceRef}
 use Rattle.tq_sql.specs.declared.statement.Statement.{Statement}
-use Rattle.tq_sql.specs.declared.statement.Term.{Term}
-use Rattle.tq_sql.specs.declared.statement.Term.TheVariants as term
-use Rattle.tq_sql.specs.declared.statement.What.{What}
-use Rattle.tq_sql.specs.declared.statement.What.TheVariants as what
-use Rattle.tq_sql.specs.declared.token.TokenKind.{TokenKind}
 use Rattle.tq_sql.specs.declared.token.TokenKind.TheVariants as k
-use Rattle.tq_sql.specs.Tokens.{Token, same_kind, unquoted}
-use Rattle.tq_sql.specs.Grammar.{Rule, After, Before, Pair, Optional, More, Listed, IsNothing, IsName, IsColumn, IsWhat, IsItem, IsAlias, IsSource, IsText, IsOperand, kind_of, IsComparison, join, IsChain, IsAnd, IsOr, IsNegation, IsNot, IsCondition, IsGroup, IsQuery, IsEnd, IsStatement}
-use Rattle.tq_sql.specs.Descent.{Outcome, Reader, and_then, pure, stop, given, kind_at, next, sees, after, eat, look, taken, expect, name_at, number_at, text_at, more_from, listed, listed_up_to, chain, column_of, optional, column_at, what_at, item_alias_at, item_at, items_at, source_alias_at, source_at, sources_at, columns_at, operand_at, sign_of, signed, sign_at, comparison_at, closed, not_at, and_at, or_at, condition_at, behind, group_at, query_at, window_at, right_at, ended, end_at, body_at, statement_at, ◌>>=◌}
-use Rattle.tq_sql.proofs.ReaderLemmas.{IsReader, by_test, bind_ok, ok_pair, given_some, kind_seen, after_seen, after_unseen}
-use Rattle.tq_sql.proofs.ConditionLemmas.{dot, and_goes, expect_some, open_real, close_real, and_real, or_real, not_real, and_dot, chain_reader, not_reader, or_reader_of}
-use Rattle.tq_sql.proofs.ColumnLemmas.{name_reader, name_sound, column_parts, column_reader, dot_real}
-use Rattle.tq_sql.proofs.ComparisonLemmas.{comparison_reader, operand_reader, sign_sound, starts}
-use Rattle.tq_sql.proofs.ItemLemmas.{count_real, sum_real, star_real, as_real, comma_real, by_real, group_real, what_reader, item_reader, items_reader, source_reader, columns_reader, group_reader}
-use Rattle.tq_sql.proofs.ListingLemmas.{snoc}
-use Rattle.tq_sql.proofs.StatementLemmas.{IsBody, body_ends, body_sound, select_real, from_real, where_real, period_real, except_real, all_real, validtime_real, semicolon_real, where_reader, sources_sound, query_reader, window_reader}
-use Rattle.tq_sql.proofs.OpenLemmas.{GoesOnAs, IsOpen, Example, token_of, bind_err, err_pair, none_taken, wider, pure_open, shaped_open, behind_open, optional_open, pair_open, before_open, list_open}
-use Rattle.tq_sql.proofs.ViableItems.{FewSources, list_begun, few_begun, chain_begun, number_stops, text_stops, column_example, text_example, operand_example, item_example, source_example, listed_example, column_open, items_open, sources_open, columns_open}
+use Rattle.tq_sql.specs.Tokens.{Token}
+use Rattle.tq_sql.specs.Grammar.{After, Pair, Optional, Listed, IsColumn, IsItem, IsSource, IsText, IsCondition, IsGroup, IsQuery, IsEnd, IsStatement}
+use Rattle.tq_sql.specs.Descent.{Outcome, pure, next, sees, expect, text_at, items_at, sources_at, columns_at, condition_at, behind, group_at, query_at, window_at, right_at, ended, end_at, body_at, statement_at, ◌>>=◌}
+use Rattle.tq_sql.proofs.ReaderLemmas.{kind_seen, after_seen, after_unseen}
+use Rattle.tq_sql.proofs.ItemLemmas.{by_real, group_real, items_reader}
+use Rattle.tq_sql.proofs.StatementLemmas.{IsBody, body_ends, body_sound, select_real, from_real, period_real, except_real, all_real, validtime_real, semicolon_real, where_reader, sources_sound, query_reader, window_reader}
+use Rattle.tq_sql.proofs.OpenLemmas.{GoesOnAs, IsOpen, Example, token_of, err_pair, none_taken, wider, shaped_open, behind_open, optional_open, pair_open}
+use Rattle.tq_sql.proofs.ViableItems.{FewSources, text_stops, column_example, text_example, item_example, source_example, listed_example, items_open, sources_open, columns_open}
 use Rattle.tq_sql.proofs.ViableConditions.{condition_open}
 
 -- ---- queries

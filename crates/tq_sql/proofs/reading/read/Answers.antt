@@ -1,11 +1,8 @@
-use Rattle.std.proofs.Common.{◌≡◌, ◌≢◌, ◌≤◌, ◌⊎◌, inl, inr, ℕ, List, length, map, refl, sym, ap, ◌∙◌, subst, arith}
-use Rattle.std.specs.Prelude.{Ok, Err, unwrap_or}
-use Rattle.tq_sql.specs.Descent.{Outcome, statement_at}
+use Rattle.std.proofs.Common.{◌≡◌, inr, length, map, sym, ap, ◌∙◌, arith}
+use Rattle.std.specs.Prelude.{unwrap_or}
+use Rattle.tq_sql.specs.Descent.{statement_at}
 use Rattle.tq_sql.specs.Reading.{place_of, stopped_at}
-use Rattle.tq_sql.specs.declared.cursor.Refusal.TheVariants.{Memory}
-use Rattle.tq_sql.specs.declared.statement.Statement.{Statement}
 use Rattle.tq_sql.specs.Told.{told}
-use Rattle.tq_sql.specs.Tokens.{tokens_of}
 use Rattle.tq_sql.proofs.FaultLemmas.{fault_within, place_is, stop_told}
 use Rattle.tq_sql.proofs.StatementLemmas.{statement_sound}
 use Rattle.tq_sql.proofs.reading.read.Goals as goal
