@@ -1,15 +1,14 @@
 -- The readers of names, columns and comparisons.
-use Rattle.std.proofs.Common.{◌≡◌, ◌≢◌, ◌≤◌, ◌<◌, ◌⊎◌, inl, inr, ℕ, zero, suc, ◌+◌, ◌-◌, Bool, true, false, ◌||◌, cond, List, [], ◌∷◌, ◌++◌, length, refl, ap, sym, ◌∙◌, subst, arith, append_assoc, append-nil, length-append}
-use Rattle.std.specs.Prelude.{Option, Some, None, Ok, Err}
-use Rattle.std.specs.Str.{is_utf8}
+use Rattle.std.proofs.Common.{◌≡◌, ◌≢◌, inl, inr, ℕ, Bool, true, false, List, [], ◌∷◌, ◌++◌, refl, ap, sym, ◌∙◌, subst, append_assoc, append-nil}
+use Rattle.std.specs.Prelude.{Option, Some, None, Ok}
 use Rattle.tq_sql.specs.declared.token.TokenKind.{TokenKind}
 use Rattle.tq_sql.specs.declared.token.TokenKind.TheVariants as k
 use Rattle.tq_sql.specs.declared.statement.ColumnRef.{ColumnRef}
 use Rattle.tq_base.specs.Names.{folded_name}
 use Rattle.tq_sql.specs.Tokens.{Token, same_kind}
-use Rattle.tq_sql.specs.Grammar.{After, Before, Pair, Optional, IsName, IsColumnOf, IsColumn}
-use Rattle.tq_sql.specs.Descent.{Outcome, Reader, and_then, pure, given, kind_at, next, sees, after, eat, expect, look, taken, name_at, optional, column_of, column_at, ◌>>=◌}
-use Rattle.tq_sql.proofs.ReaderLemmas.{IsReader, by_test, bind_ok, ok_pair, given_some, kind_seen, seen_here, next_of, after_seen, after_unseen, kind_of_first, or_false, same_itself}
+use Rattle.tq_sql.specs.Grammar.{After, Optional, IsName, IsColumnOf, IsColumn}
+use Rattle.tq_sql.specs.Descent.{Outcome, pure, given, kind_at, next, sees, after, look, taken, name_at, optional, column_of, column_at, ◌>>=◌}
+use Rattle.tq_sql.proofs.ReaderLemmas.{IsReader, by_test, bind_ok, ok_pair, given_some, kind_seen, seen_here, next_of, after_seen, after_unseen, or_false, same_itself}
 use Rattle.tq_sql.proofs.KindLemmas.{is_same}
 use Rattle.tq_sql.proofs.ConditionLemmas.{or_mark, dot, sees_kind}
 
@@ -88,13 +87,13 @@ module _ {A : Type 0} (kind : TokenKind) (real : kind ≢ k.End) (R : List Token
 
 -- ---- columns
 
-dot_real : k.Dot ≢ k.End
+pub dot_real : k.Dot ≢ k.End
 dot_real e = cc
 
 second_reader : IsReader (Optional (After k.Dot IsName)) (or_mark k.Dot nothing) (optional k.Dot name_at)
 second_reader = optional_reader k.Dot dot_real IsName nothing name_at name_reader
 
-column_parts : (a b : List Token) (first : List ℕ) (second : Option (List ℕ)) → IsName a first → Optional (After k.Dot IsName) b second → IsColumn (a ++ b) (column_of first second)
+pub column_parts : (a b : List Token) (first : List ℕ) (second : Option (List ℕ)) → IsName a first → Optional (After k.Dot IsName) b second → IsColumn (a ++ b) (column_of first second)
 column_parts a b first None x y = let e : a ≡ a ++ b = sym (append-nil a) ∙ ap (λ z. a ++ z) (sym y) in let P : List Token → Type 0 = λ z. IsName z first in subst P e x
 column_parts a b first (Some second) x y = (a, b, refl, x, y)
 

@@ -1,12 +1,11 @@
 -- The readers of operands and comparisons.
-use Rattle.std.proofs.Common.{◌≡◌, ◌≢◌, ◌⊎◌, inl, inr, ℕ, Bool, true, false, cond, List, [], ◌∷◌, ◌++◌, refl, ap, sym, ◌∙◌, subst, append_assoc}
-use Rattle.std.specs.Prelude.{Option, Some, None, Ok, Err, ℤ, IsTrue}
+use Rattle.std.proofs.Common.{◌≡◌, inl, inr, ℕ, Bool, true, false, cond, List, [], ◌∷◌, ◌++◌, refl, ap, sym, ◌∙◌, subst, append_assoc}
+use Rattle.std.specs.Prelude.{Option, Some, None, Ok, ℤ}
 use Rattle.tq_base.specs.Numbers.{int_of}
 use Rattle.tq_sql.specs.declared.cursor.Refusal.TheVariants.{Unexpected}
 use Rattle.std.specs.Str.{is_utf8}
 use Rattle.tq_sql.specs.declared.token.TokenKind.{TokenKind}
 use Rattle.tq_sql.specs.declared.token.TokenKind.TheVariants as k
-use Rattle.tq_sql.specs.declared.statement.ColumnRef.{ColumnRef}
 use Rattle.tq_sql.specs.declared.statement.Sign.{Sign}
 use Rattle.tq_sql.specs.declared.statement.Sign.TheVariants as sign
 use Rattle.tq_sql.specs.declared.statement.Term.{Term}
@@ -14,11 +13,11 @@ use Rattle.tq_sql.specs.declared.statement.Term.TheVariants as term
 use Rattle.tq_sql.specs.declared.statement.Cond.{Cond}
 use Rattle.tq_sql.specs.declared.statement.Cond.TheVariants as c
 use Rattle.tq_sql.specs.Tokens.{Token, same_kind, unquoted}
-use Rattle.tq_sql.specs.Grammar.{After, Pair, IsName, IsColumnOf, IsColumn, IsText, IsOperand, IsComparison, kind_of, IsOr, IsNot, IsCondition}
-use Rattle.tq_sql.specs.Descent.{Outcome, and_then, pure, stop, given, kind_at, next, sees, look, taken, number_at, text_at, column_at, operand_at, sign_of, signed, sign_at, comparison_at, or_at, and_at, not_at, ◌>>=◌}
-use Rattle.tq_sql.proofs.ReaderLemmas.{IsReader, by_test, bind_ok, ok_pair, given_some, kind_seen, seen_here, next_of, kind_of_first, same_itself}
+use Rattle.tq_sql.specs.Grammar.{After, IsName, IsColumnOf, IsText, IsOperand, IsComparison, kind_of, IsOr, IsNot}
+use Rattle.tq_sql.specs.Descent.{pure, stop, given, kind_at, next, sees, look, taken, number_at, text_at, column_at, operand_at, sign_of, signed, sign_at, comparison_at, or_at, and_at, not_at, ◌>>=◌}
+use Rattle.tq_sql.proofs.ReaderLemmas.{IsReader, by_test, bind_ok, ok_pair, given_some, next_of, kind_of_first, same_itself}
 use Rattle.tq_sql.proofs.ConditionLemmas.{dot, or_goes, not_reader, or_reader_of}
-use Rattle.tq_sql.proofs.ColumnLemmas.{nothing, look_some, look_here, column_reader}
+use Rattle.tq_sql.proofs.ColumnLemmas.{look_some, look_here, column_reader}
 
 seen_kind : (t : Token) (ts : List Token) (a b : TokenKind) (r : Bool) → t.kind ≡ a → same_kind a b ≡ r → sees b (t ∷ ts) ≡ r
 unfolding sees kind_at
@@ -186,7 +185,7 @@ none_real : (s : Sign) → sign_of k.End ≡ Some s → ⊥
 unfolding sign_of
 none_real s e = cc
 
-sign_sound : (ts rest : List Token) (s : Sign) → sign_at ts ≡ Ok (s, rest) → (t : Token) × (ts ≡ t ∷ rest) × (t.kind ≡ kind_of s)
+pub sign_sound : (ts rest : List Token) (s : Sign) → sign_at ts ≡ Ok (s, rest) → (t : Token) × (ts ≡ t ∷ rest) × (t.kind ≡ kind_of s)
 unfolding sign_at kind_at next
 sign_sound [] rest s e = absurd (none_real s (signed_some (sign_of k.End) s [] rest e).0)
 sign_sound (t ∷ ts) rest s e = let got = signed_some (sign_of t.kind) s (t ∷ ts) rest e in (t, ap (λ z. t ∷ z) got.1, sign_kind t.kind s got.0)
@@ -229,7 +228,7 @@ starter_not (term.Column x) = (refl, refl)
 starter_not (term.Int n) = (refl, refl)
 starter_not (term.Text s) = (refl, refl)
 
-starts : (ts rest : List Token) (x : Cond) → IsComparison ts x → (sees k.Not (ts ++ rest) ≡ false) × (sees k.Open (ts ++ rest) ≡ false)
+pub starts : (ts rest : List Token) (x : Cond) → IsComparison ts x → (sees k.Not (ts ++ rest) ≡ false) × (sees k.Open (ts ++ rest) ≡ false)
 starts ts rest x is =
     let first = begins_more (starter is.left) is.spelled.0 (is.spelled.1 ++ rest) (operand_begins is.spelled.0 is.left is.spelled.3) in
     let regrouped : ts ++ rest ≡ is.spelled.0 ++ (is.spelled.1 ++ rest) = ap (λ z. z ++ rest) is.spelled.2 ∙ append_assoc is.spelled.0 is.spelled.1 rest in

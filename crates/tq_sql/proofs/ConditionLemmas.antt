@@ -1,14 +1,14 @@
 -- The readers of conditions.
-use Rattle.std.proofs.Common.{◌≡◌, ◌≢◌, ◌≤◌, ◌<◌, ◌⊎◌, inl, inr, ℕ, zero, suc, ◌+◌, ◌-◌, Bool, true, false, ◌||◌, cond, List, [], ◌∷◌, ◌++◌, length, refl, ap, sym, ◌∙◌, subst, arith, append_assoc, length-append}
-use Rattle.std.specs.Prelude.{Option, Some, None, Ok, Err}
+use Rattle.std.proofs.Common.{◌≡◌, ◌≢◌, ◌≤◌, inl, inr, ℕ, zero, suc, Bool, false, ◌||◌, List, [], ◌∷◌, ◌++◌, length, refl, ap, sym, ◌∙◌, arith, append_assoc, length-append}
+use Rattle.std.specs.Prelude.{Ok}
 use Rattle.tq_sql.specs.declared.token.TokenKind.{TokenKind}
 use Rattle.tq_sql.specs.declared.token.TokenKind.TheVariants as k
 use Rattle.tq_sql.specs.declared.statement.Cond.{Cond}
 use Rattle.tq_sql.specs.declared.statement.Cond.TheVariants as c
 use Rattle.tq_sql.specs.Tokens.{Token, same_kind}
-use Rattle.tq_sql.specs.Grammar.{Rule, After, Before, Pair, More, Listed, join, IsChain, IsAnd, IsOr, IsComparison, IsNegation, IsNot}
-use Rattle.tq_sql.specs.Descent.{Outcome, Reader, and_then, pure, kind_at, next, sees, after, eat, expect, more_from, chain, comparison_at, closed, not_at, and_at, or_at, ◌>>=◌}
-use Rattle.tq_sql.proofs.ReaderLemmas.{IsReader, by_test, bind_ok, ok_pair, kind_seen, seen_here, next_of, kind_of_first, or_false, same_itself, added, more_length, more_stops, more_complete, more_sound}
+use Rattle.tq_sql.specs.Grammar.{join, IsChain, IsAnd, IsOr, IsComparison, IsNot}
+use Rattle.tq_sql.specs.Descent.{Outcome, pure, kind_at, next, sees, expect, more_from, chain, comparison_at, closed, not_at, ◌>>=◌}
+use Rattle.tq_sql.proofs.ReaderLemmas.{IsReader, by_test, bind_ok, ok_pair, kind_seen, seen_here, next_of, kind_of_first, or_false, added, more_length, more_stops, more_complete, more_sound}
 
 -- ---- chains
 
@@ -74,21 +74,21 @@ close_stops : or_goes k.Close ≡ false
 unfolding same_kind
 close_stops = refl
 
-and_dot : dot k.And ≡ false
+pub and_dot : dot k.And ≡ false
 unfolding same_kind
 and_dot = refl
 
-or_and_dot : and_goes k.Or ≡ false
+pub or_and_dot : and_goes k.Or ≡ false
 unfolding same_kind
 or_and_dot = refl
 
-and_real : k.And ≢ k.End
+pub and_real : k.And ≢ k.End
 and_real e = cc
 
-or_real : k.Or ≢ k.End
+pub or_real : k.Or ≢ k.End
 or_real e = cc
 
-not_real : k.Not ≢ k.End
+pub not_real : k.Not ≢ k.End
 not_real e = cc
 
 pub open_real : k.Open ≢ k.End

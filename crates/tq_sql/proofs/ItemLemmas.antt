@@ -1,6 +1,6 @@
 -- The readers of items, sources and the columns of a group.
-use Rattle.std.proofs.Common.{◌≡◌, ◌≢◌, ◌⊎◌, inl, inr, ℕ, Bool, true, false, ◌||◌, cond, List, [], ◌∷◌, ◌++◌, refl, ap, sym, ◌∙◌, subst, append_assoc}
-use Rattle.std.specs.Prelude.{Option, Some, None, Ok, Err}
+use Rattle.std.proofs.Common.{◌≡◌, ◌≢◌, inl, inr, ℕ, Bool, true, false, List, [], ◌∷◌, ◌++◌, refl, ap, sym, ◌∙◌, subst, append_assoc}
+use Rattle.std.specs.Prelude.{Option, Some, None, Ok}
 use Rattle.tq_sql.specs.declared.statement.ColumnRef.{ColumnRef}
 use Rattle.tq_sql.specs.declared.statement.Item.{Item}
 use Rattle.tq_sql.specs.declared.statement.SourceRef.{SourceRef}
@@ -9,33 +9,33 @@ use Rattle.tq_sql.specs.declared.statement.What.TheVariants as what
 use Rattle.tq_sql.specs.declared.token.TokenKind.{TokenKind}
 use Rattle.tq_sql.specs.declared.token.TokenKind.TheVariants as k
 use Rattle.tq_sql.specs.Tokens.{Token, same_kind}
-use Rattle.tq_sql.specs.Grammar.{After, Before, Pair, Optional, Listed, IsNothing, IsName, IsColumn, IsWhat, IsItem, IsAlias, IsSource, IsGroup}
-use Rattle.tq_sql.specs.Descent.{Outcome, Reader, and_then, pure, kind_at, next, sees, after, eat, expect, behind, optional, listed, name_at, column_at, what_at, item_alias_at, item_at, items_at, source_alias_at, source_at, columns_at, group_at, ◌>>=◌}
+use Rattle.tq_sql.specs.Grammar.{After, Before, Optional, Listed, IsNothing, IsName, IsColumn, IsWhat, IsItem, IsAlias, IsSource, IsGroup}
+use Rattle.tq_sql.specs.Descent.{Reader, and_then, pure, kind_at, next, sees, expect, name_at, column_at, what_at, item_alias_at, item_at, items_at, source_alias_at, source_at, columns_at, group_at, ◌>>=◌}
 use Rattle.tq_sql.proofs.ReaderLemmas.{IsReader, bind_ok, ok_pair, kind_seen, seen_here, next_of, after_seen, after_unseen, kind_of_first, or_false}
 use Rattle.tq_sql.proofs.ConditionLemmas.{or_mark, sees_kind, dot, seen_kind, expect_some, expect_here, open_real, close_real}
 use Rattle.tq_sql.proofs.ColumnLemmas.{nothing, name_reader, optional_reader, column_reader}
-use Rattle.tq_sql.proofs.ComparisonLemmas.{Begins, begins_more, begins_sees, column_begins}
+use Rattle.tq_sql.proofs.ComparisonLemmas.{begins_more, begins_sees, column_begins}
 use Rattle.tq_sql.proofs.ListingLemmas.{behind_reader, listed_reader, optional_stops}
 
-count_real : k.Count ≢ k.End
+pub count_real : k.Count ≢ k.End
 count_real e = cc
 
-sum_real : k.Sum ≢ k.End
+pub sum_real : k.Sum ≢ k.End
 sum_real e = cc
 
-star_real : k.Star ≢ k.End
+pub star_real : k.Star ≢ k.End
 star_real e = cc
 
-as_real : k.As ≢ k.End
+pub as_real : k.As ≢ k.End
 as_real e = cc
 
-comma_real : k.Comma ≢ k.End
+pub comma_real : k.Comma ≢ k.End
 comma_real e = cc
 
-by_real : k.By ≢ k.End
+pub by_real : k.By ≢ k.End
 by_real e = cc
 
-group_real : k.Group ≢ k.End
+pub group_real : k.Group ≢ k.End
 group_real e = cc
 
 name_real : k.Name ≢ k.End
@@ -153,7 +153,7 @@ what_complete front rest (what.Column c) is stop = plain_complete front rest c i
 what_complete front rest what.Count is stop = count_complete front rest is
 what_complete front rest (what.Sum c) is stop = sum_complete front rest c is
 
-what_reader : IsReader IsWhat dot what_at
+pub what_reader : IsReader IsWhat dot what_at
 what_reader = record { sound = λ ts rest x e. what_seen ts rest x (sees k.Count ts) (sees k.Sum ts) refl refl e; complete = what_complete }
 
 -- ---- items
@@ -191,7 +191,7 @@ item_complete front rest i is stop =
     let second = alias_reader.complete b rest i.alias is.4 parts.1 in
     rw (regrouped, first, second) refl
 
-item_reader : IsReader IsItem item_goes item_at
+pub item_reader : IsReader IsItem item_goes item_at
 item_reader = record { sound = item_sound; complete = item_complete }
 
 comma_ends_item : item_goes k.Comma ≡ false
@@ -291,10 +291,10 @@ comma_ends_column : dot k.Comma ≡ false
 unfolding same_kind
 comma_ends_column = refl
 
-abbrev columns_goes : TokenKind → Bool
+abbrev pub columns_goes : TokenKind → Bool
 columns_goes = or_mark k.Comma dot
 
-columns_reader : IsReader (Listed k.Comma IsColumn) columns_goes columns_at
+pub columns_reader : IsReader (Listed k.Comma IsColumn) columns_goes columns_at
 unfolding columns_at
 columns_reader = listed_reader k.Comma comma_real IsColumn dot column_at column_reader comma_ends_column
 

@@ -1,5 +1,5 @@
 -- The test for a kind.
-use Rattle.std.proofs.Common.{◌≡◌, ◌≢◌, ◌<◌, Bool, true, false, List, [], ◌∷◌, length, sym, rules, arith}
+use Rattle.std.proofs.Common.{◌≡◌, ◌≢◌, ◌<◌, true, List, [], ◌∷◌, length, sym, rules, arith}
 use denote.Enum.Bare.{same_true}
 use Rattle.tq_sql.specs.contracts.token.TokenKind.{the_type}
 use Rattle.tq_sql.specs.declared.token.TokenKind.{TokenKind}

@@ -1,12 +1,11 @@
 -- The cases of a factor.
-use Rattle.std.proofs.Common.{◌≡◌, ℕ, zero, suc, ◌+◌, ◌-◌, ◌<◌, Bool, true, false, List, arith, refl}
-use Rattle.std.specs.Prelude.{Ok, Err}
+use Rattle.std.proofs.Common.{◌≡◌, ℕ, zero, suc, ◌-◌, ◌<◌, true, false, List, arith, refl}
+use Rattle.std.specs.Prelude.{Err}
 use Rattle.tq_sql.specs.declared.cursor.Refusal.TheVariants.{TooDeep}
 use Rattle.tq_sql.specs.declared.token.TokenKind.TheVariants as k
-use Rattle.tq_sql.specs.declared.statement.Cond.{Cond}
 use Rattle.tq_sql.specs.declared.statement.Cond.TheVariants as cond_
 use Rattle.tq_sql.specs.Tokens.{Token}
-use Rattle.tq_sql.specs.Descent.{Outcome, and_then, pure, next, sees, expect, ◌>>=◌, not_at, and_at, or_at, comparison_at, closed}
+use Rattle.tq_sql.specs.Descent.{and_then, pure, next, sees, not_at, and_at, or_at, comparison_at, closed}
 
 pub not_at_comparison : (n : ℕ) (ts : List Token) → sees k.Not ts ≡ false → sees k.Open ts ≡ false → not_at n ts ≡ comparison_at ts
 unfolding not_at

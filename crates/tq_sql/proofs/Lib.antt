@@ -7,9 +7,13 @@ pub mod KindLemmas
 pub mod LevelLemmas
 pub mod ListLemmas
 pub mod ListingLemmas
+pub mod OpenLemmas
 pub mod PlaceLemmas
 pub mod ReaderLemmas
 pub mod StatementLemmas
 pub mod SteadyLemmas
 pub mod TokenLemmas
 pub mod Utf8Lemmas
+pub mod ViableConditions
+pub mod ViableItems
+pub mod ViableLemmas

@@ -1,9 +1,9 @@
 -- One turn of a list, and its end.
-use Rattle.std.proofs.Common.{◌≡◌, ◌<◌, ◌≤◌, ℕ, zero, suc, ◌-◌, Bool, true, false, List, [], ◌∷◌, ◌++◌, length, refl, ap, sym, ◌∙◌, arith}
-use Rattle.std.specs.Prelude.{Ok, Err}
+use Rattle.std.proofs.Common.{◌≡◌, ◌<◌, ◌≤◌, ℕ, zero, suc, ◌-◌, true, false, List, [], ◌∷◌, ◌++◌, length, refl, arith}
+use Rattle.std.specs.Prelude.{Ok}
 use Rattle.tq_sql.specs.declared.token.TokenKind.{TokenKind}
 use Rattle.tq_sql.specs.Tokens.{Token}
-use Rattle.tq_sql.specs.Descent.{Reader, sees, next, after, more_from}
+use Rattle.tq_sql.specs.Descent.{Reader, sees, after, more_from}
 
 pub list_turn : {A : Type 0} (mark : TokenKind) (p : Reader A) (n : ℕ) (all new : List A) (ts mid rest : List Token) (x : A)
     → sees mark ts ≡ true → mid ≡ after mark ts → length mid < length ts → length ts ≤ n → p mid ≡ Ok (x, rest) → new ≡ all ++ x ∷ []

@@ -1,12 +1,12 @@
 -- The readers of lists, of what may stand in front of the rest, and of what stands behind a token.
-use Rattle.std.proofs.Common.{◌≡◌, ◌≢◌, ◌≤◌, ◌<◌, ◌⊎◌, inl, inr, ℕ, zero, suc, ◌+◌, ◌-◌, Bool, true, false, ◌||◌, cond, List, [], ◌∷◌, ◌++◌, length, refl, ap, sym, ◌∙◌, subst, arith, append_assoc, append-nil, length-append}
-use Rattle.std.specs.Prelude.{Option, Some, None, Ok, Err}
+use Rattle.std.proofs.Common.{◌≡◌, ◌≢◌, ◌≤◌, ℕ, suc, Bool, false, List, [], ◌∷◌, ◌++◌, length, refl, ap, sym, ◌∙◌, subst, arith, append_assoc, append-nil, length-append}
+use Rattle.std.specs.Prelude.{Option, Some, None, Ok}
 use Rattle.tq_sql.specs.declared.token.TokenKind.{TokenKind}
 use Rattle.tq_sql.specs.declared.token.TokenKind.TheVariants as k
 use Rattle.tq_sql.specs.Tokens.{Token, same_kind}
-use Rattle.tq_sql.specs.Grammar.{Rule, After, Pair, Optional, More, Listed}
-use Rattle.tq_sql.specs.Descent.{Outcome, Reader, and_then, pure, kind_at, next, sees, after, eat, expect, behind, more_from, listed, listed_up_to, ◌>>=◌}
-use Rattle.tq_sql.proofs.ReaderLemmas.{IsReader, bind_ok, ok_pair, kind_of_first, or_false, added, more_length, more_stops, more_complete, more_sound}
+use Rattle.tq_sql.specs.Grammar.{After, Optional, More, Listed}
+use Rattle.tq_sql.specs.Descent.{Outcome, kind_at, expect, behind, more_from, listed, listed_up_to}
+use Rattle.tq_sql.proofs.ReaderLemmas.{IsReader, bind_ok, kind_of_first, or_false, added, more_length, more_stops, more_complete, more_sound}
 use Rattle.tq_sql.proofs.ConditionLemmas.{or_mark, sees_kind, expect_some, expect_here}
 
 -- ---- a list

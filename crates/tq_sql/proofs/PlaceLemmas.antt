@@ -1,5 +1,5 @@
 -- The descent is steady, so that no statement goes on with the token before which it stops.
-use Rattle.std.proofs.Common.{◌≡◌, ◌≢◌, ◌≤◌, ◌⊎◌, inl, inr, ℕ, zero, suc, ◌-◌, Bool, true, false, ◌||◌, cond, List, [], ◌∷◌, ◌++◌, length, refl, ap, sym, ◌∙◌, subst, arith}
+use Rattle.std.proofs.Common.{◌≡◌, ◌≢◌, inl, inr, ℕ, zero, suc, ◌-◌, Bool, true, false, ◌||◌, cond, List, [], ◌∷◌, ◌++◌, length, refl, ap, subst, arith}
 use Rattle.std.specs.Prelude.{Option, Some, None, Ok, Err}
 use Rattle.std.specs.Str.{is_utf8}
 use Rattle.tq_base.specs.Names.{folded_name}
@@ -22,7 +22,7 @@ use Rattle.tq_sql.specs.declared.token.TokenKind.{TokenKind}
 use Rattle.tq_sql.specs.declared.token.TokenKind.TheVariants as k
 use Rattle.tq_sql.specs.Tokens.{Token, unquoted}
 use Rattle.tq_sql.specs.Grammar.{IsStatement}
-use Rattle.tq_sql.specs.Descent.{Outcome, Reader, and_then, pure, stop, given, kind_at, next, sees, eat, look, taken, expect, name_at, number_at, text_at, more_from, listed, listed_up_to, chain, column_of, optional, column_at, what_at, item_alias_at, item_at, items_at, source_alias_at, source_at, sources_at, columns_at, operand_at, sign_of, signed, sign_at, comparison_at, closed, not_at, and_at, or_at, condition_at, behind, group_at, query_at, window_at, right_at, ended, end_at, body_at, statement_at, ◌>>=◌}
+use Rattle.tq_sql.specs.Descent.{Outcome, Reader, pure, stop, given, kind_at, next, sees, eat, look, taken, expect, name_at, number_at, text_at, more_from, listed, listed_up_to, chain, column_of, optional, column_at, what_at, item_alias_at, item_at, items_at, source_alias_at, source_at, sources_at, columns_at, operand_at, sign_of, signed, sign_at, comparison_at, closed, not_at, and_at, or_at, condition_at, behind, group_at, query_at, window_at, right_at, ended, end_at, body_at, statement_at, ◌>>=◌}
 use Rattle.tq_sql.proofs.StatementLemmas.{statement_complete}
 use Rattle.tq_sql.proofs.SteadyLemmas.{Same, tail_of, Agreeing, AgreeingTo, IsSteady, bind_steady, pure_steady, stop_steady, given_steady, either_steady, same_kinds, next_steady, if_steady, eat_steady, expect_steady, taken_steady, look_steady, behind_steady, optional_steady, more_steady, all_steady}
 

@@ -1,14 +1,14 @@
 -- Readers that read just what a rule says.
-use Rattle.std.proofs.Common.{◌≡◌, ◌≢◌, ◌≤◌, ◌<◌, ◌⊎◌, inl, inr, ℕ, zero, suc, ◌+◌, ◌-◌, Bool, true, false, ◌||◌, cond, List, [], ◌∷◌, ◌++◌, length, refl, ap, sym, ◌∙◌, subst, arith, append_assoc, length-append}
-use Rattle.std.specs.Prelude.{Option, Some, None, Result, Ok, Err, if◌then◌else◌}
+use Rattle.std.proofs.Common.{◌≡◌, ◌≢◌, ◌≤◌, ◌⊎◌, inl, inr, ℕ, zero, suc, Bool, true, false, ◌||◌, cond, List, [], ◌∷◌, ◌++◌, length, refl, ap, sym, ◌∙◌, subst, arith, append_assoc, length-append}
+use Rattle.std.specs.Prelude.{Option, Some, None, Result, Ok, Err}
 use Rattle.tq_sql.specs.declared.cursor.Refusal.{Refusal}
-use denote.Enum.Bare.{same_true, true_same}
+use denote.Enum.Bare.{true_same}
 use Rattle.tq_sql.specs.contracts.token.TokenKind.{the_type}
 use Rattle.tq_sql.specs.declared.token.TokenKind.{TokenKind}
 use Rattle.tq_sql.specs.declared.token.TokenKind.TheVariants as k
 use Rattle.tq_sql.specs.Tokens.{Token, same_kind}
-use Rattle.tq_sql.specs.Grammar.{Rule, After, Before, Pair, Optional, More, Listed}
-use Rattle.tq_sql.specs.Descent.{Outcome, Reader, and_then, pure, given, kind_at, next, sees, after, eat, expect, more_from, ◌>>=◌}
+use Rattle.tq_sql.specs.Grammar.{More}
+use Rattle.tq_sql.specs.Descent.{Outcome, and_then, given, kind_at, next, sees, after, more_from}
 use Rattle.tq_sql.proofs.KindLemmas.{is_same}
 
 -- p reads from the front what R says, where no token of these kinds follows

@@ -1,6 +1,6 @@
 -- The readers of queries and of whole statements.
-use Rattle.std.proofs.Common.{◌≡◌, ◌≢◌, ◌≤◌, ◌⊎◌, inl, inr, ℕ, suc, ◌-◌, Bool, true, false, ◌||◌, cond, List, [], ◌∷◌, ◌++◌, length, refl, ap, sym, ◌∙◌, subst, arith, append_assoc, append-nil}
-use Rattle.std.specs.Prelude.{Option, Some, None, Result, Ok, Err}
+use Rattle.std.proofs.Common.{◌≡◌, ◌≢◌, ◌≤◌, inl, inr, ℕ, ◌-◌, Bool, true, false, ◌||◌, List, [], ◌∷◌, ◌++◌, length, refl, ap, sym, ◌∙◌, subst, append_assoc}
+use Rattle.std.specs.Prelude.{Option, Ok, Err}
 use Rattle.tq_sql.specs.declared.columns.TheConstants.{MAX_SOURCES}
 use Rattle.tq_sql.specs.declared.cursor.Refusal.{Refusal}
 use Rattle.tq_sql.specs.declared.statement.ColumnRef.{ColumnRef}
@@ -9,53 +9,52 @@ use Rattle.tq_sql.specs.declared.statement.Item.{Item}
 use Rattle.tq_sql.specs.declared.statement.Query.{Query}
 use Rattle.tq_sql.specs.declared.statement.SourceRef.{SourceRef}
 use Rattle.tq_sql.specs.declared.statement.Statement.{Statement}
-use Rattle.tq_sql.specs.declared.statement.Term.TheVariants as term
 use Rattle.tq_sql.specs.declared.token.TokenKind.{TokenKind}
 use Rattle.tq_sql.specs.declared.token.TokenKind.TheVariants as k
 use Rattle.tq_sql.specs.Tokens.{Token, same_kind}
-use Rattle.tq_sql.specs.Grammar.{After, Before, Pair, Optional, Listed, IsNothing, IsColumn, IsItem, IsSource, IsText, IsCondition, IsOr, IsNot, IsGroup, IsQuery, IsEnd, IsStatement}
-use Rattle.tq_sql.specs.Descent.{Outcome, Reader, and_then, pure, kind_at, next, sees, after, eat, expect, behind, optional, listed_up_to, text_at, items_at, source_at, sources_at, or_at, condition_at, group_at, query_at, window_at, right_at, ended, end_at, body_at, statement_at, ◌>>=◌}
+use Rattle.tq_sql.specs.Grammar.{After, Pair, Optional, Listed, IsItem, IsSource, IsText, IsCondition, IsGroup, IsQuery, IsEnd, IsStatement}
+use Rattle.tq_sql.specs.Descent.{Outcome, pure, kind_at, next, sees, expect, behind, text_at, items_at, source_at, sources_at, or_at, condition_at, group_at, query_at, window_at, right_at, ended, end_at, body_at, statement_at, ◌>>=◌}
 use Rattle.tq_sql.specs.Laws.{StatementsAreUnique}
 use Rattle.tq_sql.proofs.ReaderLemmas.{IsReader, bind_ok, ok_pair, kind_seen, seen_here, next_of, after_seen, after_unseen, kind_of_first, or_false}
-use Rattle.tq_sql.proofs.ConditionLemmas.{or_mark, sees_kind, dot, or_goes, expect_some, expect_here}
+use Rattle.tq_sql.proofs.ConditionLemmas.{or_mark, or_goes, expect_some, expect_here}
 use Rattle.tq_sql.proofs.ColumnLemmas.{nothing, optional_reader}
 use Rattle.tq_sql.proofs.ComparisonLemmas.{condition_reader, text_sound, text_complete}
 use Rattle.tq_sql.proofs.ItemLemmas.{items_goes, items_reader, source_goes, source_reader, group_goes, group_reader, group_stops}
-use Rattle.tq_sql.proofs.ListingLemmas.{behind_reader, few_complete, few_sound, after_stops, optional_stops}
+use Rattle.tq_sql.proofs.ListingLemmas.{behind_reader, few_complete, few_sound, optional_stops}
 
-select_real : k.Select ≢ k.End
+pub select_real : k.Select ≢ k.End
 select_real e = cc
 
-from_real : k.From ≢ k.End
+pub from_real : k.From ≢ k.End
 from_real e = cc
 
 comma_real : k.Comma ≢ k.End
 comma_real e = cc
 
-where_real : k.Where ≢ k.End
+pub where_real : k.Where ≢ k.End
 where_real e = cc
 
-period_real : k.Period ≢ k.End
+pub period_real : k.Period ≢ k.End
 period_real e = cc
 
-except_real : k.Except ≢ k.End
+pub except_real : k.Except ≢ k.End
 except_real e = cc
 
-all_real : k.All ≢ k.End
+pub all_real : k.All ≢ k.End
 all_real e = cc
 
-validtime_real : k.Validtime ≢ k.End
+pub validtime_real : k.Validtime ≢ k.End
 validtime_real e = cc
 
-semicolon_real : k.Semicolon ≢ k.End
+pub semicolon_real : k.Semicolon ≢ k.End
 semicolon_real e = cc
 
 -- ---- conditions behind WHERE
 
-abbrev where_goes : TokenKind → Bool
+abbrev pub where_goes : TokenKind → Bool
 where_goes = or_mark k.Where or_goes
 
-where_reader : IsReader (Optional (After k.Where IsCondition)) where_goes condition_at
+pub where_reader : IsReader (Optional (After k.Where IsCondition)) where_goes condition_at
 unfolding condition_at
 where_reader = optional_reader k.Where where_real IsCondition or_goes (or_at 32) (condition_reader 32)
 
@@ -68,7 +67,7 @@ comma_ends_source : source_goes k.Comma ≡ false
 unfolding same_kind
 comma_ends_source = refl
 
-sources_sound : (ts rest : List Token) (ss : List SourceRef) → sources_at ts ≡ Ok (ss, rest) → (front : List Token) × (ts ≡ front ++ rest) × Listed k.Comma IsSource front ss × (length ss ≤ MAX_SOURCES)
+pub sources_sound : (ts rest : List Token) (ss : List SourceRef) → sources_at ts ≡ Ok (ss, rest) → (front : List Token) × (ts ≡ front ++ rest) × Listed k.Comma IsSource front ss × (length ss ≤ MAX_SOURCES)
 unfolding sources_at
 sources_sound ts rest ss e = few_sound k.Comma comma_real IsSource source_goes source_at source_reader comma_ends_source (MAX_SOURCES - 1) ts rest ss e
 
@@ -79,7 +78,7 @@ sources_complete front rest ss is few stop = few_complete k.Comma comma_real IsS
 -- ---- queries
 
 -- what may go on with a query
-abbrev query_goes : TokenKind → Bool
+abbrev pub query_goes : TokenKind → Bool
 query_goes kind = (group_goes kind || where_goes kind) || sources_goes kind
 
 from_ends_items : items_goes k.From ≡ false
@@ -161,7 +160,7 @@ query_complete (s ∷ front) rest q is stop =
     let whole : s ∷ (front ++ rest) ≡ s ∷ (a ++ (u ++ rest)) = ap (λ z. s ∷ z) (ap (λ z. z ++ rest) is.spelled.1.2 ∙ append_assoc a u rest) in
     ap query_at whole ∙ query_from s a u rest q is.spelled.0 is.spelled.1.3 is.spelled.1.4 is.few_sources stop
 
-query_reader : IsReader IsQuery query_goes query_at
+pub query_reader : IsReader IsQuery query_goes query_at
 query_reader = record { sound = query_sound; complete = query_complete }
 
 -- what a query begins with
@@ -171,20 +170,20 @@ query_stops goes g (s ∷ b) rest q is = ap goes (kind_of_first s (b ++ rest) �
 
 -- ---- the window and the query after EXCEPT ALL
 
-text_reader : IsReader IsText nothing text_at
+pub text_reader : IsReader IsText nothing text_at
 text_reader = record { sound = text_sound; complete = λ front rest s is stop. text_complete front rest s is }
 
-abbrev window_goes : TokenKind → Bool
+abbrev pub window_goes : TokenKind → Bool
 window_goes = or_mark k.Period nothing
 
-window_reader : IsReader (Optional (After k.Period IsText)) window_goes window_at
+pub window_reader : IsReader (Optional (After k.Period IsText)) window_goes window_at
 unfolding window_at
 window_reader = optional_reader k.Period period_real IsText nothing text_at text_reader
 
-abbrev right_goes : TokenKind → Bool
+abbrev pub right_goes : TokenKind → Bool
 right_goes = or_mark k.Except query_goes
 
-right_reader : IsReader (Optional (After k.Except (After k.All IsQuery))) right_goes right_at
+pub right_reader : IsReader (Optional (After k.Except (After k.All IsQuery))) right_goes right_at
 unfolding right_at
 right_reader = optional_reader k.Except except_real (After k.All IsQuery) query_goes (behind k.All query_at) (behind_reader k.All all_real IsQuery query_goes query_at query_reader)
 
@@ -233,27 +232,48 @@ end_stops goes g h (t ∷ ts) (inr is) = ap goes is.0 ∙ g
 abbrev made : Option (List ℕ) → Query → Option Query → Statement
 made w l r = record { window = w; left = l; right = r }
 
+-- a statement but for its end
+abbrev pub IsBody : List Token → Statement → Type 0
+IsBody ts s = After k.Validtime (Pair (Optional (After k.Period IsText)) (Pair IsQuery (Optional (After k.Except (After k.All IsQuery))))) ts (s.window, (s.left, s.right))
+
+pub body_sound : (ts rest : List Token) (s : Statement) → body_at ts ≡ Ok (s, rest) → (front : List Token) × (ts ≡ front ++ rest) × IsBody front s
+unfolding body_at
+body_sound ts rest s e =
+    let one = bind_ok (expect k.Validtime ts) (λ _. window_at >>= (λ w. query_at >>= (λ l. right_at >>= (λ r. pure (made w l r))))) (s, rest) e in
+    let two = bind_ok (window_at one.1) (λ w. query_at >>= (λ l. right_at >>= (λ r. pure (made w l r)))) (s, rest) one.3 in
+    let three = bind_ok (query_at two.1) (λ l. right_at >>= (λ r. pure (made two.0 l r))) (s, rest) two.3 in
+    let four = bind_ok (right_at three.1) (λ r. pure (made two.0 three.0 r)) (s, rest) three.3 in
+    let same = ok_pair (made two.0 three.0 four.0) s four.1 rest four.3 in
+    let v = expect_some k.Validtime ts one.1 validtime_real one.2 in
+    let w = window_reader.sound one.1 two.1 two.0 two.2 in
+    let l = query_reader.sound two.1 three.1 three.0 three.2 in
+    let r = right_reader.sound three.1 four.1 four.0 four.2 in
+    let front : List Token = v.0 ∷ (w.0 ++ (l.0 ++ r.0)) in
+    let flat : (w.0 ++ (l.0 ++ r.0)) ++ rest ≡ w.0 ++ (l.0 ++ (r.0 ++ rest)) = simp append_assoc in
+    let spelled : ts ≡ front ++ rest = v.1 ∙ ap (λ z. v.0 ∷ z) (w.1 ∙ ap (λ z. w.0 ++ z) (l.1 ∙ ap (λ z. l.0 ++ z) (r.1 ∙ ap (λ z. r.0 ++ z) same.1)) ∙ sym flat) in
+    let P : Statement → Type 0 = λ z. IsBody front z in
+    (front, spelled, subst P same.0 (v.2, (w.0, l.0 ++ r.0, refl, w.2, (l.0, r.0, refl, l.2, r.2))))
+
+-- a body and an end are a statement
+pub body_ends : (a e : List Token) (s : Statement) → IsBody a s → IsEnd e tt → IsStatement (a ++ e) s
+body_ends [] e s is end = absurd is
+body_ends (v ∷ a) e s is end =
+    let w = is.1.0 in let l = is.1.4.0 in let r = is.1.4.1 in
+    let flat : (w ++ (l ++ r)) ++ e ≡ w ++ (l ++ (r ++ e)) = simp append_assoc in
+    let spelled : a ++ e ≡ w ++ (l ++ (r ++ e)) = ap (λ z. z ++ e) (is.1.2 ∙ ap (λ z. w ++ z) is.1.4.2) ∙ flat in
+    (is.0, (w, l ++ (r ++ e), spelled, is.1.3, (l, r ++ e, refl, is.1.4.3, (r, e, refl, is.1.4.4, end))))
+
 pub statement_sound : (ts rest : List Token) (s : Statement) → statement_at ts ≡ Ok (s, rest) → IsStatement ts s
-unfolding statement_at body_at
+unfolding statement_at
 statement_sound ts rest s e =
     let whole = bind_ok (body_at ts) (λ x. end_at >>= (λ _. pure x)) (s, rest) e in
     let last = bind_ok (end_at whole.1) (λ _. pure whole.0) (s, rest) whole.3 in
     let end = end_seen whole.1 last.1 (sees k.Semicolon whole.1) refl last.2 in
     let is = ok_pair whole.0 s last.1 rest last.3 in
-    let one = bind_ok (expect k.Validtime ts) (λ _. window_at >>= (λ w. query_at >>= (λ l. right_at >>= (λ r. pure (made w l r))))) (whole.0, whole.1) whole.2 in
-    let two = bind_ok (window_at one.1) (λ w. query_at >>= (λ l. right_at >>= (λ r. pure (made w l r)))) (whole.0, whole.1) one.3 in
-    let three = bind_ok (query_at two.1) (λ l. right_at >>= (λ r. pure (made two.0 l r))) (whole.0, whole.1) two.3 in
-    let four = bind_ok (right_at three.1) (λ r. pure (made two.0 three.0 r)) (whole.0, whole.1) three.3 in
-    let same = ok_pair (made two.0 three.0 four.0) whole.0 four.1 whole.1 four.3 in
-    let v = expect_some k.Validtime ts one.1 validtime_real one.2 in
-    let w = window_reader.sound one.1 two.1 two.0 two.2 in
-    let l = query_reader.sound two.1 three.1 three.0 three.2 in
-    let r = right_reader.sound three.1 four.1 four.0 four.2 in
-    let spelled : ts ≡ v.0 ∷ (w.0 ++ (l.0 ++ (r.0 ++ whole.1))) = v.1 ∙ ap (λ z. v.0 ∷ z) (w.1 ∙ ap (λ z. w.0 ++ z) (l.1 ∙ ap (λ z. l.0 ++ z) (r.1 ∙ ap (λ z. r.0 ++ z) same.1))) in
-    let P : List Token → Type 0 = λ z. IsStatement z (made two.0 three.0 four.0) in
+    let body = body_sound ts whole.1 whole.0 whole.2 in
+    let P : List Token → Type 0 = λ z. IsStatement z whole.0 in
     let Q : Statement → Type 0 = λ z. IsStatement ts z in
-    let of_made : IsStatement ts (made two.0 three.0 four.0) = subst P (sym spelled) (v.2, (w.0, l.0 ++ (r.0 ++ whole.1), refl, w.2, (l.0, r.0 ++ whole.1, refl, l.2, (r.0, whole.1, refl, r.2, end.0)))) in
-    subst Q (same.0 ∙ is.0) of_made
+    subst Q is.0 (subst P (sym body.1) (body_ends body.0 whole.1 whole.0 body.2 end.0))
 
 select_no_period : window_goes k.Select ≡ false
 unfolding same_kind

@@ -1,14 +1,14 @@
 -- Readers that look no further than the token before which they stop: what they answer there, they
 -- answer whatever stands behind that token.
-use Rattle.std.proofs.Common.{◌≡◌, ◌≢◌, ◌≤◌, ◌<◌, ◌⊎◌, inl, inr, ℕ, zero, suc, ◌+◌, ◌-◌, Bool, true, false, cond, List, [], ◌∷◌, ◌++◌, length, refl, ap, sym, ◌∙◌, subst, arith, append_assoc, length-append}
+use Rattle.std.proofs.Common.{◌≡◌, ◌≢◌, ◌≤◌, ◌⊎◌, inl, inr, ℕ, zero, suc, ◌+◌, Bool, true, false, cond, List, [], ◌∷◌, ◌++◌, length, refl, ap, sym, ◌∙◌, subst, arith, append_assoc, length-append}
 use Rattle.std.specs.Prelude.{Option, Some, None, Ok, Err}
 use Rattle.tq_sql.specs.declared.cursor.Refusal.{Refusal}
 use Rattle.tq_sql.specs.declared.cursor.Refusal.TheVariants.{Unexpected}
 use Rattle.tq_sql.specs.declared.token.TokenKind.{TokenKind}
 use Rattle.tq_sql.specs.declared.token.TokenKind.TheVariants as k
 use Rattle.tq_sql.specs.Tokens.{Token, same_kind}
-use Rattle.tq_sql.specs.Descent.{Outcome, Reader, and_then, pure, stop, given, kind_at, next, sees, after, eat, look, taken, expect, more_from, optional, behind, ◌>>=◌}
-use Rattle.tq_sql.proofs.ReaderLemmas.{next_of, after_seen, after_unseen, kind_seen}
+use Rattle.tq_sql.specs.Descent.{Outcome, and_then, pure, stop, given, kind_at, next, sees, eat, look, taken, expect, more_from, optional, behind, ◌>>=◌}
+use Rattle.tq_sql.proofs.ReaderLemmas.{after_seen, after_unseen, kind_seen}
 
 -- two lists that agree up to a token and with it
 pub record Same (t : Token) (rest more u v : List Token) : Type 0 where

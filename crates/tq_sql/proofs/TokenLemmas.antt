@@ -1,9 +1,9 @@
 -- Steps over a text, token by token.
-use Rattle.std.proofs.Common.{◌≡◌, ◌≤◌, ◌<◌, ℕ, zero, suc, ◌+◌, ◌-◌, Bool, true, false, List, [], ◌∷◌, ◌++◌, length, take, drop, get_or, map, refl, ap, ◌∙◌, sym, arith, append_assoc}
+use Rattle.std.proofs.Common.{◌≡◌, ◌≤◌, ◌<◌, ℕ, zero, suc, ◌+◌, ◌-◌, true, false, List, [], ◌∷◌, ◌++◌, length, take, drop, get_or, refl, ap, ◌∙◌, sym, arith, append_assoc}
 use Rattle.std.specs.Prelude.{Result, Ok, Err}
 use Rattle.tq_sql.specs.declared.token.TokenKind.{TokenKind}
 use Rattle.tq_sql.specs.declared.fault.SqlFault.{SqlFault}
-use Rattle.tq_sql.specs.Tokens.{Token, is_space, token_at, tokens_from, with_token, then_rest}
+use Rattle.tq_sql.specs.Tokens.{Token, is_space, token_at, tokens_from, with_token}
 
 -- tokens in front of those that are still to come
 abbrev pub with_all : List Token → Result (List Token) SqlFault → Result (List Token) SqlFault

@@ -6,6 +6,7 @@ use Rattle.tq_sql.specs.declared.fault.SqlFault.{SqlFault}
 use Rattle.tq_sql.specs.declared.fault.SqlFaultKind.TheVariants.{UnexpectedToken}
 use Rattle.tq_sql.specs.declared.fault.SqlFaultKind.TheVariants as kind
 use Rattle.tq_sql.specs.declared.statement.Statement.{Statement}
+use Rattle.tq_sql.specs.Descent.{statement_at}
 use Rattle.tq_sql.specs.Faults.{out_of_memory}
 use Rattle.tq_sql.specs.Grammar.{IsStatement}
 use Rattle.tq_sql.specs.Tokens.{Token, fault, tokens_of}
@@ -34,12 +35,13 @@ stopped_at Unexpected at = fault UnexpectedToken at
 stopped_at TooDeep at = fault kind.TooDeep at
 stopped_at Memory at = out_of_memory
 
--- the text has tokens, and the fault stands at the first with which no statement goes on, or at the end
-abbrev pub IsTokenFault : List ℕ → SqlFault → Type 0
-IsTokenFault bytes f =
-    (front : List Token) × (rest : List Token) × (tokens_of bytes ≡ Ok (front ++ rest)) × StopsBefore front rest
-    × ((f ≡ fault UnexpectedToken (place_of bytes rest)) ⊎ (f ≡ fault kind.TooDeep (place_of bytes rest)))
+-- the text has tokens, and reading them from the left stops before the first with which no statement
+-- goes on, or at the end
+abbrev pub IsStop : List ℕ → SqlFault → Type 0
+IsStop bytes f =
+    (front : List Token) × (rest : List Token) × (why : Refusal) × (tokens_of bytes ≡ Ok (front ++ rest)) × GoesOn front × StopsBefore front rest
+    × (statement_at (front ++ rest) ≡ Err (why, rest)) × (f ≡ stopped_at why (place_of bytes rest))
 
--- the first fault from the left that leaves the text without tokens, or else that of its tokens
+-- the first fault from the left that leaves the text without tokens, or else that at which reading stops
 abbrev pub IsSqlFault : List ℕ → SqlFault → Type 0
-IsSqlFault bytes f = (tokens_of bytes ≡ Err f) ⊎ IsTokenFault bytes f
+IsSqlFault bytes f = (tokens_of bytes ≡ Err f) ⊎ IsStop bytes f

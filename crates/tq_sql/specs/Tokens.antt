@@ -7,7 +7,7 @@ use Rattle.std.specs.List.{prefix_len}
 use Rattle.std.specs.Str.{str_eq_ignore_ascii_case, is_utf8}
 use Rattle.std.specs.Str.Lossy.{utf8_valid_len}
 use denote.Enum.Bare.{sameb}
-use Rattle.tq_base.specs.Names.{is_name_byte, is_name_start}
+use Rattle.tq_base.specs.Names.{is_name_byte}
 use Rattle.tq_base.specs.Numbers.{int_of}
 use Rattle.tq_sql.specs.contracts.token.TokenKind.{the_type}
 use Rattle.tq_sql.specs.declared.token.TokenKind.{TokenKind}

@@ -87,6 +87,11 @@ fn token_faults_come_first_over_the_whole_text(rt: HostRuntime) {
         (b"a = 'ab\xC3''", UnclosedText, 4),
         (b"VALIDTIME SELECT n\xC3\xA9e FROM emp", BadByte, 18),
         (b"a != b", BadByte, 2),
+        (
+            b"VALIDTIME SELECT name FROM emp WHERE name != 'ann'",
+            BadByte,
+            42,
+        ),
         (b"a = b -- c", BadByte, 6),
         (b"a = - 1", BadByte, 4),
         (b"a = \"b\"", BadByte, 4),
@@ -181,10 +186,10 @@ fn each_word_of_the_language_is_no_name(rt: HostRuntime) -> Result<(), Fail> {
 fn every_prefix_of_a_statement_is_read_or_refused_within_its_length(rt: HostRuntime) {
     let text =
         b"VALIDTIME SELECT x.name, y.name FROM emp x, emp AS y WHERE x.dept = y.dept AND x.name < y.name";
-    let mut accepted = 0;
+    let mut accepted = 0u32;
     for length in 0..=text.len() {
         match fault_of(rt.alloc(), &text[..length]) {
-            None => accepted += 1,
+            None => accepted = accepted.saturating_add(1),
             Some((kind, at)) => {
                 assert!(rt; kind == UnexpectedToken);
                 assert!(rt; at as usize <= length);

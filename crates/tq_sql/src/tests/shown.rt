@@ -95,6 +95,7 @@ fn sign_text(sign: Sign) -> &'static str {
     }
 }
 
+#[cycle(shown)]
 fn show_pair(
     text: &mut String,
     left: &Cond,
@@ -110,6 +111,7 @@ fn show_pair(
 }
 
 // A condition at most so deep; deeper parts are left out.
+#[cycle(shown)]
 fn show_condition(text: &mut String, condition: &Cond, depth: u8) -> Result<(), AllocError> {
     if depth == 0 {
         return text.push_str("..");

@@ -1,4 +1,4 @@
-use Rattle.std.proofs.Common.{◌≡◌, ℕ, suc, ◌-◌, length, arith, ap, rules}
+use Rattle.std.proofs.Common.{◌≡◌, ℕ, suc, ◌-◌, length, arith, rules}
 use Rattle.std.proofs.lemmas.Grind.{common_steps}
 use Rattle.tq_sql.specs.Descent.{sources_at}
 use Rattle.tq_sql.proofs.columns.sources.Goals as goal

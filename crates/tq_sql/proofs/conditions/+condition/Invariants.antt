@@ -1,4 +1,4 @@
-use Rattle.std.proofs.Common.{◌≡◌, ◌≤◌, ◌+◌, ◌*◌, ℕ, List, [], ◌∷◌, ◌++◌, length}
+use Rattle.std.proofs.Common.{◌≡◌, ◌≤◌, ◌+◌, ◌*◌, ℕ, length}
 use Rattle.tq_sql.specs.declared.token.TokenKind.TheVariants as k
 use Rattle.tq_sql.specs.declared.statement.Cond.TheVariants as cond
 use Rattle.tq_sql.specs.Descent as spec

@@ -1,4 +1,3 @@
-use Rattle.tq_sql.proofs.FaultLemmas.{stopped}
 use Rattle.tq_sql.proofs.StatementLemmas.{unique}
 use Rattle.tq_sql.proofs.laws.statements_are_unique.Goals as goal
 

@@ -1,12 +1,9 @@
-use Rattle.std.proofs.Common.{◌≡◌, ◌≢◌, ◌≤◌, ◌⊎◌, inl, inr, ℕ, List, length, map, refl, sym, ap, ◌∙◌, subst, arith}
-use Rattle.std.specs.Prelude.{Ok, Err, unwrap_or}
-use Rattle.tq_sql.specs.Descent.{Outcome, statement_at}
+use Rattle.std.proofs.Common.{◌≡◌, inr, length, map, sym, ap, ◌∙◌, arith}
+use Rattle.std.specs.Prelude.{unwrap_or}
+use Rattle.tq_sql.specs.Descent.{statement_at}
 use Rattle.tq_sql.specs.Reading.{place_of, stopped_at}
-use Rattle.tq_sql.specs.declared.cursor.Refusal.TheVariants.{Memory}
-use Rattle.tq_sql.specs.declared.statement.Statement.{Statement}
 use Rattle.tq_sql.specs.Told.{told}
-use Rattle.tq_sql.specs.Tokens.{tokens_of}
-use Rattle.tq_sql.proofs.FaultLemmas.{fault_within, place_is, token_fault}
+use Rattle.tq_sql.proofs.FaultLemmas.{fault_within, place_is, stop_told}
 use Rattle.tq_sql.proofs.StatementLemmas.{statement_sound}
 use Rattle.tq_sql.proofs.reading.read.Goals as goal
 
@@ -28,4 +25,4 @@ returns-clause-fault c = λ other.
     let ts = map told c.in_ok-found.found.items in
     let same : c.new-cursor.result ≡ ts = c.new-cursor.ensures ∙ ap (map told) c.deref.ensures.value in
     let place : c.unwrap_or-at.result ≡ place_of c.args.bytes.now c.statement-outcome.new.cursor = c.unwrap_or-at.ensures ∙ ap (λ o. unwrap_or o (length c.args.bytes.now)) c.offset.ensures ∙ sym (place_is c.args.bytes.now c.statement-outcome.new.cursor) in
-    inr (token_fault c.args.bytes.now ts c.statement-outcome.new.cursor c.in-Err.why c.stopped.result c.in_ok-found.ensures.tokens (λ why. ap statement_at (sym same) ∙ c.in-Err.ensures why) (c.stopped.ensures ∙ ap (stopped_at c.in-Err.why) place) other)
+    inr (stop_told c.args.bytes.now ts c.statement-outcome.new.cursor c.in-Err.why c.stopped.result c.in_ok-found.ensures.tokens (λ why. ap statement_at (sym same) ∙ c.in-Err.ensures why) (c.stopped.ensures ∙ ap (stopped_at c.in-Err.why) place) other)

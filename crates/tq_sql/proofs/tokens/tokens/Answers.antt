@@ -1,4 +1,4 @@
-use Rattle.std.proofs.Common.{◌≡◌, ◌<◌, ◌≤◌, ◌∙◌, ap, arith, length, rules, sym}
+use Rattle.std.proofs.Common.{arith, sym}
 use Rattle.std.proofs.lemmas.Grind.{common_steps}
 use Rattle.tq_sql.proofs.TokenLemmas.{token_next, with_all_one}
 use Rattle.tq_sql.proofs.tokens.tokens.Goals as goal

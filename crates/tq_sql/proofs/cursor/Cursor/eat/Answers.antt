@@ -1,6 +1,5 @@
-use Rattle.std.proofs.Common.{◌<◌, length, subst, sym, ◌∙◌}
+use Rattle.std.proofs.Common.{sym, ◌∙◌}
 use Rattle.tq_sql.proofs.KindLemmas.{next-shorter}
-use Rattle.tq_sql.specs.Descent as spec
 use Rattle.tq_sql.proofs.cursor.Cursor.eat.Goals as goal
 
 pub returns-then-found-clause-taken : goal.returns-then-found-clause-taken
