@@ -22,6 +22,15 @@ pub sum_by-zero : {X : Type 0} (xs : List X) → sum_by (λ (x : X). 0) xs ≡ 0
 sum_by-zero [] = refl
 sum_by-zero {X} (x ∷ xs) = omega (arith, sum_by-cons (λ (x : X). 0) x xs, sum_by-zero xs)
 
+-- a test that is the same for all
+pub sum_by-cond : {X : Type 0} (b : Bool) (w : X → ℕ) (xs : List X) → sum_by (λ x. cond b (w x) 0) xs ≡ cond b (sum_by w xs) 0
+sum_by-cond true w xs = refl
+sum_by-cond false w xs = sum_by-zero xs
+
+pub sum_by-map : {X Y : Type 0} (w : Y → ℕ) (f : X → Y) (xs : List X) → sum_by w (map f xs) ≡ sum_by (λ x. w (f x)) xs
+sum_by-map w f [] = refl
+sum_by-map w f (x ∷ xs) = omega (arith, sum_by-cons w (f x) (map f xs), sum_by-cons (λ x. w (f x)) x xs, sum_by-map w f xs)
+
 pub sum_by-filter : {X : Type 0} (p : X → Bool) (w : X → ℕ) (xs : List X) → sum_by w (filter p xs) ≡ sum_by (λ x. cond (p x) (w x) 0) xs
 sum_by-filter p w [] = refl
 sum_by-filter {X} p w (x ∷ xs) = cases (sum_by-filter p w xs) (p x) ∙ sym (sum_by-cons (λ x. cond (p x) (w x) 0) x xs)

@@ -38,7 +38,7 @@ abbrev pub IsBoundary : List Row → ℕ → Type 0
 IsBoundary rows start = (d : Row) → 0 < start → start < length rows → (get_or rows start d).fragment.now.values ≢ (get_or rows (start - 1) d).fragment.now.values
 
 -- neither list of values is below the other
-tied : (u v : List Value) → is_lt (values_cmp u v) ≡ false → is_lt (values_cmp v u) ≡ false → u ≡ v
+pub tied : (u v : List Value) → is_lt (values_cmp u v) ≡ false → is_lt (values_cmp v u) ≡ false → u ≡ v
 tied u v not_below not_above = split (values_cmp u v) refl
   where
     split : (r : Ordering) → values_cmp u v ≡ r → u ≡ v

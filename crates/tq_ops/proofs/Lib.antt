@@ -7,3 +7,6 @@ pub mod Sweeping
 pub mod Changing
 pub mod Grouping
 pub mod Gathering
+pub mod Linking
+pub mod Meeting
+pub mod Products

@@ -11,20 +11,16 @@ use Rattle.tq_base.specs.Fragments.{at, occurrences}
 use Rattle.tq_base.specs.Copies.{tally}
 use Rattle.tq_ops.specs.declared.condition.Test.{Test}
 use Rattle.tq_ops.specs.Ordinary.{admits, selection}
-use Rattle.tq_ops.proofs.Counting.{one_if, sum_by-zero, sum_by-filter, sum_by-at}
+use Rattle.tq_ops.proofs.Counting.{one_if, sum_by-cond, sum_by-filter, sum_by-at}
 use Rattle.tq_ops.proofs.Cutting.{holds-overlap, holds_apart}
 
 -- 1 where the fragment gives the selection these values at the instant
 abbrev pub selected : Period → Option Test → ℕ → List Value → Fragment → ℕ
 selected window test t v f = cond (holds window t) (cond (holds f.period t) (cond (admits test f.values) (one_if (eq_by_cmp values_cmp f.values v)) 0) 0) 0
 
-within : (b : Bool) (w : Fragment → ℕ) (fs : List Fragment) → sum_by (λ f. cond b (w f) 0) fs ≡ cond b (sum_by w fs) 0
-within true w fs = refl
-within false w fs = sum_by-zero fs
-
 pub selected-sum_by : (window : Period) (test : Option Test) (rows : List Fragment) (t : ℕ) (v : List Value) → sum_by (selected window test t v) rows ≡ cond (holds window t) (occurrences (selection test (at rows t)) v) 0
 selected-sum_by window test rows t v =
-    within (holds window t) (λ f. cond (holds f.period t) (cond (admits test f.values) (one_if (eq_by_cmp values_cmp f.values v)) 0) 0) rows
+    sum_by-cond (holds window t) (λ f. cond (holds f.period t) (cond (admits test f.values) (one_if (eq_by_cmp values_cmp f.values v)) 0) 0) rows
     ∙ ap (λ n. cond (holds window t) n 0)
     (sym (sum_by-filter (admits test) (λ u. one_if (eq_by_cmp values_cmp u v)) (at rows t)
     ∙ sum_by-at (λ u. cond (admits test u) (one_if (eq_by_cmp values_cmp u v)) 0) rows t))

@@ -1,5 +1,6 @@
 pub mod Conditions
 pub mod Differences
+pub mod Joins
 pub mod Ordinary
 pub mod Sides
 pub mod Steps

@@ -9,11 +9,14 @@
 
 mod condition;
 mod difference;
+mod joining;
+mod links;
 mod selection;
 mod sides;
 
 pub use condition::{Compare, Operand, Test};
 pub use difference::except_all;
+pub use joining::join;
 pub use selection::{project, select};
 
 #[cfg(test)]

@@ -1,0 +1,70 @@
+// Conditions, short and long.
+
+use super::{both, compare, either, negated, number, text};
+use crate::{Compare, Operand, Test};
+use std::test::Fail;
+use tq_base::{Value, Values};
+
+#[test]
+fn compares_numbers_and_texts(rt: HostRuntime) -> Result<(), Fail> {
+    let content = text(rt.alloc(), "b")?;
+    let row = Values::of(vec![in rt.alloc(); Value::Int(5), content]?);
+    for (op, less, same, more) in [
+        (Compare::Eq, false, true, false),
+        (Compare::Ne, true, false, true),
+        (Compare::Lt, true, false, false),
+        (Compare::Le, true, true, false),
+        (Compare::Gt, false, false, true),
+        (Compare::Ge, false, true, true),
+    ] {
+        for (literal, want) in [(6, less), (5, same), (-5, more)] {
+            let test = compare(Operand::Column(0), op, number(literal));
+            assert_eq!(rt; test.check(&row), want);
+        }
+        for (literal, want) in [("c", less), ("b", same), ("B", more)] {
+            let literal = Operand::Literal(text(rt.alloc(), literal)?);
+            let test = compare(Operand::Column(1), op, literal);
+            assert_eq!(rt; test.check(&row), want);
+        }
+    }
+    Ok(())
+}
+
+#[test]
+fn joins_parts_of_conditions(rt: HostRuntime) -> Result<(), Fail> {
+    let row = Values::of(vec![in rt.alloc()]?);
+    for first in [true, false] {
+        for last in [true, false] {
+            let part = |value: bool| compare(number(0), Compare::Eq, number(i128::from(!value)));
+            assert_eq!(rt;
+                both(rt.alloc(), part(first), part(last))?.check(&row),
+                first && last
+            );
+            assert_eq!(rt;
+                either(rt.alloc(), part(first), part(last))?.check(&row),
+                first || last
+            );
+            assert_eq!(rt; negated(rt.alloc(), part(first))?.check(&row), !first);
+        }
+    }
+    Ok(())
+}
+
+#[test]
+fn long_chains_need_no_deep_recursion(rt: HostRuntime) -> Result<(), Fail> {
+    let row = Values::of(vec![in rt.alloc(); Value::Int(0)]?);
+    let mut all = compare(Operand::Column(0), Compare::Eq, number(0));
+    let mut some = compare(Operand::Column(0), Compare::Eq, number(0));
+    for place in 1..100_000u32 {
+        let place = i128::from(place);
+        let last = compare(Operand::Column(0), Compare::Ne, number(place));
+        all = both(rt.alloc(), all, last)?;
+        let last = compare(Operand::Column(0), Compare::Eq, number(place));
+        some = either(rt.alloc(), some, last)?;
+    }
+    assert!(rt; all.try_copy(rt.alloc())?.check(&row));
+    assert!(rt; some.try_copy(rt.alloc())?.check(&row));
+    let none: Test = negated(rt.alloc(), some)?;
+    assert!(rt; !none.check(&row));
+    Ok(())
+}
