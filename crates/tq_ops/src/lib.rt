@@ -17,7 +17,7 @@ mod sides;
 pub use condition::{Compare, Operand, Test};
 pub use difference::except_all;
 pub use joining::join;
-pub use selection::{project, select};
+pub use selection::{project, projected, select};
 
 #[cfg(test)]
 mod tests;

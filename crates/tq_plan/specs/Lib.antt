@@ -6,3 +6,5 @@ pub mod Windows
 pub mod Plans
 pub mod Ordinary
 pub mod Answers
+pub mod Rows
+pub mod Running

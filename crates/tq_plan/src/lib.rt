@@ -6,15 +6,18 @@
 //! then valid. `answer_list` evaluates the plans that can run today over a list of events.
 #![tactic(auto)]
 
+mod answering;
 mod conditions;
 mod fault;
 pub mod laws;
 mod planning;
 mod plans;
 mod queries;
+mod rows;
 mod scope;
 mod windows;
 
+pub use answering::answer_list;
 pub use fault::PlanFault;
 pub use planning::plan;
 pub use plans::{Output, Plan, QueryPlan};

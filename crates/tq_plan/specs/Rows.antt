@@ -1,0 +1,60 @@
+-- The rows of one table while its events are taken one by one, and what is kept of each.
+use Rattle.std.specs.Prelude.{ℕ, ◌+◌, ◌==◌, ◌&&◌, nat_le, nat_lt, Bool, false, if◌then◌else◌, List, [], ◌∷◌, ◌++◌, Option, Some, None}
+use Rattle.tq_base.specs.declared.period.Period.{Period}
+use Rattle.tq_base.specs.declared.period.TheConstants.{FOREVER}
+use Rattle.tq_base.specs.Periods.{holds}
+use Rattle.tq_event.specs.declared.event.Event.{Event}
+use Rattle.tq_event.specs.declared.event.Event.TheVariants.{Start, End}
+use Rattle.tq_event.specs.History.{Row as AnyRow}
+use Rattle.tq_ops.specs.declared.condition.Test.{Test}
+use Rattle.tq_ops.specs.Ordinary.{admits, projection}
+use Rattle.tq_plan.specs.declared.rows.OpenRow.{OpenRow}
+use Rattle.tq_plan.specs.Ordinary.{Row}
+
+-- the values at the places, or all of them where no places are named
+abbrev pub chosen : Option (List ℕ) → Row → Row
+chosen None row = row
+chosen (Some places) row = projection places row
+
+-- what is kept of a row: nothing where it does not pass the condition
+abbrev pub kept : Option Test → Option (List ℕ) → Row → Option Row
+kept test places row = if admits test row then Some (chosen places row) else None
+
+abbrev pub with_some : Option Row → List Row → List Row
+with_some None rows = rows
+with_some (Some row) rows = row ∷ rows
+
+-- what is kept of each row
+abbrev pub kept_rows : (Row → Option Row) → List Row → List Row
+kept_rows keep [] = []
+kept_rows keep (row ∷ rows) = with_some (keep row) (kept_rows keep rows)
+
+-- what is kept of a row, and its bounds
+abbrev pub open_row : (Row → Option Row) → AnyRow → OpenRow
+open_row keep row = record { values = keep row.values; from = row.from; to = row.to }
+
+-- the row with its end, unless it has one
+abbrev pub with_end : ℕ → OpenRow → OpenRow
+with_end at row = record { values = row.values; from = row.from; to = if row.to == FOREVER then at else row.to }
+
+-- the rows, numbered from the given one, of which the row of this number gets its end
+abbrev pub ended : ℕ → ℕ → ℕ → List OpenRow → List OpenRow
+ended next number at [] = []
+ended next number at (row ∷ rows) = (if number == next then with_end at row else row) ∷ ended (next + 1) number at rows
+
+-- the rows after one more event
+abbrev pub taken : ℕ → (Row → Option Row) → Event → List OpenRow → List OpenRow
+taken table keep (Start t values at) rows =
+    if t == table then rows ++ record { values = keep values; from = at; to = FOREVER } ∷ [] else rows
+taken table keep (End t number at) rows = if t == table then ended 0 number at rows else rows
+
+-- what is kept of the rows that are valid at the instant, where it lies in the window
+abbrev pub open_at : Period → List OpenRow → ℕ → List Row
+open_at window [] t = []
+open_at window (row ∷ rows) t =
+    with_some (if holds window t && (nat_le row.from t && nat_lt t row.to) then row.values else None) (open_at window rows t)
+
+-- whether the period holds the instant, if there is one
+abbrev pub option_holds : Option Period → ℕ → Bool
+option_holds None t = false
+option_holds (Some period) t = holds period t
