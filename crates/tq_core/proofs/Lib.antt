@@ -1,0 +1,5 @@
+mod ClaimLemmas
+mod HistoryLemmas
+mod RunLemmas
+mod StepCases
+mod StepLemmas
