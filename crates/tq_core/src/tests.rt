@@ -1,6 +1,8 @@
-// Steps and their replies, written out.
+// Moves and what a world replies to them, written out.
 
+mod admission;
 mod machine;
+mod memory;
 
 ghost use Rattle.std.specs.Prelude.{◌≡◌, ◌≤◌, length};
 ghost use Rattle.tq_core.specs.Counting.{start_count, starts_row};
@@ -56,40 +58,75 @@ fn count_starts(events: &[Event]) -> u32
     events.iter().filter(|event| is_start(event)).count() as u32
 }
 
-// A world over the table's catalogue, with one reader.
-fn world(alloc: Global, name: &[u8], bytes: &[u8]) -> Result<World, LoadFault> {
+// A world over the table's catalogue, with so many readers.
+fn world(alloc: Global, readers: u32) -> Result<World, LoadFault>
+    requires some { 1 ≤ readers }
+    requires few { readers ≤ 8 }
+{
     let file = TableFile {
-        name: Items::of(Vec::from_slice(alloc, name)?),
-        bytes: Items::of(Vec::from_slice(alloc, bytes)?),
+        name: Items::of(Vec::from_slice(alloc, b"emp")?),
+        bytes: Items::of(Vec::from_slice(alloc, EMP)?),
     };
     let loaded = load(alloc, &[file], 1000)?;
     laws::loaded_is_catalogue();
-    Ok(World::new(alloc, loaded.catalogue, 1)?)
+    Ok(World::new(alloc, loaded.catalogue, readers)?)
+}
+
+// A step in short: its numbers stand in the order of the step's.
+#[derive(Clone, Copy)]
+enum Move {
+    // The row of this key starts at an instant.
+    Start(i128, u64),
+    End(u32, u64),
+    Publish,
+    Enter(u32, u32),
+    Learn(u32, u32),
+    Ask(u32, u32, u32),
+    Claim(u32, u32),
+    Finish(u32),
+}
+
+fn values_of(alloc: Global, key: i128) -> Result<Values, AllocError> {
+    let (name, dept) = match key {
+        1 => ("ann", "toys"),
+        2 => ("bob", "toys"),
+        _ => ("cat", "food"),
+    };
+    let mut values = Vec::with_capacity(alloc, 3)?;
+    values.push(Value::Int(key))?;
+    values.push(Value::Text(Text::of(String::from_str(alloc, name)?)))?;
+    values.push(Value::Text(Text::of(String::from_str(alloc, dept)?)))?;
+    Ok(Values::of(values))
 }
 
 fn at(number: u64) -> Result<Instant, Fail> {
     Ok(Instant::new(number).ok_or("an instant")?)
 }
 
-// A row of the table starts.
-fn start(alloc: Global, number: i128, name: &str, dept: &str, from: u64) -> Result<Step<()>, Fail> {
-    let name = Value::Text(Text::of(String::from_str(alloc, name)?));
-    let dept = Value::Text(Text::of(String::from_str(alloc, dept)?));
-    let values = Values::of(vec![in alloc; Value::Int(number), name, dept]?);
-    Ok(Step::Append(Event::Start {
-        table: 0,
-        values,
-        at: at(from)?,
-    }))
-}
-
-// A row of the table ends.
-fn end(row: u32, to: u64) -> Result<Step<()>, Fail> {
-    Ok(Step::Append(Event::End {
-        table: 0,
-        row,
-        at: at(to)?,
-    }))
+fn step_of(alloc: Global, short: Move) -> Result<Step<()>, Fail> {
+    Ok(match short {
+        Move::Start(key, number) => Step::Append(Event::Start {
+            table: 0,
+            values: values_of(alloc, key)?,
+            at: at(number)?,
+        }),
+        Move::End(row, number) => Step::Append(Event::End {
+            table: 0,
+            row,
+            at: at(number)?,
+        }),
+        Move::Publish => Step::Publish,
+        Move::Enter(reader, at) => Step::Enter { reader, at },
+        Move::Learn(reader, length) => Step::Learn { reader, length },
+        Move::Ask(reader, n, pieces) => Step::Ask {
+            reader,
+            n,
+            query: (),
+            pieces,
+        },
+        Move::Claim(work, worker) => Step::Claim { work, worker },
+        Move::Finish(work) => Step::Finish { work },
+    })
 }
 
 // A line for each reply.
@@ -116,9 +153,12 @@ fn told(alloc: Global, replies: &[Reply<u32>]) -> Result<String, Fail> {
     Ok(lines)
 }
 
-// What a new world over the table replies to the steps.
-fn replies(alloc: Global, steps: &[Step<()>]) -> Result<String, Fail> {
-    let mut world = world(alloc, b"emp", EMP)?;
-    let replies = world.run(&Starts, steps)?;
+// What the world replies to the moves.
+fn run(alloc: Global, world: &mut World, moves: &[Move]) -> Result<String, Fail> {
+    let mut steps = Vec::with_capacity(alloc, moves.len())?;
+    for short in moves {
+        steps.push(step_of(alloc, *short)?)?;
+    }
+    let replies = world.run(&Starts, &steps)?;
     told(alloc, &replies)
 }

@@ -15,8 +15,8 @@ use std::marker::Model;
 use tq_base::Catalogue;
 use tq_event::{Event, MAX_EVENTS};
 
-/// The most workers of a run.
-pub const MAX_WORKERS: u32 = 16;
+// The most workers of a run of pieces.
+const MAX_WORKERS: u32 = 16;
 
 /// One writer, its readers, and the runs of pieces of their answers.
 #[derive(Drop)]
