@@ -1,5 +1,5 @@
 -- What the claims of a run of pieces are given.
-use Rattle.std.proofs.Common.{◌≡◌, ◌≢◌, ℕ, zero, suc, ◌+◌, ◌<◌, ◌≤◌, ◌==◌, Bool, true, false, if◌then◌else◌, List, [], ◌∷◌, ◌++◌, Option, Some, None, length, take, max, map, slice_get, slice_set, nat_lt, refl, sym, ap, subst, ◌∙◌, ◌⊎◌, inl, inr, arith, append_assoc, append-nil, length-append}
+use Rattle.std.proofs.Common.{◌≡◌, ℕ, zero, suc, ◌+◌, ◌≤◌, ◌==◌, Bool, true, false, if◌then◌else◌, List, [], ◌∷◌, ◌++◌, Option, Some, None, length, take, max, map, slice_get, slice_set, nat_lt, refl, sym, ap, subst, ◌∙◌, ◌⊎◌, inl, inr, arith, append_assoc, append-nil, length-append}
 use Rattle.std.specs.Prelude.{IsSomeAnd, MatchOption}
 use Rattle.std.specs.List.{enumerate_from}
 use Rattle.std.specs.Option.{option_map_or}
@@ -14,9 +14,9 @@ use Rattle.tq_core.specs.declared.step.Step.TheVariants.{Append, Publish, Enter,
 use Rattle.tq_core.specs.declared.step.Reply.{Reply}
 use Rattle.tq_core.specs.declared.step.Reply.TheVariants.{Done, Length, Answer, TooNew, Piece, Order, Refused}
 use Rattle.tq_core.specs.Machine.{FinishesFrom, IsRun, IsStep, Machine, PieceRun, claimed, next_piece, with_published, with_run, with_seen}
-use Rattle.tq_core.specs.Runs.{ClaimsInOrder, FinishesWhole, GivesEach, IsAt, ListsEach, claimant_of, claimants, claimants_given, gives_piece, is_answer, is_claim, opened, piece_of, pieces_from, pieces_given, pieces_of}
+use Rattle.tq_core.specs.Runs.{ClaimsInOrder, FinishesWhole, GivesEach, ListsEach, claimant_of, claimants, claimants_given, gives_piece, is_answer, is_claim, opened, piece_of, pieces_from, pieces_given, pieces_of}
 use Rattle.tq_core.proofs.HistoryLemmas.{eqb-same, get_set_other, get_set_same}
-use Rattle.tq_core.proofs.StepCases.{Cases, by_cases}
+use Rattle.tq_core.proofs.StepCases.{by_cases}
 
 -- ---- lists
 

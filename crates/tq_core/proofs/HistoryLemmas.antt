@@ -1,6 +1,6 @@
 -- The rows that can still end, event by event, and histories one event longer.
-use Rattle.std.proofs.Common.{◌≡◌, ◌≢◌, ℕ, zero, suc, ◌+◌, ◌<◌, ◌≤◌, ◌==◌, ◌&&◌, Bool, true, false, cond, if◌then◌else◌, List, [], ◌∷◌, ◌++◌, Option, Some, None, length, take, drop, get_or, map, slice_get, slice_set, nat_lt, replicate, refl, sym, ap, subst, ◌∙◌, ◌⊎◌, inl, inr, arith}
-use Rattle.std.specs.Prelude.{All, Contains, IsSomeAnd, ◌↔◌}
+use Rattle.std.proofs.Common.{◌≡◌, ◌≢◌, ℕ, zero, suc, ◌+◌, ◌<◌, ◌≤◌, ◌==◌, ◌&&◌, Bool, true, false, if◌then◌else◌, List, [], ◌∷◌, ◌++◌, Option, Some, None, length, take, drop, get_or, map, slice_get, slice_set, nat_lt, replicate, refl, sym, ap, subst, ◌∙◌, ◌⊎◌, inl, inr, arith}
+use Rattle.std.specs.Prelude.{All, Contains, IsSomeAnd}
 use Rattle.std.specs.Option.{option_map}
 use Rattle.std.proofs.lemmas.Bool.{eqb-true}
 use Rattle.std.proofs.lemmas.Bool.Decides.{nat_tests}
@@ -15,7 +15,7 @@ use Rattle.tq_base.specs.declared.period.TheConstants.{FOREVER}
 use Rattle.tq_base.specs.declared.value.Value.{Value}
 use Rattle.tq_event.specs.declared.event.Event.{Event}
 use Rattle.tq_event.specs.declared.event.Event.TheVariants.{Start, End}
-use Rattle.tq_event.specs.History.{CanHappen, IsAdmissible, IsHistory, IsOpenBefore, Row, end_of, rows_from, rows_of, time_of}
+use Rattle.tq_event.specs.History.{CanHappen, IsAdmissible, IsHistory, IsOpenBefore, Row, end_of, rows_from, time_of}
 use Rattle.tq_core.specs.History.{AreStarts, CanEnd, after_event, noted, open_start, open_starts, table_of}
 
 pub eqb-same : (n : ℕ) → (n == n) ≡ true

@@ -3,3 +3,4 @@ mod HistoryLemmas
 mod RunLemmas
 mod StepCases
 mod StepLemmas
+mod UniqueLemmas

@@ -1,5 +1,5 @@
 -- What a run publishes, answers and shows.
-use Rattle.std.proofs.Common.{◌≡◌, ◌≢◌, ℕ, zero, suc, ◌+◌, ◌-◌, ◌<◌, ◌≤◌, ◌==◌, Bool, true, false, if◌then◌else◌, List, [], ◌∷◌, ◌++◌, Option, Some, None, length, take, drop, max, get_or, slice_get, slice_set, refl, sym, ap, subst, ◌∙◌, arith, append_assoc, append-nil, length-append, add-one, inl, inr}
+use Rattle.std.proofs.Common.{◌≡◌, ◌≢◌, ℕ, zero, suc, ◌+◌, ◌<◌, ◌≤◌, ◌==◌, Bool, true, false, if◌then◌else◌, List, [], ◌∷◌, ◌++◌, Option, Some, None, length, take, drop, max, slice_get, slice_set, refl, sym, ap, subst, ◌∙◌, arith, append_assoc, append-nil, length-append, add-one, inl, inr}
 use Rattle.std.specs.Prelude.{All, Contains}
 use Rattle.std.proofs.lemmas.Bool.{eqb-true}
 use Rattle.std.proofs.lemmas.List.{length-take-le, take-append-le}
@@ -8,15 +8,15 @@ use Rattle.std.proofs.lemmas.Option.{get_or_from_slice_get, slice_get_within}
 use Rattle.tq_base.specs.declared.catalogue.Catalogue.{Catalogue}
 use Rattle.tq_event.specs.declared.event.Event.{Event}
 use Rattle.tq_core.specs.declared.step.Step.{Step}
-use Rattle.tq_core.specs.declared.step.Step.TheVariants.{Append, Publish, Enter, Learn, Ask, Claim, Finish}
+use Rattle.tq_core.specs.declared.step.Step.TheVariants.{Publish, Ask}
 use Rattle.tq_core.specs.declared.step.Reply.{Reply}
-use Rattle.tq_core.specs.declared.step.Reply.TheVariants.{Done, Length, Answer, TooNew, Piece, Order, Refused}
+use Rattle.tq_core.specs.declared.step.Reply.TheVariants.{Answer, TooNew, Refused}
 use Rattle.tq_core.specs.History.{Recorded}
 use Rattle.tq_core.specs.World.{IsWorld, machine_of}
 use Rattle.tq_core.specs.Machine.{AsksFrom, IsRun, IsStep, Machine, PieceRun}
-use Rattle.tq_core.specs.Runs.{AnswersAgree, AnswersOverLast, AsksUpToShown, HasNoPublish, IsAnswer, IsAt, IsLastPublish, PublishesUpToLast, done_events, event_of, greatest_shown, is_done, length_of, shows_to}
+use Rattle.tq_core.specs.Runs.{AnswersAgree, AnswersOverLast, AsksUpToShown, HasNoPublish, IsAnswer, PublishesUpToLast, done_events, event_of, greatest_shown, is_done, length_of, shows_to}
 use Rattle.tq_core.proofs.HistoryLemmas.{eqb-same, get_set_other, get_set_same}
-use Rattle.tq_core.proofs.StepCases.{Cases, by_cases}
+use Rattle.tq_core.proofs.StepCases.{by_cases}
 
 -- no more was seen, and no greater length was left, than is published
 pub record IsSound (m : Machine) : Type 0 where

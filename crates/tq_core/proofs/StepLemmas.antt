@@ -1,9 +1,8 @@
 -- Single steps of the machine.
-use Rattle.std.proofs.Common.{◌≡◌, ◌≢◌, ℕ, zero, suc, ◌<◌, ◌≤◌, true, false, List, [], ◌∷◌, ◌++◌, Option, Some, None, length, take, slice_get, slice_set, refl, sym, ap, subst, ◌∙◌, inl, inr, arith}
+use Rattle.std.proofs.Common.{◌≡◌, ℕ, zero, suc, ◌<◌, ◌≤◌, true, false, List, [], ◌∷◌, ◌++◌, Option, Some, length, take, slice_get, slice_set, refl, sym, ap, subst, ◌∙◌, inl, inr}
 use Rattle.std.specs.List.{enumerate_from}
 use Rattle.tq_base.specs.declared.catalogue.Catalogue.{Catalogue}
 use Rattle.tq_event.specs.declared.event.Event.{Event}
-use Rattle.tq_core.specs.declared.step.Reply.{Reply}
 use Rattle.tq_core.specs.declared.step.Reply.TheVariants.{Answer, Order, Piece, Refused}
 use Rattle.tq_core.specs.Machine.{Asks, AsksFrom, Claims, ClaimsFrom, Finishes, FinishesFrom, Machine, PieceRun, claimed, next_piece}
 

@@ -141,6 +141,13 @@ abbrev pub IsRunBefore : {Q A : Type 0} → (Catalogue → List Event → Q → 
 IsRunBefore {Q} {A} value steps before after =
     (count : ℕ) × (replies : List (Reply A)) × (count < length steps) × IsRun value (take count steps) before replies after
 
+-- the state before the steps decides their replies and the state after them
+abbrev pub RunsAreUnique : {Q A : Type 0} → (Catalogue → List Event → Q → A) → Type 0
+RunsAreUnique {Q} {A} value =
+    (steps : List (Step Q)) (before after after' : Machine) (replies replies' : List (Reply A))
+    → IsRun value steps before replies after → IsRun value steps before replies' after'
+    → (replies ≡ replies') × (after ≡ after')
+
 -- the query of an Ask fits the catalogue
 abbrev pub AsksFittingly : {Q : Type 0} → (Catalogue → Q → Type 0) → Catalogue → Step Q → Type 0
 AsksFittingly fits catalogue (Append event) = Unit {0}

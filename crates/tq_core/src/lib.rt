@@ -8,6 +8,7 @@
 #![tactic(auto)]
 
 mod history;
+pub mod laws;
 mod oracle;
 mod pieces;
 mod starts;

@@ -1,4 +1,4 @@
-use Rattle.std.proofs.Common.{◌≡◌, [], replicate, List, Option, ℕ}
+use Rattle.std.proofs.Common.{◌≡◌, [], replicate}
 use Rattle.tq_core.proofs.history.no_starts.Given as goal
 
 abbrev pub invariant-tables : goal.invariant-tables

@@ -1,4 +1,4 @@
-use Rattle.std.proofs.Common.{◌≡◌, ◌∙◌, Some, slice_get, sym, arith}
+use Rattle.std.proofs.Common.{◌∙◌, sym, arith}
 use Rattle.std.proofs.lemmas.Option.{slice_get_read}
 use Rattle.tq_core.specs.World.{machine_of}
 use Rattle.tq_core.proofs.StepLemmas.{claim_refused, claim_taken}

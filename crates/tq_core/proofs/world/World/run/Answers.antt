@@ -2,7 +2,6 @@ use Rattle.std.proofs.Common.{◌≡◌, ◌∙◌, ◌∷◌, ◌+◌, ◌++◌
 use Rattle.std.proofs.lemmas.List.{take_all, take_more}
 use Rattle.std.proofs.lemmas.Result.{err_from_is_err_and}
 use Rattle.tq_core.specs.Machine.{IsRun}
-use Rattle.tq_core.specs.World.{machine_of}
 use Rattle.tq_core.proofs.ClaimLemmas.{claims_in_order, finishes_whole}
 use Rattle.tq_core.proofs.RunLemmas.{IsSound, answers_agree, answers_over_last, asks_up_to_shown, publishes, run_catalogue, run_push, world_sound}
 use Rattle.tq_core.proofs.world.World.run.Goals as goal
