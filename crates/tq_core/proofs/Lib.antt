@@ -1,0 +1,6 @@
+mod ClaimLemmas
+mod HistoryLemmas
+mod RunLemmas
+mod StepCases
+mod StepLemmas
+mod UniqueLemmas

@@ -1,0 +1,10 @@
+//! Laws of the core machine.
+
+ghost use Rattle.tq_core.specs.Machine.{RunsAreUnique};
+
+use crate::oracle::Oracle;
+
+/// The state before some steps decides their replies and the state after them.
+pub fn runs_are_unique<O: Oracle>()
+    ensures { RunsAreUnique O.value }
+{}

@@ -1,0 +1,42 @@
+// Whoever answers queries.
+
+ghost use Rattle.std.specs.Prelude.{◌≡◌, ◌≤◌, List, length, take, IfOk};
+ghost use Rattle.tq_base.specs.Catalogues.{IsCatalogue};
+ghost use Rattle.tq_event.specs.History.{IsHistory};
+ghost use Rattle.tq_base.specs.declared.catalogue.Catalogue.{Catalogue as Tables};
+ghost use Rattle.tq_event.specs.declared.event.Event.{Event as AnEvent};
+
+use std::alloc::{AllocError, Global};
+use tq_base::Catalogue;
+use tq_event::Event;
+
+/// Answers queries over the first events of a history.
+pub trait Oracle {
+    /// What is asked.
+    type Query;
+
+    /// What is answered.
+    type Answer;
+
+    // Whether the query fits the catalogue.
+    ghost fits: { Tables → Self.Query → Type 0 };
+
+    // The answer to a query over these events.
+    ghost value: { Tables → List AnEvent → Self.Query → Self.Answer };
+
+    /// The answer to the query over the first `n` events. `AllocError` where a growth was refused.
+    fn answer(
+        &self,
+        alloc: Global,
+        catalogue: &Catalogue,
+        events: &[Event],
+        n: u32,
+        query: &Self::Query,
+    ) -> Result<Self::Answer, AllocError>
+        requires catalogue { IsCatalogue catalogue.now }
+        requires history { IsHistory catalogue.now events.now }
+        requires few { length events.now ≤ 16777216 }
+        requires within { n ≤ length events.now }
+        requires fits { fits catalogue.now query.now }
+        ensures { IfOk result (λ answer. answer ≡ value catalogue.now (take n events.now) query.now) };
+}

@@ -1,0 +1,93 @@
+// Runs of pieces, which workers claim one by one.
+
+ghost use Rattle.std.specs.Prelude.{◌≡◌, ◌↔◌, [], false, true, length, IfOk, IsTrue, OnErr};
+ghost use Rattle.std.specs.List.{enumerate_from};
+ghost use Rattle.tq_core.specs.Machine.{claimed, next_piece};
+
+use std::alloc::{AllocError, Global};
+use std::marker::Model;
+use tq_base::Items;
+
+/// The pieces of one answer: who claimed which.
+#[derive(Drop, Debug)]
+pub struct Pieces {
+    pieces: u32,
+    claimants: Vec<u32>,
+    closed: bool,
+}
+
+impl Model for Pieces {
+    ghost use Rattle.tq_core.specs.Machine.{PieceRun};
+
+    ghost Value = { PieceRun };
+
+    ghost view = { λ p. record { pieces = p.pieces; claimants = p.claimants.items; closed = p.closed } };
+}
+
+// Each piece with its claimant.
+fn in_order(alloc: Global, pieces: u32, claimants: &[u32]) -> Result<Items<(u32, u32)>, AllocError>
+    requires { length claimants.now ≡ pieces }
+    ensures { IfOk result (λ order. order ≡ enumerate_from 0 claimants.now) }
+{
+    let mut order = Vec::with_capacity(alloc, claimants.len())?;
+    for piece in 0..pieces {
+        order.push((piece, claimants[piece as usize]))?;
+    }
+    Ok(Items::of(order))
+}
+
+impl Pieces {
+    /// So many pieces, of which none is claimed.
+    pub fn new(alloc: Global, pieces: u32) -> Pieces
+        ensures { result ≡ record { pieces = pieces; claimants = []; closed = false } }
+    {
+        Pieces {
+            pieces,
+            claimants: Vec::new(alloc),
+            closed: false,
+        }
+    }
+
+    /// Whether the run is closed.
+    pub fn is_closed(&self) -> bool
+        ensures { result ≡ self.now.closed }
+    {
+        self.closed
+    }
+
+    /// Gives the next piece to the worker, or `None` at the end.
+    /// Out of memory: the run is as before.
+    pub fn claim(&mut self, worker: u32) -> Result<Option<u32>, AllocError>
+        ensures piece { IfOk result (λ piece. piece ≡ next_piece self.old) }
+        ensures claimed { IfOk result (λ _. self.new ≡ claimed worker self.old) }
+        ensures err { OnErr result (self.new ≡ self.old) }
+    {
+        let next = self.claimants.len();
+        if next < self.pieces as usize {
+            self.claimants.push(worker)?;
+            Ok(Some(next as u32))
+        } else {
+            Ok(None)
+        }
+    }
+
+    /// Whether the run is not closed yet, and each piece was claimed.
+    pub fn can_close(&self) -> bool
+        ensures { IsTrue result ↔ ((self.now.closed ≡ false) × (length self.now.claimants ≡ self.now.pieces)) }
+    {
+        !self.closed && self.claimants.len() == self.pieces as usize
+    }
+
+    /// Each piece with the worker that claimed it, in order; the run is closed.
+    /// Out of memory: the run is as before.
+    pub fn close(&mut self, alloc: Global) -> Result<Items<(u32, u32)>, AllocError>
+        requires { length self.old.claimants ≡ self.old.pieces }
+        ensures order { IfOk result (λ order. order ≡ enumerate_from 0 self.old.claimants) }
+        ensures closed { IfOk result (λ _. self.new ≡ record self.old { closed = true }) }
+        ensures err { OnErr result (self.new ≡ self.old) }
+    {
+        let order = in_order(alloc, self.pieces, &self.claimants)?;
+        self.closed = true;
+        Ok(order)
+    }
+}
