@@ -1,56 +1,41 @@
 -- Two answers of the same files and statement.
-use Rattle.std.proofs.Common.{◌≡◌, ℕ, List, Option, Some, None, sym, ap, ◌∙◌, subst}
-use Rattle.std.specs.Prelude.{Result, Ok, Err, position}
-use Rattle.std.specs.Str.{str_eq_ignore_ascii_case}
+use Rattle.std.proofs.Common.{◌≡◌, ◌≤◌, ℕ, List, length, Result, Ok, Err, sym, ap, ◌∙◌, subst}
+use Rattle.std.specs.Coded.{le_prop}
 use Rattle.tq_base.specs.declared.catalogue.Catalogue.{Catalogue}
 use Rattle.tq_base.specs.declared.catalogue.Schema.{Schema}
-use Rattle.tq_base.specs.declared.fragment.Fragment.{Fragment}
-use Rattle.tq_base.specs.declared.value.Value.{Value}
-use Rattle.tq_base.specs.Fragments.{occurrences}
-use Rattle.tq_base.specs.Layers.{IsLayers, LayersAreUnique}
-use Rattle.tq_event.specs.declared.event.Event.{Event}
 use Rattle.tq_event.specs.declared.file.TableFile.{TableFile}
 use Rattle.tq_event.specs.Laws.{LoadedIsUnique}
+use Rattle.tq_plan.specs.Answers.{AnswersAreUnique, IsAnswer}
+use Rattle.tq_sql.specs.declared.fault.SqlFault.{SqlFault}
+use Rattle.tq_sql.specs.declared.statement.Statement.{Statement}
+use Rattle.tq_sql.specs.Grammar.{IsStatement}
+use Rattle.tq_sql.specs.Laws.{StatementsAreUnique}
+use Rattle.tq_sql.specs.Reading.{Makes}
+use Rattle.tq_sql.specs.Tokens.{Token, tokens_of}
 use Rattle.tq_table.specs.declared.table.Table.{Table}
-use Rattle.tq.specs.declared.plan.Plan.{Plan}
-use Rattle.tq.specs.declared.plan.PlanFault.{PlanFault}
-use Rattle.tq.specs.declared.statement.Statement.{Statement}
-use Rattle.tq.specs.Answers.{HasAnswer, rows_at}
-use Rattle.tq.specs.Plans.{plan_of, table_plan}
+use Rattle.tq.specs.Answers.{HasAnswer}
 
-abbrev plan_or : Plan → Result Plan PlanFault → Plan
-plan_or other (Ok plan) = plan
-plan_or other (Err fault) = other
+-- a catalogue is known by its tables
+same_catalogue : (a b : Catalogue) → a.tables ≡ b.tables → a ≡ b
+same_catalogue a b tables = subst (λ (t : List Schema). (few : length t ≤ 16) → a ≡ record { tables = t; few = few }) tables (λ few. ap (λ w. record { tables = a.tables; few = w }) (le_prop a.few few)) b.few
 
-abbrev statement_or : Statement → Option Statement → Statement
-statement_or other (Some statement) = statement
-statement_or other None = other
+abbrev tokens_or : List Token → Result (List Token) SqlFault → List Token
+tokens_or other (Ok tokens) = tokens
+tokens_or other (Err fault) = other
 
--- equal tables and equal statements have equal plans
-same_plan : (a b : Catalogue) (s u : Statement) (p q : Plan) → a.tables ≡ b.tables → s ≡ u → plan_of a s ≡ Ok p → plan_of b u ≡ Ok q → p ≡ q
-same_plan a b s u p q tables statements is_p is_q =
-    ap (plan_or p) (sym is_p
-    ∙ ap (λ (t : List Schema). table_plan t s.columns (position (λ (schema : Schema). str_eq_ignore_ascii_case schema.name s.table) t)) tables
-    ∙ ap (plan_of b) statements
-    ∙ is_q)
+-- bytes make one statement at most
+same_statement : StatementsAreUnique → (bytes : List ℕ) (s u : Statement) → Makes bytes s → Makes bytes u → s ≡ u
+same_statement once bytes s u x y =
+    let tokens : x.0 ≡ y.0 = ap (tokens_or x.0) (sym x.1 ∙ y.1) in
+    once y.0 s u (subst (λ ts. IsStatement ts s) tokens x.2) y.2
 
-pub one_answer : LoadedIsUnique → LayersAreUnique → (files : List TableFile) (bytes : List ℕ) (a b : Table) → HasAnswer files bytes a → HasAnswer files bytes b → a ≡ b
-one_answer loaded_once layers_once files bytes a b x y =
-    ap (λ columns. record { columns = columns; rows = a.rows }) (x.is_answer.columns ∙ ap (λ (s : Statement). s.columns) statements ∙ sym y.is_answer.columns)
-    ∙ ap (λ rows. record { columns = b.columns; rows = rows }) same_rows
+pub one_answer : LoadedIsUnique → StatementsAreUnique → AnswersAreUnique → (files : List TableFile) (bytes : List ℕ) (a b : Table) → HasAnswer files bytes a → HasAnswer files bytes b → a ≡ b
+one_answer loaded_once statement_once answer_once files bytes a b x y =
+    answer_once y.loaded.catalogue y.statement y.loaded.events (length y.loaded.events) a b
+    (subst (λ s. IsAnswer y.loaded.catalogue s y.loaded.events (length y.loaded.events) a) (same_statement statement_once bytes x.statement y.statement x.makes y.makes)
+    (subst (λ events. IsAnswer y.loaded.catalogue x.statement events (length events) a) loaded.1
+    (subst (λ catalogue. IsAnswer catalogue x.statement x.loaded.events (length x.loaded.events) a) (same_catalogue x.loaded.catalogue y.loaded.catalogue loaded.0) x.is_answer)))
+    y.is_answer
   where
     loaded : (x.loaded.catalogue.tables ≡ y.loaded.catalogue.tables) × (x.loaded.events ≡ y.loaded.events)
     loaded = loaded_once files 16777216 x.loaded y.loaded x.is_loaded y.is_loaded
-
-    statements : x.statement ≡ y.statement
-    statements = ap (statement_or x.statement) (sym x.is_statement ∙ y.is_statement)
-
-    plans : x.is_answer.plan ≡ y.is_answer.plan
-    plans = same_plan x.loaded.catalogue y.loaded.catalogue x.statement y.statement x.is_answer.plan y.is_answer.plan loaded.0 statements x.is_answer.planned y.is_answer.planned
-
-    same_rows : a.rows ≡ b.rows
-    same_rows =
-        layers_once (λ v t. occurrences (rows_at y.loaded.events y.is_answer.plan t) v) a.rows b.rows
-        (subst (λ plan. IsLayers (λ v t. occurrences (rows_at y.loaded.events plan t) v) a.rows) plans
-        (subst (λ events. IsLayers (λ v t. occurrences (rows_at events x.is_answer.plan t) v) a.rows) loaded.1 x.is_answer.layers))
-        y.is_answer.layers

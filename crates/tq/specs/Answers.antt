@@ -1,52 +1,28 @@
--- The answer of a statement over loaded tables. After the SQL/Temporal valid-time proposals: at each
--- instant the rows are those of the ordinary statement over the rows then valid, duplicates counted.
-use Rattle.std.specs.Prelude.{◌≡◌, ℕ, ◌≤◌, List, [], ◌∷◌, ◌++◌, length, map, Option, Some, None, Result, Ok, Err, slice_get}
-use Rattle.tq_base.specs.declared.value.Value.{Value}
-use Rattle.tq_base.specs.Fragments.{occurrences}
-use Rattle.tq_base.specs.Layers.{IsLayers}
-use Rattle.tq_event.specs.declared.event.Event.{Event}
+-- The answer of a statement over the tables of files, and the first fault where there is none.
+use Rattle.std.specs.Prelude.{◌≡◌, ℕ, List, length, Bool, false, Ok, Err}
+use Rattle.tq_base.specs.declared.catalogue.Catalogue.{Catalogue}
 use Rattle.tq_event.specs.declared.file.Loaded.{Loaded}
-use Rattle.tq_event.specs.History.{valid_at}
-use Rattle.tq_table.specs.declared.table.Table.{Table}
 use Rattle.tq_event.specs.declared.file.TableFile.{TableFile}
 use Rattle.tq_event.specs.Loading.{IsLoaded, contents_of}
+use Rattle.tq_plan.specs.declared.plans.Plan.{Plan}
+use Rattle.tq_plan.specs.Answers.{IsAnswer}
+use Rattle.tq_plan.specs.Plans.{plan_of}
+use Rattle.tq_plan.specs.Running.{plan_runs}
+use Rattle.tq_sql.specs.declared.fault.SqlFault.{SqlFault}
+use Rattle.tq_sql.specs.declared.statement.Statement.{Statement}
+use Rattle.tq_sql.specs.Reading.{IsSqlFault, Makes}
+use Rattle.tq_table.specs.declared.table.Table.{Table}
 use Rattle.tq.specs.declared.answer.AnswerFault.{AnswerFault}
 use Rattle.tq.specs.declared.answer.AnswerFault.TheVariants as answer
-use Rattle.tq.specs.declared.plan.Plan.{Plan}
-use Rattle.tq.specs.declared.plan.PlanFault.{PlanFault}
-use Rattle.tq.specs.declared.statement.SqlFault.{SqlFault}
-use Rattle.tq.specs.declared.statement.Statement.{Statement}
-use Rattle.tq.specs.Plans.{plan_of}
-use Rattle.tq.specs.Statements.{IsSqlFault, statement_of, tokens_of}
 
-abbrev pub with_some : Option Value → List Value → List Value
-with_some None values = values
-with_some (Some value) values = value ∷ values
-
--- the values at these places
-abbrev pub selected : List ℕ → List Value → List Value
-selected [] values = []
-selected (place ∷ places) values = with_some (slice_get values place) (selected places values)
-
--- the rows that the ordinary statement gives over the rows that are valid at the instant
-abbrev pub rows_at : List Event → Plan → ℕ → List (List Value)
-rows_at events plan t = map (selected plan.places) (valid_at events (length events) plan.table t)
-
--- the table has the statement's columns, and is the one ordered, coalesced table of these rows at each instant
-pub record IsAnswer (loaded : Loaded) (statement : Statement) (table : Table) : Type 0 where
-  pub plan : Plan
-  pub planned : plan_of loaded.catalogue statement ≡ Ok plan
-  pub columns : table.columns ≡ statement.columns
-  pub layers : IsLayers (λ v t. occurrences (rows_at loaded.events plan t) v) table.rows
-
--- the table is the answer of the statement that the bytes make, over the tables of the files
+-- the table is the answer of the statement that the bytes make, over the tables of the files, as of all
+-- their events
 pub record HasAnswer (files : List TableFile) (bytes : List ℕ) (table : Table) : Type 0 where
   pub loaded : Loaded
   pub is_loaded : IsLoaded files 16777216 loaded
   pub statement : Statement
-  pub is_short : length bytes ≤ 65536
-  pub is_statement : statement_of (tokens_of bytes) ≡ Some statement
-  pub is_answer : IsAnswer loaded statement table
+  pub makes : Makes bytes statement
+  pub is_answer : IsAnswer loaded.catalogue statement loaded.events (length loaded.events) table
 
 -- files and a statement have one answer at most
 abbrev pub AnswersAreUnique : Type 0
@@ -58,19 +34,33 @@ pub record HasSqlFault (files : List TableFile) (bytes : List ℕ) (fault : SqlF
   pub is_loaded : IsLoaded files 16777216 loaded
   pub is_fault : IsSqlFault bytes fault
 
--- the files were loaded, and the statement that the bytes make means nothing over their tables
-pub record HasPlanFault (files : List TableFile) (bytes : List ℕ) (fault : PlanFault) : Type 0 where
+-- the statement has a plan, which is not answered yet
+abbrev pub IsNotYet : Catalogue → Statement → Type 0
+IsNotYet catalogue statement = (plan : Plan) × (plan_of catalogue statement ≡ Ok plan) × (plan_runs plan ≡ false)
+
+-- why a statement has no answer over the tables: the first fault of its plan, or that it is not answered yet
+abbrev pub IsStatementFault : Catalogue → Statement → AnswerFault → Type 0
+IsStatementFault catalogue statement (answer.Load fault) = ⊥
+IsStatementFault catalogue statement (answer.Sql fault) = ⊥
+IsStatementFault catalogue statement (answer.Plan fault) = plan_of catalogue statement ≡ Err fault
+IsStatementFault catalogue statement answer.NotYet = IsNotYet catalogue statement
+IsStatementFault catalogue statement answer.Write = ⊥
+IsStatementFault catalogue statement answer.OutOfMemory = Unit {0}
+
+-- the files were loaded, and the statement that the bytes make has no answer over their tables
+pub record HasStatementFault (files : List TableFile) (bytes : List ℕ) (fault : AnswerFault) : Type 0 where
   pub loaded : Loaded
   pub is_loaded : IsLoaded files 16777216 loaded
   pub statement : Statement
-  pub is_short : length bytes ≤ 65536
-  pub is_statement : statement_of (tokens_of bytes) ≡ Some statement
-  pub is_fault : plan_of loaded.catalogue statement ≡ Err fault
+  pub makes : Makes bytes statement
+  pub is_fault : IsStatementFault loaded.catalogue statement fault
 
--- why there is no answer: the first fault, of the files, the statement, or its plan
+-- why there is no answer: the first fault, of the files, the statement, or its plan, or that the plan is
+-- not answered yet
 abbrev pub IsFault : List TableFile → List ℕ → AnswerFault → Type 0
 IsFault files bytes (answer.Load fault) = contents_of files 16777216 ≡ Err fault
 IsFault files bytes (answer.Sql fault) = HasSqlFault files bytes fault
-IsFault files bytes (answer.Plan fault) = HasPlanFault files bytes fault
+IsFault files bytes (answer.Plan fault) = HasStatementFault files bytes (answer.Plan fault)
+IsFault files bytes answer.NotYet = HasStatementFault files bytes answer.NotYet
 IsFault files bytes answer.Write = ⊥
 IsFault files bytes answer.OutOfMemory = Unit {0}

@@ -1,29 +1,29 @@
 // From the bytes of files and of a statement to the bytes of the answer.
 
-ghost use Rattle.std.specs.Prelude.{◌≡◌, ◌≢◌, ◌≤◌, Err, IfErr, IfOk, OnOk};
+ghost use Rattle.std.specs.Prelude.{◌≡◌, ◌≢◌, ◌≤◌, Err, IfErr, IfOk, OnOk, length};
 ghost use Rattle.std.specs.Io.KnownBytes.{Appends};
 ghost use Rattle.tq_table.specs.Sink.{AppendsPrefix, one_more};
 ghost use Rattle.tq_table.specs.Text.{text_of};
 ghost use Rattle.tq_table.specs.declared.table.Table.{Table as AnyTable};
-ghost use Rattle.tq.specs.Answers.{HasAnswer, IsAnswer, IsFault};
-ghost use Rattle.tq.specs.Plans.{plan_of};
+ghost use Rattle.tq.specs.Answers.{HasAnswer, IsFault, IsStatementFault};
+ghost use Rattle.tq_plan.specs.Answers.{IsAnswer};
 
-use crate::plan::{PlanFault, plan_statement};
-use crate::rows::read_rows;
-use crate::statement::{SqlFault, SqlFaultKind, Statement, read};
 use std::alloc::{AllocError, Global};
 use std::io::Write;
-use tq_base::Items;
+use tq_event::laws::loaded_is_within;
 use tq_event::{LoadFault, LoadFaultKind, Loaded, MAX_EVENTS, TableFile, load};
-use tq_table::{Sink, Table, WriteFault, coalesce, write_table};
+use tq_plan::{PlanFault, answer_list, plan};
+use tq_sql::{SqlFault, SqlFaultKind, Statement, read};
+use tq_table::{Sink, Table, WriteFault, write_table};
 
 /// Why there is no answer: the first fault of the files, of the statement's text, or of its plan; or
-/// the sink failed; or a growth was refused.
+/// a plan of this kind is not answered yet; or the sink failed; or a growth was refused.
 #[derive(Clone, Copy, Debug, PartialEq, Eq)]
 pub enum AnswerFault {
     Load(LoadFault),
     Sql(SqlFault),
     Plan(PlanFault),
+    NotYet,
     Write,
     OutOfMemory,
 }
@@ -44,7 +44,7 @@ impl From<LoadFault> for AnswerFault {
 }
 
 impl From<SqlFault> for AnswerFault {
-    ghost use Rattle.tq.specs.declared.statement.SqlFaultKind.TheVariants as kind;
+    ghost use Rattle.tq_sql.specs.declared.fault.SqlFaultKind.TheVariants as kind;
     ghost use Rattle.tq.specs.declared.answer.AnswerFault.TheVariants.{Sql, OutOfMemory};
 
     ghost from_gives = { λ fault given. (fault.kind ≡ kind.OutOfMemory → given ≡ OutOfMemory) × (fault.kind ≢ kind.OutOfMemory → given ≡ Sql fault) };
@@ -59,7 +59,7 @@ impl From<SqlFault> for AnswerFault {
 }
 
 impl From<PlanFault> for AnswerFault {
-    ghost use Rattle.tq.specs.declared.plan.PlanFault.TheVariants as kind;
+    ghost use Rattle.tq_plan.specs.declared.fault.PlanFault.TheVariants as kind;
     ghost use Rattle.tq.specs.declared.answer.AnswerFault.TheVariants.{Plan, OutOfMemory};
 
     ghost from_gives = { λ fault given. (fault ≡ kind.OutOfMemory → given ≡ OutOfMemory) × (fault ≢ kind.OutOfMemory → given ≡ Plan fault) };
@@ -73,22 +73,33 @@ impl From<PlanFault> for AnswerFault {
     }
 }
 
-// The answer of a statement over tables.
+impl From<AllocError> for AnswerFault {
+    ghost use Rattle.tq.specs.declared.answer.AnswerFault.TheVariants.{OutOfMemory};
+
+    ghost from_gives = { λ _ given. given ≡ OutOfMemory };
+
+    fn from(_error: AllocError) -> AnswerFault {
+        AnswerFault::OutOfMemory
+    }
+}
+
+// The answer of a statement over tables, as of all their events.
 fn answer_statement(
     alloc: Global,
     loaded: &Loaded,
-    statement: Statement,
-) -> Result<Table, PlanFault>
-    ensures answer { IfOk result (IsAnswer loaded.now statement) }
-    ensures fault { IfErr result (λ fault. fault ≢ PlanFault.OutOfMemory → plan_of loaded.now.catalogue statement ≡ Err fault) }
+    statement: &Statement,
+) -> Result<Table, AnswerFault>
+    requires { length loaded.now.events ≤ 16777216 }
+    ensures answer { IfOk result (IsAnswer loaded.now.catalogue statement.now loaded.now.events (length loaded.now.events)) }
+    ensures fault { IfErr result (IsStatementFault loaded.now.catalogue statement.now) }
 {
-    let plan = plan_statement(alloc, &loaded.catalogue, &statement)?;
-    let rows = read_rows(alloc, loaded.events.get(), &plan)?;
-    let rows = coalesce(alloc, rows)?;
-    Ok(Table {
-        columns: statement.columns,
-        rows: Items::of(rows),
-    })
+    let plan = plan(alloc, &loaded.catalogue, statement)?;
+    if !plan.can_run() {
+        return Err(AnswerFault::NotYet);
+    }
+    let events = loaded.events.get();
+    let table = answer_list(alloc, events, events.len() as u32, &plan)?;
+    Ok(table)
 }
 
 /// The answer of the statement that the bytes make, over the tables of the files.
@@ -97,14 +108,15 @@ pub fn answer(alloc: Global, files: &[TableFile], bytes: &[u8]) -> Result<Table,
     ensures fault { IfErr result (IsFault files.now bytes.now) }
 {
     let loaded = load(alloc, files, MAX_EVENTS)?;
+    loaded_is_within();
     let statement = read(alloc, bytes)?;
-    let table = answer_statement(alloc, &loaded, statement)?;
-    Ok(table)
+    answer_statement(alloc, &loaded, &statement)
 }
 
 /// Writes the text of the answer of the statement that the bytes make, over the tables of the files.
-/// The first fault is answered: of the files, of the statement, of its plan. Nothing is written
-/// before the answer is whole; after `Write` a prefix of it went out. All workers, 1 to 16, are one.
+/// The first fault is answered: of the files, of the statement, of its plan; `NotYet` where the plan
+/// is one that is not answered yet. Nothing is written before the answer is whole; after `Write` a
+/// prefix of it went out. All workers, 1 to 16, are one.
 pub fn answer_bytes<W: Write>(
     alloc: Global,
     files: &[TableFile],

@@ -11,15 +11,15 @@ use thiserror::Error;
 /// The most workers of one answer.
 pub const WORKER_LIMIT: u32 = 16;
 
-// The most tables of one question.
-const TABLE_LIMIT: usize = 1;
-
 const ABOUT: &str = "Answers sequenced queries over valid-time tables in CSV files.";
 
 // What both helps end with.
 const FORMS: &str = "\
 Statement:
   VALIDTIME SELECT name, dept FROM emp
+  VALIDTIME PERIOD '[10 - 20)' SELECT name FROM emp WHERE dept = 'toys'
+  VALIDTIME SELECT a.name, b.name FROM emp a, emp b WHERE a.dept = b.dept AND a.emp < b.emp
+  VALIDTIME SELECT name FROM emp EXCEPT ALL SELECT name FROM boss
 
 Table file (the first column is a key; an open end is `forever`):
   emp:int,name:text,dept:text,from,to
@@ -128,9 +128,6 @@ fn ask_command<'a>(alloc: Global) -> Result<Command<'a>, AllocError> {
 // What `tq ask` was asked.
 fn read_ask(alloc: Global, ask: &ArgMatches<'_>) -> Result<AskRequest, CommandLineFault> {
     let options = ask.get_strs("table").unwrap_or(&[]);
-    if options.len() > TABLE_LIMIT {
-        return Err(CommandLineFault::BadCommandLine);
-    }
     let mut tables = Vec::new(alloc);
     for option in options {
         let word = bytes_of(alloc, option)?;

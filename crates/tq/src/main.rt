@@ -6,11 +6,8 @@
 mod answer;
 mod command_line;
 mod laws;
-mod plan;
 mod report;
-mod rows;
 mod source;
-mod statement;
 mod words;
 
 use answer::answer_bytes;

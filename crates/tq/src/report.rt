@@ -6,13 +6,13 @@ ghost use Rattle.tq.specs.Report.{refused_answer, refused_command_line, refused_
 
 use crate::answer::AnswerFault;
 use crate::command_line::CommandLineFault;
-use crate::plan::PlanFault;
 use crate::source::FileFault;
-use crate::statement::SqlFault;
 use std::alloc::AllocError;
 use std::io::{self, Write};
 use std::process::ExitCode;
 use tq_event::LoadFault;
+use tq_plan::PlanFault;
+use tq_sql::SqlFault;
 
 /// Why the program gave no answer: one of the lines that it prints.
 #[derive(Drop)]
@@ -22,6 +22,7 @@ pub enum Refusal {
     Load(LoadFault),
     Statement(SqlFault),
     Plan(PlanFault),
+    NotYet,
     WriteFailed,
     OutOfMemory,
 }
@@ -55,6 +56,7 @@ impl From<AnswerFault> for Refusal {
             AnswerFault::Load(fault) => Refusal::Load(fault),
             AnswerFault::Sql(fault) => Refusal::Statement(fault),
             AnswerFault::Plan(fault) => Refusal::Plan(fault),
+            AnswerFault::NotYet => Refusal::NotYet,
             AnswerFault::Write => Refusal::WriteFailed,
             AnswerFault::OutOfMemory => Refusal::OutOfMemory,
         }
@@ -102,6 +104,7 @@ impl Refusal {
                 writeln!(errors, "tq: statement {kind:?} at {at}")
             }
             Refusal::Plan(fault) => writeln!(errors, "tq: plan {fault:?}"),
+            Refusal::NotYet => errors.write_all(b"tq: NotYet\n"),
             Refusal::WriteFailed => errors.write_all(b"tq: write failed\n"),
             Refusal::OutOfMemory => errors.write_all(b"tq: OutOfMemory\n"),
         }

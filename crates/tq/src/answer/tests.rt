@@ -1,14 +1,15 @@
 // Answers and faults, written out.
 
 use super::{AnswerFault, answer, answer_bytes};
-use crate::plan::PlanFault;
-use crate::statement::{SqlFault, SqlFaultKind};
 use std::alloc::{AllocError, Global};
+use std::fmt::Write as Format;
 use std::io::{self, ErrorKind, Write};
 use std::process::Abort;
 use std::test::Fail;
 use tq_base::Items;
 use tq_event::{LoadFault, LoadFaultKind, TableFile};
+use tq_plan::PlanFault;
+use tq_sql::{SqlFault, SqlFaultKind};
 use tq_table::Sink;
 
 const EMP: &[u8] = b"emp:int,name:text,dept:text,from,to
@@ -158,6 +159,132 @@ fn the_table_of_the_statement_is_read(rt: HostRuntime) -> Result<(), Fail> {
 }
 
 #[test]
+fn a_window_cuts_every_row(rt: HostRuntime) -> Result<(), Fail> {
+    assert_answers(
+        &rt,
+        &[(b"emp", EMP)],
+        b"VALIDTIME PERIOD '[20 - 21)' SELECT name FROM emp",
+        b"name,from,to\nann,20,21\nbob,20,21\ncat,20,21\n",
+    )
+}
+
+#[test]
+fn rows_that_only_meet_are_not_joined(rt: HostRuntime) -> Result<(), Fail> {
+    assert_answers(
+        &rt,
+        &[
+            (b"a", b"k:int,from,to\n1,1,5\n"),
+            (b"b", b"k:int,from,to\n1,5,9\n"),
+        ],
+        b"VALIDTIME SELECT a.k FROM a, b WHERE a.k = b.k",
+        b"k,from,to\n",
+    )
+}
+
+#[test]
+fn colleagues_are_joined_while_both_are_there(rt: HostRuntime) -> Result<(), Fail> {
+    assert_answers(
+        &rt,
+        &[(b"emp", EMP)],
+        b"VALIDTIME SELECT x.name, y.name FROM emp x, emp AS y WHERE x.dept = y.dept AND x.name < y.name",
+        b"name,name,from,to\nann,bob,15,25\n",
+    )
+}
+
+#[test]
+fn a_difference_counts_duplicates(rt: HostRuntime) -> Result<(), Fail> {
+    assert_answers(
+        &rt,
+        &[
+            (b"l", b"k:int,v:text,from,to\n1,x,0,10\n2,x,2,8\n3,x,4,6\n"),
+            (b"r", b"k:int,v:text,from,to\n1,x,3,9\n2,x,8,9\n"),
+        ],
+        b"VALIDTIME SELECT v FROM l EXCEPT ALL SELECT v FROM r",
+        b"v,from,to\nx,0,8\nx,2,3\nx,4,6\nx,9,10\n",
+    )
+}
+
+#[test]
+fn a_condition_on_the_key_within_a_window(rt: HostRuntime) -> Result<(), Fail> {
+    let mut bytes = String::from_str(rt.alloc(), "k:int,from,to\n")?;
+    for i in 0..200u32 {
+        writeln!(bytes, "{i},{i},{}", i + 100)?;
+    }
+    assert_answers(
+        &rt,
+        &[(b"big", bytes.as_bytes())],
+        b"VALIDTIME PERIOD '[150 - 151)' SELECT k FROM big WHERE k < 53",
+        b"k,from,to\n51,150,151\n52,150,151\n",
+    )
+}
+
+#[test]
+fn the_least_and_the_greatest_key_are_found(rt: HostRuntime) -> Result<(), Fail> {
+    assert_answers(
+        &rt,
+        &[(
+            b"e",
+            b"k:int,v:text,from,to\n-9223372036854775808,low,0,5\n9223372036854775807,high,3,forever\n",
+        )],
+        b"VALIDTIME SELECT v FROM e WHERE k >= 9223372036854775807 OR k = -9223372036854775808",
+        b"v,from,to\nhigh,3,forever\nlow,0,5\n",
+    )
+}
+
+#[test]
+fn counts_sums_and_groups_are_not_answered_yet(rt: HostRuntime) -> Result<(), Fail> {
+    for statement in [
+        b"VALIDTIME SELECT dept, COUNT(*) FROM emp GROUP BY dept".as_slice(),
+        b"VALIDTIME SELECT COUNT(*) FROM emp",
+        b"VALIDTIME SELECT SUM(emp) FROM emp GROUP BY dept",
+        b"VALIDTIME SELECT dept FROM emp GROUP BY dept",
+        b"VALIDTIME SELECT emp FROM emp EXCEPT ALL SELECT COUNT(*) FROM emp",
+    ] {
+        assert_refuses(&rt, &[(b"emp", EMP)], statement, AnswerFault::NotYet)?;
+    }
+    Ok(())
+}
+
+#[test]
+fn what_is_not_answered_yet_is_checked(rt: HostRuntime) -> Result<(), Fail> {
+    for (statement, fault) in [
+        (
+            b"VALIDTIME SELECT name, COUNT(*) FROM emp".as_slice(),
+            PlanFault::NotGrouped,
+        ),
+        (
+            b"VALIDTIME SELECT SUM(emp) FROM emp",
+            PlanFault::SumNeedsGroup,
+        ),
+        (
+            b"VALIDTIME SELECT dept, SUM(name) FROM emp GROUP BY dept",
+            PlanFault::SumOfText,
+        ),
+        (
+            b"VALIDTIME SELECT name FROM emp x, emp y",
+            PlanFault::AmbiguousColumn,
+        ),
+    ] {
+        assert_refuses(&rt, &[(b"emp", EMP)], statement, AnswerFault::Plan(fault))?;
+    }
+    Ok(())
+}
+
+#[test]
+fn two_tables_of_one_name_are_refused(rt: HostRuntime) -> Result<(), Fail> {
+    assert_refuses(
+        &rt,
+        &[(b"emp", EMP), (b"EMP", EMP)],
+        b"VALIDTIME SELECT name FROM emp",
+        AnswerFault::Load(LoadFault {
+            kind: LoadFaultKind::DuplicateName,
+            table: 1,
+            number: 0,
+        }),
+    )
+}
+
+#[test]
 fn an_unknown_table_or_column_is_refused(rt: HostRuntime) -> Result<(), Fail> {
     for (statement, fault) in [
         (
@@ -188,7 +315,7 @@ fn files_come_before_the_statement_and_it_before_its_plan(rt: HostRuntime) -> Re
     assert_refuses(&rt, &[(b"emp", bad)], b"VALIDTIME SELECT a FROM b", load)?;
     let sql = AnswerFault::Sql(SqlFault {
         kind: SqlFaultKind::UnexpectedToken,
-        at: 28,
+        at: 29,
     });
     assert_refuses(&rt, &[(b"emp", EMP)], b"VALIDTIME SELECT age FROM b ,", sql)
 }

@@ -58,6 +58,19 @@ fn names_paths_and_statements_keep_their_bytes(rt: HostRuntime) -> Result<(), Fa
     Ok(())
 }
 
+#[test]
+fn tables_come_in_the_order_of_their_options(rt: HostRuntime) -> Result<(), Fail> {
+    match read_line(rt.alloc(), "ask --table b=c --table a=d S")? {
+        Ok(Request::Ask(AskRequest { tables, .. })) => {
+            assert_eq!(rt; tables.len(), 2);
+            assert_eq!(rt; tables[0].name.as_slice(), b"b".as_slice());
+            assert_eq!(rt; tables[1].path.as_slice(), b"d".as_slice());
+        }
+        _ => assert!(rt; false, "not read"),
+    }
+    Ok(())
+}
+
 // What the words of a line ask.
 fn read_line(alloc: Global, line: &str) -> Result<Result<Request, CommandLineFault>, AllocError> {
     let mut words = Vec::new(alloc);
@@ -75,7 +88,6 @@ fn other_command_lines_are_refused(rt: HostRuntime) -> Result<(), Fail> {
         "ask S",
         "ask --table emp=e",
         "ask --table emp S",
-        "ask --table emp=e --table a=b S",
         "ask --table emp=e --workers 0 S",
         "ask --table emp=e --workers 17 S",
         "ask --table emp=e --workers x S",

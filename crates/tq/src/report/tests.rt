@@ -2,10 +2,10 @@
 
 use super::Refusal;
 use crate::answer::AnswerFault;
-use crate::plan::PlanFault;
-use crate::statement::{SqlFault, SqlFaultKind};
 use std::test::Fail;
 use tq_event::{LoadFault, LoadFaultKind};
+use tq_plan::PlanFault;
+use tq_sql::{SqlFault, SqlFaultKind};
 
 #[test]
 fn a_refusal_prints_its_line(rt: HostRuntime) -> Result<(), Fail> {
@@ -37,6 +37,10 @@ fn a_refusal_prints_its_line(rt: HostRuntime) -> Result<(), Fail> {
         (
             Refusal::from(AnswerFault::Plan(plan)),
             b"tq: plan UnknownTable\n".as_slice(),
+        ),
+        (
+            Refusal::from(AnswerFault::NotYet),
+            b"tq: NotYet\n".as_slice(),
         ),
         (
             Refusal::from(AnswerFault::Write),
