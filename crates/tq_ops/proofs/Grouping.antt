@@ -2,11 +2,9 @@
 use Rattle.std.proofs.Common.{zero, suc, ◌≡◌, ◌≢◌, ℕ, ◌+◌, ◌-◌, ◌<◌, ◌≤◌, Bool, true, false, ◌&&◌, cond, List, [], ◌∷◌, ◌++◌, length, take, drop, get_or, sym, refl, ap, ◌∙◌, subst, arith, inl, inr, length-take, length-drop}
 use Rattle.std.proofs.Math.Seq.{take-add}
 use Rattle.std.specs.Prelude.{All}
-use Rattle.std.specs.Ordering.{eq_by_cmp, is_lt, ordering_reverse}
-use Rattle.std.specs.declared.cmp.Ordering.{Ordering}
-use Rattle.std.specs.declared.cmp.Ordering.TheVariants.{Less, Equal, Greater}
+use Rattle.std.specs.Ordering.{eq_by_cmp, is_lt}
 use Rattle.std.specs.List.Sorted.{IsSortedBy}
-use Rattle.std.proofs.lemmas.Bool.{cases_lt, false≢true}
+use Rattle.std.proofs.lemmas.Bool.{cases_lt}
 use Rattle.std.proofs.lemmas.List.{get_or-take, get_or-drop, get_or_default}
 use Rattle.std.proofs.lemmas.List.Elements.{All-head, All-tail}
 use Rattle.std.proofs.lemmas.List.Sums.{sum_by-cons, sum_by-append}
@@ -14,7 +12,7 @@ use Rattle.std.proofs.lemmas.List.Sorted.{sorted_far, ranks_by}
 use Rattle.tq_base.specs.declared.value.Value.{Value}
 use Rattle.tq_base.specs.declared.period.Period.{Period}
 use Rattle.tq_base.specs.declared.fragment.Fragment.{Fragment}
-use Rattle.tq_base.specs.ValueOrder.{values_cmp, values_total, values_same, same_from_eq}
+use Rattle.tq_base.specs.ValueOrder.{values_cmp, same_from_eq}
 use Rattle.tq_base.specs.Periods.{holds}
 use Rattle.tq_base.specs.Fragments.{copies}
 use Rattle.tq_base.specs.Layering.{held, rows_of}
@@ -25,26 +23,19 @@ use Rattle.tq_ops.specs.declared.sides.Side.TheVariants.{Left, Right}
 use Rattle.tq_ops.specs.declared.sides.Row.{Row}
 use Rattle.tq_ops.specs.Sides.{is_same_side}
 use Rattle.tq_ops.specs.Differences.{side_held, side_copies, AddsDifference, AreOfValues}
+use Rattle.tq_ops.specs.Sides.{ranked_cmp}
+use Rattle.tq_ops.proofs.Ranking.{ranked_total, tied}
 use Rattle.tq_ops.proofs.Counting.{one_if}
 
 abbrev values : Row → List Value
 values r = r.fragment.now.values
 
 abbrev pub AreSorted : List Row → Type 0
-AreSorted rows = IsSortedBy (λ (x y : Row). is_lt (values_cmp x.fragment.now.values y.fragment.now.values)) rows
+AreSorted rows = IsSortedBy (λ (x y : Row). is_lt (ranked_cmp x.fragment.now.values y.fragment.now.values)) rows
 
 -- no group goes on over the place
 abbrev pub IsBoundary : List Row → ℕ → Type 0
 IsBoundary rows start = (d : Row) → 0 < start → start < length rows → (get_or rows start d).fragment.now.values ≢ (get_or rows (start - 1) d).fragment.now.values
-
--- neither list of values is below the other
-pub tied : (u v : List Value) → is_lt (values_cmp u v) ≡ false → is_lt (values_cmp v u) ≡ false → u ≡ v
-tied u v not_below not_above = split (values_cmp u v) refl
-  where
-    split : (r : Ordering) → values_cmp u v ≡ r → u ≡ v
-    split Less is = absurd (false≢true (sym not_below ∙ ap is_lt is))
-    split Equal is = values_same u v is
-    split Greater is = absurd (false≢true (sym not_above ∙ ap is_lt (values_total.antisymm v u ∙ ap ordering_reverse is)))
 
 -- rows before a boundary have other values than the row at it
 apart_before : (rows : List Row) (start : ℕ) → AreSorted rows → IsBoundary rows start → start < length rows → (d : Row) → All (λ r. values r ≢ values (get_or rows start d)) (take start rows)
@@ -55,10 +46,10 @@ apart_before rows start sorted boundary below d k e lt same =
     let b = values (get_or rows (start - 1) d) in
     let c = values (get_or rows start d) in
     let equal : a ≡ c = ap values (get_or_default rows k d e (omega arith)) ∙ sym (ap values here) ∙ same in
-    let up = sorted_far (λ (x y : Row). is_lt (values_cmp x.fragment.now.values y.fragment.now.values)) (ranks_by values_total values) rows sorted in
-    let one : is_lt (values_cmp b a) ≡ false = up k (start - 1) d (omega arith) (omega arith) in
-    let two : is_lt (values_cmp c b) ≡ false = up (start - 1) start d (omega arith) below in
-    boundary d (omega arith) below (sym (tied b c (subst (λ v. is_lt (values_cmp b v) ≡ false) equal one) two))
+    let up = sorted_far (λ (x y : Row). is_lt (ranked_cmp x.fragment.now.values y.fragment.now.values)) (ranks_by ranked_total values) rows sorted in
+    let one : is_lt (ranked_cmp b a) ≡ false = up k (start - 1) d (omega arith) (omega arith) in
+    let two : is_lt (ranked_cmp c b) ≡ false = up (start - 1) start d (omega arith) below in
+    boundary d (omega arith) below (sym (tied b c (subst (λ v. is_lt (ranked_cmp b v) ≡ false) equal one) two))
 
 -- an element of the list
 pub item_at : {X : Type 0} (xs : List X) (i : ℕ) → i < length xs → (x : X) × (x ≡ get_or xs i x)

@@ -10,3 +10,4 @@ pub mod Gathering
 pub mod Linking
 pub mod Meeting
 pub mod Products
+pub mod Ranking

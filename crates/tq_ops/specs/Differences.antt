@@ -1,6 +1,7 @@
 -- Difference, one group of rows of equal values at a time: what changes the count of a group, and when.
 use Rattle.std.specs.Prelude.{◌≡◌, ℕ, ◌-◌, ◌++◌, ◌&&◌, not, List, All, count_by, nat_le}
-use Rattle.std.specs.Ordering.{eq_by_cmp}
+use Rattle.std.specs.Ordering.{eq_by_cmp, int_cmp, on, then_cmp}
+use Rattle.std.specs.declared.cmp.Ordering.{Ordering}
 use Rattle.tq_base.specs.declared.value.Value.{Value}
 use Rattle.tq_base.specs.declared.period.Period.{Period}
 use Rattle.tq_base.specs.ValueOrder.{values_cmp}
@@ -43,3 +44,7 @@ pub record AddsDifference (window : Period) (group : List Row) (v : List Value) 
   pub periods : List Period
   pub counted : (t : ℕ) → held periods t ≡ side_held window Left group t - side_held window Right group t
   pub added : new ≡ old ++ rows_of v periods
+
+-- by the rank, then by the values
+abbrev pub by_rank_cmp : Row → Row → Ordering
+by_rank_cmp = then_cmp (on (λ r. r.rank) int_cmp) (on (λ r. r.fragment.now.values) values_cmp)

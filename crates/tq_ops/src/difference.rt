@@ -9,13 +9,18 @@ ghost use Rattle.tq_base.specs.Layering.{held};
 ghost use Rattle.tq_ops.specs.declared.sides.Row.{Row};
 ghost use Rattle.tq_ops.specs.declared.sides.Side.TheVariants.{Left, Right};
 ghost use Rattle.tq_ops.specs.declared.difference.Change.{Change};
-ghost use Rattle.tq_ops.specs.Differences.{falls_upto, rises_upto, side_held, AddsDifference, AreOfValues, IsEven};
+ghost use Rattle.tq_ops.specs.Differences.{by_rank_cmp, falls_upto, rises_upto, side_held, AddsDifference, AreOfValues, IsEven};
 ghost use Rattle.tq_ops.specs.Sides.{is_same_side};
 ghost use Rattle.tq_ops.specs.Ordinary.{HasInside, IsEmptyOutside};
 
+use crate::links::Link;
 use crate::sides::{Row, Side, gathered};
 use std::alloc::{AllocError, Global};
+use std::cmp::Ordering;
 use tq_base::{Bound, Fragment, Instant, Period};
+
+// Rows are ranked by their first values.
+const FIRST: Link = Link { left: 0, right: 0 };
 
 // From the bound on there is one row more, or one row less, that is not taken away.
 #[derive(Clone, Copy)]
@@ -152,6 +157,17 @@ fn add_difference(
     Ok(())
 }
 
+// By the rank, then by the values.
+fn compare_rows(one: &Row<'_>, other: &Row<'_>) -> Ordering
+    ensures { result ≡ by_rank_cmp one.now other.now }
+{
+    let ranks = one.rank.cmp(&other.rank);
+    if ranks.is_ne() {
+        return ranks;
+    }
+    one.fragment.values.compare(&other.fragment.values)
+}
+
 /// Each row of the left as often as it stands there more often than on the right, at each instant of
 /// the window. `AllocError` where a growth was refused.
 pub fn except_all(
@@ -163,8 +179,8 @@ pub fn except_all(
     ensures inside { IfOk result (λ out. HasInside window.now out.items (λ t v. copies left.now v t - copies right.now v t)) }
     ensures outside { IfOk result (λ out. IsEmptyOutside window.now out.items) }
 {
-    let mut rows = gathered(alloc, left, right, window)?;
-    rows.sort_unstable_by(|one, other| one.fragment.values.compare(&other.fragment.values));
+    let mut rows = gathered(alloc, left, right, window, Some(FIRST))?;
+    rows.sort_unstable_by(|one, other| compare_rows(one, other));
     let mut out = Vec::new(alloc);
     let mut start = 0;
     'groups: while start < rows.len() {

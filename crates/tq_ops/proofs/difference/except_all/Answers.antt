@@ -6,15 +6,15 @@ use Rattle.std.proofs.lemmas.List.Sorted.{answers_always, ranks_by}
 use Rattle.tq_base.specs.declared.value.Value.{Value}
 use Rattle.tq_base.specs.declared.period.Period.{Period}
 use Rattle.tq_base.specs.declared.fragment.Fragment.{Fragment}
-use Rattle.tq_base.specs.ValueOrder.{values_cmp, values_total}
 use Rattle.tq_base.specs.Periods.{holds}
 use Rattle.tq_base.specs.Fragments.{copies}
 use Rattle.tq_ops.specs.declared.sides.Side.TheVariants.{Left, Right}
 use Rattle.tq_ops.specs.declared.sides.Row.{Row}
 use Rattle.tq_ops.specs.Sides.{fragments_of, overlapping}
-use Rattle.tq_ops.specs.Differences.{side_copies, AddsDifference, AreOfValues}
+use Rattle.tq_ops.specs.Differences.{by_rank_cmp, side_copies, AddsDifference, AreOfValues}
 use Rattle.tq_ops.proofs.Cutting.{inside_from_counts, outside_from_counts}
 use Rattle.tq_ops.proofs.Grouping.{Grouping, item_at, group_not_empty, group_ends, adds_group}
+use Rattle.tq_ops.proofs.Ranking.{by_rank_total, sorted_values}
 use Rattle.tq_ops.proofs.Gathering.{side_copies_are}
 use Rattle.tq_ops.proofs.difference.except_all.Goals as goal
 
@@ -74,7 +74,7 @@ groups-preserved c =
     let adds : (v : List Value) → AreOfValues v (take len (drop start rows)) → AddsDifference c.args.window.now (take len (drop start rows)) v c.groups.out.items c.add_difference.new.out.items =
     subst (λ (l : List Row). (v : List Value) → AreOfValues v l → AddsDifference c.args.window.now l v c.groups.out.items c.add_difference.new.out.items) group c.in_ok-add_difference.ensures in
     adds_group c.args.window.now rows start len c.groups.out.items c.add_difference.new.out.items x
-    (c.sort_unstable_by.ensures.sorted (λ (x y : Row). is_lt (values_cmp x.fragment.now.values y.fragment.now.values)) (ranks_by values_total (λ (r : Row). r.fragment.now.values)) (answers_always _ _ _ (λ f a r g h. search rules)))
+    (sorted_values c.in_ok-rows.rows.items rows c.in_ok-rows.ensures.ranked c.sort_unstable_by.ensures.permutation (c.sort_unstable_by.ensures.sorted (λ (x y : Row). is_lt (by_rank_cmp x y)) (ranks_by by_rank_total (λ (r : Row). r)) (answers_always _ _ _ (λ f a r g h. search rules))))
     t.below is (omega (arith, t.within, length-drop start rows)) alike (group_ends rows start len t.within t.alike t.ends t.below) (adds x.fragment.now.values alike) c.groups.invariant
 
 pub returns-clause-inside : goal.returns-clause-inside
