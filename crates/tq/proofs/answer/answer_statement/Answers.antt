@@ -4,7 +4,7 @@ use Rattle.tq_plan.specs.Answers.{IsPlanAnswer}
 use Rattle.tq.proofs.answer.answer_statement.Goals as goal
 
 pub returns-then-not-can_run-clause-fault : goal.returns-then-not-can_run-clause-fault
-returns-then-not-can_run-clause-fault c = (c.in_ok-plan.plan, (c.in_ok-plan.ensures.plan, sym c.can_run.ensures ∙ c.if-not-can_run.true))
+returns-then-not-can_run-clause-fault c = (c.in_ok-plan.plan, c.in_ok-plan.ensures.plan, sym c.can_run.ensures ∙ c.if-not-can_run.true)
 
 pub returns-clause-answer : goal.returns-clause-answer
 returns-clause-answer c = record {
