@@ -1,4 +1,6 @@
-"""Writes a payroll-like table of any number of rows: python3 bench/payroll.py ROWS [SEED] > emp.csv
+"""Writes a payroll-like table of any number of rows: python3 bench/payroll.py ROWS [SEED [pay]] > emp.csv
+
+With `pay` the rows say what a person earns, in place of name and department.
 
 A person works for one department after another. Most periods meet the one before (a raise), some
 leave a gap, some overlap it (a second post), some rows stand twice, and the last period of many
@@ -39,11 +41,17 @@ def person_rows(number, persons, random_source):
     return rows
 
 
-def write_table(output, rows, seed=1):
+def with_pay(row, random_source):
+    """The row with an amount in place of name and department."""
+    number, _, _, start, end = row
+    return [number, 2_000 + 100 * random_source.randrange(40), start, end]
+
+
+def write_table(output, rows, seed=1, pay=False):
     """Writes a header and just so many rows, in an order that tells nothing."""
     random_source = random.Random(seed)
     writer = csv.writer(output, lineterminator="\n")
-    writer.writerow(["emp:int", "name:text", "dept:text", "from", "to"])
+    writer.writerow(["emp:int", "amount:int", "from", "to"] if pay else ["emp:int", "name:text", "dept:text", "from", "to"])
     persons = max(1, rows // 5)
     number = 0
     shelf = []
@@ -53,10 +61,12 @@ def write_table(output, rows, seed=1):
         if len(shelf) >= 10_000 or len(shelf) >= rows:
             random_source.shuffle(shelf)
             batch = shelf[:rows]
+            if pay:
+                batch = [with_pay(row, random_source) for row in batch]
             writer.writerows(batch)
             rows -= len(batch)
             shelf = []
 
 
 if __name__ == "__main__":
-    write_table(sys.stdout, int(sys.argv[1]), int(sys.argv[2]) if len(sys.argv) > 2 else 1)
+    write_table(sys.stdout, int(sys.argv[1]), int(sys.argv[2]) if len(sys.argv) > 2 else 1, "pay" in sys.argv[3:])

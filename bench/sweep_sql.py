@@ -37,33 +37,38 @@ WHERE begins ORDER BY {columns}, instant, next
 """
 
 
-def load(path, database):
-    """Makes the table `rows` with the file's columns, `start` and `stop`."""
+def load(path, database, table="rows"):
+    """Makes a table with the file's columns, `start` and `stop`."""
     with open(path, newline="", encoding="utf-8") as file:
         records = csv.reader(file)
         header = next(records)[:-2]
         names = [field.split(":")[0] for field in header]
         kinds = ["INTEGER" if field.endswith(":int") else "TEXT" for field in header]
         columns = ", ".join(f"{name} {kind}" for name, kind in zip(names, kinds))
-        database.execute(f"CREATE TABLE rows ({columns}, start INTEGER, stop INTEGER)")
+        database.execute(f"CREATE TABLE {table} ({columns}, start INTEGER, stop INTEGER)")
         places = ", ".join("?" * (len(names) + 2))
         rows = ((*record[:-1], FOREVER if record[-1] == "forever" else record[-1]) for record in records)
-        database.executemany(f"INSERT INTO rows VALUES ({places})", rows)
+        database.executemany(f"INSERT INTO {table} VALUES ({places})", rows)
+
+
+def write_runs(database, columns):
+    """Writes the coalesced rows of the table `counts`."""
+    sys.stdout.reconfigure(encoding="utf-8", newline="")
+    writer = csv.writer(sys.stdout, lineterminator="\n")
+    writer.writerow([*columns, "from", "to"])
+    names = ", ".join(columns)
+    database.execute("CREATE TABLE levels (level INTEGER PRIMARY KEY)")
+    database.execute(LEVELS)
+    for row in database.execute(RUNS.format(columns=names)):
+        writer.writerow([*row[:-1], "forever" if row[-1] == FOREVER else row[-1]])
 
 
 def main():
     path, columns = sys.argv[1], sys.argv[2:]
     database = sqlite3.connect(":memory:")
     load(path, database)
-    sys.stdout.reconfigure(encoding="utf-8", newline="")
-    writer = csv.writer(sys.stdout, lineterminator="\n")
-    writer.writerow([*columns, "from", "to"])
-    names = ", ".join(columns)
-    database.execute(COUNTS.format(columns=names))
-    database.execute("CREATE TABLE levels (level INTEGER PRIMARY KEY)")
-    database.execute(LEVELS)
-    for row in database.execute(RUNS.format(columns=names)):
-        writer.writerow([*row[:-1], "forever" if row[-1] == FOREVER else row[-1]])
+    database.execute(COUNTS.format(columns=", ".join(columns)))
+    write_runs(database, columns)
 
 
 if __name__ == "__main__":

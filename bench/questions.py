@@ -1,0 +1,57 @@
+"""Measures a join and a difference of two tables beside SQL over sqlite3: python3 bench/questions.py
+
+    --tq PROGRAM   the program to measure (bin/tq)
+    --rows N ..    the sizes of each table (10000 100000 1000000)
+
+The bytes have to be equal; how many times as long SQL takes, tq's seconds and how its time grows are
+printed and asserted nowhere.
+"""
+
+import argparse
+import filecmp
+import os
+import sys
+import tempfile
+
+from measuring import HERE, TRIES, growth, run
+
+QUESTIONS = {
+    "join": "VALIDTIME SELECT emp.emp, name, dept, amount FROM emp, sal WHERE emp.emp = sal.emp",
+    "difference": "VALIDTIME SELECT emp FROM emp EXCEPT ALL SELECT emp FROM sal",
+}
+
+
+def measure(tq, folder, rows, question):
+    """Prints a line for one question over two tables, and gives tq's seconds."""
+    emp, sal, answer, other = (os.path.join(folder, name) for name in ["emp.csv", "sal.csv", "answer.csv", "other.csv"])
+    ask = [tq, "ask", "--table", f"emp={emp}", "--table", f"sal={sal}", QUESTIONS[question]]
+    tries = [run(ask, answer) for _ in range(TRIES)]
+    seconds, peak = min(seconds for seconds, _ in tries), max(peak for _, peak in tries)
+    sql, _ = run([sys.executable, os.path.join(HERE, "questions_sql.py"), emp, sal, question], other)
+    if not filecmp.cmp(answer, other, shallow=False):
+        sys.exit(f"questions_sql.py gives other bytes for the {question} of {rows} rows")
+    print(f"{rows:>9,}  {question:<12} {sql / seconds:>7.1f}x {seconds:>8.2f} s {peak / rows:>10,.0f}", flush=True)
+    return seconds
+
+
+def main():
+    parser = argparse.ArgumentParser()
+    parser.add_argument("--tq", default=os.path.join(HERE, "..", "bin", "tq"))
+    parser.add_argument("--rows", type=int, nargs="+", default=[10_000, 100_000, 1_000_000])
+    options = parser.parse_args()
+    times = {question: {} for question in QUESTIONS}
+    print("tq ask over two tables beside SQL over sqlite3: how many times as long it takes")
+    print(f"{'rows each':>9}  {'question':<12} {'SQL':>8} {'tq':>10} {'bytes/row':>10}")
+    with tempfile.TemporaryDirectory() as folder:
+        for rows in options.rows:
+            script = os.path.join(HERE, "payroll.py")
+            run([sys.executable, script, str(rows), "1"], os.path.join(folder, "emp.csv"))
+            run([sys.executable, script, str(rows), "2", "pay"], os.path.join(folder, "sal.csv"))
+            for question, seconds in times.items():
+                seconds[rows] = measure(options.tq, folder, rows, question)
+    for question, seconds in times.items():
+        print(f"{question}: {growth(seconds)}")
+
+
+if __name__ == "__main__":
+    main()
