@@ -18,3 +18,6 @@ mod windows;
 pub use fault::PlanFault;
 pub use planning::plan;
 pub use plans::{Output, Plan, QueryPlan};
+
+#[cfg(test)]
+mod tests;
