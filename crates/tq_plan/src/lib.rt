@@ -21,3 +21,6 @@ pub use answering::answer_list;
 pub use fault::PlanFault;
 pub use planning::plan;
 pub use plans::{Output, Plan, QueryPlan};
+
+#[cfg(test)]
+mod tests;
