@@ -58,16 +58,34 @@ fn names_paths_and_statements_keep_their_bytes(rt: HostRuntime) -> Result<(), Fa
     Ok(())
 }
 
-#[test]
-fn tables_come_in_the_order_of_their_options(rt: HostRuntime) -> Result<(), Fail> {
-    match read_line(rt.alloc(), "ask --table b=c --table a=d S")? {
-        Ok(Request::Ask(AskRequest { tables, .. })) => {
+fn assert_asks_of_two(rt: &impl Abort, read: Result<Request, CommandLineFault>) {
+    match read {
+        Ok(
+            Request::Ask(
+                AskRequest {
+                    tables,
+                    workers: some,
+                    statement: text,
+                },
+            ),
+        ) => {
             assert_eq!(rt; tables.len(), 2);
             assert_eq!(rt; tables[0].name.as_slice(), b"b".as_slice());
             assert_eq!(rt; tables[1].path.as_slice(), b"d".as_slice());
+            assert_eq!(rt; some, 1);
+            assert_eq!(rt; text.as_slice(), b"S".as_slice());
         }
         _ => assert!(rt; false, "not read"),
     }
+}
+
+#[test]
+fn tables_come_in_the_order_of_their_options(rt: HostRuntime) -> Result<(), Fail> {
+    let asked = read(
+        rt.alloc(),
+        &[b"ask", b"--table", b"b=c", b"--table", b"a=d", b"S"],
+    )?;
+    assert_asks_of_two(&rt, asked);
     Ok(())
 }
 
