@@ -8,12 +8,11 @@ equal; the rest is printed and asserted nowhere: how many times as long the othe
 second, its peak memory a row beyond the file, and how its time grows from size to size.
 """
 
-import argparse
 import os
 import sys
 import tempfile
 
-from measuring import HERE, ask, bytes_per_row, growth, run, sweep
+from measuring import HERE, ask, bytes_per_row, growth, read_options, run, sweep
 
 STATEMENTS = [["name", "dept"], ["dept"]]
 
@@ -31,10 +30,7 @@ def measure(tq, table, rows, columns, folder):
 
 
 def main():
-    parser = argparse.ArgumentParser()
-    parser.add_argument("--tq", default=os.path.join(HERE, "..", "bin", "tq"))
-    parser.add_argument("--rows", type=int, nargs="+", default=[10_000, 100_000, 1_000_000])
-    options = parser.parse_args()
+    options = read_options([10_000, 100_000, 1_000_000])
     times = [{} for _ in STATEMENTS]
     print("tq ask beside the same sweep in SQL over sqlite3 and in Python: how many times as long they take")
     print(f"{'rows':>9}  {'statement':<18} {'SQL':>8} {'Python':>8} {'tq rows/s':>12} {'bytes/row':>10}")

@@ -1,5 +1,6 @@
 """Runs commands for the measurements: their time, their peak memory, and whether their bytes are equal."""
 
+import argparse
 import filecmp
 import math
 import os
@@ -10,6 +11,14 @@ import time
 
 HERE = os.path.dirname(os.path.abspath(__file__))
 TRIES = 3
+
+
+def read_options(sizes):
+    """The program to measure, and the sizes of the tables, these unless others are asked for."""
+    parser = argparse.ArgumentParser()
+    parser.add_argument("--tq", default=os.path.join(HERE, "..", "bin", "tq"))
+    parser.add_argument("--rows", type=int, nargs="+", default=sizes)
+    return parser.parse_args()
 
 
 def run(command, output):

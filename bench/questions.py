@@ -7,13 +7,12 @@ The bytes have to be equal; how many times as long SQL takes, tq's seconds and h
 printed and asserted nowhere.
 """
 
-import argparse
 import filecmp
 import os
 import sys
 import tempfile
 
-from measuring import HERE, TRIES, growth, run
+from measuring import HERE, TRIES, growth, read_options, run
 
 QUESTIONS = {
     "join": "VALIDTIME SELECT emp.emp, name, dept, amount FROM emp, sal WHERE emp.emp = sal.emp",
@@ -35,10 +34,7 @@ def measure(tq, folder, rows, question):
 
 
 def main():
-    parser = argparse.ArgumentParser()
-    parser.add_argument("--tq", default=os.path.join(HERE, "..", "bin", "tq"))
-    parser.add_argument("--rows", type=int, nargs="+", default=[10_000, 100_000, 1_000_000])
-    options = parser.parse_args()
+    options = read_options([10_000, 100_000, 1_000_000])
     times = {question: {} for question in QUESTIONS}
     print("tq ask over two tables beside SQL over sqlite3: how many times as long it takes")
     print(f"{'rows each':>9}  {'question':<12} {'SQL':>8} {'tq':>10} {'bytes/row':>10}")

@@ -6,11 +6,10 @@
 The bytes have to be those of the plain Python script; how the time grows is printed and asserted nowhere.
 """
 
-import argparse
 import os
 import tempfile
 
-from measuring import HERE, ask, bytes_per_row, growth, sweep
+from measuring import ask, bytes_per_row, growth, read_options, sweep
 
 # The value, the start and the end of row i of n.
 SHAPES = {
@@ -32,10 +31,7 @@ def write_table(path, shape, rows):
 
 
 def main():
-    parser = argparse.ArgumentParser()
-    parser.add_argument("--tq", default=os.path.join(HERE, "..", "bin", "tq"))
-    parser.add_argument("--rows", type=int, nargs="+", default=[100_000, 1_000_000])
-    options = parser.parse_args()
+    options = read_options([100_000, 1_000_000])
     print("tq ask on tables of one shape each (Python: how many times as long the plain script takes)")
     print(f"{'shape':<20} {'rows':>9} {'Python':>8} {'tq rows/s':>12} {'bytes/row':>10}")
     with tempfile.TemporaryDirectory() as folder:
