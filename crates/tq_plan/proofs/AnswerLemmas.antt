@@ -12,7 +12,8 @@ use Rattle.tq_plan.specs.declared.fault.PlanFault.{PlanFault}
 use Rattle.tq_plan.specs.declared.plans.Plan.{Plan}
 use Rattle.tq_plan.specs.declared.plans.QueryPlan.{QueryPlan}
 use Rattle.tq_plan.specs.Answers.{IsAnswer, IsPlanAnswer, lists_at, times_at, times_in, times_in_right}
-use Rattle.tq_plan.specs.Ordinary.{Row, ordinary}
+use Rattle.tq_agg.specs.Grouping.{Row}
+use Rattle.tq_plan.specs.Ordinary.{ordinary}
 
 abbrev plan_or : Plan → Result Plan PlanFault → Plan
 plan_or other (Ok plan) = plan

@@ -16,7 +16,7 @@ use Rattle.tq_event.specs.History.{Row as AnyRow, end_of, rows_from, time_of, va
 use Rattle.tq_plan.specs.declared.rows.OpenRow.{OpenRow}
 use Rattle.tq_base.specs.declared.period.Period.{Period}
 use Rattle.tq_base.specs.Periods.{holds}
-use Rattle.tq_plan.specs.Ordinary.{Row}
+use Rattle.tq_agg.specs.Grouping.{Row}
 use Rattle.tq_plan.specs.Rows.{ended, kept_rows, open_at, open_row, taken, with_end, with_some}
 
 eqb-same : (n : ℕ) → (n == n) ≡ true

@@ -17,7 +17,8 @@ use Rattle.tq_plan.specs.declared.plans.Output.TheVariants.{Column, Count, Sum}
 use Rattle.tq_plan.specs.declared.plans.Plan.{Plan}
 use Rattle.tq_plan.specs.declared.plans.QueryPlan.{QueryPlan}
 use Rattle.tq_plan.specs.Answers.{lists_at, times_at, times_in, times_in_right}
-use Rattle.tq_plan.specs.Ordinary.{Row, groups, is_aggregate, ordinary, output_value, product_of}
+use Rattle.tq_agg.specs.Grouping.{Row}
+use Rattle.tq_plan.specs.Ordinary.{groups, is_aggregate, ordinary, output_value, product_of}
 use Rattle.tq_plan.specs.Rows.{kept, kept_rows, with_some}
 use Rattle.tq_plan.specs.Running.{output_place, the_tables}
 use Rattle.tq_plan.proofs.BagLemmas.{same_mapped}

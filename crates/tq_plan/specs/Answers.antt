@@ -12,7 +12,8 @@ use Rattle.tq_sql.specs.declared.statement.Statement.{Statement}
 use Rattle.tq_table.specs.declared.table.Table.{Table}
 use Rattle.tq_plan.specs.declared.plans.Plan.{Plan}
 use Rattle.tq_plan.specs.declared.plans.QueryPlan.{QueryPlan}
-use Rattle.tq_plan.specs.Ordinary.{Row, ordinary}
+use Rattle.tq_agg.specs.Grouping.{Row}
+use Rattle.tq_plan.specs.Ordinary.{ordinary}
 use Rattle.tq_plan.specs.Plans.{plan_of}
 
 -- the rows valid at the instant, source by source

@@ -9,7 +9,7 @@ use Rattle.tq_event.specs.History.{Row as AnyRow}
 use Rattle.tq_ops.specs.declared.condition.Test.{Test}
 use Rattle.tq_ops.specs.Ordinary.{admits, projection}
 use Rattle.tq_plan.specs.declared.rows.OpenRow.{OpenRow}
-use Rattle.tq_plan.specs.Ordinary.{Row}
+use Rattle.tq_agg.specs.Grouping.{Row}
 
 -- the values at the places, or all of them where no places are named
 abbrev pub chosen : Option (List ℕ) → Row → Row
