@@ -49,6 +49,5 @@ pub statement_fault : (files : List TableFile) (bytes : List ℕ) (loaded : Load
 statement_fault files bytes loaded statement (answer.Load fault) is_loaded makes is = absurd is
 statement_fault files bytes loaded statement (answer.Sql fault) is_loaded makes is = absurd is
 statement_fault files bytes loaded statement (answer.Plan fault) is_loaded makes is = record { loaded = loaded; is_loaded = is_loaded; statement = statement; makes = makes; is_fault = is }
-statement_fault files bytes loaded statement answer.NotYet is_loaded makes is = record { loaded = loaded; is_loaded = is_loaded; statement = statement; makes = makes; is_fault = is }
 statement_fault files bytes loaded statement answer.Write is_loaded makes is = absurd is
 statement_fault files bytes loaded statement answer.OutOfMemory is_loaded makes is = tt

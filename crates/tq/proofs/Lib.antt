@@ -1,2 +1,3 @@
 pub mod UniqueLemmas
 pub mod FaultLemmas
+pub mod NumberLemmas

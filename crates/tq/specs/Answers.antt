@@ -1,13 +1,11 @@
 -- The answer of a statement over the tables of files, and the first fault where there is none.
-use Rattle.std.specs.Prelude.{◌≡◌, ℕ, List, length, Bool, false, Ok, Err}
+use Rattle.std.specs.Prelude.{◌≡◌, ℕ, List, length, Err}
 use Rattle.tq_base.specs.declared.catalogue.Catalogue.{Catalogue}
 use Rattle.tq_event.specs.declared.file.Loaded.{Loaded}
 use Rattle.tq_event.specs.declared.file.TableFile.{TableFile}
 use Rattle.tq_event.specs.Loading.{IsLoaded, contents_of}
-use Rattle.tq_plan.specs.declared.plans.Plan.{Plan}
 use Rattle.tq_plan.specs.Answers.{IsAnswer}
 use Rattle.tq_plan.specs.Plans.{plan_of}
-use Rattle.tq_plan.specs.Running.{plan_runs}
 use Rattle.tq_sql.specs.declared.fault.SqlFault.{SqlFault}
 use Rattle.tq_sql.specs.declared.statement.Statement.{Statement}
 use Rattle.tq_sql.specs.Reading.{IsSqlFault, Makes}
@@ -34,16 +32,11 @@ pub record HasSqlFault (files : List TableFile) (bytes : List ℕ) (fault : SqlF
   pub is_loaded : IsLoaded files 16777216 loaded
   pub is_fault : IsSqlFault bytes fault
 
--- the statement has a plan, which is not answered yet
-abbrev pub IsNotYet : Catalogue → Statement → Type 0
-IsNotYet catalogue statement = (plan : Plan) × (plan_of catalogue statement ≡ Ok plan) × (plan_runs plan ≡ false)
-
--- why a statement has no answer over the tables: the first fault of its plan, or that it is not answered yet
+-- why a statement has no answer over the tables: the first fault of its plan
 abbrev pub IsStatementFault : Catalogue → Statement → AnswerFault → Type 0
 IsStatementFault catalogue statement (answer.Load fault) = ⊥
 IsStatementFault catalogue statement (answer.Sql fault) = ⊥
 IsStatementFault catalogue statement (answer.Plan fault) = plan_of catalogue statement ≡ Err fault
-IsStatementFault catalogue statement answer.NotYet = IsNotYet catalogue statement
 IsStatementFault catalogue statement answer.Write = ⊥
 IsStatementFault catalogue statement answer.OutOfMemory = Unit {0}
 
@@ -55,12 +48,10 @@ pub record HasStatementFault (files : List TableFile) (bytes : List ℕ) (fault 
   pub makes : Makes bytes statement
   pub is_fault : IsStatementFault loaded.catalogue statement fault
 
--- why there is no answer: the first fault, of the files, the statement, or its plan, or that the plan is
--- not answered yet
+-- why there is no answer: the first fault, of the files, the statement, or its plan
 abbrev pub IsFault : List TableFile → List ℕ → AnswerFault → Type 0
 IsFault files bytes (answer.Load fault) = contents_of files 16777216 ≡ Err fault
 IsFault files bytes (answer.Sql fault) = HasSqlFault files bytes fault
 IsFault files bytes (answer.Plan fault) = HasStatementFault files bytes (answer.Plan fault)
-IsFault files bytes answer.NotYet = HasStatementFault files bytes answer.NotYet
 IsFault files bytes answer.Write = ⊥
 IsFault files bytes answer.OutOfMemory = Unit {0}

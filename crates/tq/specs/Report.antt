@@ -8,7 +8,7 @@ use Rattle.tq.specs.declared.command_line.CommandLineFault.TheVariants as comman
 use Rattle.tq.specs.declared.source.FileFault.{FileFault}
 use Rattle.tq.specs.declared.source.FileFault.TheVariants as source
 use Rattle.tq.specs.declared.report.Refusal.{Refusal}
-use Rattle.tq.specs.declared.report.Refusal.TheVariants.{BadCommandLine, CannotRead, Load, Statement, Plan, NotYet, WriteFailed, OutOfMemory}
+use Rattle.tq.specs.declared.report.Refusal.TheVariants.{BadCommandLine, CannotRead, Load, Statement, Plan, WriteFailed, OutOfMemory}
 
 -- The refusal of a command line with this fault. (This project's own.)
 abbrev pub refused_command_line : CommandLineFault → Refusal
@@ -26,7 +26,6 @@ abbrev pub refused_answer : AnswerFault → Refusal
 refused_answer (answer.Load fault) = Load fault
 refused_answer (answer.Sql fault) = Statement fault
 refused_answer (answer.Plan fault) = Plan fault
-refused_answer answer.NotYet = NotYet
 refused_answer answer.Write = WriteFailed
 refused_answer answer.OutOfMemory = OutOfMemory
 
@@ -37,6 +36,5 @@ status_of (CannotRead path) = 1
 status_of (Load fault) = 1
 status_of (Statement fault) = 1
 status_of (Plan fault) = 1
-status_of NotYet = 1
 status_of WriteFailed = 1
 status_of OutOfMemory = 1

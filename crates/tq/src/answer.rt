@@ -2,6 +2,7 @@
 
 ghost use Rattle.std.specs.Prelude.{◌≡◌, ◌≢◌, ◌≤◌, Err, IfErr, IfOk, OnOk, length};
 ghost use Rattle.std.specs.Io.KnownBytes.{Appends};
+ghost use Rattle.tq_event.specs.History.{IsHistory};
 ghost use Rattle.tq_table.specs.Sink.{AppendsPrefix, one_more};
 ghost use Rattle.tq_table.specs.Text.{text_of};
 ghost use Rattle.tq_table.specs.declared.table.Table.{Table as AnyTable};
@@ -10,20 +11,19 @@ ghost use Rattle.tq_plan.specs.Answers.{IsAnswer};
 
 use std::alloc::{AllocError, Global};
 use std::io::Write;
-use tq_event::laws::loaded_is_within;
+use tq_event::laws::{loaded_is_history, loaded_is_within};
 use tq_event::{LoadFault, LoadFaultKind, Loaded, MAX_EVENTS, TableFile, load};
 use tq_plan::{PlanFault, answer_list, plan};
 use tq_sql::{SqlFault, SqlFaultKind, Statement, read};
 use tq_table::{Sink, Table, WriteFault, write_table};
 
 /// Why there is no answer: the first fault of the files, of the statement's text, or of its plan; or
-/// a plan of this kind is not answered yet; or the sink failed; or a growth was refused.
+/// the sink failed; or a growth was refused.
 #[derive(Clone, Copy, Debug, PartialEq, Eq)]
 pub enum AnswerFault {
     Load(LoadFault),
     Sql(SqlFault),
     Plan(PlanFault),
-    NotYet,
     Write,
     OutOfMemory,
 }
@@ -89,14 +89,12 @@ fn answer_statement(
     loaded: &Loaded,
     statement: &Statement,
 ) -> Result<Table, AnswerFault>
-    requires { length loaded.now.events ≤ 16777216 }
+    requires few { length loaded.now.events ≤ 16777216 }
+    requires history { IsHistory loaded.now.catalogue loaded.now.events }
     ensures answer { IfOk result (IsAnswer loaded.now.catalogue statement.now loaded.now.events (length loaded.now.events)) }
     ensures fault { IfErr result (IsStatementFault loaded.now.catalogue statement.now) }
 {
     let plan = plan(alloc, &loaded.catalogue, statement)?;
-    if !plan.can_run() {
-        return Err(AnswerFault::NotYet);
-    }
     let events = loaded.events.get();
     let table = answer_list(alloc, events, events.len() as u32, &plan)?;
     Ok(table)
@@ -109,14 +107,14 @@ pub fn answer(alloc: Global, files: &[TableFile], bytes: &[u8]) -> Result<Table,
 {
     let loaded = load(alloc, files, MAX_EVENTS)?;
     loaded_is_within();
+    loaded_is_history();
     let statement = read(alloc, bytes)?;
     answer_statement(alloc, &loaded, &statement)
 }
 
 /// Writes the text of the answer of the statement that the bytes make, over the tables of the files.
-/// The first fault is answered: of the files, of the statement, of its plan; `NotYet` where the plan
-/// is one that is not answered yet. Nothing is written before the answer is whole; after `Write` a
-/// prefix of it went out. All workers, 1 to 16, are one.
+/// The first fault is answered: of the files, of the statement, of its plan. Nothing is written before
+/// the answer is whole; after `Write` a prefix of it went out. All workers, 1 to 16, are one.
 pub fn answer_bytes<W: Write>(
     alloc: Global,
     files: &[TableFile],

@@ -22,7 +22,6 @@ pub enum Refusal {
     Load(LoadFault),
     Statement(SqlFault),
     Plan(PlanFault),
-    NotYet,
     WriteFailed,
     OutOfMemory,
 }
@@ -56,7 +55,6 @@ impl From<AnswerFault> for Refusal {
             AnswerFault::Load(fault) => Refusal::Load(fault),
             AnswerFault::Sql(fault) => Refusal::Statement(fault),
             AnswerFault::Plan(fault) => Refusal::Plan(fault),
-            AnswerFault::NotYet => Refusal::NotYet,
             AnswerFault::Write => Refusal::WriteFailed,
             AnswerFault::OutOfMemory => Refusal::OutOfMemory,
         }
@@ -104,7 +102,6 @@ impl Refusal {
                 writeln!(errors, "tq: statement {kind:?} at {at}")
             }
             Refusal::Plan(fault) => writeln!(errors, "tq: plan {fault:?}"),
-            Refusal::NotYet => errors.write_all(b"tq: NotYet\n"),
             Refusal::WriteFailed => errors.write_all(b"tq: write failed\n"),
             Refusal::OutOfMemory => errors.write_all(b"tq: OutOfMemory\n"),
         }

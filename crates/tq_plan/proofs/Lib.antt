@@ -4,3 +4,8 @@ pub mod AnswerLemmas
 pub mod RowLemmas
 pub mod BagLemmas
 pub mod RunningLemmas
+pub mod SourceLemmas
+pub mod GroupBags
+pub mod GroupingLemmas
+pub mod NumberLemmas
+pub mod PlanLemmas

@@ -20,7 +20,7 @@ use Rattle.tq_plan.specs.Answers.{lists_at, times_at, times_in, times_in_right}
 use Rattle.tq_agg.specs.Grouping.{Row}
 use Rattle.tq_plan.specs.Ordinary.{groups, is_aggregate, ordinary, output_value, product_of}
 use Rattle.tq_plan.specs.Rows.{kept, kept_rows, with_some}
-use Rattle.tq_plan.specs.Running.{output_place, the_tables}
+use Rattle.tq_plan.specs.Running.{no_group, output_place}
 use Rattle.tq_plan.proofs.BagLemmas.{same_mapped}
 
 -- ---- what holds where a call succeeds
@@ -30,6 +30,15 @@ if_ok_each (Ok a) P each = each
 if_ok_each (Err e) P each = tt
 
 -- ---- rows that are kept
+
+pub kept_passing : (test : Option Test) (rows : List Row) → kept_rows (kept test None) rows ≡ selection test rows
+kept_passing test [] = refl
+kept_passing test (row ∷ rows) = by_test (admits test row) (kept_passing test rows)
+  where
+    by_test : (b : Bool) → kept_rows (kept test None) rows ≡ selection test rows
+        → with_some (if b then Some row else None) (kept_rows (kept test None) rows) ≡ cond b (row ∷ selection test rows) (selection test rows)
+    by_test true rest = ap (λ l. row ∷ l) rest
+    by_test false rest = rest
 
 pub kept_all : (rows : List Row) → kept_rows (kept None None) rows ≡ rows
 kept_all [] = refl
@@ -64,44 +73,18 @@ ordinary_alone query lists no_group none =
     ap (λ g. map (λ group. map (output_value group) query.outputs) (groups g query.outputs (selection query.test (product_of lists)))) no_group
     ∙ rw none (rows_alone (selection query.test (product_of lists)) query.outputs none)
 
-abbrev listed : Option ℕ → List ℕ
-listed None = []
-listed (Some b) = b ∷ []
+no_places : (group : List ℕ) → no_group group ≡ true → group ≡ []
+no_places [] none = refl
+no_places (first ∷ more) none = cc
 
-abbrev all_listed : Option (ℕ × Option ℕ) → List ℕ
-all_listed None = []
-all_listed (Some tables) = tables.0 ∷ listed tables.1
-
-pub one_table : (tables : List ℕ) (a : ℕ) → the_tables tables ≡ Some (a, None) → tables ≡ a ∷ []
-one_table [] a is = cc
-one_table (b ∷ []) a is = ap all_listed is
-one_table (b ∷ c ∷ []) a is = ap all_listed is
-one_table (b ∷ c ∷ d ∷ more) a is = cc
-
-pub two_tables : (tables : List ℕ) (a b : ℕ) → the_tables tables ≡ Some (a, Some b) → tables ≡ a ∷ b ∷ []
-two_tables [] a b is = cc
-two_tables (c ∷ []) a b is = ap all_listed is
-two_tables (c ∷ d ∷ []) a b is = ap all_listed is
-two_tables (c ∷ d ∷ e ∷ more) a b is = cc
-
--- the rows of one source
-pub of_one : (history : List Event) (query : QueryPlan) (table t : ℕ) → query.tables ≡ table ∷ [] → query.group ≡ [] → list_any is_aggregate query.outputs ≡ false
-    → kept_rows (kept query.test (Some (map output_place query.outputs))) (valid_at history (length history) table t) ≡ ordinary query (lists_at history (length history) t query.tables)
-of_one history query table t tables no_group none =
-    kept_selected query.test (map output_place query.outputs) (valid_at history (length history) table t)
-    ∙ sym (ap (λ ts. ordinary query (lists_at history (length history) t ts)) tables ∙ ordinary_alone query (valid_at history (length history) table t ∷ []) no_group none)
-
--- the rows of two sources
-pub of_two : (history : List Event) (query : QueryPlan) (a b t : ℕ) (left right joined : List Row) (v : Row) → query.tables ≡ a ∷ b ∷ [] → query.group ≡ [] → list_any is_aggregate query.outputs ≡ false
-    → left ≡ valid_at history (length history) a t → right ≡ valid_at history (length history) b t
-    → ((u : Row) → occurrences joined u ≡ occurrences (selection query.test (product left right)) u)
-    → occurrences (map (projection (map output_place query.outputs)) joined) v ≡ times_in history (length history) query v t
-of_two history query a b t left right joined v tables no_group none is_left is_right counted =
-    same_mapped (projection (map output_place query.outputs)) joined (selection query.test (product left right)) counted v
-    ∙ ap (λ l. occurrences (map (projection (map output_place query.outputs)) (selection query.test (product l right))) v) is_left
-    ∙ ap (λ l. occurrences (map (projection (map output_place query.outputs)) (selection query.test (product (valid_at history (length history) a t) l))) v) is_right
-    ∙ ap (λ l. occurrences l v) (sym (ordinary_alone query (valid_at history (length history) a t ∷ valid_at history (length history) b t ∷ []) no_group none))
-    ∙ sym (ap (λ ts. occurrences (ordinary query (lists_at history (length history) t ts)) v) tables)
+-- the values at the items' places of all rows that pass
+pub shown_alone : (history : List Event) (query : QueryPlan) (window : Period) (places : List ℕ) (out : List Fragment) → no_group query.group ≡ true → list_any is_aggregate query.outputs ≡ false → places ≡ map output_place query.outputs
+    → HasInside window out (λ t v. occurrences (map (projection places) (selection query.test (product_of (lists_at history (length history) t query.tables)))) v)
+    → HasInside window out (λ t v. times_in history (length history) query v t)
+shown_alone history query window places out alone none same shown t v inside =
+    shown t v inside
+    ∙ ap (λ ps. occurrences (map (projection ps) (selection query.test (product_of (lists_at history (length history) t query.tables)))) v) same
+    ∙ ap (λ l. occurrences l v) (sym (ordinary_alone query (lists_at history (length history) t query.tables) (no_places query.group alone) none))
 
 -- ---- plans
 
@@ -162,25 +145,3 @@ first_events history n plan v t =
 pub if_ok_both : {A E : Type 0} (r : Result A E) (P Q : A → Type 0) → IfOk r P → IfOk r Q → IfOk r (λ a. P a × Q a)
 if_ok_both (Ok a) P Q p q = (p, q)
 if_ok_both (Err e) P Q p q = tt
-
-pub selected_inside : (history : List Event) (query : QueryPlan) (table : ℕ) (window : Period) (test : Option Test) (places : List ℕ) (out : List Fragment)
-    → query.tables ≡ table ∷ [] → query.group ≡ [] → list_any is_aggregate query.outputs ≡ false → test ≡ query.test → places ≡ map output_place query.outputs
-    → ((t : ℕ) → at out t ≡ (if holds window t then kept_rows (kept test (Some places)) (valid_at history (length history) table t) else []))
-    → HasInside window out (λ t v. times_in history (length history) query v t)
-selected_inside history query table window test places out tables no_group none same_test same_places each t v inside =
-    ap (λ l. occurrences l v)
-    (each t
-    ∙ ap (λ b. if b then kept_rows (kept test (Some places)) (valid_at history (length history) table t) else []) inside
-    ∙ ap (λ s. kept_rows (kept s (Some places)) (valid_at history (length history) table t)) same_test
-    ∙ ap (λ ps. kept_rows (kept query.test (Some ps)) (valid_at history (length history) table t)) same_places
-    ∙ of_one history query table t tables no_group none)
-
-pub joined_inside : (history : List Event) (query : QueryPlan) (a b : ℕ) (window : Period) (places : List ℕ) (left right joined out : List Fragment)
-    → query.tables ≡ a ∷ b ∷ [] → query.group ≡ [] → list_any is_aggregate query.outputs ≡ false → places ≡ map output_place query.outputs
-    → ((t : ℕ) → IsTrue (holds window t) → at left t ≡ valid_at history (length history) a t) → ((t : ℕ) → IsTrue (holds window t) → at right t ≡ valid_at history (length history) b t)
-    → HasInside window joined (λ t v. occurrences (selection query.test (product (at left t) (at right t))) v)
-    → ((t : ℕ) → at out t ≡ map (projection places) (at joined t))
-    → HasInside window out (λ t v. times_in history (length history) query v t)
-joined_inside history query a b window places left right joined out tables no_group none same_places is_left is_right counted each t v inside =
-    ap (λ l. occurrences l v) (each t ∙ ap (λ ps. map (projection ps) (at joined t)) same_places)
-    ∙ of_two history query a b t (at left t) (at right t) (at joined t) v tables no_group none (is_left t inside) (is_right t inside) (λ u. counted t u inside)

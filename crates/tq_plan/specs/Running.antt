@@ -1,36 +1,66 @@
--- Which plans can be evaluated today: those of one or two sources with no group, count or sum.
-use Rattle.std.specs.Prelude.{ℕ, Bool, true, false, not, ◌&&◌, List, [], ◌∷◌, Option, Some, None}
-use Rattle.std.specs.List.{list_any}
-use Rattle.std.specs.Option.{is_some}
+-- Evaluated queries: which items may stand, which values are summed, and where the items stand in the
+-- row of a group.
+use Rattle.std.specs.Prelude.{◌≡◌, ℕ, ◌+◌, ◌==◌, FitsSigned, Bool, true, false, not, List, [], ◌∷◌, length, position, unwrap_or, All, Ok}
+use Rattle.std.specs.Int.{w64}
+use Rattle.std.specs.List.{list_all, list_any}
+use Rattle.tq_base.specs.declared.catalogue.Catalogue.{Catalogue}
+use Rattle.tq_event.specs.declared.event.Event.{Event}
+use Rattle.tq_event.specs.declared.event.Event.TheVariants.{Start, End}
+use Rattle.tq_agg.specs.Grouping.{number_of}
+use Rattle.tq_sql.specs.declared.statement.Statement.{Statement}
 use Rattle.tq_plan.specs.declared.plans.Output.{Output}
 use Rattle.tq_plan.specs.declared.plans.Output.TheVariants.{Column, Count, Sum}
 use Rattle.tq_plan.specs.declared.plans.Plan.{Plan}
 use Rattle.tq_plan.specs.declared.plans.QueryPlan.{QueryPlan}
 use Rattle.tq_plan.specs.Ordinary.{is_aggregate}
+use Rattle.tq_plan.specs.Plans.{is_groupable, plan_of}
 
--- the one table, or the two
-abbrev pub the_tables : List ℕ → Option (ℕ × Option ℕ)
-the_tables [] = None
-the_tables (a ∷ []) = Some (a, None)
-the_tables (a ∷ b ∷ []) = Some (a, Some b)
-the_tables (a ∷ b ∷ c ∷ more) = None
+-- the plan is that of a statement
+pub record IsPlan (plan : Plan) : Type 0 where
+  pub catalogue : Catalogue
+  pub statement : Statement
+  pub planned : plan_of catalogue statement ≡ Ok plan
+
+-- the numbers that the event brings are of 64 signed bits
+abbrev pub HasNumbers : Event → Type 0
+HasNumbers (Start table values at) = All (λ value. FitsSigned w64 (number_of value)) values
+HasNumbers (End table row at) = Unit {0}
 
 abbrev pub no_group : List ℕ → Bool
 no_group [] = true
 no_group (first ∷ more) = false
 
-abbrev pub query_runs : QueryPlan → Bool
-query_runs query = is_some (the_tables query.tables) && (no_group query.group && not (list_any is_aggregate query.outputs))
+-- whether the item may stand: a column where it is one of the groups', or nothing is grouped or counted;
+-- a sum where there are groups
+abbrev pub may_stand : Bool → List ℕ → Output → Bool
+may_stand counted group (Column place) = is_groupable counted group place
+may_stand counted group Count = true
+may_stand counted group (Sum place) = not (no_group group)
 
-abbrev pub right_runs : Option QueryPlan → Bool
-right_runs None = true
-right_runs (Some query) = query_runs query
-
-abbrev pub plan_runs : Plan → Bool
-plan_runs plan = query_runs plan.left && right_runs plan.right
+abbrev pub items_stand : QueryPlan → Bool
+items_stand query = list_all (may_stand (list_any is_aggregate query.outputs) query.group) query.outputs
 
 -- the place of the value that an item shows
 abbrev pub output_place : Output → ℕ
 output_place (Column place) = place
 output_place Count = 0
 output_place (Sum place) = place
+
+-- the places of the values that are summed
+abbrev pub summed_places : List Output → List ℕ
+summed_places [] = []
+summed_places (Column place ∷ outputs) = summed_places outputs
+summed_places (Count ∷ outputs) = summed_places outputs
+summed_places (Sum place ∷ outputs) = place ∷ summed_places outputs
+
+-- where the place stands among these
+abbrev pub number_in : List ℕ → ℕ → ℕ
+number_in places place = unwrap_or (position (λ p. p == place) places) 0
+
+-- where the items stand in the row of a group: the keys first, then the count, then the sums, of which
+-- the next one stands at the given place
+abbrev pub item_places : List ℕ → ℕ → List Output → List ℕ
+item_places group next [] = []
+item_places group next (Column place ∷ outputs) = number_in group place ∷ item_places group next outputs
+item_places group next (Count ∷ outputs) = length group ∷ item_places group next outputs
+item_places group next (Sum place ∷ outputs) = next ∷ item_places group (next + 1) outputs

@@ -3,18 +3,20 @@
 //! `plan` looks up the tables and columns that a statement names and refuses a statement that means
 //! nothing, by its first fault. What a plan's answer is, for every history and every count of its
 //! events, stands in `specs/`: at each instant of the window the ordinary statement over the rows
-//! then valid. `answer_list` evaluates the plans that can run today over a list of events.
+//! then valid. `answer_list` evaluates every plan over a list of events.
 #![tactic(auto)]
 
 mod answering;
 mod conditions;
 mod fault;
+mod grouping;
 pub mod laws;
 mod planning;
 mod plans;
 mod queries;
 mod rows;
 mod scope;
+mod sources;
 mod windows;
 
 pub use answering::answer_list;

@@ -112,7 +112,7 @@ fn a_table_of_no_rows_gives_the_header(rt: HostRuntime) -> Result<(), Fail> {
 }
 
 #[test]
-fn each_of_many_copies_has_its_row(rt: HostRuntime) -> Result<(), Fail> {
+fn each_of_many_copies_has_its_row_and_is_counted(rt: HostRuntime) -> Result<(), Fail> {
     let mut bytes = b"k:int,from,to\n".to_vec(rt.alloc())?;
     let mut wanted = b"k,from,to\n".to_vec(rt.alloc())?;
     for place in 0..33u32 {
@@ -129,6 +129,12 @@ fn each_of_many_copies_has_its_row(rt: HostRuntime) -> Result<(), Fail> {
         &[(b"full", &bytes)],
         b"VALIDTIME SELECT k FROM full",
         &wanted,
+    )?;
+    assert_answers(
+        &rt,
+        &[(b"full", &bytes)],
+        b"VALIDTIME SELECT COUNT(*) FROM full",
+        b"count,from,to\n0,0,1\n4,2,forever\n33,1,2\n",
     )
 }
 
@@ -205,7 +211,7 @@ fn a_difference_counts_duplicates(rt: HostRuntime) -> Result<(), Fail> {
 }
 
 #[test]
-fn a_condition_on_the_key_within_a_window(rt: HostRuntime) -> Result<(), Fail> {
+fn a_condition_on_the_key_and_a_count_within_a_window(rt: HostRuntime) -> Result<(), Fail> {
     let mut bytes = String::from_str(rt.alloc(), "k:int,from,to\n")?;
     for i in 0..200u32 {
         writeln!(bytes, "{i},{i},{}", i + 100)?;
@@ -215,6 +221,12 @@ fn a_condition_on_the_key_within_a_window(rt: HostRuntime) -> Result<(), Fail> {
         &[(b"big", bytes.as_bytes())],
         b"VALIDTIME PERIOD '[150 - 151)' SELECT k FROM big WHERE k < 53",
         b"k,from,to\n51,150,151\n52,150,151\n",
+    )?;
+    assert_answers(
+        &rt,
+        &[(b"big", bytes.as_bytes())],
+        b"VALIDTIME PERIOD '[99 - 201)' SELECT COUNT(*) FROM big",
+        b"count,from,to\n99,200,201\n100,99,200\n",
     )
 }
 
@@ -232,21 +244,75 @@ fn the_least_and_the_greatest_key_are_found(rt: HostRuntime) -> Result<(), Fail>
 }
 
 #[test]
-fn counts_sums_and_groups_are_not_answered_yet(rt: HostRuntime) -> Result<(), Fail> {
-    for statement in [
-        b"VALIDTIME SELECT dept, COUNT(*) FROM emp GROUP BY dept".as_slice(),
-        b"VALIDTIME SELECT COUNT(*) FROM emp",
-        b"VALIDTIME SELECT SUM(emp) FROM emp GROUP BY dept",
-        b"VALIDTIME SELECT dept FROM emp GROUP BY dept",
-        b"VALIDTIME SELECT emp FROM emp EXCEPT ALL SELECT COUNT(*) FROM emp",
-    ] {
-        assert_refuses(&rt, &[(b"emp", EMP)], statement, AnswerFault::NotYet)?;
-    }
-    Ok(())
+fn the_rows_of_each_group_are_counted(rt: HostRuntime) -> Result<(), Fail> {
+    assert_answers(
+        &rt,
+        &[(b"emp", EMP)],
+        b"VALIDTIME SELECT dept, COUNT(*) FROM emp GROUP BY dept",
+        b"dept,count,from,to\nfood,1,5,forever\ntoys,1,10,15\ntoys,1,25,30\ntoys,2,15,25\n",
+    )
 }
 
 #[test]
-fn what_is_not_answered_yet_is_checked(rt: HostRuntime) -> Result<(), Fail> {
+fn a_count_without_groups_has_a_row_where_nothing_is_valid(rt: HostRuntime) -> Result<(), Fail> {
+    assert_answers(
+        &rt,
+        &[(b"emp", EMP)],
+        b"VALIDTIME SELECT COUNT(*) FROM emp",
+        b"count,from,to\n0,0,5\n1,5,10\n1,30,forever\n2,10,15\n2,25,30\n3,15,25\n",
+    )?;
+    assert_answers(
+        &rt,
+        &[(b"none", b"k:int,from,to\n")],
+        b"VALIDTIME SELECT COUNT(*) AS c FROM none",
+        b"c,from,to\n0,0,forever\n",
+    )
+}
+
+#[test]
+fn a_sum_may_be_larger_than_what_a_table_holds(rt: HostRuntime) -> Result<(), Fail> {
+    assert_answers(
+        &rt,
+        &[(
+            b"s",
+            b"k:int,v:int,from,to\n1,9223372036854775807,0,4\n1,9223372036854775807,2,6\n",
+        )],
+        b"VALIDTIME SELECT k, SUM(v) FROM s GROUP BY k",
+        b"k,sum,from,to\n1,9223372036854775807,0,2\n1,9223372036854775807,4,6\n1,18446744073709551614,2,4\n",
+    )
+}
+
+#[test]
+fn a_group_need_not_show_its_key(rt: HostRuntime) -> Result<(), Fail> {
+    assert_answers(
+        &rt,
+        &[(b"emp", EMP)],
+        b"VALIDTIME SELECT SUM(emp) FROM emp GROUP BY dept",
+        b"sum,from,to\n1,10,15\n1,25,30\n3,5,forever\n3,15,25\n",
+    )
+}
+
+#[test]
+fn sums_over_a_join_and_counts_in_a_difference(rt: HostRuntime) -> Result<(), Fail> {
+    assert_answers(
+        &rt,
+        &[
+            (b"emp", EMP),
+            (b"sal", b"emp:int,pay:int,from,to\n1,10,0,12\n1,20,12,40\n2,30,0,40\n"),
+        ],
+        b"VALIDTIME SELECT SUM(pay) AS total, dept, COUNT(*) FROM emp, sal WHERE emp.emp = sal.emp GROUP BY dept",
+        b"total,dept,count,from,to\n10,toys,1,10,12\n20,toys,1,12,15\n20,toys,1,25,30\n50,toys,2,15,25\n",
+    )?;
+    assert_answers(
+        &rt,
+        &[(b"emp", EMP)],
+        b"VALIDTIME SELECT emp FROM emp EXCEPT ALL SELECT COUNT(*) FROM emp",
+        b"emp,from,to\n1,15,25\n2,15,25\n3,5,forever\n",
+    )
+}
+
+#[test]
+fn a_statement_without_a_meaning_is_refused(rt: HostRuntime) -> Result<(), Fail> {
     for (statement, fault) in [
         (
             b"VALIDTIME SELECT name, COUNT(*) FROM emp".as_slice(),

@@ -39,10 +39,6 @@ fn a_refusal_prints_its_line(rt: HostRuntime) -> Result<(), Fail> {
             b"tq: plan UnknownTable\n".as_slice(),
         ),
         (
-            Refusal::from(AnswerFault::NotYet),
-            b"tq: NotYet\n".as_slice(),
-        ),
-        (
             Refusal::from(AnswerFault::Write),
             b"tq: write failed\n".as_slice(),
         ),

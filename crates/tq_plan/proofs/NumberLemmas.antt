@@ -1,0 +1,160 @@
+-- Numbers of 64 signed bits: what events bring, and what is made of it.
+use Rattle.std.proofs.Common.{◌≡◌, ℕ, zero, suc, ◌+◌, ◌<◌, ◌≤◌, ◌==◌, ◌&&◌, nat_le, nat_lt, Bool, true, false, cond, List, [], ◌∷◌, ◌++◌, map, length, take, get_or, Option, refl, sym, ap, ◌∙◌, subst, arith}
+use Rattle.std.specs.Prelude.{All, FitsSigned, IsTrue, pos, filter, if◌then◌else◌}
+use Rattle.std.specs.Int.{w64}
+use Rattle.std.specs.List.{flat_map}
+use Rattle.std.proofs.lemmas.Bool.Decides.{nat_tests}
+use Rattle.std.proofs.lemmas.Int.{fits_signed_from_abs}
+use Rattle.std.proofs.lemmas.List.Concat.{flat_map-cons}
+use Rattle.std.proofs.lemmas.List.Elements.{All-append, All-cons, All-filter, All-map, All-tail, All-weaker}
+use Rattle.std.proofs.lemmas.List.Sums.{sum_by-cons}
+use Rattle.tq_base.specs.declared.value.Value.{Value}
+use Rattle.tq_base.specs.declared.fragment.Fragment.{Fragment}
+use Rattle.tq_base.specs.declared.period.Period.{Period}
+use Rattle.tq_base.specs.Fragments.{at, copies, occurrences}
+use Rattle.tq_base.specs.Periods.{holds}
+use Rattle.tq_base.specs.ValueOrder.{eq_from_same}
+use Rattle.tq_event.specs.declared.event.Event.{Event}
+use Rattle.tq_event.specs.declared.event.Event.TheVariants.{Start, End}
+use Rattle.tq_event.specs.History.{Row as AnyRow, end_of, rows_from, valid_at}
+use Rattle.tq_ops.specs.declared.condition.Test.{Test}
+use Rattle.tq_ops.specs.Conditions.{value_at}
+use Rattle.tq_ops.specs.Ordinary.{HasInside, IsEmptyOutside, admits, product, selection}
+use Rattle.tq_agg.specs.Grouping.{AreSummable, Row, number_of}
+use Rattle.tq_plan.specs.Answers.{lists_at}
+use Rattle.tq_plan.specs.Ordinary.{product_of}
+use Rattle.tq_plan.specs.Running.{HasNumbers}
+use Rattle.tq_plan.proofs.BagLemmas.{is_it, one_if, split}
+
+abbrev pub IsNumber : Value → Type 0
+IsNumber value = FitsSigned w64 (number_of value)
+
+abbrev pub AreNumbers : Row → Type 0
+AreNumbers row = All IsNumber row
+
+-- what holds of the first, and of the others
+first_of : {X : Type 0} (P : X → Type 0) (x : X) (xs : List X) → All P (x ∷ xs) → P x
+first_of P x xs all = all 0 x (omega arith)
+
+others_of : {X : Type 0} (P : X → Type 0) (x : X) (xs : List X) → All P (x ∷ xs) → All P xs
+others_of P x xs all = All-tail P x xs all
+
+none_of : {X : Type 0} (P : X → Type 0) → All P []
+none_of P k d less = absurd (omega (arith, less))
+
+-- ---- rows of a table
+
+rows_have : (table next : ℕ) (events : List Event) → All HasNumbers events → All (λ (row : AnyRow). AreNumbers row.values) (rows_from table next events)
+rows_have table next [] all = none_of (λ (row : AnyRow). AreNumbers row.values)
+rows_have table next (Start t v when ∷ events) all = by_table (t == table) (rows_have table (next + 1) events (others_of HasNumbers (Start t v when) events all)) (rows_have table next events (others_of HasNumbers (Start t v when) events all))
+  where
+    HasThem : List AnyRow → Type 0
+    HasThem rows = All (λ (row : AnyRow). AreNumbers row.values) rows
+
+    new : AnyRow
+    new = record { number = next; values = v; from = when; to = end_of table next events }
+
+    by_table : (b : Bool) → HasThem (rows_from table (next + 1) events) → HasThem (rows_from table next events)
+        → HasThem (if b then new ∷ rows_from table (next + 1) events else rows_from table next events)
+    by_table true after same = All-cons (λ (row : AnyRow). AreNumbers row.values) new (rows_from table (next + 1) events) (first_of HasNumbers (Start t v when) events all) after
+    by_table false after same = same
+rows_have table next (End t r when ∷ events) all = rows_have table next events (others_of HasNumbers (End t r when) events all)
+
+taken_have : (n : ℕ) (events : List Event) → All HasNumbers events → All HasNumbers (take n events)
+taken_have zero events all = none_of HasNumbers
+taken_have (suc n) [] all = none_of HasNumbers
+taken_have (suc n) (event ∷ events) all = All-cons HasNumbers event (take n events) (first_of HasNumbers event events all) (taken_have n events (others_of HasNumbers event events all))
+
+pub first_have : (n : ℕ) (events : List Event) → All HasNumbers events → All HasNumbers (take n events)
+first_have = taken_have
+
+valid_have : (events : List Event) (n table t : ℕ) → All HasNumbers events → All AreNumbers (valid_at events n table t)
+valid_have events n table t all =
+    All-map AreNumbers (λ (row : AnyRow). row.values) (filter (λ (row : AnyRow). nat_le row.from t && nat_lt t row.to) (rows_from table 0 (take n events)))
+    (All-filter (λ (row : AnyRow). nat_le row.from t && nat_lt t row.to) (λ (row : AnyRow). AreNumbers row.values) (rows_from table 0 (take n events))
+    (rows_have table 0 (take n events) (taken_have n events all)))
+
+-- ---- rows of the sources' product
+
+pairs_have : (row : Row) (right : List Row) → AreNumbers row → All AreNumbers right → All AreNumbers (map (λ r. row ++ r) right)
+pairs_have row [] is all = none_of AreNumbers
+pairs_have row (r ∷ right) is all =
+    All-cons AreNumbers (row ++ r) (map (λ r. row ++ r) right) (All-append IsNumber row r is (first_of AreNumbers r right all)) (pairs_have row right is (others_of AreNumbers r right all))
+
+product_has : (left right : List Row) → All AreNumbers left → All AreNumbers right → All AreNumbers (product left right)
+product_has [] right on_left on_right = none_of AreNumbers
+product_has (row ∷ left) right on_left on_right =
+    subst (All AreNumbers) (sym (flat_map-cons (λ l. map (λ r. l ++ r) right) row left))
+    (All-append AreNumbers (map (λ r. row ++ r) right) (product left right) (pairs_have row right (first_of AreNumbers row left on_left) on_right)
+    (product_has left right (others_of AreNumbers row left on_left) on_right))
+
+products_have : (events : List Event) (n t : ℕ) (tables : List ℕ) → All HasNumbers events → All AreNumbers (product_of (lists_at events n t tables))
+products_have events n t [] all = All-cons AreNumbers [] [] (none_of IsNumber) (none_of AreNumbers)
+products_have events n t (table ∷ []) all = valid_have events n table t all
+products_have events n t (table ∷ next ∷ tables) all =
+    product_has (valid_at events n table t) (product_of (lists_at events n t (next ∷ tables))) (valid_have events n table t all) (products_have events n t (next ∷ tables) all)
+
+-- ---- fragments
+
+in_both : (rows found : List Row) (v : Row) → occurrences found v ≡ occurrences rows v → 0 < occurrences found v → All AreNumbers rows → AreNumbers v
+in_both rows found v same some all =
+    let s = split rows v (omega (arith, same, some)) in
+    middle s.before s.after (subst (All AreNumbers) s.is all)
+  where
+    middle : (before after : List Row) → All AreNumbers (before ++ v ∷ after) → AreNumbers v
+    middle [] after all = first_of AreNumbers v after all
+    middle (row ∷ before) after all = middle before after (others_of AreNumbers row (before ++ v ∷ after) all)
+
+starts_inside : (f : Fragment) → holds f.period f.period.start ≡ true
+starts_inside f = let ordered : f.period.start < f.period.end = f.period.ordered in grind (arith, nat_tests)
+
+-- a fragment's values stand among those valid at its start
+stands : (out : List Fragment) (k : ℕ) (d : Fragment) → k < length out → 0 < occurrences (at out (get_or out k d).period.start) (get_or out k d).values
+stands [] k d less = absurd (omega (arith, less))
+stands (f ∷ out) zero d less = by_start (holds f.period f.period.start) (starts_inside f)
+  where
+    by_start : (b : Bool) → b ≡ true → 0 < occurrences (map (λ (g : Fragment). g.values) (cond b (f ∷ filter (λ (g : Fragment). holds g.period f.period.start) out) (filter (λ (g : Fragment). holds g.period f.period.start) out))) f.values
+    by_start true is = omega (arith, sum_by-cons (is_it f.values) f.values (at out f.period.start), ap one_if (eq_from_same f.values f.values refl))
+    by_start false is = cc
+stands (f ∷ out) (suc k) d less = by_first (holds f.period (get_or out k d).period.start) (stands out k d (omega (arith, less)))
+  where
+    t : ℕ
+    t = (get_or out k d).period.start
+
+    by_first : (b : Bool) → 0 < occurrences (at out t) (get_or out k d).values
+        → 0 < occurrences (map (λ (g : Fragment). g.values) (cond b (f ∷ filter (λ (g : Fragment). holds g.period t) out) (filter (λ (g : Fragment). holds g.period t) out))) (get_or out k d).values
+    by_first true some = omega (arith, some, sum_by-cons (is_it (get_or out k d).values) f.values (at out t))
+    by_first false some = some
+
+-- what holds of all rows valid at some instant holds of each fragment
+pub fragments_have : (window : Period) (out : List Fragment) (rows : ℕ → List Row) → HasInside window out (λ t v. occurrences (rows t) v) → IsEmptyOutside window out
+    → ((t : ℕ) → All AreNumbers (rows t)) → All (λ (f : Fragment). AreNumbers f.values) out
+fragments_have window out rows inside outside all k d less = by_window (holds window f.period.start) refl
+  where
+    f : Fragment
+    f = get_or out k d
+
+    by_window : (b : Bool) → holds window f.period.start ≡ b → AreNumbers f.values
+    by_window true is = in_both (rows f.period.start) (at out f.period.start) f.values (inside f.period.start f.values is) (stands out k d less) (all f.period.start)
+    by_window false is = absurd (omega (arith, stands out k d less, ap (λ l. occurrences l f.values) (outside f.period.start is)))
+
+zero_fits : FitsSigned w64 (pos 0)
+zero_fits = fits_signed_from_abs w64 (pos 0) (omega arith)
+
+number_at : (row : Row) (place : ℕ) → AreNumbers row → IsNumber (value_at row place)
+number_at [] place all = zero_fits
+number_at (value ∷ row) zero all = first_of IsNumber value row all
+number_at (value ∷ row) (suc place) all = number_at row place (others_of IsNumber value row all)
+
+summable : (places : List ℕ) (row : Row) → AreNumbers row → AreSummable places row
+summable [] row all = none_of (λ place. IsNumber (value_at row place))
+summable (place ∷ places) row all = All-cons (λ p. IsNumber (value_at row p)) place places (number_at row place all) (summable places row all)
+
+-- the values of the rows that pass can be summed
+pub passing_sums : (events : List Event) (window : Period) (tables : List ℕ) (test : Option Test) (places : List ℕ) (out : List Fragment)
+    → HasInside window out (λ t v. occurrences (selection test (product_of (lists_at events (length events) t tables))) v) → IsEmptyOutside window out
+    → All HasNumbers events → All (λ (f : Fragment). AreSummable places f.values) out
+passing_sums events window tables test places out inside outside all =
+    All-weaker (λ (f : Fragment). AreNumbers f.values) (λ (f : Fragment). AreSummable places f.values) (λ f is. summable places f.values is) out
+    (fragments_have window out (λ t. selection test (product_of (lists_at events (length events) t tables))) inside outside
+    (λ t. All-filter (admits test) AreNumbers (product_of (lists_at events (length events) t tables)) (products_have events (length events) t tables all)))

@@ -1,0 +1,161 @@
+-- The items of a statement's plan may stand.
+use Rattle.std.proofs.Common.{◌≡◌, ℕ, ◌&&◌, ◌||◌, Bool, true, false, not, if◌then◌else◌, List, [], ◌∷◌, ◌++◌, map, Option, Some, None, Result, Ok, Err, refl, sym, ap, ◌∙◌, subst}
+use Rattle.std.specs.List.{list_all, list_any}
+use Rattle.std.specs.Option.{is_some, unwrap_or}
+use Rattle.std.specs.Result.{result_unwrap_or}
+use Rattle.std.proofs.lemmas.Bool.{false≢true}
+use Rattle.std.proofs.lemmas.List.{map-append}
+use Rattle.std.proofs.lemmas.List.Folds.{list_all-append, list_any-append}
+use Rattle.tq_base.specs.declared.catalogue.Kind.{Kind}
+use Rattle.tq_base.specs.declared.catalogue.Kind.TheVariants as kind
+use Rattle.tq_base.specs.declared.catalogue.Catalogue.{Catalogue}
+use Rattle.tq_base.specs.declared.period.Period.{Period}
+use Rattle.tq_event.specs.Loading.{and_then}
+use Rattle.tq_ops.specs.declared.condition.Test.{Test}
+use Rattle.tq_sql.specs.declared.statement.ColumnRef.{ColumnRef}
+use Rattle.tq_sql.specs.declared.statement.What.{What}
+use Rattle.tq_sql.specs.declared.statement.What.TheVariants as what
+use Rattle.tq_sql.specs.declared.statement.Item.{Item}
+use Rattle.tq_sql.specs.declared.statement.Query.{Query}
+use Rattle.tq_plan.specs.declared.fault.PlanFault.{PlanFault}
+use Rattle.tq_plan.specs.declared.fault.PlanFault.TheVariants.{NotGrouped, UnequalColumns}
+use Rattle.tq_plan.specs.declared.plans.Output.{Output}
+use Rattle.tq_plan.specs.declared.plans.Output.TheVariants as output
+use Rattle.tq_plan.specs.declared.plans.Plan.{Plan}
+use Rattle.tq_plan.specs.declared.plans.QueryPlan.{QueryPlan}
+use Rattle.tq_plan.specs.Ordinary as ordinary
+use Rattle.tq_plan.specs.Plans.{column_output, group_after, grouped_sum, has_aggregate, is_aggregate, is_groupable, output_of, outputs_after, query_of, right_of, same_kinds, sum_output, with_kinds, plan_of, column_names}
+use Rattle.tq_plan.specs.Conditions.{where_of}
+use Rattle.tq_plan.specs.Scope.{Field, Sources, no_sources, resolved, sources_after}
+use Rattle.tq_plan.specs.Windows.{window_plan}
+use Rattle.tq_plan.specs.Running.{IsPlan, items_stand, may_stand, no_group}
+
+-- what a call in two steps gives is given by both
+record Both {A B E : Type 0} (first : Result A E) (next : A → Result B E) (b : B) : Type 0 where
+  value : A
+  first_gives : first ≡ Ok value
+  then_gives : next value ≡ Ok b
+
+both : {A B E : Type 0} (first : Result A E) (next : A → Result B E) (b : B) → and_then first next ≡ Ok b → Both first next b
+both (Ok a) next b is = record { value = a; first_gives = refl; then_gives = is }
+both (Err e) next b is = cc
+
+abbrev Pair : Type 0
+Pair = Output × Kind
+
+ok_is : {A E : Type 0} (a b : A) → (let left : Result A E = Ok a in left) ≡ Ok b → a ≡ b
+ok_is a b is = ap (λ r. result_unwrap_or r b) is
+
+-- ---- each item may stand, and counts or sums where the statement's does
+
+record Stands (counted : Bool) (group : List ℕ) (aggregate : Bool) (one : Pair) : Type 0 where
+  may : may_stand counted group one.0 ≡ true
+  kept : ordinary.is_aggregate one.0 ≡ aggregate
+
+as_made : (counted : Bool) (group : List ℕ) (aggregate : Bool) (made one : Pair) → (let left : Result Pair PlanFault = Ok made in left) ≡ Ok one → Stands counted group aggregate made → Stands counted group aggregate one
+as_made counted group aggregate made one is = subst (Stands counted group aggregate) (ok_is made one is)
+
+column_stands : (counted : Bool) (group : List ℕ) (meaning : ℕ × Kind) (one : Pair) → column_output counted group meaning ≡ Ok one → Stands counted group false one
+column_stands counted group meaning one is = by_test (is_groupable counted group meaning.0) refl is
+  where
+    by_test : (b : Bool) → is_groupable counted group meaning.0 ≡ b → (if b then Ok (output.Column meaning.0, meaning.1) else Err NotGrouped) ≡ Ok one → Stands counted group false one
+    by_test true stands made = as_made counted group false (output.Column meaning.0, meaning.1) one made (record { may = stands; kept = refl })
+    by_test false stands made = cc
+
+sum_stands : (counted : Bool) (first : ℕ) (more : List ℕ) (place : ℕ) (k : Kind) (one : Pair) → sum_output place k ≡ Ok one → Stands counted (first ∷ more) true one
+sum_stands counted first more place kind.Int one is = as_made counted (first ∷ more) true (output.Sum place, kind.Int) one is (record { may = refl; kept = refl })
+sum_stands counted first more place kind.Text one is = cc
+
+grouped_stands : (fields : List Field) (counted : Bool) (group : List ℕ) (column : ColumnRef) (one : Pair) → grouped_sum fields group column ≡ Ok one → Stands counted group true one
+grouped_stands fields counted [] column one is = cc
+grouped_stands fields counted (first ∷ more) column one is =
+    let b = both (resolved fields column) (λ meaning. sum_output meaning.0 meaning.1) one is in
+    sum_stands counted first more b.value.0 b.value.1 one b.then_gives
+
+output_stands : (fields : List Field) (counted : Bool) (group : List ℕ) (w : What) (one : Pair) → output_of fields counted group w ≡ Ok one → Stands counted group (is_aggregate w) one
+output_stands fields counted group (what.Column column) one is =
+    let b = both (resolved fields column) (column_output counted group) one is in
+    column_stands counted group b.value one b.then_gives
+output_stands fields counted group what.Count one is = as_made counted group true (output.Count, kind.Int) one is (record { may = refl; kept = refl })
+output_stands fields counted group (what.Sum column) one is = grouped_stands fields counted group column one is
+
+-- ---- all items
+
+abbrev outputs_of : List Pair → List Output
+outputs_of = map (λ (one : Pair). one.0)
+
+record AllStand (counted : Bool) (group : List ℕ) (aggregate : Bool) (outputs : List Pair) : Type 0 where
+  may : list_all (may_stand counted group) (outputs_of outputs) ≡ true
+  kept : list_any ordinary.is_aggregate (outputs_of outputs) ≡ aggregate
+
+one_more : (counted : Bool) (group : List ℕ) (before this : Bool) (done : List Pair) (one : Pair) → AllStand counted group before done → Stands counted group this one → AllStand counted group (before || this) (done ++ one ∷ [])
+one_more counted group before this done one all stands = record {
+  may =
+    ap (list_all (may_stand counted group)) (map-append (λ (p : Pair). p.0) done (one ∷ []))
+    ∙ list_all-append (may_stand counted group) (outputs_of done) (one.0 ∷ [])
+    ∙ (λ i. all.may i && (stands.may i && true));
+  kept =
+    ap (list_any ordinary.is_aggregate) (map-append (λ (p : Pair). p.0) done (one ∷ []))
+    ∙ list_any-append ordinary.is_aggregate (outputs_of done) (one.0 ∷ [])
+    ∙ (λ i. all.kept i || (stands.kept i || false))
+    ∙ ap (λ b. before || b) (or-false this);
+}
+  where
+    or-false : (b : Bool) → (b || false) ≡ b
+    or-false true = refl
+    or-false false = refl
+
+or-assoc : (a b c : Bool) → ((a || b) || c) ≡ (a || (b || c))
+or-assoc true b c = refl
+or-assoc false b c = refl
+
+or-nil : (a : Bool) → (a || false) ≡ a
+or-nil true = refl
+or-nil false = refl
+
+all_stand : (fields : List Field) (counted : Bool) (group : List ℕ) (before : Bool) (done : List Pair) (items : List Item) (outputs : List Pair) → AllStand counted group before done
+    → outputs_after fields counted group done items ≡ Ok outputs → AllStand counted group (before || has_aggregate items) outputs
+all_stand fields counted group before done [] outputs all is =
+    subst (λ a. AllStand counted group a outputs) (sym (or-nil before)) (subst (AllStand counted group before) (ok_is done outputs is) all)
+all_stand fields counted group before done (item ∷ items) outputs all is =
+    let b = both (output_of fields counted group item.what) (λ one. outputs_after fields counted group (done ++ one ∷ []) items) outputs is in
+    subst (λ a. AllStand counted group a outputs) (or-assoc before (is_aggregate item.what) (has_aggregate items))
+    (all_stand fields counted group (before || is_aggregate item.what) (done ++ b.value ∷ []) items outputs
+    (one_more counted group before (is_aggregate item.what) done b.value all (output_stands fields counted group item.what b.value b.first_gives)) b.then_gives)
+
+query_stands : (catalogue : Catalogue) (query : Query) (plan : QueryPlan) (kinds : List Kind) → query_of catalogue query ≡ Ok (plan, kinds) → items_stand plan ≡ true
+query_stands catalogue query plan kinds is =
+    let s = both (sources_after catalogue no_sources query.sources) _ (plan, kinds) is in
+    let w = both (where_of s.value.fields query.cond) _ (plan, kinds) s.then_gives in
+    let g = both (group_after s.value.fields [] query.group) _ (plan, kinds) w.then_gives in
+    let o = both (outputs_after s.value.fields (has_aggregate query.items) g.value [] query.items) _ (plan, kinds) g.then_gives in
+    let all = all_stand s.value.fields (has_aggregate query.items) g.value false [] query.items o.value (record { may = refl; kept = refl }) o.first_gives in
+    let made : record { tables = s.value.tables; test = w.value; group = g.value; outputs = outputs_of o.value } ≡ plan = ap (λ (p : QueryPlan × List Kind). p.0) (ok_is _ (plan, kinds) o.then_gives) in
+    subst (λ p. items_stand p ≡ true) made (ap (λ c. list_all (may_stand c g.value) (outputs_of o.value)) all.kept ∙ all.may)
+
+pub left_stands : (plan : Plan) → IsPlan plan → items_stand plan.left ≡ true
+left_stands plan is =
+    let w = both (window_plan is.statement.window) _ plan is.planned in
+    let l = both (query_of is.catalogue is.statement.left) _ plan w.then_gives in
+    let r = both (right_of is.catalogue l.value.1 is.statement.right) _ plan l.then_gives in
+    let made : record { window = w.value; columns = column_names is.statement.left.items; left = l.value.0; right = r.value } ≡ plan = ok_is _ plan r.then_gives in
+    subst (λ p. items_stand p.left ≡ true) made (query_stands is.catalogue is.statement.left l.value.0 l.value.1 l.first_gives)
+
+right_query : (catalogue : Catalogue) (kinds : List Kind) (query : Option Query) (plan : QueryPlan) → right_of catalogue kinds query ≡ Ok (Some plan) → items_stand plan ≡ true
+right_query catalogue kinds None plan is = absurd (false≢true (ap (λ o. is_some o) (ok_is None (Some plan) is)))
+right_query catalogue kinds (Some query) plan is =
+    let q = both (query_of catalogue query) (with_kinds kinds) (Some plan) is in
+    let made = by_kinds q.value (same_kinds kinds q.value.1) q.then_gives in
+    subst (λ p. items_stand p ≡ true) made (query_stands catalogue query q.value.0 q.value.1 q.first_gives)
+  where
+    by_kinds : (right : QueryPlan × List Kind) (b : Bool) → (if b then Ok (Some right.0) else Err UnequalColumns) ≡ Ok (Some plan) → right.0 ≡ plan
+    by_kinds right true same = ap (λ o. unwrap_or o plan) (ok_is (Some right.0) (Some plan) same)
+    by_kinds right false same = cc
+
+pub right_stands : (plan : Plan) (query : QueryPlan) → IsPlan plan → plan.right ≡ Some query → items_stand query ≡ true
+right_stands plan query is some =
+    let w = both (window_plan is.statement.window) _ plan is.planned in
+    let l = both (query_of is.catalogue is.statement.left) _ plan w.then_gives in
+    let r = both (right_of is.catalogue l.value.1 is.statement.right) _ plan l.then_gives in
+    let made : record { window = w.value; columns = column_names is.statement.left.items; left = l.value.0; right = r.value } ≡ plan = ok_is _ plan r.then_gives in
+    right_query is.catalogue l.value.1 is.statement.right query (r.first_gives ∙ ap Ok (ap (λ p. p.right) made ∙ some))
