@@ -2,6 +2,7 @@
 use Rattle.std.proofs.Common.{◌≡◌, ℕ, ◌+◌, ◌<◌, List, [], ◌∷◌, ◌++◌, length, take, drop, get_or, Option, Some, None, sym, ap, ◌∙◌, suc, arith}
 use Rattle.std.specs.Prelude.{All, FitsSigned, IsSomeAnd, slice_get, pos}
 use Rattle.std.specs.Int.{w64}
+use Rattle.std.proofs.Math.Seq.{split_at}
 use Rattle.std.proofs.lemmas.Int.{fits_signed_from_abs}
 use Rattle.std.proofs.lemmas.List.Elements.{All-cons}
 use Rattle.tq_base.specs.declared.catalogue.Catalogue.{Catalogue}
@@ -41,9 +42,9 @@ happened : (catalogue : Catalogue) (before : List Event) (event : Event) → Can
 happened catalogue before (Start t v when) can = in_table (slice_get catalogue.tables t) v can
 happened catalogue before (End t r when) can = tt
 
-parts : (events : List Event) (k : ℕ) (d : Event) → k < length events → events ≡ take k events ++ get_or events k d ∷ drop (k + 1) events
-parts events k d less = ?
+parts : (events : List Event) (k : ℕ) (d : Event) → k < length events → events ≡ take k events ++ get_or events k d ∷ drop (suc k) events
+parts events k d less = split_at events k d less
 
 pub numbers_of_history : (catalogue : Catalogue) (events : List Event) → IsHistory catalogue events → All HasNumbers events
 numbers_of_history catalogue events history k d less =
-    happened catalogue (take k events) (get_or events k d) (history (take k events) (get_or events k d) (drop (k + 1) events) (parts events k d less)).1
+    happened catalogue (take k events) (get_or events k d) (history (take k events) (get_or events k d) (drop (suc k) events) (parts events k d less)).1

@@ -11,3 +11,4 @@ pub mod Linking
 pub mod Meeting
 pub mod Products
 pub mod Ranking
+pub mod Knowing

@@ -10,6 +10,8 @@
 mod condition;
 mod difference;
 mod joining;
+mod known;
+pub mod laws;
 mod links;
 mod selection;
 mod sides;

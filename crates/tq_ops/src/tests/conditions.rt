@@ -68,3 +68,24 @@ fn long_chains_need_no_deep_recursion(rt: HostRuntime) -> Result<(), Fail> {
     assert!(rt; !none.check(&row));
     Ok(())
 }
+
+#[test]
+fn a_part_of_a_row_decides_what_speaks_of_it_alone(rt: HostRuntime) -> Result<(), Fail> {
+    let alloc = rt.alloc();
+    let part = [Value::Int(5)];
+    let second = |op: Compare, wanted: i128| compare(Operand::Column(1), op, number(wanted));
+    let links = compare(Operand::Column(0), Compare::Eq, Operand::Column(1));
+    assert_eq!(rt; second(Compare::Eq, 5).may_pass(&part, 1), true);
+    assert_eq!(rt; second(Compare::Ne, 5).may_pass(&part, 1), false);
+    assert_eq!(rt; second(Compare::Ne, 5).may_pass(&part, 0), true);
+    assert_eq!(rt; second(Compare::Ne, 5).may_pass(&part, 2), true);
+    assert_eq!(rt; links.may_pass(&part, 1), true);
+    let fails = both(alloc, links, second(Compare::Gt, 5))?;
+    assert_eq!(rt; fails.may_pass(&part, 1), false);
+    let holds = negated(alloc, fails)?;
+    assert_eq!(rt; holds.may_pass(&part, 1), true);
+    assert_eq!(rt; negated(alloc, holds)?.may_pass(&part, 1), false);
+    let either_one = either(alloc, second(Compare::Lt, 5), second(Compare::Gt, 5))?;
+    assert_eq!(rt; either_one.may_pass(&part, 1), false);
+    Ok(())
+}
