@@ -70,7 +70,7 @@ counted_once (row ∷ rows) v = by_row (same_row row v) refl (left_out row (each
         one ∙ sym (ap at_most_one all)
     by_row false is out once =
         let left : occurrences (row ∷ rest) v ≡ occurrences (each_once rows) v =
-            (let kept = out ∙ ap (λ b. cond b 0 (occurrences (each_once rows) v)) is in omega (arith, kept, sum_by-cons (is_it v) row rest, ap one_if is)) in
+        (let kept = out ∙ ap (λ b. cond b 0 (occurrences (each_once rows) v)) is in omega (arith, kept, sum_by-cons (is_it v) row rest, ap one_if is)) in
         let right : occurrences (row ∷ rows) v ≡ occurrences rows v = omega (arith, sum_by-cons (is_it v) row rows, ap one_if is) in
         left ∙ once ∙ sym (ap at_most_one right)
 

@@ -91,14 +91,14 @@ record AllStand (counted : Bool) (group : List ℕ) (aggregate : Bool) (outputs 
 one_more : (counted : Bool) (group : List ℕ) (before this : Bool) (done : List Pair) (one : Pair) → AllStand counted group before done → Stands counted group this one → AllStand counted group (before || this) (done ++ one ∷ [])
 one_more counted group before this done one all stands = record {
   may =
-    ap (list_all (may_stand counted group)) (map-append (λ (p : Pair). p.0) done (one ∷ []))
-    ∙ list_all-append (may_stand counted group) (outputs_of done) (one.0 ∷ [])
-    ∙ (λ i. all.may i && (stands.may i && true));
+      ap (list_all (may_stand counted group)) (map-append (λ (p : Pair). p.0) done (one ∷ []))
+      ∙ list_all-append (may_stand counted group) (outputs_of done) (one.0 ∷ [])
+      ∙ (λ i. all.may i && (stands.may i && true));
   kept =
-    ap (list_any ordinary.is_aggregate) (map-append (λ (p : Pair). p.0) done (one ∷ []))
-    ∙ list_any-append ordinary.is_aggregate (outputs_of done) (one.0 ∷ [])
-    ∙ (λ i. all.kept i || (stands.kept i || false))
-    ∙ ap (λ b. before || b) (or-false this);
+      ap (list_any ordinary.is_aggregate) (map-append (λ (p : Pair). p.0) done (one ∷ []))
+      ∙ list_any-append ordinary.is_aggregate (outputs_of done) (one.0 ∷ [])
+      ∙ (λ i. all.kept i || (stands.kept i || false))
+      ∙ ap (λ b. before || b) (or-false this);
 }
   where
     or-false : (b : Bool) → (b || false) ≡ b

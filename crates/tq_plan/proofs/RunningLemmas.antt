@@ -9,7 +9,6 @@ use Rattle.tq_base.specs.Fragments.{at, copies, occurrences}
 use Rattle.tq_base.specs.Periods.{holds}
 use Rattle.tq_event.specs.declared.event.Event.{Event}
 use Rattle.tq_event.specs.History.{rows_from, valid_at}
-use Rattle.tq_ops.specs.declared.condition.Test.{Test}
 use Rattle.tq_ops.specs.Conditions.{value_at}
 use Rattle.tq_ops.specs.Ordinary.{HasInside, IsEmptyOutside, admits, product, projection, selection}
 use Rattle.tq_plan.specs.declared.plans.Output.{Output}
@@ -19,7 +18,6 @@ use Rattle.tq_plan.specs.declared.plans.QueryPlan.{QueryPlan}
 use Rattle.tq_plan.specs.Answers.{lists_at, times_at, times_in, times_in_right}
 use Rattle.tq_agg.specs.Grouping.{Row}
 use Rattle.tq_plan.specs.Ordinary.{groups, is_aggregate, ordinary, output_value, product_of}
-use Rattle.tq_plan.specs.Rows.{kept, kept_rows, with_some}
 use Rattle.tq_plan.specs.Running.{no_group, output_place}
 use Rattle.tq_plan.proofs.BagLemmas.{same_mapped}
 
@@ -28,30 +26,6 @@ use Rattle.tq_plan.proofs.BagLemmas.{same_mapped}
 pub if_ok_each : {A E T : Type 0} (r : Result A E) (P : T → A → Type 0) → ((t : T) → IfOk r (P t)) → IfOk r (λ a. (t : T) → P t a)
 if_ok_each (Ok a) P each = each
 if_ok_each (Err e) P each = tt
-
--- ---- rows that are kept
-
-pub kept_passing : (test : Option Test) (rows : List Row) → kept_rows (kept test None) rows ≡ selection test rows
-kept_passing test [] = refl
-kept_passing test (row ∷ rows) = by_test (admits test row) (kept_passing test rows)
-  where
-    by_test : (b : Bool) → kept_rows (kept test None) rows ≡ selection test rows
-        → with_some (if b then Some row else None) (kept_rows (kept test None) rows) ≡ cond b (row ∷ selection test rows) (selection test rows)
-    by_test true rest = ap (λ l. row ∷ l) rest
-    by_test false rest = rest
-
-pub kept_all : (rows : List Row) → kept_rows (kept None None) rows ≡ rows
-kept_all [] = refl
-kept_all (row ∷ rows) = ap (λ l. row ∷ l) (kept_all rows)
-
-pub kept_selected : (test : Option Test) (places : List ℕ) (rows : List Row) → kept_rows (kept test (Some places)) rows ≡ map (projection places) (selection test rows)
-kept_selected test places [] = refl
-kept_selected test places (row ∷ rows) = by_test (admits test row) (kept_selected test places rows)
-  where
-    by_test : (b : Bool) → kept_rows (kept test (Some places)) rows ≡ map (projection places) (selection test rows)
-        → with_some (if b then Some (projection places row) else None) (kept_rows (kept test (Some places)) rows) ≡ map (projection places) (cond b (row ∷ selection test rows) (selection test rows))
-    by_test true rest = ap (λ l. projection places row ∷ l) rest
-    by_test false rest = rest
 
 -- ---- queries with no group, count or sum
 

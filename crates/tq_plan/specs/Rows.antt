@@ -1,5 +1,5 @@
 -- The rows of one table while its events are taken one by one, and what is kept of each.
-use Rattle.std.specs.Prelude.{ℕ, ◌+◌, ◌==◌, ◌&&◌, nat_le, nat_lt, Bool, false, if◌then◌else◌, List, [], ◌∷◌, ◌++◌, Option, Some, None}
+use Rattle.std.specs.Prelude.{ℕ, ◌+◌, ◌==◌, ◌&&◌, nat_le, nat_lt, Bool, true, false, if◌then◌else◌, List, [], ◌∷◌, ◌++◌, Option, Some, None}
 use Rattle.tq_base.specs.declared.period.Period.{Period}
 use Rattle.tq_base.specs.declared.period.TheConstants.{FOREVER}
 use Rattle.tq_base.specs.Periods.{holds}
@@ -7,7 +7,11 @@ use Rattle.tq_event.specs.declared.event.Event.{Event}
 use Rattle.tq_event.specs.declared.event.Event.TheVariants.{Start, End}
 use Rattle.tq_event.specs.History.{Row as AnyRow}
 use Rattle.tq_ops.specs.declared.condition.Test.{Test}
-use Rattle.tq_ops.specs.Ordinary.{admits, projection}
+use Rattle.tq_ops.specs.Conditions.{passes}
+use Rattle.tq_ops.specs.Known.{may_pass}
+use Rattle.tq_ops.specs.Ordinary.{projection}
+use Rattle.tq_plan.specs.declared.rows.Filter.{Filter}
+use Rattle.tq_plan.specs.declared.rows.Filter.TheVariants as filter
 use Rattle.tq_plan.specs.declared.rows.OpenRow.{OpenRow}
 use Rattle.tq_agg.specs.Grouping.{Row}
 
@@ -16,9 +20,20 @@ abbrev pub chosen : Option (List ℕ) → Row → Row
 chosen None row = row
 chosen (Some places) row = projection places row
 
--- what is kept of a row: nothing where it does not pass the condition
-abbrev pub kept : Option Test → Option (List ℕ) → Row → Option Row
-kept test places row = if admits test row then Some (chosen places row) else None
+-- whether the filter keeps the row
+abbrev pub keeps : Filter → Row → Bool
+keeps filter.All row = true
+keeps (filter.Passing test) row = passes test.now row
+keeps (filter.Possible test first) row = may_pass first row test.now
+
+-- whether the row can stand at the place in a row that passes the condition, if there is one
+abbrev pub may_admit : ℕ → Row → Option Test → Bool
+may_admit first row None = true
+may_admit first row (Some test) = may_pass first row test
+
+-- what is kept of a row: nothing where it is not one of those that are kept
+abbrev pub kept : (Row → Bool) → Option (List ℕ) → Row → Option Row
+kept is_kept places row = if is_kept row then Some (chosen places row) else None
 
 abbrev pub with_some : Option Row → List Row → List Row
 with_some None rows = rows

@@ -3,20 +3,27 @@
 ghost use Rattle.std.specs.Prelude.{◌≡◌, ◌<◌, ◌≤◌, ◌++◌, ◌∷◌, ℕ, [], IfOk, List, OnOk, if◌then◌else◌, length, map, nat_le, nat_lt, ◌&&◌, option_copied};
 ghost use Rattle.tq_base.specs.Fragments.{at};
 ghost use Rattle.tq_base.specs.Periods.{holds};
-ghost use Rattle.tq_ops.specs.Ordinary.{admits};
 ghost use Rattle.tq_event.specs.History.{rows_from, time_of, valid_at};
-ghost use Rattle.tq_plan.specs.Rows.{chosen, ended, kept, kept_rows, open_at, open_row, option_holds, taken, with_end};
+ghost use Rattle.tq_plan.specs.Rows.{chosen, ended, keeps, kept, kept_rows, open_at, open_row, option_holds, taken, with_end};
 
 use std::alloc::{AllocError, Global};
 use tq_base::{Bound, FOREVER, Fragment, Instant, Items, Period, Values};
 use tq_event::Event;
 use tq_ops::{Test, projected};
 
-/// What is kept of a table's rows: those that pass a test, if there is one, and of these the values at
-/// some places, or all.
+/// Which rows of a table are kept: all; those that pass a test; or those that can be the part of a row
+/// that passes it, which begins at a place of that row.
+#[derive(Clone, Copy)]
+pub enum Filter<'a> {
+    All,
+    Passing(&'a Test),
+    Possible(&'a Test, usize),
+}
+
+/// What is kept of a table's rows: which of them, and of these the values at some places, or all.
 #[derive(Clone, Copy)]
 pub struct Keep<'a> {
-    pub test: Option<&'a Test>,
+    pub filter: Filter<'a>,
     pub places: Option<&'a Items<u32>>,
 }
 
@@ -28,13 +35,13 @@ struct OpenRow {
     to: Bound,
 }
 
-// Whether the row passes the test, if there is one.
-fn admits(test: Option<&Test>, values: &Values) -> bool
-    ensures { result ≡ admits (option_copied test.entry) values.now }
+fn keeps(filter: Filter<'_>, values: &Values) -> bool
+    ensures { result ≡ keeps filter.entry values.now }
 {
-    match test {
-        Some(test) => test.check(values),
-        None => true,
+    match filter {
+        Filter::All => true,
+        Filter::Passing(test) => test.check(values),
+        Filter::Possible(test, first) => test.may_pass(values.get(), first),
     }
 }
 
@@ -49,9 +56,9 @@ fn chosen(alloc: Global, places: Option<&Items<u32>>, values: &Values) -> Result
 
 // A copy of what is kept of a row.
 fn kept(alloc: Global, keep: Keep<'_>, values: &Values) -> Result<Option<Values>, AllocError>
-    ensures { IfOk result (λ copy. copy ≡ kept (option_copied keep.entry.test) (option_copied keep.entry.places) values.now) }
+    ensures { IfOk result (λ copy. copy ≡ kept (keeps keep.entry.filter) (option_copied keep.entry.places) values.now) }
 {
-    if !admits(keep.test, values) {
+    if !keeps(keep.filter, values) {
         return Ok(None);
     }
     Ok(Some(chosen(alloc, keep.places, values)?))
@@ -92,7 +99,7 @@ fn start_row(
     at: Instant,
     rows: &mut Vec<OpenRow>,
 ) -> Result<(), AllocError>
-    ensures { OnOk result (rows.new.items ≡ rows.old.items ++ record { values = kept (option_copied keep.entry.test) (option_copied keep.entry.places) values.now; from = at; to = FOREVER } ∷ []) }
+    ensures { OnOk result (rows.new.items ≡ rows.old.items ++ record { values = kept (keeps keep.entry.filter) (option_copied keep.entry.places) values.now; from = at; to = FOREVER } ∷ []) }
 {
     rows.push(OpenRow {
         values: kept(alloc, keep, values)?,
@@ -119,7 +126,7 @@ fn take_event(
     event: &Event,
     rows: &mut Vec<OpenRow>,
 ) -> Result<(), AllocError>
-    ensures taken { OnOk result (rows.new.items ≡ taken table (kept (option_copied keep.entry.test) (option_copied keep.entry.places)) event.now rows.old.items) }
+    ensures taken { OnOk result (rows.new.items ≡ taken table (kept (keeps keep.entry.filter) (option_copied keep.entry.places)) event.now rows.old.items) }
     ensures finite { time_of event.now < FOREVER }
 {
     let at = instant_of(event).number();
@@ -149,7 +156,7 @@ fn open_rows(
     table: u32,
     keep: Keep<'_>,
 ) -> Result<Vec<OpenRow>, AllocError>
-    ensures { IfOk result (λ rows. rows.items ≡ map (open_row (kept (option_copied keep.entry.test) (option_copied keep.entry.places))) (rows_from table 0 events.now)) }
+    ensures { IfOk result (λ rows. rows.items ≡ map (open_row (kept (keeps keep.entry.filter) (option_copied keep.entry.places))) (rows_from table 0 events.now)) }
 {
     let mut rows = Vec::new(alloc);
     'events: for event in events {
@@ -209,7 +216,7 @@ pub fn read_rows(
     window: &Period,
 ) -> Result<Vec<Fragment>, AllocError>
     ensures { (t : ℕ) → IfOk result (λ rows. at rows.items t
-        ≡ (if holds window.now t then kept_rows (kept (option_copied keep.entry.test) (option_copied keep.entry.places)) (valid_at events.now (length events.now) table t) else [])) }
+        ≡ (if holds window.now t then kept_rows (kept (keeps keep.entry.filter) (option_copied keep.entry.places)) (valid_at events.now (length events.now) table t) else [])) }
 {
     let rows = open_rows(alloc, events, table, keep)?;
     close_rows(alloc, rows, window)

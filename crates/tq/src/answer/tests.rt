@@ -298,7 +298,10 @@ fn sums_over_a_join_and_counts_in_a_difference(rt: HostRuntime) -> Result<(), Fa
         &rt,
         &[
             (b"emp", EMP),
-            (b"sal", b"emp:int,pay:int,from,to\n1,10,0,12\n1,20,12,40\n2,30,0,40\n"),
+            (
+                b"sal",
+                b"emp:int,pay:int,from,to\n1,10,0,12\n1,20,12,40\n2,30,0,40\n",
+            ),
         ],
         b"VALIDTIME SELECT SUM(pay) AS total, dept, COUNT(*) FROM emp, sal WHERE emp.emp = sal.emp GROUP BY dept",
         b"total,dept,count,from,to\n10,toys,1,10,12\n20,toys,1,12,15\n20,toys,1,25,30\n50,toys,2,15,25\n",

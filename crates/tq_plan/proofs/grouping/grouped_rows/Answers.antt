@@ -12,8 +12,8 @@ use Rattle.tq_plan.proofs.grouping.grouped_rows.Goals as goal
 pub group_count_sum-requires : goal.group_count_sum-requires
 group_count_sum-requires c = record {
   summable =
-    subst (λ rows. All (λ (row : Fragment). AreSummable c.deref-2.result.now row.values) rows) (sym c.deref.ensures.value)
-    (passing_sums c.args.events.now c.args.window.now c.args.query.now.tables c.args.query.now.test c.deref-2.result.now c.in_ok-rows.rows.items c.in_ok-rows.ensures.inside c.in_ok-rows.ensures.outside c.requires.numbers);
+      subst (λ rows. All (λ (row : Fragment). AreSummable c.deref-2.result.now row.values) rows) (sym c.deref.ensures.value)
+      (passing_sums c.args.events.now c.args.window.now c.args.query.now.tables c.args.query.now.test c.deref-2.result.now c.in_ok-rows.rows.items c.in_ok-rows.ensures.inside c.in_ok-rows.ensures.outside c.requires.numbers);
 }
 
 pub returns-clause-inside : goal.returns-clause-inside

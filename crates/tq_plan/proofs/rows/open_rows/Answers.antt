@@ -1,12 +1,12 @@
 use Rattle.std.proofs.Common.{◌≡◌, ◌+◌, ◌∷◌, [], ℕ, List, get_or, drop, length, sym, ap, ◌∙◌, arith, option_copied}
 use Rattle.std.proofs.lemmas.List.{drop_all, drop_more}
-use Rattle.tq_plan.specs.Rows.{kept}
+use Rattle.tq_plan.specs.Rows.{keeps, kept}
 use Rattle.tq_plan.proofs.RowLemmas.{all_taken, future, takes}
 use Rattle.tq_plan.proofs.rows.open_rows.Goals as goal
 
 pub events-preserved : goal.events-preserved
 events-preserved c =
-    let keep = kept (option_copied c.args.keep.test) (option_copied c.args.keep.places) in
+    let keep = kept (keeps c.args.keep.filter) (option_copied c.args.keep.places) in
     ap (λ l. future c.args.table keep l (drop (c.events.event-index + 1) c.args.events.now)) c.in_ok-take_event.ensures.taken
     ∙ sym (takes c.args.table keep c.events.rows.items c.event-item.result (drop (c.events.event-index + 1) c.args.events.now) c.in_ok-take_event.ensures.finite)
     ∙ ap (future c.args.table keep c.events.rows.items) (sym (drop_more c.args.events.now c.events.event-index c.event-item.result c.events-test.true ∙ ap (λ e. e ∷ drop (c.events.event-index + 1) c.args.events.now) (sym c.event-item.is)))
@@ -14,7 +14,7 @@ events-preserved c =
 
 pub returns : goal.returns
 returns c =
-    let keep = kept (option_copied c.args.keep.test) (option_copied c.args.keep.places) in
+    let keep = kept (keeps c.args.keep.filter) (option_copied c.args.keep.places) in
     sym (all_taken c.args.table keep c.events.rows.items)
     ∙ ap (future c.args.table keep c.events.rows.items) (sym (drop_all c.events.event-index c.args.events.now c.events-test.false))
     ∙ c.events.invariant
