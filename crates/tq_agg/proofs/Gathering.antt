@@ -1,0 +1,50 @@
+-- What the gathered rows add at an instant of the window is what the rows then valid add.
+use Rattle.std.proofs.Common.{◌≡◌, ℕ, ◌+◌, ℤ, pos, ◌+ℤ◌, Bool, true, false, ◌&&◌, cond, nat_le, nat_lt, List, [], ◌∷◌, length, map, filter, refl, sym, ap, ◌∙◌, arith}
+use Rattle.std.proofs.lemmas.Bool.Decides.{nat_tests}
+use Rattle.std.proofs.lemmas.Int.{ints}
+use Rattle.tq_base.specs.declared.value.Value.{Value}
+use Rattle.tq_base.specs.declared.period.Period.{Period}
+use Rattle.tq_base.specs.declared.fragment.Fragment.{Fragment}
+use Rattle.tq_base.specs.Periods.{holds}
+use Rattle.tq_base.specs.Fragments.{at}
+use Rattle.tq_ops.specs.Sides.{is_overlap, overlapping}
+use Rattle.tq_agg.specs.declared.groups.Ranked.{Ranked}
+use Rattle.tq_agg.specs.Totals.{added}
+use Rattle.tq_agg.proofs.Adding.{added-filter, added-map, added-same}
+
+apart_at : (a b c d t : ℕ) → (nat_lt a d && nat_lt c b) ≡ false → ((nat_le a t && nat_lt t b) && (nat_le c t && nat_lt t d)) ≡ false
+apart_at a b c d t apart = grind (arith, nat_tests)
+
+module _ (window : Period) (t : ℕ) (inside : holds window t ≡ true) (w : List Value → ℤ) where
+  weight : Fragment → ℤ
+  weight f = cond (holds f.period t && holds window t) (w f.values) (pos 0)
+
+  overlaps : (f : Fragment) → cond (is_overlap f.period window) (cond (holds f.period t && holds window t) (w f.values) (pos 0)) (pos 0) ≡ cond (holds f.period t) (w f.values) (pos 0)
+  overlaps f = cases (is_overlap f.period window) refl
+    where
+      both : (h : Bool) → cond (h && true) (w f.values) (pos 0) ≡ cond h (w f.values) (pos 0)
+      both true = refl
+      both false = refl
+
+      same : cond (holds f.period t && holds window t) (w f.values) (pos 0) ≡ cond (holds f.period t) (w f.values) (pos 0)
+      same = ap (λ b. cond (holds f.period t && b) (w f.values) (pos 0)) inside ∙ both (holds f.period t)
+
+      cases : (b : Bool) → is_overlap f.period window ≡ b → cond b (cond (holds f.period t && holds window t) (w f.values) (pos 0)) (pos 0) ≡ cond (holds f.period t) (w f.values) (pos 0)
+      cases true is = same
+      cases false is = sym (ap (λ b. cond b (w f.values) (pos 0)) (apart_at f.period.start f.period.end window.start window.end t is)) ∙ same
+
+  added-at : (fragments : List Fragment) → added w (at fragments t) ≡ added (λ f. cond (holds f.period t) (w f.values) (pos 0)) fragments
+  added-at fragments = added-map w (λ f. f.values) (filter (λ f. holds f.period t) fragments) ∙ added-filter (λ f. holds f.period t) (λ f. w f.values) fragments
+
+  pub gathered_add : (fragments : List Fragment) (rows : List Ranked) → map (λ (r : Ranked). r.fragment.now) rows ≡ overlapping window fragments
+      → added (λ (r : Ranked). cond (holds r.fragment.now.period t && holds window t) (w r.fragment.now.values) (pos 0)) rows ≡ added w (at fragments t)
+  gathered_add fragments rows are =
+      sym (added-map (λ f. cond (holds f.period t && holds window t) (w f.values) (pos 0)) (λ (r : Ranked). r.fragment.now) rows)
+      ∙ ap (added (λ f. cond (holds f.period t && holds window t) (w f.values) (pos 0))) are
+      ∙ added-filter (λ f. is_overlap f.period window) (λ f. cond (holds f.period t && holds window t) (w f.values) (pos 0)) fragments
+      ∙ added-same (λ f. cond (is_overlap f.period window) (cond (holds f.period t && holds window t) (w f.values) (pos 0)) (pos 0)) (λ f. cond (holds f.period t) (w f.values) (pos 0)) overlaps fragments
+      ∙ sym (added-at fragments)
+
+pub added-ones : {X : Type 0} (xs : List X) → added (λ (x : X). pos 1) xs ≡ pos (length xs)
+added-ones [] = refl
+added-ones {X} (x ∷ xs) = omega (arith, ints, added-ones xs)
