@@ -18,6 +18,7 @@ use Rattle.tq_agg.specs.declared.summands.Summand.{Summand}
 use Rattle.tq_agg.specs.declared.changes.Change.{Change}
 use Rattle.tq_agg.specs.Totals.{change_weight, shown_copies, total_of, total_upto, totals_of, totals_upto, AreWithin}
 use Rattle.tq_agg.proofs.Adding.{added-append}
+use Rattle.tq_agg.proofs.Maps.{map_agrees, map_same}
 
 -- the changes before `start` are done; up to `since` the rows stand in the list, and from there on the totals are those of the changes done
 pub record Sweeping (always : Bool) (key : List Value) (summands : List Summand) (window : Period) (changes : List Change) (old : List Fragment) (start since : ℕ) (totals : List ℤ) (out : List Fragment) : Type 0 where
@@ -28,19 +29,6 @@ pub record Sweeping (always : Bool) (key : List Value) (summands : List Summand)
   pub until : since ≤ window.end
   pub ahead : All (λ c. since ≤ c.at) (drop start changes)
   pub within : start ≤ length changes
-
--- ---- maps
-
-map_agrees : {X Y : Type 0} (f g : X → Y) (xs : List X) → map f xs ≡ map g xs → All (λ x. f x ≡ g x) xs
-map_agrees f g [] same = All-nil (λ x. f x ≡ g x)
-map_agrees f g (x ∷ xs) same = All-cons (λ x. f x ≡ g x) x xs (cc) (map_agrees f g xs cc)
-
-map_same : {X Y : Type 0} (f g : X → Y) (xs : List X) → All (λ x. f x ≡ g x) xs → map f xs ≡ map g xs
-map_same f g [] same = refl
-map_same f g (x ∷ xs) same =
-    let first = All-head (λ x. f x ≡ g x) x xs same in
-    let rest = map_same f g xs (All-tail (λ x. f x ≡ g x) x xs same) in
-    cc
 
 -- ---- one batch
 
