@@ -1,5 +1,5 @@
 -- The rows that groups make, counted: each key that stands there makes one row.
-use Rattle.std.proofs.Common.{◌≡◌, ℕ, zero, suc, ◌+◌, ℤ, pos, ◌+ℤ◌, Bool, true, false, ◌||◌, cond, List, [], ◌∷◌, ◌++◌, length, take, map, sum_by, refl, sym, ap, ◌∙◌, arith}
+use Rattle.std.proofs.Common.{◌≡◌, ℕ, suc, ◌+◌, pos, ◌+ℤ◌, Bool, true, false, ◌||◌, cond, List, [], ◌∷◌, ◌++◌, length, take, map, sum_by, refl, sym, ap, ◌∙◌, arith}
 use Rattle.std.specs.Prelude.{All, filter, not}
 use Rattle.std.specs.Ordering.{eq_by_cmp, int_eq}
 use Rattle.std.proofs.lemmas.Bool.{false≢true}
@@ -14,10 +14,9 @@ use Rattle.tq_base.specs.ValueOrder.{values_cmp, same_from_eq, eq_from_same}
 use Rattle.tq_base.specs.Fragments.{occurrences}
 use Rattle.tq_ops.specs.Conditions.{value_at}
 use Rattle.tq_ops.specs.Ordinary.{projection}
-use Rattle.tq_agg.specs.declared.summands.Summand.{Summand}
 use Rattle.tq_agg.specs.declared.summands.Summand.TheVariants.{Column, One}
-use Rattle.tq_agg.specs.Grouping.{each_once, first_row, group_row, grouped_by, grouped_rows, number_of, same_row, sum_at}
-use Rattle.tq_agg.specs.Totals.{added, has_rows, shown_copies, weight_of}
+use Rattle.tq_agg.specs.Grouping.{each_once, first_row, group_row, grouped_rows, number_of, same_row, sum_at}
+use Rattle.tq_agg.specs.Totals.{added, shown_copies, weight_of}
 use Rattle.tq_agg.proofs.Adding.{added-filter}
 use Rattle.tq_agg.proofs.Gathering.{added-ones}
 use Rattle.tq_agg.proofs.Grouping.{of_key}

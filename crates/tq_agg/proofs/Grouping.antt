@@ -2,14 +2,14 @@
 use Rattle.std.proofs.Common.{◌≡◌, ◌≢◌, ℕ, zero, suc, ◌+◌, ◌-◌, ◌<◌, ◌≤◌, ℤ, pos, ◌+ℤ◌, inl, inr, Bool, true, false, ◌&&◌, cond, List, [], ◌∷◌, ◌++◌, length, take, drop, map, get_or, refl, sym, subst, ap, ◌∙◌, arith, length-drop, length-take}
 use Rattle.std.specs.Prelude.{All, IsPermutation, Option, slice_get}
 use Rattle.std.proofs.Math.Seq.{take-add}
-use Rattle.std.specs.Ordering.{eq_by_cmp, int_cmp, is_lt, on, ordering_reverse, ordering_then, then_cmp}
+use Rattle.std.specs.Ordering.{int_cmp, is_lt, ordering_reverse, ordering_then}
 use Rattle.std.specs.Cmp.{IsTotalOrder, int_cmp_total, on_total, then_total}
 use Rattle.std.specs.List.Sorted.{IsSortedBy}
 use Rattle.std.specs.declared.cmp.Ordering.{Ordering}
 use Rattle.std.specs.declared.cmp.Ordering.TheVariants.{Less, Equal, Greater}
 use Rattle.std.proofs.lemmas.Bool.{cases_lt, false≢true}
 use Rattle.std.proofs.lemmas.Int.{ints}
-use Rattle.std.proofs.lemmas.List.{get_or-drop, get_or-take, get_or_default, length-map, take_all, take_at}
+use Rattle.std.proofs.lemmas.List.{get_or-drop, get_or-take, get_or_default, length-map, take_at}
 use Rattle.std.proofs.lemmas.List.Elements.{All-head, All-tail, All-weaker}
 use Rattle.std.proofs.lemmas.List.Sorted.{sorted_far, ranks_by, All-permutation}
 use Rattle.tq_base.specs.declared.value.Value.{Value}
@@ -26,7 +26,7 @@ use Rattle.tq_agg.specs.declared.groups.Ranked.{Ranked}
 use Rattle.tq_agg.specs.Grouping.{number_of, same_row}
 use Rattle.tq_agg.specs.Keys.{first_rank, key_of, rank_key_cmp, AreOfKey, AreRanked}
 use Rattle.tq_agg.specs.Totals.{added, has_rows, shown_copies, total_held, totals_held, weight_of}
-use Rattle.tq_agg.proofs.Adding.{added-append, added-IsPermutation}
+use Rattle.tq_agg.proofs.Adding.{added-append}
 use Rattle.tq_agg.proofs.Instants.{one_if}
 use Rattle.tq_agg.proofs.Maps.{map_same}
 

@@ -1,5 +1,5 @@
 -- Rows with small numbers in the summed columns have small weights.
-use Rattle.std.proofs.Common.{◌≡◌, ℕ, ◌<◌, pos, FitsSigned, List, ◌∷◌, length, map, get_or, sym, subst, arith}
+use Rattle.std.proofs.Common.{◌≡◌, ℕ, pos, FitsSigned, List, ◌∷◌, map, sym, subst, arith}
 use Rattle.std.specs.Prelude.{All, IsPermutation}
 use Rattle.std.specs.Int.{w64}
 use Rattle.std.proofs.lemmas.Int.{ints}
@@ -9,7 +9,6 @@ use Rattle.std.proofs.lemmas.List.Sorted.{All-permutation}
 use Rattle.tq_base.specs.declared.period.Period.{Period}
 use Rattle.tq_base.specs.declared.fragment.Fragment.{Fragment}
 use Rattle.tq_ops.specs.Sides.{is_overlap, overlapping}
-use Rattle.tq_agg.specs.declared.summands.Summand.{Summand}
 use Rattle.tq_agg.specs.declared.summands.Summand.TheVariants.{Column, One}
 use Rattle.tq_agg.specs.declared.groups.Ranked.{Ranked}
 use Rattle.tq_agg.specs.Grouping.{AreSummable}

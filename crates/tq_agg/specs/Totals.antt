@@ -1,5 +1,5 @@
 -- Totals over a group of rows: what each row adds, and what the changes up to an instant add.
-use Rattle.std.specs.Prelude.{◌≡◌, ℕ, ℤ, pos, neg_ℤ, ◌+ℤ◌, ◌≤◌, nat_le, FitsSigned, Bool, true, false, not, cond, ◌&&◌, ◌||◌, List, [], ◌∷◌, ◌++◌, map, All}
+use Rattle.std.specs.Prelude.{ℕ, ℤ, pos, neg_ℤ, ◌+ℤ◌, ◌≤◌, nat_le, FitsSigned, Bool, false, not, cond, ◌&&◌, ◌||◌, List, [], ◌∷◌, ◌++◌, map, All}
 use Rattle.std.specs.Int.{w64}
 use Rattle.std.specs.Ordering.{eq_by_cmp, int_eq}
 use Rattle.tq_base.specs.declared.value.Value.{Value}

@@ -1,5 +1,11 @@
 // Counts, sums and groups, with their rows written out.
 
+ghost use Rattle.std.specs.Prelude.{ℕ, All, FitsSigned, IfOk};
+ghost use Rattle.std.specs.Int.{w64};
+ghost use Rattle.tq_base.specs.declared.fragment.Fragment.{Fragment};
+ghost use Rattle.tq_ops.specs.Conditions.{value_at};
+ghost use Rattle.tq_agg.specs.Grouping.{number_of};
+
 use crate::{count_all, group_count_sum};
 use std::alloc::{AllocError, Global};
 use std::test::Fail;
@@ -11,15 +17,25 @@ fn period(start: u64, end: u64) -> Result<Period, Fail> {
     Ok(Period::new(start, end).ok_or("no period")?)
 }
 
+// A row of a text and a number.
+fn pair(alloc: Global, content: &str, number: i64, start: u64, end: u64) -> Result<Fragment, Fail>
+    ensures { IfOk result (λ row. (place : ℕ) → FitsSigned w64 (number_of (value_at row.values place))) }
+{
+    let text = Value::Text(Text::of(String::from_str(alloc, content)?));
+    let number = Value::Int(i128::from(number));
+    Ok(Fragment {
+        values: Values::of(vec![in alloc; text, number]?),
+        period: period(start, end)?,
+    })
+}
+
 // Rows of a text and a number each.
-fn pairs(alloc: Global, rows: &[(&str, i128, u64, u64)]) -> Result<Vec<Fragment>, Fail> {
+fn pairs(alloc: Global, rows: &[(&str, i64, u64, u64)]) -> Result<Vec<Fragment>, Fail>
+    ensures { IfOk result (λ rows. All (λ (row : Fragment). (place : ℕ) → FitsSigned w64 (number_of (value_at row.values place))) rows.items) }
+{
     let mut fragments = Vec::new(alloc);
-    for (content, number, start, end) in rows {
-        let text = Value::Text(Text::of(String::from_str(alloc, content)?));
-        fragments.push(Fragment {
-            values: Values::of(vec![in alloc; text, Value::Int(*number)]?),
-            period: period(*start, *end)?,
-        })?;
+    'rows: for (content, number, start, end) in rows {
+        fragments.push(pair(alloc, content, *number, *start, *end)?)?;
     }
     Ok(fragments)
 }
@@ -69,7 +85,7 @@ fn counts_each_department(rt: HostRuntime) -> Result<(), Fail> {
 
 #[test]
 fn sums_pass_64_bits(rt: HostRuntime) -> Result<(), Fail> {
-    let most = i128::from(i64::MAX);
+    let most = i64::MAX;
     let rows = pairs(rt.alloc(), &[("a", most, 0, 9), ("b", most, 4, 6)])?;
     let out = group_count_sum(rt.alloc(), &rows, &period(0, FOREVER)?, &[], &[1, 0])?;
     assert_eq!(rt;

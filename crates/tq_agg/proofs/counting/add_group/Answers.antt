@@ -1,5 +1,4 @@
-use Rattle.std.proofs.Common.{◌≡◌, ℕ, ◌+◌, ℤ, pos, false, Bool, true, cond, List, [], ◌∷◌, map, refl, sym, ap, ◌∙◌, arith, get_or}
-use Rattle.tq_base.specs.declared.value.Value.{Value}
+use Rattle.std.proofs.Common.{◌≡◌, ℕ, ◌+◌, false, cond, List, [], ◌∷◌, refl, ap, ◌∙◌, arith}
 use Rattle.tq_base.specs.declared.period.Period.{Period}
 use Rattle.tq_base.specs.Periods.{holds}
 use Rattle.tq_base.specs.Fragments.{copies}
@@ -30,7 +29,7 @@ returns c k alike t v =
     let item = c.in-Some.ensures.item in
     let of_k : projection c.args.keys.now c.get.result.now ≡ k = ap (projection c.args.keys.now) c.get.ensures ∙ ap (key_of c.args.keys.now) (item.3.1 first) ∙ alike 0 first item.3.0 in
     let totals = same_totals c.args.window.now c.args.group.now c.deref.result.now t
-        (λ s. ap (λ l. total_upto s l t) c.deref.ensures.value ∙ c.in_ok-changes.ensures.totals s t) c.args.summands.now in
+    (λ s. ap (λ l. total_upto s l t) c.deref.ensures.value ∙ c.in_ok-changes.ensures.totals s t) c.args.summands.now in
     c.in_ok-sweep.ensures t v
     ∙ ap (λ u. copies c.args.out.now.items v t + cond (holds c.args.window.now t) (shown_copies false u (totals_upto c.args.summands.now c.deref.result.now t) v) 0) of_k
     ∙ ap (λ l. copies c.args.out.now.items v t + cond (holds c.args.window.now t) (shown_copies false k l v) 0) totals

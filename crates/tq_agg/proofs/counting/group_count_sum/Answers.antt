@@ -1,5 +1,5 @@
-use Rattle.std.proofs.Common.{rules, ◌≡◌, ◌≢◌, ℕ, ◌+◌, ◌-◌, ◌<◌, ◌≤◌, ℤ, pos, Bool, true, false, ◌&&◌, cond, List, ◌∷◌, length, take, drop, map, get_or, refl, sym, subst, ap, ◌∙◌, arith, length-drop}
-use Rattle.std.specs.Prelude.{All, IsPermutation, slice_get}
+use Rattle.std.proofs.Common.{rules, ◌≡◌, ◌≢◌, ℕ, ◌+◌, ◌-◌, ◌<◌, ◌≤◌, pos, Bool, true, false, ◌&&◌, cond, List, ◌∷◌, length, take, drop, map, get_or, refl, sym, subst, ap, ◌∙◌, arith, length-drop}
+use Rattle.std.specs.Prelude.{IsPermutation}
 use Rattle.std.specs.Ordering.{is_lt}
 use Rattle.std.proofs.lemmas.List.{take_all, take_rest, get_or-drop}
 use Rattle.std.proofs.lemmas.List.Elements.{All-drop, All-take}
@@ -16,7 +16,7 @@ use Rattle.tq_agg.specs.declared.summands.Summand.TheVariants.{Column, One}
 use Rattle.tq_agg.specs.declared.groups.Ranked.{Ranked}
 use Rattle.tq_agg.specs.Grouping.{grouped_rows, AreSummable}
 use Rattle.tq_agg.specs.Keys.{key_of, rank_key_cmp, AreOfKey}
-use Rattle.tq_agg.specs.Totals.{added, shown_copies, totals_held, HaveSmall}
+use Rattle.tq_agg.specs.Totals.{added, shown_copies, totals_held}
 use Rattle.tq_agg.proofs.Adding.{added-IsPermutation}
 use Rattle.tq_agg.proofs.Gathering.{gathered_add}
 use Rattle.tq_agg.proofs.Grouping.{adds_group, group_ends, group_not_empty, item_at, keyed, keyed_totals, of_key, rank_key_total, Grouping}
@@ -100,7 +100,7 @@ groups-preserved c =
     let group : take (start + len - start) (drop start c.deref-in-groups.result.now) ≡ take len (drop start rows) =
     ap (λ n. take n (drop start c.deref-in-groups.result.now)) (omega arith) ∙ ap (λ l. take len (drop start l)) c.deref-in-groups.ensures.value in
     let Adds : List Summand → List Ranked → Type 0 = λ summands l. (k : List Value) → AreOfKey keys k l → (t : ℕ) (v : List Value) → copies c.add_group.new.out.items v t
-        ≡ copies c.groups.out.items v t + cond (holds c.args.window.now t) (shown_copies false k (totals_held summands c.args.window.now l t) v) 0 in
+    ≡ copies c.groups.out.items v t + cond (holds c.args.window.now t) (shown_copies false k (totals_held summands c.args.window.now l t) v) 0 in
     let adds = subst (λ (summands : List Summand). Adds summands (take len (drop start rows))) c.deref-in-groups-2.ensures.value (subst (λ (l : List Ranked). Adds c.deref-in-groups-2.result.now l) group c.in_ok-room.ensures) in
     let same = c.sort_unstable_by.ensures.permutation in
     adds_group keys c.in_ok-summands.summands.items c.args.window.now rows start len c.groups.out.items c.add_group.new.out.items x

@@ -1,7 +1,6 @@
-use Rattle.std.proofs.Common.{◌≡◌, ◌+ℤ◌, ◌-◌, pos, drop, get_or, take, arith, ap, ◌∙◌, sym}
+use Rattle.std.proofs.Common.{get_or, arith}
 use Rattle.std.proofs.lemmas.Int.{ints}
 use Rattle.tq_agg.specs.declared.summands.Summand.TheVariants.{One}
-use Rattle.tq_agg.specs.Totals.{total_of}
 use Rattle.tq_agg.proofs.Totals.{part_fits, sum_to, totals_more}
 use Rattle.tq_agg.proofs.sweeping.fill_totals.Goals as goal
 

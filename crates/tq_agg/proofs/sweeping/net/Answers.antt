@@ -1,7 +1,6 @@
-use Rattle.std.proofs.Common.{◌≡◌, ◌+◌, ◌<◌, ◌^◌, ℤ, ◌+ℤ◌, ◌-ℤ◌, FitsSigned, length, take, sym, subst, ap, ◌∙◌, arith}
-use Rattle.std.specs.Int.{w128}
+use Rattle.std.proofs.Common.{◌+◌, ap, ◌∙◌, arith}
 use Rattle.std.proofs.lemmas.Int.{ints}
-use Rattle.tq_agg.specs.Totals.{total_of, weight_of}
+use Rattle.tq_agg.specs.Totals.{weight_of}
 use Rattle.tq_agg.proofs.Totals.{part_fits, rises_to, falls_to}
 use Rattle.tq_agg.proofs.sweeping.net.Goals as goal
 use Rattle.tq_agg.proofs.sweeping.net.Goals.{then-change, else-change}
