@@ -32,9 +32,6 @@ module _ (window : Period) (rows : List Ranked) (i : ℕ) (r : Ranked) (lt : i <
       → starts ≡ record { at = p.start; rises = true; row = r.fragment } → ends ≡ record { at = p.end; rises = false; row = r.fragment } → new ≡ old ++ starts ∷ ends ∷ []
       → (t : ℕ) → total_upto s old t ≡ total_held s window (take i rows) t → total_upto s new t ≡ total_held s window (take (i + 1) rows) t
   adds_on p starts ends old new both at_start at_end more t before =
-      let w = weight_of s r.fragment.now.values in
-      let f = λ (c : Change). cond (nat_le c.at t) (change_weight s c) (pos 0) in
-      let both' = added-append f old (starts ∷ ends ∷ []) in
       omega (
         arith,
         ints,

@@ -170,26 +170,30 @@ module _ (keys sums : List ℕ) where
     abbrev made : List Value → List Value
     made key = group_row keys sums (group_of rows key)
 
+    -- the values of the key, which stand first
     abbrev key_of_row : List Value
     key_of_row = take (length keys) v
 
+    abbrev stands : List Value → Bool
+    stands key = stands_in (map (projection keys) rows) key
+
     -- a group's row begins with its key
-    begins_with : (key : List Value) → stands_in (map (projection keys) rows) key ≡ true → take (length keys) (made key) ≡ key
+    begins_with : (key : List Value) → stands key ≡ true → take (length keys) (made key) ≡ key
     begins_with key there =
         take_at (projection keys (first_row (group_of rows key))) (Int (pos (length (group_of rows key))) ∷ map (λ place. Int (sum_at place (group_of rows key))) sums) (length keys)
         (length-map keys (value_at (first_row (group_of rows key))))
         ∙ first_has_key rows key there
 
     -- so the one group that can make the row is that of the key with which the row begins
-    of_one_key : (key : List Value) → stands_in (map (projection keys) rows) key ≡ true
-        → one_if (same_row (made key) v) ≡ cond (same_row key (take (length keys) v)) (one_if (same_row (made (take (length keys) v)) v)) 0
-    of_one_key key there = split (same_row (made key) v) refl (same_row key (take (length keys) v)) refl
+    of_one_key : (key : List Value) → stands key ≡ true
+        → one_if (same_row (made key) v) ≡ cond (same_row key key_of_row) (one_if (same_row (made key_of_row) v)) 0
+    of_one_key key there = split (same_row (made key) v) refl (same_row key key_of_row) refl
       where
-        split : (a : Bool) → same_row (made key) v ≡ a → (b : Bool) → same_row key (take (length keys) v) ≡ b → one_if a ≡ cond b (one_if (same_row (made (take (length keys) v)) v)) 0
-        split a is true same = ap one_if (sym is) ∙ ap (λ k. one_if (same_row (made k) v)) (same_from_eq key (take (length keys) v) same)
+        split : (a : Bool) → same_row (made key) v ≡ a → (b : Bool) → same_row key key_of_row ≡ b → one_if a ≡ cond b (one_if (same_row (made key_of_row) v)) 0
+        split a is true same = ap one_if (sym is) ∙ ap (λ k. one_if (same_row (made k) v)) (same_from_eq key key_of_row same)
         split true is false differ =
-            let same : key ≡ take (length keys) v = sym (begins_with key there) ∙ ap (take (length keys)) (same_from_eq (made key) v is) in
-            absurd (false≢true (sym differ ∙ eq_from_same key (take (length keys) v) same))
+            let same : key ≡ key_of_row = sym (begins_with key there) ∙ ap (take (length keys)) (same_from_eq (made key) v is) in
+            absurd (false≢true (sym differ ∙ eq_from_same key key_of_row same))
         split false is false differ = refl
 
     occurrences-map : (ks : List (List Value)) → occurrences (map (group_row keys sums) (map (λ key. group_of rows key) ks)) v ≡ sum_by (λ key. one_if (same_row (made key) v)) ks
@@ -200,24 +204,21 @@ module _ (keys sums : List ℕ) where
 
     -- the row stands once among those of the groups where its key is there and the rest are count and sums
     pub grouped_occurrences : occurrences (grouped_rows keys sums rows) v
-        ≡ shown_copies false (take (length keys) v) (map (λ s. added (of_key keys (take (length keys) v) s) rows) (One ∷ map Column sums)) v
+        ≡ shown_copies false key_of_row (map (λ s. added (of_key keys key_of_row s) rows) (One ∷ map Column sums)) v
     grouped_occurrences =
-        let ks = map (projection keys) rows in
-        let key = take (length keys) v in
-        let totals = map (λ s. added (of_key keys (take (length keys) v) s) rows) (map Column sums) in
         occurrences-map (each_once (map (projection keys) rows))
-        ∙ sum_by-same (λ k. stands_in (map (projection keys) rows) k ≡ true) (λ k. one_if (same_row (made k) v)) (λ k. cond (same_row k (take (length keys) v)) (one_if (same_row (made (take (length keys) v)) v)) 0)
-        of_one_key (each_once (map (projection keys) rows)) (All-each_once (λ k. stands_in (map (projection keys) rows) k ≡ true) (map (projection keys) rows) (all_stand (map (projection keys) rows)))
-        ∙ once (take (length keys) v) (one_if (same_row (made (take (length keys) v)) v)) (map (projection keys) rows)
-        ∙ shown (stands_in (map (projection keys) rows) (take (length keys) v)) refl
-        ∙ ap (λ b. cond b (one_if (same_row (take (length keys) v ++ Int (added (of_key keys (take (length keys) v) One) rows) ∷ map Int (map (λ s. added (of_key keys (take (length keys) v) s) rows) (map Column sums))) v)) 0)
-        (sym (stands_counted rows (take (length keys) v)) ∙ ap (λ n. not (int_eq n (pos 0))) (sym (count_is rows (take (length keys) v))))
+        ∙ sum_by-same (λ k. stands k ≡ true) (λ k. one_if (same_row (made k) v)) (λ k. cond (same_row k key_of_row) (one_if (same_row (made key_of_row) v)) 0)
+        of_one_key (each_once (map (projection keys) rows)) (All-each_once (λ k. stands k ≡ true) (map (projection keys) rows) (all_stand (map (projection keys) rows)))
+        ∙ once key_of_row (one_if (same_row (made key_of_row) v)) (map (projection keys) rows)
+        ∙ shown (stands key_of_row) refl
+        ∙ ap (λ b. cond b (one_if (same_row (key_of_row ++ Int (added (of_key keys key_of_row One) rows) ∷ map Int (map (λ s. added (of_key keys key_of_row s) rows) (map Column sums))) v)) 0)
+        (sym (stands_counted rows key_of_row) ∙ ap (λ n. not (int_eq n (pos 0))) (sym (count_is rows key_of_row)))
       where
-        shown : (b : Bool) → stands_in (map (projection keys) rows) (take (length keys) v) ≡ b
-            → cond b (one_if (same_row (made (take (length keys) v)) v)) 0
-            ≡ cond b (one_if (same_row (take (length keys) v ++ Int (added (of_key keys (take (length keys) v) One) rows) ∷ map Int (map (λ s. added (of_key keys (take (length keys) v) s) rows) (map Column sums))) v)) 0
+        shown : (b : Bool) → stands key_of_row ≡ b
+            → cond b (one_if (same_row (made key_of_row) v)) 0
+            ≡ cond b (one_if (same_row (key_of_row ++ Int (added (of_key keys key_of_row One) rows) ∷ map Int (map (λ s. added (of_key keys key_of_row s) rows) (map Column sums))) v)) 0
         shown true there =
-            ap (λ k. one_if (same_row (k ++ Int (pos (length (group_of rows (take (length keys) v)))) ∷ map (λ place. Int (sum_at place (group_of rows (take (length keys) v)))) sums) v)) (first_has_key rows (take (length keys) v) there)
-            ∙ ap (λ n. one_if (same_row (take (length keys) v ++ Int n ∷ map (λ place. Int (sum_at place (group_of rows (take (length keys) v)))) sums) v)) (sym (count_is rows (take (length keys) v)))
-            ∙ ap (λ l. one_if (same_row (take (length keys) v ++ Int (added (of_key keys (take (length keys) v) One) rows) ∷ l) v)) (sym (totals_are rows (take (length keys) v) sums))
+            ap (λ k. one_if (same_row (k ++ Int (pos (length (group_of rows key_of_row))) ∷ map (λ place. Int (sum_at place (group_of rows key_of_row))) sums) v)) (first_has_key rows key_of_row there)
+            ∙ ap (λ n. one_if (same_row (key_of_row ++ Int n ∷ map (λ place. Int (sum_at place (group_of rows key_of_row))) sums) v)) (sym (count_is rows key_of_row))
+            ∙ ap (λ l. one_if (same_row (key_of_row ++ Int (added (of_key keys key_of_row One) rows) ∷ l) v)) (sym (totals_are rows key_of_row sums))
         shown false none = refl

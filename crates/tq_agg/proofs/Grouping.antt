@@ -164,7 +164,7 @@ module _ (keys : List ℕ) (key : List Value) (window : Period) (t : ℕ) where
   pub totals_begin : (summands : List Summand) (rows others : List Ranked) → All (λ r. key_of keys r ≢ key) rows → AreOfKey keys key others → keyed_totals summands (rows ++ others) ≡ totals_held summands window others t
   totals_begin summands rows others apart alike =
       map_same (λ s. keyed_total s (rows ++ others)) (λ s. total_held s window others t) summands
-      (λ k d lt. let s = get_or summands k d in omega (arith, ints, append_total (get_or summands k d) rows others, apart_total (get_or summands k d) rows apart, alike_total (get_or summands k d) others alike))
+      (λ k d lt. omega (arith, ints, append_total (get_or summands k d) rows others, apart_total (get_or summands k d) rows apart, alike_total (get_or summands k d) others alike))
 
   -- rows of another key come last
   pub totals_stay : (summands : List Summand) (rows others : List Ranked) → All (λ r. key_of keys r ≢ key) others → keyed_totals summands (rows ++ others) ≡ keyed_totals summands rows
@@ -206,26 +206,11 @@ pub adds_group : (keys : List ℕ) (summands : List Summand) (window : Period) (
     → ((t : ℕ) (v : List Value) → copies new v t ≡ copies out v t + cond (holds window t) (shown_copies false (key_of keys x) (totals_held summands window (take len (drop start rows)) t) v) 0)
     → Grouping keys summands window rows start out → Grouping keys summands window rows (start + len) new
 adds_group keys summands window rows start len out new x sorted ranks below is enough alike boundary adds w = record {
-  counted = λ t v. split t v (same_row u (take n v)) refl;
+  counted = λ t v. split t v (same_row (key_of keys x) (take (length keys) v)) refl;
   boundary = boundary;
   within = enough;
 }
   where
-    n : ℕ
-    n = length keys
-
-    u : List Value
-    u = key_of keys x
-
-    done : List Ranked
-    done = take start rows
-
-    group : List Ranked
-    group = take len (drop start rows)
-
-    all : take (start + len) rows ≡ take start rows ++ take len (drop start rows)
-    all = take-add start len rows
-
     apart_done : All (λ r. key_of keys r ≢ key_of keys x) (take start rows)
     apart_done = subst (λ y. All (λ r. key_of keys r ≢ key_of keys y) (take start rows)) (sym is) (apart_before keys rows start sorted ranks w.boundary below x)
 
@@ -235,7 +220,6 @@ adds_group keys summands window rows start len out new x sorted ranks below is e
         let same : key_of keys x ≡ take (length keys) v = same_from_eq (key_of keys x) (take (length keys) v) equal in
         let apart = subst (λ k. All (λ r. key_of keys r ≢ k) (take start rows)) same apart_done in
         let alike' = subst (λ k. AreOfKey keys k (take len (drop start rows))) same alike in
-        let k = take (length keys) v in
         let before = ap (λ l. cond (holds window t) (shown_copies false (take (length keys) v) l v) 0) (totals_none keys (take (length keys) v) window t summands (take start rows) apart) in
         let none = ap (λ m. cond (holds window t) m 0) (none_shown (take (length keys) v) summands v) in
         let after = ap (λ l. cond (holds window t) (shown_copies false (take (length keys) v) (keyed_totals keys (take (length keys) v) window t summands l) v) 0) (take-add start len rows) in
