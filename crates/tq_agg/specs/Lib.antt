@@ -1,1 +1,3 @@
 pub mod Grouping
+pub mod Keys
+pub mod Totals

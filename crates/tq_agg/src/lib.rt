@@ -6,6 +6,13 @@
 //! each group is swept once over its sorted starts and ends, with a running count and running sums.
 #![tactic(auto)]
 
+mod changes;
 mod counting;
+mod groups;
+mod summands;
+mod sweeping;
 
 pub use counting::{count_all, group_count_sum};
+
+#[cfg(test)]
+mod tests;

@@ -1,0 +1,11 @@
+pub mod Adding
+pub mod Batches
+pub mod Changing
+pub mod Cutting
+pub mod Gathering
+pub mod GroupRows
+pub mod Grouping
+pub mod Instants
+pub mod Maps
+pub mod Summable
+pub mod Totals

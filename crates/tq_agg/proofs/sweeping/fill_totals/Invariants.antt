@@ -1,0 +1,7 @@
+-- The next totals so far.
+use Rattle.std.proofs.Common.{◌≡◌, take}
+use Rattle.tq_agg.specs.Totals.{totals_of}
+use Rattle.tq_agg.proofs.sweeping.fill_totals.Given as goal
+
+abbrev pub invariant-summands : goal.invariant-summands
+invariant-summands l = l.next.items ≡ totals_of (take l.place l.summands) (take l.end l.changes)

@@ -1,0 +1,81 @@
+//! What changes the totals of a group of rows, and when.
+
+ghost use Rattle.std.specs.Prelude.{◌≡◌, ℕ, ◌<◌, ◌≤◌, All, IfOk, IsSortedByKey, drop, length, slice_index_or, take};
+ghost use Rattle.std.specs.Ordering.{nat_cmp};
+ghost use Rattle.tq_agg.specs.declared.summands.Summand.{Summand};
+ghost use Rattle.tq_agg.specs.declared.changes.Change.{Change};
+ghost use Rattle.tq_agg.specs.Totals.{total_held, total_upto, AreSmall, AreWithin, HaveSmall};
+
+use crate::groups::Ranked;
+use std::alloc::AllocError;
+use tq_base::{Bound, Fragment, Instant, Period};
+
+// From the bound on there is one row more, or one row less.
+#[derive(Clone, Copy)]
+pub(crate) struct Change<'a> {
+    pub(crate) at: Bound,
+    pub(crate) rises: bool,
+    pub(crate) row: &'a Fragment,
+}
+
+// The bound at an instant.
+pub(crate) fn bound_at(instant: Instant) -> Bound
+    ensures { result ≡ instant }
+{
+    match Bound::new(instant.number()) {
+        Some(bound) => bound,
+        None => unreachable!(),
+    }
+}
+
+// The changes that the starts and ends of the rows, cut to the window, make, in order. They take the
+// place of what stands in the room.
+pub(crate) fn changes_of<'a>(
+    mut room: Vec<Change<'a>>,
+    rows: &[Ranked<'a>],
+    window: &Period,
+) -> Result<Vec<Change<'a>>, AllocError>
+    ensures totals { IfOk result (λ changes. (s : Summand) (t : ℕ) → total_upto s changes.items t ≡ total_held s window.now rows.now t) }
+    ensures sorted { IfOk result (λ changes. IsSortedByKey (λ (c : Change). c.at) nat_cmp changes.items) }
+    ensures within { IfOk result (λ changes. AreWithin window.now changes.items) }
+    ensures small { IfOk result (λ changes. (s : Summand) → HaveSmall s rows.now → AreSmall s changes.items) }
+{
+    room.clear();
+    'rows: for row in rows {
+        let Some(period) = row.fragment.period.overlap(window) else {
+            continue;
+        };
+        let starts = Change {
+            at: bound_at(period.start),
+            rises: true,
+            row: row.fragment,
+        };
+        let ends = Change {
+            at: period.end,
+            rises: false,
+            row: row.fragment,
+        };
+        room.extend_from_slice(&[starts, ends])?;
+    }
+    room.sort_unstable_by_key(|change| change.at);
+    Ok(room)
+}
+
+// How many changes at the front come at the bound of the first.
+pub(crate) fn batch_len(changes: &[Change<'_>]) -> usize
+    ensures within { result ≤ length changes.now }
+    ensures some { 0 < length changes.now → 0 < result }
+    ensures alike { (d : Change) → All (λ c. c.at ≡ (slice_index_or changes.now 0 d).at) (take result changes.now) }
+{
+    let Some(first) = changes.first() else {
+        return 0;
+    };
+    let mut len = 0;
+    'changes: for change in changes {
+        if change.at != first.at {
+            return len;
+        }
+        len += 1;
+    }
+    len
+}

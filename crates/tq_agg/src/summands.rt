@@ -1,0 +1,42 @@
+//! What a total adds up over the rows of a group.
+
+ghost use Rattle.std.specs.Prelude.{◌≡◌, ◌∷◌, map, IfOk};
+ghost use Rattle.tq_agg.specs.declared.summands.Summand.TheVariants.{Column, One};
+ghost use Rattle.tq_agg.specs.Totals.{weight_of};
+
+use std::alloc::{AllocError, Global};
+use tq_base::Value;
+
+// What each row adds to a total: 1, or the number in the column, which is 0 for a text and where the row
+// has no such column.
+#[derive(Clone, Copy)]
+pub(crate) enum Summand {
+    One,
+    Column(u32),
+}
+
+// What a row of these values adds.
+pub(crate) fn weight(summand: Summand, values: &[Value]) -> i128
+    ensures { result ≡ weight_of summand values.now }
+{
+    let column = match summand {
+        Summand::One => return 1,
+        Summand::Column(column) => column,
+    };
+    match values.get(column as usize) {
+        Some(Value::Int(number)) => *number,
+        Some(Value::Text(_)) | None => 0,
+    }
+}
+
+// The count of rows, then the sum of each column.
+pub(crate) fn summands_of(alloc: Global, columns: &[u32]) -> Result<Vec<Summand>, AllocError>
+    ensures { IfOk result (λ summands. summands.items ≡ One ∷ map Column columns.now) }
+{
+    let mut summands = Vec::with_capacity(alloc, columns.len())?;
+    summands.push(Summand::One)?;
+    'columns: for column in columns {
+        summands.push(Summand::Column(*column))?;
+    }
+    Ok(summands)
+}
