@@ -8,6 +8,7 @@ ghost use Rattle.tq_base.specs.Layers.{IsLayers};
 ghost use Rattle.tq_base.specs.Layering.{AddsLayers};
 
 use crate::layering::layered;
+use crate::ranking::{Ranked, in_order};
 use std::alloc::{AllocError, Global};
 use tq_base::{Fragment, Period};
 
@@ -61,13 +62,13 @@ fn add_layers(
 /// each maximal run of instants at which at least so many copies are valid, in order of the values,
 /// then of the start, then of the end. Rows are moved, not copied. `AllocError` where a growth was
 /// refused.
-pub fn coalesce(alloc: Global, mut rows: Vec<Fragment>) -> Result<Vec<Fragment>, AllocError>
+pub fn coalesce(alloc: Global, rows: Vec<Fragment>) -> Result<Vec<Fragment>, AllocError>
     ensures { IfOk result (λ table. IsLayers (copies rows.items) table.items) }
 {
-    rows.sort_unstable();
+    let rows = in_order(alloc, rows)?;
     let mut table = Vec::new(alloc);
     let mut group = Vec::new(alloc);
-    'rows: for row in rows {
+    'rows: for Ranked { row, .. } in rows {
         if begins_group(&group, &row) {
             add_layers(alloc, &mut group, &mut table)?;
         }
