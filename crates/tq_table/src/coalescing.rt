@@ -31,7 +31,7 @@ fn begins_group(group: &[Fragment], row: &Fragment) -> bool
     }
 }
 
-// Moves a group of rows that are alike into the table, as its layers.
+// Moves a group of rows that are alike into the table, as its layers. One row is its own layer.
 fn add_layers(
     alloc: Global,
     group: &mut Vec<Fragment>,
@@ -41,6 +41,9 @@ fn add_layers(
         → AddsLayers v group.old.items table.old.items table.new.items) }
     ensures emptied { OnOk result (group.new.items ≡ []) }
 {
+    if group.len() <= 1 {
+        return table.append(group);
+    }
     let periods = periods_of(alloc, group)?;
     let layering = layered(alloc, &periods)?;
     for period in &layering {
