@@ -1,11 +1,11 @@
 -- Making the events one by one: what holds after so many marks, and that each mark keeps it.
-use Rattle.std.proofs.Common.{◌≡◌, ◌≢◌, ℕ, ◌+◌, ◌<◌, ◌≤◌, Bool, true, false, cond, ◌&&◌, ◌||◌, ◌==◌, List, [], ◌∷◌, ◌++◌, Option, Some, length, get_or, set, take, slice_get, refl, sym, ap, subst, ◌∙◌, arith, inl, inr, ◌⊎◌, count_by, if◌then◌else◌, length-append, length-set}
+use Rattle.std.proofs.Common.{◌≡◌, ◌≢◌, ℕ, ◌+◌, ◌<◌, ◌≤◌, Bool, true, false, cond, ◌&&◌, ◌||◌, ◌==◌, List, [], ◌∷◌, ◌++◌, Option, Some, length, get_or, set, take, slice_get, refl, sym, ap, subst, ◌∙◌, arith, inl, inr, ◌⊎◌, count_by, if◌then◌else◌, length-append, length-set, map}
 use Rattle.std.specs.Prelude.{All, IsSorted, IsPermutation, IsSomeAnd}
 use Rattle.std.specs.List.{AllZip, list_any}
 use Rattle.std.proofs.lemmas.Bool.{cases_lt, eqb-true}
 use Rattle.std.proofs.lemmas.Bool.Decides.{nat_tests}
 use Rattle.std.proofs.lemmas.Option.{get_or_from_slice_get, slice_get_within}
-use Rattle.std.proofs.lemmas.List.{length-take-le, take_more, get_or-set_same, get_or-set_other}
+use Rattle.std.proofs.lemmas.List.{length-take-le, take_more, get_or-map, get_or-set_same, get_or-set_other}
 use Rattle.std.proofs.lemmas.List.Folds.{list_any_more}
 use Rattle.std.proofs.lemmas.List.Sums.{sum_by-cons, sum_by_push}
 use Rattle.tq_event.specs.declared.entry.Entry.{Entry}
@@ -114,6 +114,15 @@ module _ (entries : List Entry) (marks : List Mark) (tables : ℕ) (all : IsPerm
       → Placing entries marks tables k now rows next events → (get_or now m.entry e).table < tables
   table_below_by k d m e now rows next events here is bounded w =
       subst (λ (x : Mark). (get_or now x.entry e).table < tables) (sym is) (table_below k d e now rows next events here bounded w)
+
+  -- the table that stands beside an entry is the one that the entry has
+  pub table_by : (k : ℕ) (d m : Mark) (now : List Entry) (rows next : List ℕ) (events : List Event) (t : ℕ) → k < length marks → m ≡ get_or marks k d
+      → Placing entries marks tables k now rows next events → t ≡ get_or (map (λ x. x.table) entries) m.entry t → (e : Entry) × (t ≡ (get_or now m.entry e).table)
+  table_by k d m now rows next events t here is w stood =
+      let (entry, of_mark) = entry_of_mark k d here in
+      let stands : slice_get entries m.entry ≡ Some entry = ap (λ (x : Mark). slice_get entries x.entry) is ∙ of_mark in
+      let table = λ (x : Entry). x.table in
+      (entry, stood ∙ get_or-map table entries m.entry entry t (slice_get_within entries m.entry entry stands) ∙ ap table (get_or_from_slice_get entries m.entry entry entry stands) ∙ sym (w.tables_are m.entry entry entry stands))
 
   -- no more rows have started than marks were passed
   pub few_started : (k t : ℕ) → k ≤ length marks → count_by (starts_in entries t) (take k marks) ≤ k

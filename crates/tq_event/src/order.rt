@@ -1,6 +1,6 @@
 // The events that entries make, in order.
 
-ghost use Rattle.std.specs.Prelude.{◌≡◌, ◌+◌, ◌<◌, ◌≤◌, All, IfOk, IsPermutation, IsSorted, length, vec_len};
+ghost use Rattle.std.specs.Prelude.{◌≡◌, ◌+◌, ◌<◌, ◌≤◌, All, IfOk, IsPermutation, IsSorted, length, map, vec_len};
 ghost use Rattle.tq_event.specs.Loading.{AreEventsOf, HaveEvents, mark_cmp, marks_from};
 
 use crate::entry::Entry;
@@ -59,6 +59,13 @@ fn start_entry(
     }
 }
 
+// The table of each entry, side by side: a mark is read where the entries around it are not.
+fn tables_of(alloc: Global, entries: &[Entry]) -> Result<Vec<u32>, AllocError>
+    ensures { IfOk result (λ v. v.items ≡ map (λ e. e.table) entries.now) }
+{
+    entries.iter().map(|entry| entry.table).collect(alloc)
+}
+
 // The events of the marks, which are those of the entries in order.
 fn place_events(
     alloc: Global,
@@ -73,12 +80,13 @@ fn place_events(
     requires few { length marks.now < 4294967296 }
     ensures { IfOk result (λ events. HaveEvents entries.items marks.now events.items) }
 {
+    let of_tables = tables_of(alloc, &entries)?;
     let mut next_rows = vec![in alloc; 0u32; tables]?;
     let mut rows = vec![in alloc; 0u32; entries.len()]?;
     let mut events = Vec::with_capacity(alloc, marks.len())?;
     'marks: for mark in marks {
         let number = mark.entry as usize;
-        let table = entries[number].table;
+        let table = of_tables[number];
         let event = if mark.starts {
             start_entry(
                 alloc,

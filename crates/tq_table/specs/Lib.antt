@@ -1,3 +1,4 @@
+pub mod Ranks
 pub mod Sink
 pub mod Text
 pub mod Writing

@@ -8,6 +8,7 @@ ghost use Rattle.tq_base.specs.Layers.{IsLayers};
 ghost use Rattle.tq_base.specs.Layering.{AddsLayers};
 
 use crate::layering::layered;
+use crate::ranking::{Ranked, in_order};
 use std::alloc::{AllocError, Global};
 use tq_base::{Fragment, Period};
 
@@ -30,7 +31,7 @@ fn begins_group(group: &[Fragment], row: &Fragment) -> bool
     }
 }
 
-// Moves a group of rows that are alike into the table, as its layers.
+// Moves a group of rows that are alike into the table, as its layers. One row is its own layer.
 fn add_layers(
     alloc: Global,
     group: &mut Vec<Fragment>,
@@ -40,6 +41,9 @@ fn add_layers(
         → AddsLayers v group.old.items table.old.items table.new.items) }
     ensures emptied { OnOk result (group.new.items ≡ []) }
 {
+    if group.len() <= 1 {
+        return table.append(group);
+    }
     let periods = periods_of(alloc, group)?;
     let layering = layered(alloc, &periods)?;
     for period in &layering {
@@ -61,13 +65,13 @@ fn add_layers(
 /// each maximal run of instants at which at least so many copies are valid, in order of the values,
 /// then of the start, then of the end. Rows are moved, not copied. `AllocError` where a growth was
 /// refused.
-pub fn coalesce(alloc: Global, mut rows: Vec<Fragment>) -> Result<Vec<Fragment>, AllocError>
+pub fn coalesce(alloc: Global, rows: Vec<Fragment>) -> Result<Vec<Fragment>, AllocError>
     ensures { IfOk result (λ table. IsLayers (copies rows.items) table.items) }
 {
-    rows.sort_unstable();
+    let rows = in_order(alloc, rows)?;
     let mut table = Vec::new(alloc);
     let mut group = Vec::new(alloc);
-    'rows: for row in rows {
+    'rows: for Ranked { row, .. } in rows {
         if begins_group(&group, &row) {
             add_layers(alloc, &mut group, &mut table)?;
         }

@@ -8,6 +8,7 @@
 
 mod coalescing;
 mod layering;
+mod ranking;
 mod sink;
 mod table;
 mod text;

@@ -1,27 +1,45 @@
-use Rattle.std.proofs.Common.{◌≡◌, ◌≢◌, refl, ◌++◌, ◌∷◌, [], arith}
-use Rattle.std.specs.Prelude.{All}
+use Rattle.std.proofs.Common.{◌≡◌, ◌≢◌, refl, ◌++◌, ◌∷◌, [], List, map, get_or, arith}
+use Rattle.std.specs.Prelude.{All, IsPermutation}
 use Rattle.std.specs.Vec.Iter.{into_iter_items}
 use Rattle.std.proofs.lemmas.List.{nil_from_length}
 use Rattle.std.proofs.lemmas.List.Elements.{All-nil, All-cons, All-push}
-use Rattle.tq_base.specs.Groups.{Grouping, grouping_starts, grouping_ends, closes_group, joins_group}
+use Rattle.std.specs.declared.cmp.Ordering.TheVariants.{Less}
+use Rattle.tq_base.specs.declared.fragment.Fragment.{Fragment}
+use Rattle.tq_base.specs.ValueOrder.{values_cmp}
+use Rattle.tq_base.specs.Copies.{copies-IsPermutation}
+use Rattle.tq_base.specs.Layers.{TakesIn}
+use Rattle.tq_base.specs.Groups.{Grouping, grouping_ends, closes_group, joins_group}
+use Rattle.tq_table.specs.declared.ranking.Ranked.{Ranked}
+use Rattle.tq_table.specs.Ranks.{Rises}
 use Rattle.tq_table.proofs.coalescing.coalesce.Goals as goal
 use Rattle.tq_table.proofs.coalescing.coalesce.Goals.{then-begins_group+in_ok-add_layers, else-begins_group}
 
+-- before the first group
+grouping_starts : (rows sorted : List Fragment) → IsPermutation rows sorted → Rises sorted → Grouping rows sorted []
+grouping_starts rows sorted same rises = record {
+  counted = λ v t. omega (arith, copies-IsPermutation rows sorted v t same);
+  coalesced = All-nil (λ f. All (λ g. f.values ≡ g.values → TakesIn f.period g.period) []);
+  below = λ k d lt. All-nil (λ f. values_cmp f.values (get_or sorted k d).values ≡ Less);
+  rising = rises;
+  ordered = λ k d low high. absurd (omega arith);
+}
+
 pub rows-init : goal.rows-init
 rows-init c =
-    let all : into_iter_items c.into_iter-row-iterator.result ≡ c.sort_unstable.new.self.items = c.into_iter-row-iterator.ensures.into_iter_gives.0 in
+    let sorted = c.in_ok-rows.rows.items in
+    let all : into_iter_items c.into_iter-row-iterator.result ≡ sorted = c.into_iter-row-iterator.ensures.into_iter_gives.0 in
     record {
       alike = ([], rw (c.new-group.ensures.items) (All-nil (λ f. f.values ≡ [])));
       grouping = rw (c.new-group.ensures.items, c.new-table.ensures.items, all)
-          (grouping_starts c.args.rows.items c.sort_unstable.new.self.items c.sort_unstable.ensures.permutation c.sort_unstable.ensures.sorted);
+          (grouping_starts c.args.rows.items (map (λ (r : Ranked). r.row) sorted) c.in_ok-rows.ensures.same c.in_ok-rows.ensures.rising);
     }
 
 pub rows-preserved : goal.rows-preserved
 rows-preserved c =
     let rows = c.args.rows.items in
-    let row = c.in-Some.row in
-    let rest = into_iter_items c.next.new.self in
-    let left : into_iter_items c.rows.row-iterator ≡ row ∷ rest = c.in-Some.ensures.steps.0 in
+    let row = c.in-Some.field-0.row in
+    let rest = map (λ (r : Ranked). r.row) (into_iter_items c.next.new.self) in
+    let left : into_iter_items c.rows.row-iterator ≡ c.in-Some.field-0 ∷ into_iter_items c.next.new.self = c.in-Some.ensures.steps.0 in
     let (v, alike) = c.rows.invariant.alike in
     let before : Grouping rows (c.rows.group.items ++ row ∷ rest) c.rows.table.items = rw left at c.rows.invariant.grouping in
     elim c.if-begins_group.branch [

@@ -1,5 +1,5 @@
 -- The rows are those in the table, as layers, those of the group, which are alike, and those to come.
-use Rattle.std.proofs.Common.{◌≡◌, ◌++◌, List}
+use Rattle.std.proofs.Common.{◌≡◌, ◌++◌, List, map}
 use Rattle.std.specs.Prelude.{All}
 use Rattle.std.specs.Vec.Iter.{into_iter_items}
 use Rattle.tq_base.specs.declared.value.Value.{Value}
@@ -9,5 +9,5 @@ use Rattle.tq_table.proofs.coalescing.coalesce.Given as goal
 abbrev pub invariant-rows : goal.invariant-rows
 invariant-rows l = record {
   alike : (v : List Value) × All (λ f. f.values ≡ v) l.group.items;
-  grouping : Grouping l.fn.rows.items (l.group.items ++ into_iter_items l.row-iterator) l.table.items;
+  grouping : Grouping l.fn.rows.items (l.group.items ++ map (λ r. r.row) (into_iter_items l.row-iterator)) l.table.items;
 }
