@@ -1,4 +1,4 @@
-"""Measures a join and a difference of two tables beside SQL over sqlite3: python3 bench/questions.py
+"""Measures questions over two tables beside SQL over sqlite3: python3 bench/questions.py
 
     --tq PROGRAM   the program to measure (bin/tq)
     --rows N ..    the sizes of each table (10000 100000 1000000)
@@ -17,6 +17,8 @@ from measuring import HERE, TRIES, growth, read_options, run
 QUESTIONS = {
     "join": "VALIDTIME SELECT emp.emp, name, dept, amount FROM emp, sal WHERE emp.emp = sal.emp",
     "difference": "VALIDTIME SELECT emp FROM emp EXCEPT ALL SELECT emp FROM sal",
+    "counts": "VALIDTIME SELECT dept, COUNT(*) FROM emp GROUP BY dept",
+    "sums": "VALIDTIME SELECT dept, SUM(amount) FROM emp, sal WHERE emp.emp = sal.emp GROUP BY dept",
 }
 
 

@@ -1,4 +1,6 @@
-"""A join and a difference by SQL over sqlite3, coalesced: python3 bench/questions_sql.py EMP SAL join|difference
+"""Questions over two tables by SQL over sqlite3, coalesced:
+
+    python3 bench/questions_sql.py EMP SAL join|difference|counts|sums
 
 Both tables are loaded into memory, and indexed by the key.
 """
@@ -6,7 +8,7 @@ Both tables are loaded into memory, and indexed by the key.
 import sqlite3
 import sys
 
-from sweep_sql import COUNTS, load, write_runs
+from sweep_sql import COUNTS, load, write_rows, write_runs
 
 JOIN = """
 CREATE TABLE rows AS
@@ -27,21 +29,48 @@ FROM (SELECT emp, instant, copies, copies - change AS before
 WHERE MAX(copies, 0) <> MAX(before, 0)
 """
 
+# The runs of equal totals of each group while it has rows. Where neither the total nor whether there are
+# rows changes, no run begins.
+GROUPS = """
+SELECT dept, total, instant, next
+FROM (SELECT *, LEAD(instant) OVER (PARTITION BY dept ORDER BY instant) AS next
+      FROM (SELECT *, LAG(copies > 0) OVER (PARTITION BY dept ORDER BY instant) AS had_rows,
+                   LAG(total) OVER (PARTITION BY dept ORDER BY instant) AS before
+            FROM (SELECT dept, instant, SUM(copies) OVER (PARTITION BY dept ORDER BY instant) AS copies,
+                         SUM(total) OVER (PARTITION BY dept ORDER BY instant) AS total
+                  FROM (SELECT dept, instant, SUM(copies) AS copies, SUM(total) AS total
+                        FROM (SELECT dept, start AS instant, 1 AS copies, {weight} AS total FROM {rows}
+                              UNION ALL SELECT dept, stop, -1, -({weight}) FROM {rows})
+                        GROUP BY dept, instant)))
+      WHERE had_rows IS NOT (copies > 0) OR before IS NOT total)
+WHERE copies > 0 ORDER BY dept, total, instant
+"""
+
+
+def write_groups(database, rows, weight, name):
+    """Writes the runs of each department's total."""
+    write_rows(["dept", name], database.execute(GROUPS.format(rows=rows, weight=weight)))
+
 
 def main():
     emp, sal, question = sys.argv[1:]
     database = sqlite3.connect(":memory:")
     load(emp, database, "emp")
     load(sal, database, "sal")
-    if question == "join":
+    if question in ("join", "sums"):
         database.execute("CREATE INDEX of_key ON sal (emp)")
         database.execute(JOIN)
+    if question == "join":
         columns = ["emp", "name", "dept", "amount"]
         database.execute(COUNTS.format(columns=", ".join(columns)))
-    else:
-        columns = ["emp"]
+        write_runs(database, columns)
+    elif question == "difference":
         database.execute(DIFFERENCE)
-    write_runs(database, columns)
+        write_runs(database, ["emp"])
+    elif question == "counts":
+        write_groups(database, "emp", "1", "count")
+    else:
+        write_groups(database, "rows", "amount", "sum")
 
 
 if __name__ == "__main__":

@@ -51,16 +51,21 @@ def load(path, database, table="rows"):
         database.executemany(f"INSERT INTO {table} VALUES ({places})", rows)
 
 
-def write_runs(database, columns):
-    """Writes the coalesced rows of the table `counts`."""
+def write_rows(columns, rows):
+    """Writes a header and rows whose last two values are start and stop."""
     sys.stdout.reconfigure(encoding="utf-8", newline="")
     writer = csv.writer(sys.stdout, lineterminator="\n")
     writer.writerow([*columns, "from", "to"])
+    for row in rows:
+        writer.writerow([*row[:-1], "forever" if row[-1] == FOREVER else row[-1]])
+
+
+def write_runs(database, columns):
+    """Writes the coalesced rows of the table `counts`."""
     names = ", ".join(columns)
     database.execute("CREATE TABLE levels (level INTEGER PRIMARY KEY)")
     database.execute(LEVELS)
-    for row in database.execute(RUNS.format(columns=names)):
-        writer.writerow([*row[:-1], "forever" if row[-1] == FOREVER else row[-1]])
+    write_rows(columns, database.execute(RUNS.format(columns=names)))
 
 
 def main():

@@ -29,9 +29,9 @@ of_kind kind.Text (Int n) is = absurd is
 of_kind kind.Text (Text t) is = fits_signed_from_abs w64 (pos 0) (omega arith)
 
 fitting : (columns : List Column) (values : List Value) → Fit columns values → All IsNumber values
-fitting [] [] fit k d less = absurd (omega (arith, less))
+fitting [] [] fit = λ k d less. absurd (omega (arith, less))
 fitting [] (v ∷ vs) fit = absurd fit
-fitting (c ∷ cs) [] fit k d less = absurd (omega (arith, less))
+fitting (c ∷ cs) [] fit = absurd fit
 fitting (c ∷ cs) (v ∷ vs) fit = All-cons IsNumber v vs (of_kind c.kind v fit.0) (fitting cs vs fit.1)
 
 in_table : (schema : Option Schema) (values : List Value) → IsSomeAnd schema (λ (s : Schema). Fit s.columns values) → All IsNumber values

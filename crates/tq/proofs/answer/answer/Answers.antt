@@ -23,3 +23,6 @@ returns-clause-fault c =
     IfErr-weaker c.answer_statement.result _ _
     (λ fault is. statement_fault c.args.files.now c.args.bytes.now c.in_ok-loaded.loaded c.in_ok-statement.statement fault c.in_ok-loaded.ensures.loaded c.in_ok-statement.ensures.statement is)
     c.answer_statement.ensures.fault
+
+pub answer_statement-requires-clause-history : goal.answer_statement-requires-clause-history
+answer_statement-requires-clause-history c = c.loaded_is_history.ensures c.args.files.now 16777216 c.in_ok-loaded.loaded c.in_ok-loaded.ensures.loaded
