@@ -25,7 +25,9 @@ QUESTIONS = {
 def measure(tq, folder, rows, question):
     """Prints a line for one question over two tables, and gives tq's seconds."""
     emp, sal, answer, other = (os.path.join(folder, name) for name in ["emp.csv", "sal.csv", "answer.csv", "other.csv"])
-    ask = [tq, "ask", "--table", f"emp={emp}", "--table", f"sal={sal}", QUESTIONS[question]]
+    statement = QUESTIONS[question]
+    tables = [f"--table={name}={path}" for name, path in [("emp", emp), ("sal", sal)] if name in statement.split(" FROM ", 1)[1]]
+    ask = [tq, "ask", *tables, statement]
     tries = [run(ask, answer) for _ in range(TRIES)]
     seconds, peak = min(seconds for seconds, _ in tries), max(peak for _, peak in tries)
     sql, _ = run([sys.executable, os.path.join(HERE, "questions_sql.py"), emp, sal, question], other)

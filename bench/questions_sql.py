@@ -56,7 +56,8 @@ def main():
     emp, sal, question = sys.argv[1:]
     database = sqlite3.connect(":memory:")
     load(emp, database, "emp")
-    load(sal, database, "sal")
+    if question != "counts":
+        load(sal, database, "sal")
     if question in ("join", "sums"):
         database.execute("CREATE INDEX of_key ON sal (emp)")
         database.execute(JOIN)
