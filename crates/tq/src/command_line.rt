@@ -19,6 +19,7 @@ Statement:
   VALIDTIME SELECT name, dept FROM emp
   VALIDTIME PERIOD '[10 - 20)' SELECT name FROM emp WHERE dept = 'toys'
   VALIDTIME SELECT a.name, b.name FROM emp a, emp b WHERE a.dept = b.dept AND a.emp < b.emp
+  VALIDTIME SELECT dept, COUNT(*), SUM(emp) AS total FROM emp GROUP BY dept
   VALIDTIME SELECT name FROM emp EXCEPT ALL SELECT name FROM boss
 
 Table file (the first column is a key; an open end is `forever`):
