@@ -1,5 +1,5 @@
 -- How often a row stands in a plan's answer at an instant of its window.
-use Rattle.std.proofs.Common.{◌≡◌, ℕ, ◌-◌, true, List, Some, None, refl, ap, if◌then◌else◌, arith}
+use Rattle.std.proofs.Common.{◌≡◌, ℕ, ◌-◌, true, List, Some, None, refl, ap, arith}
 use Rattle.tq_base.specs.Fragments.{occurrences}
 use Rattle.tq_base.specs.Periods.{holds}
 use Rattle.tq_event.specs.declared.event.Event.{Event}

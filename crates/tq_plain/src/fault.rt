@@ -6,7 +6,7 @@ use thiserror::Error;
 /// Why the rows of an instant are not computed.
 #[derive(Clone, Copy, Debug, PartialEq, Eq, Error)]
 pub enum PlainFault {
-    /// A sum left the range of `i128`. Numbers of 64 bits, which tables hold, have no such sum.
+    /// A sum left the range of `i128`. Those of 64-bit numbers, which tables hold, never do.
     #[error("TooLarge")]
     TooLarge = 1,
     /// A growth was refused.

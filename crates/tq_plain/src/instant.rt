@@ -1,11 +1,12 @@
 // The rows of an answer at one instant.
 
-ghost use Rattle.std.specs.Prelude.{◌≡◌, ◌∷◌, ◌-◌, [], IfOk};
+ghost use Rattle.std.specs.Prelude.{◌≡◌, ◌≢◌, All, Err, ◌∷◌, ◌-◌, [], IfOk};
 ghost use Rattle.tq_base.specs.Fragments.{occurrences};
 ghost use Rattle.tq_base.specs.Periods.{holds};
 ghost use Rattle.tq_agg.specs.Grouping.{Row};
 ghost use Rattle.tq_plan.specs.Answers.{lists_at, times_at};
 ghost use Rattle.tq_plan.specs.Ordinary.{ordinary};
+ghost use Rattle.tq_plain.specs.Narrow.{StartsNarrow};
 
 use crate::fault::PlainFault;
 use crate::history::lists_at;
@@ -50,7 +51,8 @@ fn query_rows(
     query: &QueryPlan,
     instant: u64,
 ) -> Result<Vec<Values>, PlainFault>
-    ensures { IfOk result (λ rows. rows.items ≡ ordinary query.now (lists_at events.now n instant query.now.tables)) }
+    ensures rows { IfOk result (λ rows. rows.items ≡ ordinary query.now (lists_at events.now n instant query.now.tables)) }
+    ensures too_large { All StartsNarrow events.now → result ≢ Err PlainFault.TooLarge }
 {
     let lists = lists_at(alloc, events, n, query.tables.get(), instant)?;
     ordinary(alloc, query, &lists)
@@ -58,7 +60,8 @@ fn query_rows(
 
 /// The rows of a plan's answer at one instant as of the first `n` events, by the definition: those of
 /// the left query, less those of the right one (EXCEPT ALL); none outside the window. `TooLarge` where a
-/// sum left the range of `i128`, `OutOfMemory` where a growth was refused.
+/// sum left the range of `i128`, which the numbers of 64 bits that tables hold never do; `OutOfMemory`
+/// where a growth was refused.
 pub fn rows_at(
     alloc: Global,
     events: &[Event],
@@ -66,7 +69,8 @@ pub fn rows_at(
     plan: &Plan,
     instant: u64,
 ) -> Result<Vec<Values>, PlainFault>
-    ensures { (v : Row) → IfOk result (λ rows. occurrences rows.items v ≡ times_at events.now n plan.now v instant) }
+    ensures rows { (v : Row) → IfOk result (λ rows. occurrences rows.items v ≡ times_at events.now n plan.now v instant) }
+    ensures too_large { All StartsNarrow events.now → result ≢ Err PlainFault.TooLarge }
 {
     if !holds(&plan.window, instant) {
         return Ok(Vec::new(alloc));

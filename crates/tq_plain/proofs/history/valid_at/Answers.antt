@@ -1,4 +1,4 @@
-use Rattle.std.proofs.Common.{◌≡◌, ◌++◌, ◌∙◌, take, sym, ap, append-nil}
+use Rattle.std.proofs.Common.{◌++◌, ◌∙◌, take, sym, ap, append-nil}
 use Rattle.std.proofs.lemmas.List.{drop_all}
 use Rattle.tq_plain.proofs.HistoryLemmas.{valid_from, valid_from-first}
 use Rattle.tq_plain.proofs.history.valid_at.Goals as goal

@@ -1,4 +1,4 @@
-use Rattle.std.proofs.Common.{◌≡◌, ◌-◌, ◌∷◌, ◌<◌, ◌≤◌, ◌∙◌, [], length, sym, ap, arith}
+use Rattle.std.proofs.Common.{◌-◌, ◌∷◌, ◌<◌, ◌≤◌, ◌∙◌, [], length, sym, ap, arith}
 use Rattle.std.specs.Ordering.{eq_by_cmp}
 use Rattle.std.proofs.lemmas.List.{take_all}
 use Rattle.tq_base.specs.ValueOrder.{values_cmp}
