@@ -1,6 +1,6 @@
 // Answers whose rows are made of one row of each source.
 
-use super::{EMP, asked, assert_answer, assert_instants};
+use super::{EMP, Expected, asked, assert_answer, assert_instants};
 use std::alloc::{AllocError, Global};
 use std::test::Fail;
 use tq_base::FOREVER;
@@ -66,6 +66,41 @@ fn a_table_is_joined_with_itself(rt: HostRuntime) -> Result<(), Fail> {
         "VALIDTIME SELECT x.name, y.name FROM emp x, emp AS y WHERE x.dept = y.dept AND x.name < y.name",
         &[("ann,bob", 15, 25)],
     )
+}
+
+// The rows that docs/semantics.md works out.
+#[test]
+fn the_worked_rows_of_one_instant(rt: HostRuntime) -> Result<(), Fail> {
+    let cases: [(&str, &[Expected<'_>]); 5] = [
+        (
+            "VALIDTIME SELECT x.name, y.name FROM emp x, emp y WHERE x.dept = y.dept",
+            &[
+                ("ann,ann", 22, 23),
+                ("ann,bob", 22, 23),
+                ("bob,ann", 22, 23),
+                ("bob,bob", 22, 23),
+                ("cat,cat", 22, 23),
+            ],
+        ),
+        (
+            "VALIDTIME SELECT name FROM emp WHERE dept = 'toys' AND NOT name = 'ann'",
+            &[("bob", 22, 23)],
+        ),
+        (
+            "VALIDTIME SELECT dept, COUNT(*), SUM(emp) FROM emp GROUP BY dept",
+            &[("food,1,3", 22, 23), ("toys,2,3", 22, 23)],
+        ),
+        ("VALIDTIME SELECT COUNT(*) FROM emp", &[("3", 22, 23)]),
+        (
+            "VALIDTIME SELECT dept FROM emp EXCEPT ALL SELECT dept FROM emp WHERE name = 'bob'",
+            &[("food", 22, 23), ("toys", 22, 23)],
+        ),
+    ];
+    for (statement, expected) in cases {
+        let question = asked(rt.alloc(), &[(b"emp", EMP)], statement)?;
+        assert_instants(&rt, &question, &[22], expected)?;
+    }
+    Ok(())
 }
 
 #[test]
