@@ -1,0 +1,4 @@
+pub mod HistoryLemmas
+pub mod RemovingLemmas
+pub mod AnswerLemmas
+pub mod NarrowLemmas

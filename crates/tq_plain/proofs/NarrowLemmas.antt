@@ -1,0 +1,99 @@
+-- Rows of 64-bit numbers stay such rows on the way from the events to the groups of a query.
+use Rattle.std.proofs.Common.{ℕ, ℤ, pos, ◌+◌, ◌*◌, ◌+ℤ◌, ◌≤ℤ◌, neg_ℤ, ◌==◌, Bool, true, false, if◌then◌else◌, List, [], ◌∷◌, ◌++◌, map, take, suc, zero, rules, arith}
+use Rattle.std.specs.Prelude.{All, FitsSigned, filter}
+use Rattle.std.specs.Int.{w64}
+use Rattle.std.specs.List.{list_any}
+use Rattle.std.proofs.lemmas.Int.{ints}
+use Rattle.std.proofs.lemmas.List.Elements.{All-nil, All-cons, All-head, All-tail, All-append, All-filter, All-map, All-take, All-weaker}
+use Rattle.tq_base.specs.declared.value.Value.{Value}
+use Rattle.tq_event.specs.declared.event.Event.{Event}
+use Rattle.tq_event.specs.declared.event.Event.TheVariants.{Start, End}
+use Rattle.tq_event.specs.History.{Row as AnyRow, end_of, rows_from, rows_of, valid_at}
+use Rattle.tq_ops.specs.Conditions.{value_at}
+use Rattle.tq_ops.specs.Ordinary.{product, projection}
+use Rattle.tq_agg.specs.Grouping.{Row, each_once, number_of, same_row}
+use Rattle.tq_plan.specs.Answers.{lists_at}
+use Rattle.tq_plan.specs.Ordinary.{alone_or_together, groups, is_aggregate, product_of}
+use Rattle.tq_plan.specs.declared.plans.Output.{Output}
+use Rattle.tq_plain.specs.Narrow.{IsNarrow, StartsNarrow}
+
+abbrev IsNarrowValue : Value → Type 0
+IsNarrowValue value = FitsSigned w64 (number_of value)
+
+-- a place that a row does not have counts as 0
+pub narrow_at : (row : Row) (place : ℕ) → IsNarrow row → FitsSigned w64 (number_of (value_at row place))
+narrow_at [] place narrow = search rules
+narrow_at (value ∷ row) zero narrow = All-head IsNarrowValue value row narrow
+narrow_at (value ∷ row) (suc place) narrow = narrow_at row place (All-tail IsNarrowValue value row narrow)
+
+-- ---- from the sources' rows to the groups
+
+joined_narrow : (left : Row) (right : List Row) → IsNarrow left → All IsNarrow right → All IsNarrow (map (λ r. left ++ r) right)
+joined_narrow left right one all = All-map IsNarrow (λ r. left ++ r) right (All-weaker IsNarrow (λ r. IsNarrow (left ++ r)) (λ r narrow. All-append IsNarrowValue left r one narrow) right all)
+
+product_narrow : (left right : List Row) → All IsNarrow left → All IsNarrow right → All IsNarrow (product left right)
+product_narrow [] right lefts rights = All-nil IsNarrow
+product_narrow (row ∷ left) right lefts rights =
+    All-append IsNarrow (map (λ r. row ++ r) right) (product left right)
+    (joined_narrow row right (All-head IsNarrow row left lefts) rights)
+    (product_narrow left right (All-tail IsNarrow row left lefts) rights)
+
+pub product_of_narrow : (lists : List (List Row)) → All (All IsNarrow) lists → All IsNarrow (product_of lists)
+product_of_narrow [] all = All-cons IsNarrow [] [] (All-nil IsNarrowValue) (All-nil IsNarrow)
+product_of_narrow (rows ∷ []) all = All-head (All IsNarrow) rows [] all
+product_of_narrow (rows ∷ next ∷ lists) all =
+    product_narrow rows (product_of (next ∷ lists)) (All-head (All IsNarrow) rows (next ∷ lists) all)
+    (product_of_narrow (next ∷ lists) (All-tail (All IsNarrow) rows (next ∷ lists) all))
+
+alone_narrow : (rows : List Row) → All IsNarrow rows → All (All IsNarrow) (map (λ row. row ∷ []) rows)
+alone_narrow rows all = All-map (All IsNarrow) (λ row. row ∷ []) rows (All-weaker IsNarrow (λ row. All IsNarrow (row ∷ [])) (λ row narrow. All-cons IsNarrow row [] narrow (All-nil IsNarrow)) rows all)
+
+gathered_narrow : (counted : Bool) (rows : List Row) → All IsNarrow rows → All (All IsNarrow) (alone_or_together counted rows)
+gathered_narrow true rows all = All-cons (All IsNarrow) rows [] all (All-nil (All IsNarrow))
+gathered_narrow false rows all = alone_narrow rows all
+
+keyed_narrow : (places : List ℕ) (rows keys : List Row) → All IsNarrow rows → All (All IsNarrow) (map (λ key. filter (λ row. same_row (projection places row) key) rows) keys)
+keyed_narrow places rows [] all = All-nil (All IsNarrow)
+keyed_narrow places rows (key ∷ keys) all =
+    All-cons (All IsNarrow) (filter (λ row. same_row (projection places row) key) rows) _
+    (All-filter (λ row. same_row (projection places row) key) IsNarrow rows all)
+    (keyed_narrow places rows keys all)
+
+pub groups_narrow : (places : List ℕ) (outputs : List Output) (rows : List Row) → All IsNarrow rows → All (All IsNarrow) (groups places outputs rows)
+groups_narrow [] outputs rows all = gathered_narrow (list_any is_aggregate outputs) rows all
+groups_narrow (first ∷ more) outputs rows all = keyed_narrow (first ∷ more) rows (each_once (map (projection (first ∷ more)) rows)) all
+
+-- ---- from the events to the sources' rows
+
+started_narrow : (table next : ℕ) (events : List Event) → All StartsNarrow events → All (λ (row : AnyRow). IsNarrow row.values) (rows_from table next events)
+started_narrow table next [] all = All-nil _
+started_narrow table next (Start t values at ∷ events) all =
+    by_table (t == table) (started_narrow table (next + 1) events (All-tail StartsNarrow (Start t values at) events all))
+    (started_narrow table next events (All-tail StartsNarrow (Start t values at) events all))
+  where
+    row : AnyRow
+    row = record { number = next; values = values; from = at; to = end_of table next events }
+
+    by_table : (b : Bool) → All (λ (row : AnyRow). IsNarrow row.values) (rows_from table (next + 1) events) → All (λ (row : AnyRow). IsNarrow row.values) (rows_from table next events)
+        → All (λ (row : AnyRow). IsNarrow row.values) (if b then row ∷ rows_from table (next + 1) events else rows_from table next events)
+    by_table true numbered others = All-cons (λ (row : AnyRow). IsNarrow row.values) row (rows_from table (next + 1) events) (All-head StartsNarrow (Start t values at) events all) numbered
+    by_table false numbered others = others
+started_narrow table next (End t r at ∷ events) all = started_narrow table next events (All-tail StartsNarrow (End t r at) events all)
+
+pub lists_narrow : (history : List Event) (n t : ℕ) (tables : List ℕ) → All StartsNarrow history → All (All IsNarrow) (lists_at history n t tables)
+lists_narrow history n t [] all = All-nil (All IsNarrow)
+lists_narrow history n t (table ∷ tables) all =
+    All-cons (All IsNarrow) (valid_at history n table t) (lists_at history n t tables)
+    (All-map IsNarrow (λ (row : AnyRow). row.values) _ (All-filter _ (λ (row : AnyRow). IsNarrow row.values) (rows_of history n table)
+    (started_narrow table 0 (take n history) (All-take StartsNarrow n history all))))
+    (lists_narrow history n t tables all)
+
+-- ---- sums
+
+-- the number may be the sum of so many numbers of 64 bits
+pub record IsSumOf (n : ℕ) (sum : ℤ) : Type 0 where
+  pub low : neg_ℤ (pos (9223372036854775808 * n)) ≤ℤ sum
+  pub high : sum ≤ℤ pos (9223372036854775808 * n)
+
+pub sum_more : (n : ℕ) (sum number : ℤ) → IsSumOf n sum → FitsSigned w64 number → IsSumOf (n + 1) (sum +ℤ number)
+sum_more n sum number so_far fits = record { low = omega (arith, ints, so_far.low, fits); high = omega (arith, ints, so_far.high, fits) }

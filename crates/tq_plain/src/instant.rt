@@ -1,0 +1,83 @@
+// The rows of an answer at one instant.
+
+ghost use Rattle.std.specs.Prelude.{◌≡◌, ◌≢◌, All, Err, ◌∷◌, ◌-◌, [], IfOk};
+ghost use Rattle.tq_base.specs.Fragments.{occurrences};
+ghost use Rattle.tq_base.specs.Periods.{holds};
+ghost use Rattle.tq_agg.specs.Grouping.{Row};
+ghost use Rattle.tq_plan.specs.Answers.{lists_at, times_at};
+ghost use Rattle.tq_plan.specs.Ordinary.{ordinary};
+ghost use Rattle.tq_plain.specs.Narrow.{StartsNarrow};
+
+use crate::fault::PlainFault;
+use crate::history::lists_at;
+use crate::query::ordinary;
+use std::alloc::Global;
+use tq_base::{Period, Values};
+use tq_event::Event;
+use tq_plan::{Plan, QueryPlan};
+
+// Takes away one of the rows that are equal to this one, if there is one.
+fn remove_one(rows: &mut Vec<Values>, row: &Values)
+    ensures { (v : Row) → occurrences rows.new.items v ≡ occurrences rows.old.items v - occurrences (row.now ∷ []) v }
+{
+    'rows: for place in 0..rows.len() {
+        if rows[place] == *row {
+            rows.remove(place);
+            return;
+        }
+    }
+}
+
+// Takes away as many rows of each kind as there are of it on the right.
+fn remove_each(rows: &mut Vec<Values>, right: &[Values])
+    ensures { (v : Row) → occurrences rows.new.items v ≡ occurrences rows.old.items v - occurrences right.now v }
+{
+    'right: for row in right {
+        remove_one(rows, row);
+    }
+}
+
+fn holds(window: &Period, instant: u64) -> bool
+    ensures { result ≡ holds window.now instant }
+{
+    window.start.number() <= instant && instant < window.end.number()
+}
+
+// The rows of a query over what is valid at the instant.
+fn query_rows(
+    alloc: Global,
+    events: &[Event],
+    n: u32,
+    query: &QueryPlan,
+    instant: u64,
+) -> Result<Vec<Values>, PlainFault>
+    ensures rows { IfOk result (λ rows. rows.items ≡ ordinary query.now (lists_at events.now n instant query.now.tables)) }
+    ensures too_large { All StartsNarrow events.now → result ≢ Err PlainFault.TooLarge }
+{
+    let lists = lists_at(alloc, events, n, query.tables.get(), instant)?;
+    ordinary(alloc, query, &lists)
+}
+
+/// The rows of a plan's answer at one instant as of the first `n` events, by the definition: those of
+/// the left query, less those of the right one (EXCEPT ALL); none outside the window. `TooLarge` where a
+/// sum left the range of `i128`, which the numbers of 64 bits that tables hold never do; `OutOfMemory`
+/// where a growth was refused.
+pub fn rows_at(
+    alloc: Global,
+    events: &[Event],
+    n: u32,
+    plan: &Plan,
+    instant: u64,
+) -> Result<Vec<Values>, PlainFault>
+    ensures rows { (v : Row) → IfOk result (λ rows. occurrences rows.items v ≡ times_at events.now n plan.now v instant) }
+    ensures too_large { All StartsNarrow events.now → result ≢ Err PlainFault.TooLarge }
+{
+    if !holds(&plan.window, instant) {
+        return Ok(Vec::new(alloc));
+    }
+    let mut rows = query_rows(alloc, events, n, &plan.left, instant)?;
+    if let Some(right) = &plan.right {
+        remove_each(&mut rows, &query_rows(alloc, events, n, right, instant)?);
+    }
+    Ok(rows)
+}
