@@ -8,10 +8,11 @@ Each row i of a table holds from i for 2n instants, so that all are valid from n
 asserted nowhere.
 """
 
+import functools
 import os
 import tempfile
 
-from measuring import TRIES, growth, read_options, run
+from measuring import TRIES, each_size, read_options, run
 
 # The statement, and in how many groups the n rows of the table fall.
 QUESTIONS = {
@@ -30,20 +31,24 @@ def write_table(path, groups, rows):
             file.write(f"{i},{i % groups},{i},{i + 2 * rows}\n")
 
 
+def measure(tq, name, rows):
+    """Prints a line for the question over so many rows, and gives the seconds."""
+    statement, groups = QUESTIONS[name]
+    with tempfile.TemporaryDirectory() as folder:
+        table = os.path.join(folder, "t.csv")
+        write_table(table, groups(rows), rows)
+        ask = [tq, "ask", "--table", f"t={table}", statement]
+        seconds = min(run(ask, os.path.join(folder, "answer.csv"))[0] for _ in range(TRIES))
+    print(f"{name:<24} {rows:>9,} {seconds:>8.2f} s {rows / seconds:>12,.0f}", flush=True)
+    return seconds
+
+
 def main():
     options = read_options([100_000, 1_000_000])
     print("tq ask over rows that are all valid at once")
     print(f"{'question':<24} {'rows':>9} {'tq':>10} {'tq rows/s':>12}")
-    with tempfile.TemporaryDirectory() as folder:
-        table, answer = os.path.join(folder, "t.csv"), os.path.join(folder, "answer.csv")
-        for name, (statement, groups) in QUESTIONS.items():
-            times = {}
-            for rows in options.rows:
-                write_table(table, groups(rows), rows)
-                ask = [options.tq, "ask", "--table", f"t={table}", statement]
-                times[rows] = min(run(ask, answer)[0] for _ in range(TRIES))
-                print(f"{name:<24} {rows:>9,} {times[rows]:>8.2f} s {rows / times[rows]:>12,.0f}", flush=True)
-            print(f"{'':<24} {growth(times)}", flush=True)
+    for name in QUESTIONS:
+        each_size(options.rows, functools.partial(measure, options.tq, name))
 
 
 if __name__ == "__main__":

@@ -64,3 +64,8 @@ def growth(seconds):
         expected = large * math.log(large) / (small * math.log(small))
         steps.append(f"{small:,} to {large:,} rows {seconds[large] / seconds[small]:.1f} times (n log n: {expected:.1f})")
     return ", ".join(steps)
+
+
+def each_size(sizes, measure):
+    """Measures each size by the function, which prints a line and gives the seconds, and prints how they grow."""
+    print(f"{'':<20} {growth({rows: measure(rows) for rows in sizes})}", flush=True)

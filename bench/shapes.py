@@ -6,10 +6,11 @@
 The bytes have to be those of the plain Python script; how the time grows is printed and asserted nowhere.
 """
 
+import functools
 import os
 import tempfile
 
-from measuring import ask, bytes_per_row, growth, read_options, sweep
+from measuring import ask, bytes_per_row, each_size, read_options, sweep
 
 # The value, the start and the end of row i of n.
 SHAPES = {
@@ -36,15 +37,17 @@ def main():
     print(f"{'shape':<20} {'rows':>9} {'Python':>8} {'tq rows/s':>12} {'bytes/row':>10}")
     with tempfile.TemporaryDirectory() as folder:
         table, answer, other = (os.path.join(folder, name) for name in ["t.csv", "answer.csv", "other.csv"])
+
+        def measure(name, shape, rows):
+            write_table(table, shape, rows)
+            seconds, peak = ask(options.tq, "t", table, ["v"], answer)
+            python = sweep("sweep_python.py", table, ["v"], answer, other) / seconds
+            memory = bytes_per_row(peak, table, rows)
+            print(f"{name:<20} {rows:>9,} {python:>7.1f}x {rows / seconds:>12,.0f} {memory:>10}", flush=True)
+            return seconds
+
         for name, shape in SHAPES.items():
-            times = {}
-            for rows in options.rows:
-                write_table(table, shape, rows)
-                times[rows], peak = ask(options.tq, "t", table, ["v"], answer)
-                python = sweep("sweep_python.py", table, ["v"], answer, other) / times[rows]
-                memory = bytes_per_row(peak, table, rows)
-                print(f"{name:<20} {rows:>9,} {python:>7.1f}x {rows / times[rows]:>12,.0f} {memory:>10}", flush=True)
-            print(f"{'':<20} {growth(times)}", flush=True)
+            each_size(options.rows, functools.partial(measure, name, shape))
 
 
 if __name__ == "__main__":
