@@ -1,17 +1,17 @@
 -- Answers of one statement.
-use Rattle.std.proofs.Common.{◌≡◌, ◌≤◌, ◌++◌, ◌-◌, ℕ, List, [], ◌∷◌, Result, Option, Ok, Err, Some, None, map, length, if◌then◌else◌, sym, ap, ◌∙◌, subst, refl}
+use Rattle.std.proofs.Common.{◌≡◌, ◌≤◌, ◌++◌, ◌-◌, ℕ, List, [], ◌∷◌, Result, Option, Ok, Err, Some, None, length, if◌then◌else◌, sym, ap, ◌∙◌, subst, refl}
 use Rattle.tq_base.specs.declared.catalogue.Catalogue.{Catalogue}
 use Rattle.tq_base.specs.Fragments.{occurrences}
 use Rattle.tq_base.specs.Layers.{IsLayers, LayersAreUnique}
 use Rattle.tq_base.specs.Periods.{holds}
 use Rattle.tq_event.specs.declared.event.Event.{Event}
-use Rattle.tq_event.specs.History.{PrefixLaw, valid_at}
+use Rattle.tq_event.specs.History.{PrefixLaw}
 use Rattle.tq_sql.specs.declared.statement.Statement.{Statement}
 use Rattle.tq_table.specs.declared.table.Table.{Table}
 use Rattle.tq_plan.specs.declared.fault.PlanFault.{PlanFault}
 use Rattle.tq_plan.specs.declared.plans.Plan.{Plan}
 use Rattle.tq_plan.specs.declared.plans.QueryPlan.{QueryPlan}
-use Rattle.tq_plan.specs.Answers.{IsAnswer, IsPlanAnswer, lists_at, times_at, times_in, times_in_right}
+use Rattle.tq_plan.specs.Answers.{IsAnswer, lists_at, times_at, times_in, times_in_right}
 use Rattle.tq_agg.specs.Grouping.{Row}
 use Rattle.tq_plan.specs.Ordinary.{ordinary}
 

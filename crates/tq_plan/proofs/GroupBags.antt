@@ -1,15 +1,14 @@
 -- Lists in which each row stands as often have the same groups, counts and sums.
 use Rattle.std.proofs.Common.{◌≡◌, ℕ, zero, suc, ◌+◌, ◌<◌, Bool, true, false, not, cond, List, [], ◌∷◌, ◌++◌, map, length, refl, sym, ap, ◌∙◌, arith}
-use Rattle.std.specs.Prelude.{ℤ, pos, ◌+ℤ◌, filter}
+use Rattle.std.specs.Prelude.{pos, ◌+ℤ◌, filter}
 use Rattle.std.proofs.Math.IntN.{+ℤ_assoc, +ℤ_comm}
 use Rattle.std.proofs.lemmas.List.Sums.{sum_by-cons}
-use Rattle.tq_base.specs.declared.value.Value.{Value}
 use Rattle.tq_base.specs.declared.value.Value.TheVariants.{Int}
 use Rattle.tq_base.specs.Fragments.{occurrences}
 use Rattle.tq_base.specs.ValueOrder.{eq_from_same, same_from_eq}
 use Rattle.tq_ops.specs.Conditions.{value_at}
 use Rattle.tq_ops.specs.Ordinary.{projection}
-use Rattle.tq_agg.specs.Grouping.{Row, each_once, first_row, group_row, grouped_by, grouped_rows, number_of, same_row, sum_at}
+use Rattle.tq_agg.specs.Grouping.{Row, each_once, first_row, group_row, grouped_rows, number_of, same_row, sum_at}
 use Rattle.tq_plan.proofs.BagLemmas.{SameCounts, is_it, one_if, same_filtered, same_lengths, same_mapped, split}
 
 -- ---- each row once

@@ -1,5 +1,5 @@
 -- The items of a statement's plan may stand.
-use Rattle.std.proofs.Common.{◌≡◌, ℕ, ◌&&◌, ◌||◌, Bool, true, false, not, if◌then◌else◌, List, [], ◌∷◌, ◌++◌, map, Option, Some, None, Result, Ok, Err, refl, sym, ap, ◌∙◌, subst}
+use Rattle.std.proofs.Common.{◌≡◌, ℕ, ◌&&◌, ◌||◌, Bool, true, false, if◌then◌else◌, List, [], ◌∷◌, ◌++◌, map, Option, Some, None, Result, Ok, Err, refl, sym, ap, ◌∙◌, subst}
 use Rattle.std.specs.List.{list_all, list_any}
 use Rattle.std.specs.Option.{is_some, unwrap_or}
 use Rattle.std.specs.Result.{result_unwrap_or}
@@ -9,9 +9,7 @@ use Rattle.std.proofs.lemmas.List.Folds.{list_all-append, list_any-append}
 use Rattle.tq_base.specs.declared.catalogue.Kind.{Kind}
 use Rattle.tq_base.specs.declared.catalogue.Kind.TheVariants as kind
 use Rattle.tq_base.specs.declared.catalogue.Catalogue.{Catalogue}
-use Rattle.tq_base.specs.declared.period.Period.{Period}
 use Rattle.tq_event.specs.Loading.{and_then}
-use Rattle.tq_ops.specs.declared.condition.Test.{Test}
 use Rattle.tq_sql.specs.declared.statement.ColumnRef.{ColumnRef}
 use Rattle.tq_sql.specs.declared.statement.What.{What}
 use Rattle.tq_sql.specs.declared.statement.What.TheVariants as what
@@ -24,11 +22,11 @@ use Rattle.tq_plan.specs.declared.plans.Output.TheVariants as output
 use Rattle.tq_plan.specs.declared.plans.Plan.{Plan}
 use Rattle.tq_plan.specs.declared.plans.QueryPlan.{QueryPlan}
 use Rattle.tq_plan.specs.Ordinary as ordinary
-use Rattle.tq_plan.specs.Plans.{column_output, group_after, grouped_sum, has_aggregate, is_aggregate, is_groupable, output_of, outputs_after, query_of, right_of, same_kinds, sum_output, with_kinds, plan_of, column_names}
+use Rattle.tq_plan.specs.Plans.{column_output, group_after, grouped_sum, has_aggregate, is_aggregate, is_groupable, output_of, outputs_after, query_of, right_of, same_kinds, sum_output, with_kinds, column_names}
 use Rattle.tq_plan.specs.Conditions.{where_of}
-use Rattle.tq_plan.specs.Scope.{Field, Sources, no_sources, resolved, sources_after}
+use Rattle.tq_plan.specs.Scope.{Field, no_sources, resolved, sources_after}
 use Rattle.tq_plan.specs.Windows.{window_plan}
-use Rattle.tq_plan.specs.Running.{IsPlan, items_stand, may_stand, no_group}
+use Rattle.tq_plan.specs.Running.{IsPlan, items_stand, may_stand}
 
 -- what a call in two steps gives is given by both
 record Both {A B E : Type 0} (first : Result A E) (next : A → Result B E) (b : B) : Type 0 where

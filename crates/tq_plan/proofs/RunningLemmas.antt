@@ -1,16 +1,16 @@
 -- Evaluated rows, and the ordinary statement.
-use Rattle.std.proofs.Common.{◌≡◌, ℕ, ◌-◌, ◌≤◌, ◌&&◌, nat_le, nat_lt, Bool, true, false, cond, if◌then◌else◌, List, [], ◌∷◌, Result, Ok, Err, IfOk, Option, Some, None, map, length, take, refl, sym, ap, ◌∙◌, subst, arith}
-use Rattle.std.specs.Prelude.{IsTrue, filter}
+use Rattle.std.proofs.Common.{◌≡◌, ℕ, ◌-◌, ◌&&◌, nat_le, nat_lt, Bool, true, false, if◌then◌else◌, List, [], ◌∷◌, Result, Ok, Err, IfOk, Option, Some, None, map, length, take, refl, sym, ap, ◌∙◌, arith}
+use Rattle.std.specs.Prelude.{filter}
 use Rattle.std.specs.List.{list_any}
 use Rattle.std.proofs.lemmas.List.{take_all}
 use Rattle.tq_base.specs.declared.fragment.Fragment.{Fragment}
 use Rattle.tq_base.specs.declared.period.Period.{Period}
-use Rattle.tq_base.specs.Fragments.{at, copies, occurrences}
+use Rattle.tq_base.specs.Fragments.{copies, occurrences}
 use Rattle.tq_base.specs.Periods.{holds}
 use Rattle.tq_event.specs.declared.event.Event.{Event}
 use Rattle.tq_event.specs.History.{rows_from, valid_at}
 use Rattle.tq_ops.specs.Conditions.{value_at}
-use Rattle.tq_ops.specs.Ordinary.{HasInside, IsEmptyOutside, admits, product, projection, selection}
+use Rattle.tq_ops.specs.Ordinary.{HasInside, IsEmptyOutside, projection, selection}
 use Rattle.tq_plan.specs.declared.plans.Output.{Output}
 use Rattle.tq_plan.specs.declared.plans.Output.TheVariants.{Column, Count, Sum}
 use Rattle.tq_plan.specs.declared.plans.Plan.{Plan}
@@ -19,7 +19,6 @@ use Rattle.tq_plan.specs.Answers.{lists_at, times_at, times_in, times_in_right}
 use Rattle.tq_agg.specs.Grouping.{Row}
 use Rattle.tq_plan.specs.Ordinary.{groups, is_aggregate, ordinary, output_value, product_of}
 use Rattle.tq_plan.specs.Running.{no_group, output_place}
-use Rattle.tq_plan.proofs.BagLemmas.{same_mapped}
 
 -- ---- what holds where a call succeeds
 

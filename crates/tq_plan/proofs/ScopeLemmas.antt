@@ -1,5 +1,5 @@
 -- The columns that are meant, one field at a time.
-use Rattle.std.proofs.Common.{◌≡◌, ◌+◌, ◌++◌, ◌∷◌, [], ◌<◌, ℕ, List, Bool, true, false, Option, Some, None, Err, drop, map, length, get_or, option_to_list, Ok, Result, Bor, ◌||◌, sym, ap, ◌∙◌, refl, arith}
+use Rattle.std.proofs.Common.{◌≡◌, ◌+◌, ◌++◌, ◌∷◌, [], ◌<◌, ℕ, List, true, false, Option, Some, None, Err, drop, map, length, get_or, option_to_list, Ok, Bor, ◌||◌, sym, ap, ◌∙◌, refl, arith}
 use Rattle.std.specs.Option.{is_some}
 use Rattle.std.proofs.lemmas.List.{drop_more, get_or-map, length-map}
 use Rattle.tq_base.specs.declared.catalogue.Kind.{Kind}
@@ -8,7 +8,6 @@ use Rattle.std.specs.List.{list_any}
 use Rattle.std.specs.Str.{bytes_eq}
 use Rattle.tq_base.specs.declared.catalogue.Column.{Column}
 use Rattle.tq_base.specs.declared.catalogue.Schema.{Schema}
-use Rattle.tq_plan.specs.declared.fault.PlanFault.{PlanFault}
 use Rattle.tq_plan.specs.declared.fault.PlanFault.TheVariants.{AmbiguousColumn, DuplicateAlias}
 use Rattle.tq_plan.specs.declared.scope.Field.{Field as Borrowed}
 use Rattle.tq_plan.specs.Scope.{Field, Sources, add_table, is_meant, meanings, the_one}

@@ -1,6 +1,6 @@
 -- What a condition means: the same condition over places of a row. After SQL; a comparison of a number
 -- with a text is refused.
-use Rattle.std.specs.Prelude.{ℕ, Bool, true, false, if◌then◌else◌, List, Option, Some, None, Result, Ok, Err}
+use Rattle.std.specs.Prelude.{Bool, true, false, if◌then◌else◌, List, Option, Some, None, Result, Ok, Err}
 use Rattle.tq_base.specs.declared.catalogue.Kind.{Kind}
 use Rattle.tq_base.specs.declared.catalogue.Kind.TheVariants as kind
 use Rattle.tq_base.specs.declared.value.Value.TheVariants as value

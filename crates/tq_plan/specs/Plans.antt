@@ -5,9 +5,7 @@ use Rattle.std.specs.List.{list_any}
 use Rattle.tq_base.specs.declared.catalogue.Kind.{Kind}
 use Rattle.tq_base.specs.declared.catalogue.Kind.TheVariants as kind
 use Rattle.tq_base.specs.declared.catalogue.Catalogue.{Catalogue}
-use Rattle.tq_base.specs.declared.period.Period.{Period}
 use Rattle.tq_event.specs.Loading.{and_then}
-use Rattle.tq_ops.specs.declared.condition.Test.{Test}
 use Rattle.tq_sql.specs.declared.statement.ColumnRef.{ColumnRef}
 use Rattle.tq_sql.specs.declared.statement.What.{What}
 use Rattle.tq_sql.specs.declared.statement.What.TheVariants as what
@@ -20,7 +18,7 @@ use Rattle.tq_plan.specs.declared.plans.Output.{Output}
 use Rattle.tq_plan.specs.declared.plans.Output.TheVariants as output
 use Rattle.tq_plan.specs.declared.plans.Plan.{Plan}
 use Rattle.tq_plan.specs.declared.plans.QueryPlan.{QueryPlan}
-use Rattle.tq_plan.specs.Scope.{Field, Sources, given_or, no_sources, resolved, sources_after}
+use Rattle.tq_plan.specs.Scope.{Field, given_or, no_sources, resolved, sources_after}
 use Rattle.tq_plan.specs.Conditions.{same_kind, where_of}
 use Rattle.tq_plan.specs.Windows.{window_plan}
 

@@ -1,10 +1,10 @@
-use Rattle.std.proofs.Common.{◌≡◌, ◌≢◌, ◌++◌, ◌∷◌, [], List, Ok, Err, map, refl, sym, ap, ◌∙◌, arith}
+use Rattle.std.proofs.Common.{Ok, map, sym, ap, ◌∙◌, arith}
 use Rattle.std.proofs.lemmas.Result.{err_from_is_err_and}
 use Rattle.tq_ops.specs.declared.condition.Test.TheVariants as test
 use Rattle.tq_plan.specs.declared.conditions.Step.TheVariants as step
 use Rattle.tq_plan.specs.Conditions.{both, negated, test_of}
 use Rattle.tq_plan.specs.Seen.{field_seen}
-use Rattle.tq_plan.specs.Steps.{undone, all_undone}
+use Rattle.tq_plan.specs.Steps.{all_undone}
 use Rattle.tq_plan.proofs.ConditionLemmas.{test_of-Is, test_of-And, test_of-Or, test_of-Not, weight, weight-And, weight-Or, weight-Not, all_undone_push, all_undone_fault, deeper, told_is}
 use Rattle.tq_plan.proofs.conditions.+plan_condition.Goals as goal
 

@@ -1,6 +1,5 @@
-use Rattle.std.proofs.Common.{◌≡◌, ap, sym, ◌∙◌, slice_set, arith}
+use Rattle.std.proofs.Common.{ap, sym, ◌∙◌, slice_set, arith}
 use Rattle.tq_plan.proofs.RowLemmas.{ended_past, ended_place}
-use Rattle.tq_plan.specs.Rows.{with_end}
 use Rattle.tq_plan.proofs.rows.end_row.Goals as goal
 
 -- src/rows.rt:57:1

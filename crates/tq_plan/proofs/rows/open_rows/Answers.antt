@@ -1,4 +1,4 @@
-use Rattle.std.proofs.Common.{◌≡◌, ◌+◌, ◌∷◌, [], ℕ, List, get_or, drop, length, sym, ap, ◌∙◌, arith, option_copied}
+use Rattle.std.proofs.Common.{◌+◌, ◌∷◌, drop, sym, ap, ◌∙◌, option_copied}
 use Rattle.std.proofs.lemmas.List.{drop_all, drop_more}
 use Rattle.tq_plan.specs.Rows.{keeps, kept}
 use Rattle.tq_plan.proofs.RowLemmas.{all_taken, future, takes}

@@ -1,4 +1,4 @@
-use Rattle.std.proofs.Common.{◌≡◌, ap, ◌∙◌, option_copied}
+use Rattle.std.proofs.Common.{ap, ◌∙◌, option_copied}
 use Rattle.tq_plan.specs.Rows.{keeps, kept, open_at}
 use Rattle.tq_plan.proofs.RowLemmas.{open_at-history}
 use Rattle.tq_plan.proofs.rows.read_rows.Goals as goal

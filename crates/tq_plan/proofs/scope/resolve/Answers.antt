@@ -1,4 +1,4 @@
-use Rattle.std.proofs.Common.{◌≡◌, ◌+◌, ◌++◌, ◌∷◌, drop, map, option_to_list, sym, ap, ◌∙◌}
+use Rattle.std.proofs.Common.{◌+◌, ◌++◌, drop, map, option_to_list, sym, ap, ◌∙◌}
 use Rattle.tq_plan.specs.Scope.{meanings}
 use Rattle.tq_plan.specs.Seen.{field_seen}
 use Rattle.tq_plan.proofs.ScopeLemmas.{next_field, passed_over, comes_first, two_meant, none_before}

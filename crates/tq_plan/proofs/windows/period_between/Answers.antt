@@ -1,10 +1,10 @@
 -- A period is known by its ends.
-use Rattle.std.proofs.Common.{◌≡◌, ◌<◌, ℕ, Bool, true, false, Option, Some, None, nat_lt, arith, refl, sym, ap, subst}
+use Rattle.std.proofs.Common.{◌≡◌, ◌<◌, ℕ, Bool, true, false, Option, Some, None, nat_lt, arith, refl, ap, subst}
 use Rattle.std.specs.Coded.{le_prop}
 use Rattle.std.specs.Prelude.{◌↔◌, IsSome, IfSome}
 use Rattle.std.proofs.lemmas.Bool.Decides.{nat_tests}
 use Rattle.tq_base.specs.declared.period.Period.{Period}
-use Rattle.tq_plan.specs.Windows.{ordered_if, period_between}
+use Rattle.tq_plan.specs.Windows.{ordered_if}
 use Rattle.tq_plan.proofs.windows.period_between.Goals as goal
 
 abbrev from_to : (start end : ℕ) → start < end → Period
