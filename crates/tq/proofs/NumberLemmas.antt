@@ -1,5 +1,5 @@
 -- The numbers of a history are of 64 signed bits.
-use Rattle.std.proofs.Common.{◌≡◌, ℕ, ◌+◌, ◌<◌, List, [], ◌∷◌, ◌++◌, length, take, drop, get_or, Option, Some, None, sym, ap, ◌∙◌, suc, arith}
+use Rattle.std.proofs.Common.{◌≡◌, ℕ, ◌<◌, List, [], ◌∷◌, ◌++◌, length, take, drop, get_or, Option, Some, None, suc, arith}
 use Rattle.std.specs.Prelude.{All, FitsSigned, IsSomeAnd, slice_get, pos}
 use Rattle.std.specs.Int.{w64}
 use Rattle.std.proofs.Math.Seq.{split_at}

@@ -11,7 +11,7 @@ use Rattle.tq_sql.specs.declared.statement.Statement.{Statement}
 use Rattle.tq_sql.specs.Grammar.{IsStatement}
 use Rattle.tq_sql.specs.Laws.{StatementsAreUnique}
 use Rattle.tq_sql.specs.Reading.{Makes}
-use Rattle.tq_sql.specs.Tokens.{Token, tokens_of}
+use Rattle.tq_sql.specs.Tokens.{Token}
 use Rattle.tq_table.specs.declared.table.Table.{Table}
 use Rattle.tq.specs.Answers.{HasAnswer}
 

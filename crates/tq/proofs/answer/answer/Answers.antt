@@ -1,8 +1,6 @@
-use Rattle.std.proofs.Common.{◌≡◌, ◌≢◌, sym, ap}
+use Rattle.std.proofs.Common.{ap}
 use Rattle.std.proofs.lemmas.Result.{IfErr-weaker, IfOk-weaker, err_from_is_err_and}
 use Rattle.tq_sql.specs.declared.fault.SqlFault.{SqlFault}
-use Rattle.tq_sql.specs.Faults.{out_of_memory}
-use Rattle.tq.specs.Answers.{HasAnswer, IsFault}
 use Rattle.tq.proofs.FaultLemmas.{sql_fault, statement_fault}
 use Rattle.tq.proofs.answer.answer.Goals as goal
 
