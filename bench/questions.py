@@ -1,4 +1,4 @@
-"""Measures questions over two tables beside SQL over sqlite3: python3 bench/questions.py
+"""Measures questions over one and two tables beside SQL over sqlite3: python3 bench/questions.py
 
     --tq PROGRAM   the program to measure (bin/tq)
     --rows N ..    the sizes of each table (10000 100000 1000000)
@@ -40,7 +40,7 @@ def measure(tq, folder, rows, question):
 def main():
     options = read_options([10_000, 100_000, 1_000_000])
     times = {question: {} for question in QUESTIONS}
-    print("tq ask over two tables beside SQL over sqlite3: how many times as long it takes")
+    print("tq ask over one and two tables beside SQL over sqlite3: how many times as long it takes")
     print(f"{'rows each':>9}  {'question':<12} {'SQL':>8} {'tq':>10} {'bytes/row':>10}")
     with tempfile.TemporaryDirectory() as folder:
         for rows in options.rows:

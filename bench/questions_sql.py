@@ -1,8 +1,8 @@
-"""Questions over two tables by SQL over sqlite3, coalesced:
+"""Questions over one and two tables by SQL over sqlite3, coalesced:
 
     python3 bench/questions_sql.py EMP SAL join|difference|counts|sums
 
-Both tables are loaded into memory, and indexed by the key.
+The tables that the question names are loaded into memory; for a join SAL is indexed by the key.
 """
 
 import sqlite3

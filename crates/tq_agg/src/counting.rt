@@ -44,11 +44,10 @@ fn add_group<'a>(
     Ok(changes)
 }
 
-/// For each group of rows of equal values in the key columns: these values, how many rows of the group
-/// are valid, and the sums of their values in the summed columns, as they change over the window. With no
-/// key columns all rows are one group. At an instant at which none of its rows is valid a group has no
-/// row. Columns are numbered from 0; one that a row does not have counts as the number 0. `AllocError`
-/// where a growth was refused.
+/// For each group of rows of equal values in the key columns, while it has any: these values, how many
+/// rows are valid, and the sums of the summed columns, as they change over the window. With no key columns
+/// all rows are one group. A column that a row does not have, and a text that is summed, count as 0. The
+/// summed numbers owe 64 signed bits. `AllocError` where a growth was refused.
 pub fn group_count_sum(
     alloc: Global,
     rows: &[Fragment],

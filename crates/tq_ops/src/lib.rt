@@ -3,8 +3,8 @@
 //!
 //! What comes out of an operator is said instant by instant: the rows valid at an instant of the window
 //! are, duplicates counted, the ordinary operator's answer over the rows then valid in what went in.
-//! Outside the window nothing is valid. No operator evaluates a single instant: each sweeps over sorted
-//! starts and ends.
+//! Outside the window nothing is valid. No operator evaluates a single instant: selection and projection
+//! go over the rows once, join and difference sweep over sorted rows.
 #![tactic(auto)]
 
 mod condition;

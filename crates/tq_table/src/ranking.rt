@@ -88,7 +88,7 @@ fn with_ranks(alloc: Global, rows: Vec<Fragment>) -> Result<Vec<Ranked>, AllocEr
     Ok(ranked)
 }
 
-/// The rows in the order of their values, with their ranks. `AllocError` where a growth was refused.
+/// The rows in the order of their values. `AllocError` where a growth was refused.
 pub fn in_order(alloc: Global, rows: Vec<Fragment>) -> Result<Vec<Ranked>, AllocError>
     ensures same { IfOk result (λ sorted. IsPermutation rows.items (map (λ r. r.row) sorted.items)) }
     ensures rising { IfOk result (λ sorted. Rises (map (λ r. r.row) sorted.items)) }

@@ -310,7 +310,7 @@ fn sums_over_a_join_and_counts_in_a_difference(rt: HostRuntime) -> Result<(), Fa
         &rt,
         &[(b"emp", EMP)],
         b"VALIDTIME SELECT emp FROM emp EXCEPT ALL SELECT COUNT(*) FROM emp",
-        b"emp,from,to\n1,15,25\n2,15,25\n3,5,forever\n",
+        b"emp,from,to\n1,10,30\n2,15,25\n3,5,15\n3,25,forever\n",
     )
 }
 
