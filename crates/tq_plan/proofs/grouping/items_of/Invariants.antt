@@ -1,10 +1,7 @@
--- The items so far, and those that are left.
-use Rattle.std.proofs.Common.{◌≡◌, ◌+◌, ◌≤◌, ◌++◌, drop, length}
+-- The values at the places so far.
+use Rattle.std.proofs.Common.{◌≡◌, take}
 use Rattle.tq_ops.specs.Ordinary.{projection}
-use Rattle.tq_plan.specs.Running.{item_places}
 use Rattle.tq_plan.proofs.grouping.items_of.Given as goal
 
-abbrev pub invariant-outputs : goal.invariant-outputs
-invariant-outputs l =
-    (l.values.items ++ projection (item_places l.group l.sum_place (drop l.output-index l.outputs)) l.row ≡ projection (item_places l.group (length l.group + 1) l.outputs) l.row)
-    × (l.sum_place ≤ length l.group + 1 + l.output-index)
+abbrev pub invariant-places : goal.invariant-places
+invariant-places l = l.values.items ≡ projection (take l.place-index l.places) l.row
