@@ -21,10 +21,6 @@ pub added-same : {X : Type 0} (v w : X → ℤ) → ((x : X) → v x ≡ w x) �
 added-same v w same [] = refl
 added-same v w same (x ∷ xs) = omega (arith, ints, same x, added-same v w same xs)
 
-pub added-zero : {X : Type 0} (w : X → ℤ) → ((x : X) → w x ≡ pos 0) → (xs : List X) → added w xs ≡ pos 0
-added-zero w none [] = refl
-added-zero w none (x ∷ xs) = omega (arith, ints, none x, added-zero w none xs)
-
 pub added-map : {X Y : Type 0} (w : Y → ℤ) (f : X → Y) (xs : List X) → added w (map f xs) ≡ added (λ x. w (f x)) xs
 added-map w f [] = refl
 added-map w f (x ∷ xs) = omega (arith, ints, added-map w f xs)

@@ -64,9 +64,6 @@ taken_have zero events all = none_of HasNumbers
 taken_have (suc n) [] all = none_of HasNumbers
 taken_have (suc n) (event ∷ events) all = All-cons HasNumbers event (take n events) (first_of HasNumbers event events all) (taken_have n events (others_of HasNumbers event events all))
 
-pub first_have : (n : ℕ) (events : List Event) → All HasNumbers events → All HasNumbers (take n events)
-first_have = taken_have
-
 valid_have : (events : List Event) (n table t : ℕ) → All HasNumbers events → All AreNumbers (valid_at events n table t)
 valid_have events n table t all =
     All-map AreNumbers (λ (row : AnyRow). row.values) (filter (λ (row : AnyRow). nat_le row.from t && nat_lt t row.to) (rows_from table 0 (take n events)))
