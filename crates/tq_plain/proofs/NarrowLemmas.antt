@@ -15,77 +15,77 @@ use Rattle.tq_agg.specs.Grouping.{Row, each_once, number_of, same_row}
 use Rattle.tq_plan.specs.Answers.{lists_at}
 use Rattle.tq_plan.specs.Ordinary.{alone_or_together, groups, is_aggregate, product_of}
 use Rattle.tq_plan.specs.declared.plans.Output.{Output}
-use Rattle.tq_plain.specs.Narrow.{IsNarrow, StartsNarrow}
+use Rattle.tq_plan.specs.Running.{AreNumbers, HasNumbers}
 
 abbrev IsNarrowValue : Value → Type 0
 IsNarrowValue value = FitsSigned w64 (number_of value)
 
 -- a place that a row does not have counts as 0
-pub narrow_at : (row : Row) (place : ℕ) → IsNarrow row → FitsSigned w64 (number_of (value_at row place))
+pub narrow_at : (row : Row) (place : ℕ) → AreNumbers row → FitsSigned w64 (number_of (value_at row place))
 narrow_at [] place narrow = search rules
 narrow_at (value ∷ row) zero narrow = All-head IsNarrowValue value row narrow
 narrow_at (value ∷ row) (suc place) narrow = narrow_at row place (All-tail IsNarrowValue value row narrow)
 
 -- ---- from the sources' rows to the groups
 
-joined_narrow : (left : Row) (right : List Row) → IsNarrow left → All IsNarrow right → All IsNarrow (map (λ r. left ++ r) right)
-joined_narrow left right one all = All-map IsNarrow (λ r. left ++ r) right (All-weaker IsNarrow (λ r. IsNarrow (left ++ r)) (λ r narrow. All-append IsNarrowValue left r one narrow) right all)
+joined_narrow : (left : Row) (right : List Row) → AreNumbers left → All AreNumbers right → All AreNumbers (map (λ r. left ++ r) right)
+joined_narrow left right one all = All-map AreNumbers (λ r. left ++ r) right (All-weaker AreNumbers (λ r. AreNumbers (left ++ r)) (λ r narrow. All-append IsNarrowValue left r one narrow) right all)
 
-product_narrow : (left right : List Row) → All IsNarrow left → All IsNarrow right → All IsNarrow (product left right)
-product_narrow [] right lefts rights = All-nil IsNarrow
+product_narrow : (left right : List Row) → All AreNumbers left → All AreNumbers right → All AreNumbers (product left right)
+product_narrow [] right lefts rights = All-nil AreNumbers
 product_narrow (row ∷ left) right lefts rights =
-    All-append IsNarrow (map (λ r. row ++ r) right) (product left right)
-    (joined_narrow row right (All-head IsNarrow row left lefts) rights)
-    (product_narrow left right (All-tail IsNarrow row left lefts) rights)
+    All-append AreNumbers (map (λ r. row ++ r) right) (product left right)
+    (joined_narrow row right (All-head AreNumbers row left lefts) rights)
+    (product_narrow left right (All-tail AreNumbers row left lefts) rights)
 
-pub product_of_narrow : (lists : List (List Row)) → All (All IsNarrow) lists → All IsNarrow (product_of lists)
-product_of_narrow [] all = All-cons IsNarrow [] [] (All-nil IsNarrowValue) (All-nil IsNarrow)
-product_of_narrow (rows ∷ []) all = All-head (All IsNarrow) rows [] all
+pub product_of_narrow : (lists : List (List Row)) → All (All AreNumbers) lists → All AreNumbers (product_of lists)
+product_of_narrow [] all = All-cons AreNumbers [] [] (All-nil IsNarrowValue) (All-nil AreNumbers)
+product_of_narrow (rows ∷ []) all = All-head (All AreNumbers) rows [] all
 product_of_narrow (rows ∷ next ∷ lists) all =
-    product_narrow rows (product_of (next ∷ lists)) (All-head (All IsNarrow) rows (next ∷ lists) all)
-    (product_of_narrow (next ∷ lists) (All-tail (All IsNarrow) rows (next ∷ lists) all))
+    product_narrow rows (product_of (next ∷ lists)) (All-head (All AreNumbers) rows (next ∷ lists) all)
+    (product_of_narrow (next ∷ lists) (All-tail (All AreNumbers) rows (next ∷ lists) all))
 
-alone_narrow : (rows : List Row) → All IsNarrow rows → All (All IsNarrow) (map (λ row. row ∷ []) rows)
-alone_narrow rows all = All-map (All IsNarrow) (λ row. row ∷ []) rows (All-weaker IsNarrow (λ row. All IsNarrow (row ∷ [])) (λ row narrow. All-cons IsNarrow row [] narrow (All-nil IsNarrow)) rows all)
+alone_narrow : (rows : List Row) → All AreNumbers rows → All (All AreNumbers) (map (λ row. row ∷ []) rows)
+alone_narrow rows all = All-map (All AreNumbers) (λ row. row ∷ []) rows (All-weaker AreNumbers (λ row. All AreNumbers (row ∷ [])) (λ row narrow. All-cons AreNumbers row [] narrow (All-nil AreNumbers)) rows all)
 
-gathered_narrow : (counted : Bool) (rows : List Row) → All IsNarrow rows → All (All IsNarrow) (alone_or_together counted rows)
-gathered_narrow true rows all = All-cons (All IsNarrow) rows [] all (All-nil (All IsNarrow))
+gathered_narrow : (counted : Bool) (rows : List Row) → All AreNumbers rows → All (All AreNumbers) (alone_or_together counted rows)
+gathered_narrow true rows all = All-cons (All AreNumbers) rows [] all (All-nil (All AreNumbers))
 gathered_narrow false rows all = alone_narrow rows all
 
-keyed_narrow : (places : List ℕ) (rows keys : List Row) → All IsNarrow rows → All (All IsNarrow) (map (λ key. filter (λ row. same_row (projection places row) key) rows) keys)
-keyed_narrow places rows [] all = All-nil (All IsNarrow)
+keyed_narrow : (places : List ℕ) (rows keys : List Row) → All AreNumbers rows → All (All AreNumbers) (map (λ key. filter (λ row. same_row (projection places row) key) rows) keys)
+keyed_narrow places rows [] all = All-nil (All AreNumbers)
 keyed_narrow places rows (key ∷ keys) all =
-    All-cons (All IsNarrow) (filter (λ row. same_row (projection places row) key) rows) _
-    (All-filter (λ row. same_row (projection places row) key) IsNarrow rows all)
+    All-cons (All AreNumbers) (filter (λ row. same_row (projection places row) key) rows) _
+    (All-filter (λ row. same_row (projection places row) key) AreNumbers rows all)
     (keyed_narrow places rows keys all)
 
-pub groups_narrow : (places : List ℕ) (outputs : List Output) (rows : List Row) → All IsNarrow rows → All (All IsNarrow) (groups places outputs rows)
+pub groups_narrow : (places : List ℕ) (outputs : List Output) (rows : List Row) → All AreNumbers rows → All (All AreNumbers) (groups places outputs rows)
 groups_narrow [] outputs rows all = gathered_narrow (list_any is_aggregate outputs) rows all
 groups_narrow (first ∷ more) outputs rows all = keyed_narrow (first ∷ more) rows (each_once (map (projection (first ∷ more)) rows)) all
 
 -- ---- from the events to the sources' rows
 
-started_narrow : (table next : ℕ) (events : List Event) → All StartsNarrow events → All (λ (row : AnyRow). IsNarrow row.values) (rows_from table next events)
+started_narrow : (table next : ℕ) (events : List Event) → All HasNumbers events → All (λ (row : AnyRow). AreNumbers row.values) (rows_from table next events)
 started_narrow table next [] all = All-nil _
 started_narrow table next (Start t values at ∷ events) all =
-    by_table (t == table) (started_narrow table (next + 1) events (All-tail StartsNarrow (Start t values at) events all))
-    (started_narrow table next events (All-tail StartsNarrow (Start t values at) events all))
+    by_table (t == table) (started_narrow table (next + 1) events (All-tail HasNumbers (Start t values at) events all))
+    (started_narrow table next events (All-tail HasNumbers (Start t values at) events all))
   where
     row : AnyRow
     row = record { number = next; values = values; from = at; to = end_of table next events }
 
-    by_table : (b : Bool) → All (λ (row : AnyRow). IsNarrow row.values) (rows_from table (next + 1) events) → All (λ (row : AnyRow). IsNarrow row.values) (rows_from table next events)
-        → All (λ (row : AnyRow). IsNarrow row.values) (if b then row ∷ rows_from table (next + 1) events else rows_from table next events)
-    by_table true numbered others = All-cons (λ (row : AnyRow). IsNarrow row.values) row (rows_from table (next + 1) events) (All-head StartsNarrow (Start t values at) events all) numbered
+    by_table : (b : Bool) → All (λ (row : AnyRow). AreNumbers row.values) (rows_from table (next + 1) events) → All (λ (row : AnyRow). AreNumbers row.values) (rows_from table next events)
+        → All (λ (row : AnyRow). AreNumbers row.values) (if b then row ∷ rows_from table (next + 1) events else rows_from table next events)
+    by_table true numbered others = All-cons (λ (row : AnyRow). AreNumbers row.values) row (rows_from table (next + 1) events) (All-head HasNumbers (Start t values at) events all) numbered
     by_table false numbered others = others
-started_narrow table next (End t r at ∷ events) all = started_narrow table next events (All-tail StartsNarrow (End t r at) events all)
+started_narrow table next (End t r at ∷ events) all = started_narrow table next events (All-tail HasNumbers (End t r at) events all)
 
-pub lists_narrow : (history : List Event) (n t : ℕ) (tables : List ℕ) → All StartsNarrow history → All (All IsNarrow) (lists_at history n t tables)
-lists_narrow history n t [] all = All-nil (All IsNarrow)
+pub lists_narrow : (history : List Event) (n t : ℕ) (tables : List ℕ) → All HasNumbers history → All (All AreNumbers) (lists_at history n t tables)
+lists_narrow history n t [] all = All-nil (All AreNumbers)
 lists_narrow history n t (table ∷ tables) all =
-    All-cons (All IsNarrow) (valid_at history n table t) (lists_at history n t tables)
-    (All-map IsNarrow (λ (row : AnyRow). row.values) _ (All-filter _ (λ (row : AnyRow). IsNarrow row.values) (rows_of history n table)
-    (started_narrow table 0 (take n history) (All-take StartsNarrow n history all))))
+    All-cons (All AreNumbers) (valid_at history n table t) (lists_at history n t tables)
+    (All-map AreNumbers (λ (row : AnyRow). row.values) _ (All-filter _ (λ (row : AnyRow). AreNumbers row.values) (rows_of history n table)
+    (started_narrow table 0 (take n history) (All-take HasNumbers n history all))))
     (lists_narrow history n t tables all)
 
 -- ---- sums

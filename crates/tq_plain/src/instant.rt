@@ -6,7 +6,7 @@ ghost use Rattle.tq_base.specs.Periods.{holds};
 ghost use Rattle.tq_agg.specs.Grouping.{Row};
 ghost use Rattle.tq_plan.specs.Answers.{lists_at, times_at};
 ghost use Rattle.tq_plan.specs.Ordinary.{ordinary};
-ghost use Rattle.tq_plain.specs.Narrow.{StartsNarrow};
+ghost use Rattle.tq_plan.specs.Running.{HasNumbers};
 
 use crate::fault::PlainFault;
 use crate::history::lists_at;
@@ -52,7 +52,7 @@ fn query_rows(
     instant: u64,
 ) -> Result<Vec<Values>, PlainFault>
     ensures rows { IfOk result (λ rows. rows.items ≡ ordinary query.now (lists_at events.now n instant query.now.tables)) }
-    ensures too_large { All StartsNarrow events.now → result ≢ Err PlainFault.TooLarge }
+    ensures too_large { All HasNumbers events.now → result ≢ Err PlainFault.TooLarge }
 {
     let lists = lists_at(alloc, events, n, query.tables.get(), instant)?;
     ordinary(alloc, query, &lists)
@@ -70,7 +70,7 @@ pub fn rows_at(
     instant: u64,
 ) -> Result<Vec<Values>, PlainFault>
     ensures rows { (v : Row) → IfOk result (λ rows. occurrences rows.items v ≡ times_at events.now n plan.now v instant) }
-    ensures too_large { All StartsNarrow events.now → result ≢ Err PlainFault.TooLarge }
+    ensures too_large { All HasNumbers events.now → result ≢ Err PlainFault.TooLarge }
 {
     if !holds(&plan.window, instant) {
         return Ok(Vec::new(alloc));

@@ -3,7 +3,7 @@ use Rattle.std.proofs.Common.{◌≡◌, ℕ, suc, ◌+◌, ◌<◌, ◌==◌, �
 use Rattle.std.specs.Prelude.{filter, pos}
 use Rattle.std.specs.List.{list_all, list_any, position_or_len}
 use Rattle.std.proofs.lemmas.Bool.{false≢true, eqb-true, ltb-false}
-use Rattle.std.proofs.lemmas.List.{append_assoc, get_or-append-add, length-append}
+use Rattle.std.proofs.lemmas.List.{append_assoc, get_or-append-add, length-append, length-map}
 use Rattle.std.proofs.Math.ListN.{get_or-append}
 use Rattle.tq_base.specs.declared.value.Value.{Value}
 use Rattle.tq_base.specs.declared.value.Value.TheVariants.{Int}
@@ -218,15 +218,16 @@ grouped_inside history query window passed found out some stand on_passed on_fou
     ∙ ap (λ l. occurrences l v) (ordinary_grouped query lists some stand)
 
 -- the items of the count of the rows that pass
-pub counted_inside : (history : List Event) (query : QueryPlan) (window : Period) (passed found out : List Fragment) → no_group query.group ≡ true → list_any is_aggregate query.outputs ≡ true → items_stand query ≡ true
-    → HasInside window passed (λ t v. occurrences (selection query.test (product_of (lists_at history (length history) t query.tables))) v)
+pub counted_inside : (history : List Event) (query : QueryPlan) (window : Period) (places : List ℕ) (passed found out : List Fragment) → no_group query.group ≡ true → list_any is_aggregate query.outputs ≡ true → items_stand query ≡ true
+    → HasInside window passed (λ t v. occurrences (map (projection places) (selection query.test (product_of (lists_at history (length history) t query.tables)))) v)
     → HasInside window found (λ t v. occurrences (count_rows (at passed t)) v)
     → ((t : ℕ) → at out t ≡ map (projection (item_places query.group (length query.group + 1) query.outputs)) (at found t))
     → HasInside window out (λ t v. times_in history (length history) query v t)
-counted_inside history query window passed found out none counted stand on_passed on_found each t v inside =
-    let places = item_places query.group (length query.group + 1) query.outputs in
+counted_inside history query window places passed found out none counted stand on_passed on_found each t v inside =
+    let shown = item_places query.group (length query.group + 1) query.outputs in
     let lists = lists_at history (length history) t query.tables in
     let rows = selection query.test (product_of lists) in
+    let as_many = same_lengths (at passed t) (map (projection places) rows) (λ w. on_passed t w inside) ∙ length-map rows (projection places) in
     ap (λ l. occurrences l v) (each t)
-    ∙ same_mapped (projection places) (at found t) (count_rows rows) (λ u. on_found t u inside ∙ ap (λ n. occurrences ((Int (pos n) ∷ []) ∷ []) u) (same_lengths (at passed t) rows (λ w. on_passed t w inside))) v
+    ∙ same_mapped (projection shown) (at found t) (count_rows rows) (λ u. on_found t u inside ∙ ap (λ n. occurrences ((Int (pos n) ∷ []) ∷ []) u) as_many) v
     ∙ ap (λ l. occurrences l v) (ordinary_counted query lists none counted stand)

@@ -22,14 +22,11 @@ use Rattle.tq_ops.specs.Ordinary.{HasInside, IsEmptyOutside, admits, product, se
 use Rattle.tq_agg.specs.Grouping.{AreSummable, Row, number_of}
 use Rattle.tq_plan.specs.Answers.{lists_at}
 use Rattle.tq_plan.specs.Ordinary.{product_of}
-use Rattle.tq_plan.specs.Running.{HasNumbers}
+use Rattle.tq_plan.specs.Running.{AreNumbers, HasNumbers}
 use Rattle.tq_plan.proofs.BagLemmas.{is_it, one_if, split}
 
 abbrev pub IsNumber : Value → Type 0
 IsNumber value = FitsSigned w64 (number_of value)
-
-abbrev pub AreNumbers : Row → Type 0
-AreNumbers row = All IsNumber row
 
 -- what holds of the first, and of the others
 first_of : {X : Type 0} (P : X → Type 0) (x : X) (xs : List X) → All P (x ∷ xs) → P x

@@ -6,7 +6,7 @@ use Rattle.std.specs.List.{list_all, list_any}
 use Rattle.tq_base.specs.declared.catalogue.Catalogue.{Catalogue}
 use Rattle.tq_event.specs.declared.event.Event.{Event}
 use Rattle.tq_event.specs.declared.event.Event.TheVariants.{Start, End}
-use Rattle.tq_agg.specs.Grouping.{number_of}
+use Rattle.tq_agg.specs.Grouping.{Row, number_of}
 use Rattle.tq_sql.specs.declared.statement.Statement.{Statement}
 use Rattle.tq_plan.specs.declared.plans.Output.{Output}
 use Rattle.tq_plan.specs.declared.plans.Output.TheVariants.{Column, Count, Sum}
@@ -21,9 +21,13 @@ pub record IsPlan (plan : Plan) : Type 0 where
   pub statement : Statement
   pub planned : plan_of catalogue statement ≡ Ok plan
 
--- the numbers that the event brings are of 64 signed bits
+-- the numbers of the row are of 64 signed bits
+abbrev pub AreNumbers : Row → Type 0
+AreNumbers row = All (λ value. FitsSigned w64 (number_of value)) row
+
+-- and those that the event brings
 abbrev pub HasNumbers : Event → Type 0
-HasNumbers (Start table values at) = All (λ value. FitsSigned w64 (number_of value)) values
+HasNumbers (Start table values at) = AreNumbers values
 HasNumbers (End table row at) = Unit {0}
 
 abbrev pub no_group : List ℕ → Bool

@@ -5,7 +5,7 @@ use Rattle.std.proofs.lemmas.List.{drop_more}
 use Rattle.std.proofs.lemmas.List.Elements.{All-get_or}
 use Rattle.tq_agg.specs.Grouping.{number_of, sum_at}
 use Rattle.tq_ops.specs.Conditions.{value_at}
-use Rattle.tq_plain.specs.Narrow.{IsNarrow}
+use Rattle.tq_plan.specs.Running.{AreNumbers}
 use Rattle.tq_plain.proofs.NarrowLemmas.{IsSumOf, narrow_at, sum_more}
 use Rattle.tq_plain.proofs.groups.sum_at.Goals as goal
 
@@ -28,7 +28,7 @@ rows-preserved c =
     record {
       summed = omega (arith, ints, more_is, next, c.rows.invariant.summed);
       small = λ narrow.
-          let row_narrow : IsNarrow row = subst IsNarrow (sym c.row-item.is) (All-get_or IsNarrow rows c.rows.row-index row c.rows-test.true narrow) in
+          let row_narrow : AreNumbers row = subst AreNumbers (sym c.row-item.is) (All-get_or AreNumbers rows c.rows.row-index row c.rows-test.true narrow) in
           subst (IsSumOf (c.rows.row-index + 1)) (sym more_is)
           (sum_more c.rows.row-index before number (c.rows.invariant.small narrow) (subst (FitsSigned w64) (sym here) (narrow_at row place row_narrow)));
     }

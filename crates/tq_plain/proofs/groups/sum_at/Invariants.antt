@@ -2,12 +2,12 @@
 use Rattle.std.proofs.Common.{◌≡◌, ◌+ℤ◌, drop}
 use Rattle.std.specs.Prelude.{All}
 use Rattle.tq_agg.specs.Grouping.{sum_at}
-use Rattle.tq_plain.specs.Narrow.{IsNarrow}
+use Rattle.tq_plan.specs.Running.{AreNumbers}
 use Rattle.tq_plain.proofs.NarrowLemmas.{IsSumOf}
 use Rattle.tq_plain.proofs.groups.sum_at.Given as goal
 
 abbrev pub invariant-rows : goal.invariant-rows
 invariant-rows l = record {
   summed : l.sum +ℤ sum_at l.place (drop l.row-index l.rows) ≡ sum_at l.place l.rows;
-  small : All IsNarrow l.rows → IsSumOf l.row-index l.sum;
+  small : All AreNumbers l.rows → IsSumOf l.row-index l.sum;
 }
