@@ -5,6 +5,7 @@ use Rattle.std.specs.Ordering.{nat_cmp, on, then_cmp, eq_by_cmp}
 use Rattle.std.specs.declared.cmp.Ordering.{Ordering}
 use Rattle.tq_base.specs.declared.value.Value.{Value}
 use Rattle.tq_base.specs.declared.fragment.Fragment.{Fragment}
+use Rattle.tq_base.specs.declared.period.Period.{Period}
 use Rattle.tq_base.specs.Periods.{holds}
 use Rattle.tq_base.specs.ValueOrder.{values_cmp, values_total}
 
@@ -20,6 +21,10 @@ fragment_total =
     then_total
     (then_total (on_total (λ f. f.values) values_total) (on_total (λ f. f.period.start) nat_cmp_total))
     (on_total (λ f. f.period.end) nat_cmp_total)
+
+-- the values, valid in the period
+abbrev pub fragment_of : (List Value × Period) → Fragment
+fragment_of row = record { values = row.0; period = row.1 }
 
 -- the values valid at the instant: those of each fragment whose period holds it
 abbrev pub at : List Fragment → ℕ → List (List Value)

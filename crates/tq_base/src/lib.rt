@@ -16,7 +16,7 @@ mod period;
 mod value;
 
 pub use catalogue::{Catalogue, Column, Kind, MAX_TEXT, Schema};
-pub use fragment::Fragment;
+pub use fragment::{Fragment, fragments_of};
 pub use items::Items;
 pub use name::{MAX_NAME, Name, RESERVED, fold_name, is_name, is_reserved, is_same_word};
 pub use number::{read_bound, read_instant, read_int, read_natural};

@@ -20,7 +20,7 @@ pub use condition::{Compare, Operand, Test};
 pub use difference::except_all;
 pub use joining::join;
 pub use links::width_of;
-pub use selection::{project, projected, select};
+pub use selection::{project, projected, select, show};
 
 #[cfg(test)]
 mod tests;

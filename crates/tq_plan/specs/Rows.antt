@@ -12,7 +12,7 @@ use Rattle.tq_ops.specs.Known.{may_pass}
 use Rattle.tq_ops.specs.Ordinary.{projection}
 use Rattle.tq_plan.specs.declared.rows.Filter.{Filter}
 use Rattle.tq_plan.specs.declared.rows.Filter.TheVariants as filter
-use Rattle.tq_plan.specs.declared.rows.OpenRow.{OpenRow}
+use Rattle.tq_plan.specs.declared.rows.Validity.{Validity}
 use Rattle.tq_agg.specs.Grouping.{Row}
 
 -- the values at the places, or all of them where no places are named
@@ -44,30 +44,34 @@ abbrev pub kept_rows : (Row → Option Row) → List Row → List Row
 kept_rows keep [] = []
 kept_rows keep (row ∷ rows) = with_some (keep row) (kept_rows keep rows)
 
--- what is kept of a row, and its bounds
-abbrev pub open_row : (Row → Option Row) → AnyRow → OpenRow
-open_row keep row = record { values = keep row.values; from = row.from; to = row.to }
+-- from when until when a row is valid
+abbrev pub validity : AnyRow → Validity
+validity row = record { from = row.from; to = row.to }
 
 -- the row with its end, unless it has one
-abbrev pub with_end : ℕ → OpenRow → OpenRow
-with_end at row = record { values = row.values; from = row.from; to = if row.to == FOREVER then at else row.to }
+abbrev pub with_end : ℕ → Validity → Validity
+with_end at row = record { from = row.from; to = if row.to == FOREVER then at else row.to }
 
 -- the rows, numbered from the given one, of which the row of this number gets its end
-abbrev pub ended : ℕ → ℕ → ℕ → List OpenRow → List OpenRow
+abbrev pub ended : ℕ → ℕ → ℕ → List Validity → List Validity
 ended next number at [] = []
 ended next number at (row ∷ rows) = (if number == next then with_end at row else row) ∷ ended (next + 1) number at rows
 
 -- the rows after one more event
-abbrev pub taken : ℕ → (Row → Option Row) → Event → List OpenRow → List OpenRow
-taken table keep (Start t values at) rows =
-    if t == table then rows ++ record { values = keep values; from = at; to = FOREVER } ∷ [] else rows
-taken table keep (End t number at) rows = if t == table then ended 0 number at rows else rows
+abbrev pub taken : ℕ → Event → List Validity → List Validity
+taken table (Start t values at) rows = if t == table then rows ++ record { from = at; to = FOREVER } ∷ [] else rows
+taken table (End t number at) rows = if t == table then ended 0 number at rows else rows
+
+-- the values of the row of the table that the event starts
+abbrev pub starts : ℕ → Event → Option Row
+starts table (Start t values at) = if t == table then Some values else None
+starts table (End t number at) = None
 
 -- what is kept of the rows that are valid at the instant, where it lies in the window
-abbrev pub open_at : Period → List OpenRow → ℕ → List Row
-open_at window [] t = []
-open_at window (row ∷ rows) t =
-    with_some (if holds window t && (nat_le row.from t && nat_lt t row.to) then row.values else None) (open_at window rows t)
+abbrev pub open_at : Period → (Row → Option Row) → List AnyRow → ℕ → List Row
+open_at window keep [] t = []
+open_at window keep (row ∷ rows) t =
+    with_some (if holds window t && (nat_le row.from t && nat_lt t row.to) then keep row.values else None) (open_at window keep rows t)
 
 -- whether the period holds the instant, if there is one
 abbrev pub option_holds : Option Period → ℕ → Bool

@@ -1,15 +1,15 @@
 // The rows of a table: what is kept of each, and from when until when it is valid.
 
-ghost use Rattle.std.specs.Prelude.{◌≡◌, ◌<◌, ◌≤◌, ◌++◌, ◌∷◌, ℕ, [], IfOk, List, OnOk, if◌then◌else◌, length, map, nat_le, nat_lt, ◌&&◌, option_copied};
-ghost use Rattle.tq_base.specs.Fragments.{at};
+ghost use Rattle.std.specs.Prelude.{◌≡◌, ◌<◌, ◌≤◌, ◌++◌, ◌∷◌, ℕ, [], IfOk, IfSome, None, OnOk, Some, if◌then◌else◌, length, map, nat_le, nat_lt, ◌&&◌, option_copied};
+ghost use Rattle.tq_base.specs.Fragments.{at, fragment_of};
 ghost use Rattle.tq_base.specs.Periods.{holds};
 ghost use Rattle.tq_event.specs.History.{rows_from, time_of, valid_at};
-ghost use Rattle.tq_plan.specs.Rows.{chosen, ended, keeps, kept, kept_rows, open_at, open_row, option_holds, taken, with_end};
+ghost use Rattle.tq_plan.specs.Rows.{ended, keeps, kept, kept_rows, open_at, option_holds, starts, taken, validity, with_end};
 
 use std::alloc::{AllocError, Global};
-use tq_base::{Bound, FOREVER, Fragment, Instant, Items, Period, Values};
+use tq_base::{Bound, FOREVER, Fragment, Instant, Items, Period, RowBuffer, Values, fragments_of};
 use tq_event::Event;
-use tq_ops::{Test, projected};
+use tq_ops::{Test, show};
 
 /// Which rows of a table are kept: all; those that pass a test; or those that can be the part of a row
 /// that passes it, which begins at a place of that row.
@@ -27,10 +27,9 @@ pub struct Keep<'a> {
     pub places: Option<&'a Items<u32>>,
 }
 
-// A row whose end may still come: what is kept of it, if anything.
-#[derive(Drop)]
-struct OpenRow {
-    values: Option<Values>,
+// From when until when a row is valid, as far as the events up to now tell.
+#[derive(Clone, Copy)]
+struct Validity {
     from: Instant,
     to: Bound,
 }
@@ -45,25 +44,6 @@ fn keeps(filter: Filter<'_>, values: &Values) -> bool
     }
 }
 
-fn chosen(alloc: Global, places: Option<&Items<u32>>, values: &Values) -> Result<Values, AllocError>
-    ensures { IfOk result (λ copy. copy ≡ chosen (option_copied places.entry) values.now) }
-{
-    match places {
-        Some(places) => projected(alloc, values.get(), places.get()),
-        None => values.try_copy(),
-    }
-}
-
-// A copy of what is kept of a row.
-fn kept(alloc: Global, keep: Keep<'_>, values: &Values) -> Result<Option<Values>, AllocError>
-    ensures { IfOk result (λ copy. copy ≡ kept (keeps keep.entry.filter) (option_copied keep.entry.places) values.now) }
-{
-    if !keeps(keep.filter, values) {
-        return Ok(None);
-    }
-    Ok(Some(chosen(alloc, keep.places, values)?))
-}
-
 fn bound_of(number: u64) -> Bound
     requires { number ≤ FOREVER }
     ensures { result ≡ number }
@@ -75,7 +55,7 @@ fn bound_of(number: u64) -> Bound
 }
 
 // Ends the row, unless it has ended.
-fn set_end(row: &mut OpenRow, at: Bound)
+fn set_end(row: &mut Validity, at: Bound)
     ensures { row.new ≡ with_end at row.old }
 {
     if row.to.number() == FOREVER {
@@ -84,29 +64,12 @@ fn set_end(row: &mut OpenRow, at: Bound)
 }
 
 // Ends the row of this number, if there is one and it has not ended.
-fn end_row(rows: &mut [OpenRow], number: usize, at: Bound)
+fn end_row(rows: &mut [Validity], number: usize, at: Bound)
     ensures { rows.new ≡ ended 0 number at rows.old }
 {
     if number < rows.len() {
         set_end(&mut rows[number], at);
     }
-}
-
-fn start_row(
-    alloc: Global,
-    keep: Keep<'_>,
-    values: &Values,
-    at: Instant,
-    rows: &mut Vec<OpenRow>,
-) -> Result<(), AllocError>
-    ensures { OnOk result (rows.new.items ≡ rows.old.items ++ record { values = kept (keeps keep.entry.filter) (option_copied keep.entry.places) values.now; from = at; to = FOREVER } ∷ []) }
-{
-    rows.push(OpenRow {
-        values: kept(alloc, keep, values)?,
-        from: at,
-        to: bound_of(FOREVER),
-    })?;
-    Ok(())
 }
 
 fn instant_of(event: &Event) -> Instant
@@ -119,90 +82,129 @@ fn instant_of(event: &Event) -> Instant
 }
 
 // Takes an event of the table: a row starts, or one ends.
-fn take_event(
-    alloc: Global,
-    table: u32,
-    keep: Keep<'_>,
-    event: &Event,
-    rows: &mut Vec<OpenRow>,
-) -> Result<(), AllocError>
-    ensures taken { OnOk result (rows.new.items ≡ taken table (kept (keeps keep.entry.filter) (option_copied keep.entry.places)) event.now rows.old.items) }
+fn take_event(table: u32, event: &Event, rows: &mut Vec<Validity>) -> Result<(), AllocError>
+    ensures taken { OnOk result (rows.new.items ≡ taken table event.now rows.old.items) }
     ensures finite { time_of event.now < FOREVER }
 {
-    let at = instant_of(event).number();
+    let at = instant_of(event);
     match event {
-        Event::Start {
-            table: of,
-            values,
-            at: start,
-        } => {
+        Event::Start { table: of, .. } => {
             if *of == table {
-                start_row(alloc, keep, values, *start, rows)?;
+                rows.push(Validity {
+                    from: at,
+                    to: bound_of(FOREVER),
+                })?;
             }
         }
         Event::End { table: of, row, .. } => {
             if *of == table {
-                end_row(rows, *row as usize, bound_of(at));
+                end_row(rows, *row as usize, bound_of(at.number()));
             }
         }
     }
     Ok(())
 }
 
-// The rows of a table, with the ends that they have.
-fn open_rows(
-    alloc: Global,
-    events: &[Event],
-    table: u32,
-    keep: Keep<'_>,
-) -> Result<Vec<OpenRow>, AllocError>
-    ensures { IfOk result (λ rows. rows.items ≡ map (open_row (kept (keeps keep.entry.filter) (option_copied keep.entry.places))) (rows_from table 0 events.now)) }
+// From when until when each row of a table is valid.
+fn validities(alloc: Global, events: &[Event], table: u32) -> Result<Vec<Validity>, AllocError>
+    ensures { IfOk result (λ rows. rows.items ≡ map validity (rows_from table 0 events.now)) }
 {
     let mut rows = Vec::new(alloc);
     'events: for event in events {
-        take_event(alloc, table, keep, event, &mut rows)?;
+        take_event(table, event, &mut rows)?;
     }
     Ok(rows)
 }
 
-// When the row is valid within the window, if it is.
-fn valid_in(window: &Period, from: Instant, to: Bound) -> Option<Period>
-    ensures { (t : ℕ) → option_holds result t ≡ (holds window.now t && (nat_le from t && nat_lt t to)) }
+// The values of the row that the event starts, if it starts one of the table.
+fn started(table: u32, event: &Event) -> Option<&Values>
+    ensures some { IfSome result (λ values. starts table event.entry.now ≡ Some values.now) }
+    ensures none { result ≡ None → starts table event.entry.now ≡ None }
 {
-    let period = Period::new(from, to)?;
-    window.overlap(&period)
-}
-
-fn push_fragment(
-    fragments: &mut Vec<Fragment>,
-    window: &Period,
-    row: OpenRow,
-) -> Result<(), AllocError>
-    ensures { (t : ℕ) → OnOk result (at fragments.new.items t ≡ at fragments.old.items t ++ open_at window.now (row ∷ []) t) }
-{
-    let OpenRow { values, from, to } = row;
-    let Some(values) = values else {
-        return Ok(());
-    };
-    if let Some(period) = valid_in(window, from, to) {
-        fragments.push(Fragment { values, period })?;
+    match event {
+        Event::Start {
+            table: of, values, ..
+        } => {
+            if *of == table {
+                Some(values)
+            } else {
+                None
+            }
+        }
+        Event::End { .. } => None,
     }
-    Ok(())
 }
 
-// The rows that are valid at some instant of the window.
-fn close_rows(
+// When the row is valid within the window, if it is kept and is valid there.
+fn kept_period(
+    values: &Values,
+    row: Validity,
+    which: Filter<'_>,
+    window: &Period,
+) -> Option<Period>
+    ensures { (t : ℕ) → option_holds result t ≡ (keeps which.entry values.now && (holds window.now t && (nat_le row.from t && nat_lt t row.to))) }
+{
+    let valid = Period::new(row.from, row.to)?;
+    let period = window.overlap(&valid)?;
+    if keeps(which, values) {
+        Some(period)
+    } else {
+        None
+    }
+}
+
+// Copies of the rows that are kept, and valid at some instant of the window.
+fn copied_rows(
     alloc: Global,
-    rows: Vec<OpenRow>,
+    events: &[Event],
+    table: u32,
+    which: Filter<'_>,
     window: &Period,
 ) -> Result<Vec<Fragment>, AllocError>
-    ensures { (t : ℕ) → IfOk result (λ fragments. at fragments.items t ≡ open_at window.now rows.items t) }
+    ensures { (t : ℕ) → IfOk result (λ rows. at rows.items t ≡ open_at window.now (kept (keeps which.entry) None) (rows_from table 0 events.now) t) }
 {
-    let mut fragments = Vec::with_capacity(alloc, rows.len())?;
-    'rows: for row in rows {
-        push_fragment(&mut fragments, window, row)?;
+    let rows = validities(alloc, events, table)?;
+    let mut fragments = Vec::new(alloc);
+    let mut next = 0;
+    'events: for event in events {
+        let Some(values) = started(table, event) else {
+            continue;
+        };
+        if let Some(period) = kept_period(values, rows[next], which, window) {
+            let values = values.try_copy()?;
+            fragments.push(Fragment { values, period })?;
+        }
+        next += 1;
     }
     Ok(fragments)
+}
+
+// The values at the places of the rows that are kept, and valid at some instant of the window.
+fn shown_rows(
+    alloc: Global,
+    events: &[Event],
+    table: u32,
+    which: Filter<'_>,
+    places: &[u32],
+    window: &Period,
+) -> Result<Vec<Fragment>, AllocError>
+    ensures { (t : ℕ) → IfOk result (λ rows. at rows.items t ≡ open_at window.now (kept (keeps which.entry) (Some places.now)) (rows_from table 0 events.now) t) }
+{
+    let rows = validities(alloc, events, table)?;
+    let mut buffer = RowBuffer::new(alloc);
+    let mut shown = Vec::with_capacity(alloc, places.len())?;
+    let mut next = 0;
+    'events: for event in events {
+        let Some(values) = started(table, event) else {
+            continue;
+        };
+        if let Some(period) = kept_period(values, rows[next], which, window) {
+            show(values.get(), places, &mut shown)?;
+            buffer.push(&mut shown, period)?;
+        }
+        next += 1;
+    }
+    fragments_of(alloc, buffer)
 }
 
 /// What is kept of a table's rows, in the order of their starts: at each instant of the window, what is
@@ -218,6 +220,8 @@ pub fn read_rows(
     ensures { (t : ℕ) → IfOk result (λ rows. at rows.items t
         ≡ (if holds window.now t then kept_rows (kept (keeps keep.entry.filter) (option_copied keep.entry.places)) (valid_at events.now (length events.now) table t) else [])) }
 {
-    let rows = open_rows(alloc, events, table, keep)?;
-    close_rows(alloc, rows, window)
+    match keep.places {
+        None => copied_rows(alloc, events, table, keep.filter, window),
+        Some(places) => shown_rows(alloc, events, table, keep.filter, places.get(), window),
+    }
 }
