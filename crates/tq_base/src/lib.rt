@@ -13,6 +13,7 @@ pub mod laws;
 mod name;
 mod number;
 mod period;
+mod row_buffer;
 mod value;
 mod values;
 
@@ -22,6 +23,7 @@ pub use items::Items;
 pub use name::{MAX_NAME, Name, RESERVED, fold_name, is_name, is_reserved, is_same_word};
 pub use number::{read_bound, read_instant, read_int, read_natural};
 pub use period::{Bound, FOREVER, Instant, Period};
+pub use row_buffer::RowBuffer;
 pub use value::{Text, Value};
 pub use values::Values;
 
