@@ -5,7 +5,8 @@ ghost use Rattle.std.specs.Str.{str_eq_ignore_ascii_case};
 
 use crate::items::Items;
 use crate::name::{Name, is_same_word};
-use crate::value::{Value, Values};
+use crate::value::Value;
+use crate::values::Values;
 use std::alloc::{AllocError, Global};
 
 /// The most bytes of a text in a table.

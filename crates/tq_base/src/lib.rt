@@ -13,7 +13,9 @@ pub mod laws;
 mod name;
 mod number;
 mod period;
+mod row_buffer;
 mod value;
+mod values;
 
 pub use catalogue::{Catalogue, Column, Kind, MAX_TEXT, Schema};
 pub use fragment::{Fragment, fragments_of};
@@ -21,7 +23,9 @@ pub use items::Items;
 pub use name::{MAX_NAME, Name, RESERVED, fold_name, is_name, is_reserved, is_same_word};
 pub use number::{read_bound, read_instant, read_int, read_natural};
 pub use period::{Bound, FOREVER, Instant, Period};
-pub use value::{Text, Value, Values};
+pub use row_buffer::RowBuffer;
+pub use value::{Text, Value};
+pub use values::Values;
 
 #[cfg(test)]
 mod tests;

@@ -2,6 +2,7 @@
 
 mod orders;
 mod readers;
+mod rows;
 mod tables;
 
 use crate::{Bound, Instant, Period, Text, Value, Values};

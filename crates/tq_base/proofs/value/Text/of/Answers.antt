@@ -1,5 +1,4 @@
 -- The bytes of a string are UTF-8.
-use Rattle.std.proofs.Common.{◌≡◌, refl}
 use Rattle.std.proofs.lemmas.Str.{IsUtf8-string_bytes}
 use Rattle.tq_base.proofs.value.Text.of.Goals as goal
 
