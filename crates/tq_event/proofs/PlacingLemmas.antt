@@ -5,11 +5,12 @@ use Rattle.std.specs.List.{AllZip, list_any}
 use Rattle.std.proofs.lemmas.Bool.{cases_lt, eqb-true}
 use Rattle.std.proofs.lemmas.Bool.Decides.{nat_tests}
 use Rattle.std.proofs.lemmas.Option.{get_or_from_slice_get, slice_get_within}
-use Rattle.std.proofs.lemmas.List.{length-take-le, take_more, get_or-map, get_or-set_same, get_or-set_other}
+use Rattle.std.proofs.lemmas.List.{length-take-le, take_more, get_or-map, get_or-set_same, get_or-set_other, map-set, set-get_or}
 use Rattle.std.proofs.lemmas.List.Folds.{list_any_more}
 use Rattle.std.proofs.lemmas.List.Sums.{sum_by-cons, sum_by_push}
 use Rattle.tq_event.specs.declared.entry.Entry.{Entry}
 use Rattle.tq_event.specs.declared.mark.Mark.{Mark}
+use Rattle.tq_event.specs.declared.order.Place.{Place}
 use Rattle.tq_event.specs.declared.event.Event.{Event}
 use Rattle.tq_event.specs.declared.event.Event.TheVariants.{Start, End}
 use Rattle.tq_event.specs.Loading.{IsEventAt, event_at, mark_cmp, marks_from, starts_entry, starts_in, row_number, table_at}
@@ -27,6 +28,33 @@ pub record Placing (entries : List Entry) (marks : List Mark) (tables k : ℕ) (
   pub now_len : length now ≡ length entries
   pub tables_are : (j : ℕ) (d e : Entry) → slice_get entries j ≡ Some e → (get_or now j d).table ≡ e.table
   pub now_are : (j : ℕ) (d : Entry) → j < length entries → list_any (starts_entry j) (take k marks) ≡ false → get_or now j d ≡ get_or entries j d
+
+abbrev pub rows_in : List Place → List ℕ
+rows_in places = map (λ (p : Place). p.row) places
+
+abbrev pub tables_in : List Place → List ℕ
+tables_in places = map (λ (p : Place). p.table) places
+
+pub tables_of_entries : (entries : List Entry) → tables_in (map (λ (e : Entry). record { table = e.table; row = 0 }) entries) ≡ map (λ (e : Entry). e.table) entries
+tables_of_entries [] = refl
+tables_of_entries (e ∷ entries) = ap (λ l. e.table ∷ l) (tables_of_entries entries)
+
+-- the row and the table that stand at a place
+pub row_in : (places : List Place) (i : ℕ) (p : Place) → i < length places → p ≡ get_or places i p → p.row ≡ get_or (rows_in places) i 0
+row_in places i p here is = ap (λ (q : Place). q.row) is ∙ sym (get_or-map (λ (q : Place). q.row) places i p 0 here)
+
+pub table_in : (places : List Place) (tables : List ℕ) (i : ℕ) (p : Place) → tables_in places ≡ tables → i < length places → p ≡ get_or places i p → p.table ≡ get_or tables i p.table
+table_in places tables i p same here is =
+    ap (λ (q : Place). q.table) is ∙ sym (get_or-map (λ (q : Place). q.table) places i p p.table here) ∙ ap (λ l. get_or l i p.table) same
+
+-- a row is put at a place, whose table stays
+pub rows_put : (places new : List Place) (i : ℕ) (p : Place) (row : ℕ) → new ≡ set places i (record { table = p.table; row = row }) → rows_in new ≡ set (rows_in places) i row
+rows_put places new i p row put = ap rows_in put ∙ map-set (λ (q : Place). q.row) places i (record { table = p.table; row = row })
+
+pub tables_put : (places new : List Place) (i : ℕ) (p : Place) (row : ℕ) → new ≡ set places i (record { table = p.table; row = row }) → i < length places → p ≡ get_or places i p → tables_in new ≡ tables_in places
+tables_put places new i p row put here is =
+    ap tables_in put ∙ map-set (λ (q : Place). q.table) places i (record { table = p.table; row = row })
+    ∙ ap (set (tables_in places) i) (table_in places (tables_in places) i p refl here is) ∙ set-get_or (tables_in places) i p.table
 
 all_zip_push : (P : Mark → Event → Type 0) (ms : List Mark) (es : List Event) (m : Mark) (e : Event) → length es ≡ length ms → AllZip P ms es → P m e → AllZip P (ms ++ m ∷ []) (es ++ e ∷ [])
 all_zip_push P [] [] m e len all new = (new, tt)

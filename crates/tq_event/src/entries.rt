@@ -1,76 +1,102 @@
 // The entries so far, and how many events they make.
 
-ghost use Rattle.std.specs.Prelude.{◌≡◌, ◌≢◌, ◌<◌, ◌≤◌, [], Err, IfErr, OnOk, Ok, sum_by};
-ghost use Rattle.tq_event.specs.Loading.{event_count};
+ghost use Rattle.std.specs.Prelude.{◌≡◌, ◌≢◌, ◌<◌, ◌≤◌, [], Err, IfErr, IfOk, OnOk, Ok, if◌then◌else◌, ◌==◌, map, sum_by};
+ghost use Rattle.tq_event.specs.Loading.{entry_in, event_count};
 
-use crate::entry::Entry;
+use crate::entry::{Entry, Validity};
 use crate::fault::LoadFaultKind;
 use std::alloc::{AllocError, Global};
 use std::marker::Model;
-use tq_base::FOREVER;
+use tq_base::{Bound, FOREVER, RowBuffer, Value, Values};
 
 /// Entries, seen as their list, with the number of events that they make: one for each start, and one
 /// for each end that is not `forever`.
 #[derive(Drop)]
 pub struct Entries {
-    items: Vec<Entry>,
+    rows: RowBuffer<Validity>,
     events: u32,
 }
 
 impl Model for Entries {
-    ghost use Rattle.std.specs.Prelude.{◌≡◌, List, sum_by};
-    ghost use Rattle.tq_event.specs.Loading.{event_count};
+    ghost use Rattle.std.specs.Prelude.{◌≡◌, List, map, sum_by};
     ghost use Rattle.tq_event.specs.declared.entry.Entry.{Entry as OneEntry};
-    ghost use Rattle.tq_event.specs.Loading.{event_count};
+    ghost use Rattle.tq_event.specs.Loading.{entry_in, event_count};
 
     ghost Value = { List OneEntry };
 
-    ghost view = { λ a. a.items.items };
+    ghost view = { λ a. map entry_in a.rows };
 
-    ghost invariant = { λ a. a.events ≡ sum_by event_count a.items.items };
+    ghost invariant = { λ a. a.events ≡ sum_by event_count (map entry_in a.rows) };
 }
 
-fn event_count(entry: &Entry) -> u32
-    ensures { result ≡ event_count entry.now }
+// How many events an entry makes that is valid until then.
+fn event_count(to: Bound) -> u32
+    ensures { result ≡ (if to == FOREVER then 1 else 2) }
 {
-    if entry.to.number() == FOREVER { 1 } else { 2 }
+    if to.number() == FOREVER { 1 } else { 2 }
+}
+
+fn make_entry(row: (Values, Validity)) -> Entry
+    ensures { result ≡ entry_in row }
+{
+    let (values, validity) = row;
+    Entry {
+        table: validity.table,
+        values,
+        from: validity.from,
+        to: validity.to,
+    }
 }
 
 impl Entries {
-    ghost use Rattle.tq_event.specs.Loading.{event_count, next_entries};
+    ghost use Rattle.tq_event.specs.Loading.{entry_in, event_count, next_entries};
 
     /// No entries.
     pub fn new(alloc: Global) -> Entries
         ensures { result ≡ [] }
     {
         Entries {
-            items: Vec::new(alloc),
+            rows: RowBuffer::new(alloc),
             events: 0,
         }
     }
 
-    /// Adds an entry, where no more than so many events are made.
-    pub fn add(&mut self, limit: u32, entry: Entry) -> Result<(), LoadFaultKind>
+    /// Adds an entry, whose values are moved out of the list, where no more than so many events are made.
+    pub fn add(
+        &mut self,
+        limit: u32,
+        values: &mut Vec<Value>,
+        validity: Validity,
+    ) -> Result<(), LoadFaultKind>
         requires limit { limit ≤ 16777216 }
         requires within { sum_by event_count self.old ≤ limit }
-        ensures ok { OnOk result (next_entries limit self.old entry ≡ Ok self.new) }
+        ensures ok { OnOk result (next_entries limit self.old (entry_in (values.old.items, validity)) ≡ Ok self.new) }
         ensures within { OnOk result (sum_by event_count self.new ≤ limit) }
         ensures grown { OnOk result (sum_by event_count self.old < sum_by event_count self.new) }
-        ensures fault { IfErr result (λ fault. fault ≢ LoadFaultKind.OutOfMemory → next_entries limit self.old entry ≡ Err fault) }
+        ensures fault { IfErr result (λ fault. fault ≢ LoadFaultKind.OutOfMemory
+            → next_entries limit self.old (entry_in (values.old.items, validity)) ≡ Err fault) }
     {
-        let events = self.events + event_count(&entry);
+        let events = self.events + event_count(validity.to);
         if events > limit {
             return Err(LoadFaultKind::TooManyEvents);
         }
-        self.items.push(entry).map_err(AllocError::from)?;
+        if let Err(error) = self.rows.push(values, validity) {
+            // Rows may be lost, so none is kept.
+            *self = Entries::new(*values.allocator());
+            return Err(LoadFaultKind::from(error));
+        }
         self.events = events;
         Ok(())
     }
 
-    /// The entries, handed out.
-    pub fn into_vec(self) -> Vec<Entry>
-        ensures { result.items ≡ self }
+    /// The entries, handed out; `AllocError` where a growth was refused.
+    pub fn finish(self, alloc: Global) -> Result<Vec<Entry>, AllocError>
+        ensures { IfOk result (λ entries. entries.items ≡ self) }
     {
-        self.items
+        self.rows
+            .finish()?
+            .into_iter()
+            .map(make_entry)
+            .collect(alloc)
     }
 }

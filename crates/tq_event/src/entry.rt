@@ -11,3 +11,11 @@ pub struct Entry {
     pub from: Instant,
     pub to: Bound,
 }
+
+/// What stands beside the values of an entry: its table's number, and from when until when it is valid.
+#[derive(Clone, Copy, Debug)]
+pub struct Validity {
+    pub table: u32,
+    pub from: Instant,
+    pub to: Bound,
+}

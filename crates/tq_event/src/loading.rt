@@ -64,15 +64,16 @@ fn read_table(
         Ok(columns) => columns,
         Err(kind) => return Err(fault_at(table, 1, kind)),
     };
+    let mut values = Vec::new(alloc);
     'records: for number in 2..u32::MAX {
         if !next_record(&mut reader, &mut record)? {
             return Ok(columns);
         }
-        let entry = match read_entry(alloc, table, &columns, &record) {
-            Ok(entry) => entry,
+        let validity = match read_entry(alloc, table, &columns, &record, &mut values) {
+            Ok(validity) => validity,
             Err(kind) => return Err(fault_at(table, number, kind)),
         };
-        if let Err(kind) = entries.add(limit, entry) {
+        if let Err(kind) = entries.add(limit, &mut values, validity) {
             return Err(fault_at(table, number, kind));
         }
     }
@@ -151,7 +152,8 @@ pub fn load(alloc: Global, files: &[TableFile], limit: u32) -> Result<Loaded, Lo
     'files: for file in files {
         load_file(alloc, limit, &mut tables, &mut entries, file)?;
     }
-    let events = order_events(alloc, tables.len(), entries.into_vec())?;
+    let entries = entries.finish(alloc)?;
+    let events = order_events(alloc, tables.len(), entries)?;
     Ok(Loaded {
         catalogue: Catalogue {
             tables: Items::of(tables),

@@ -59,11 +59,24 @@ fn start_entry(
     }
 }
 
-// The table of each entry, side by side: a mark is read where the entries around it are not.
-fn tables_of(alloc: Global, entries: &[Entry]) -> Result<Vec<u32>, AllocError>
-    ensures { IfOk result (λ v. v.items ≡ map (λ e. e.table) entries.now) }
+// The table of an entry, and the number of its row in it, which is 0 until the row starts.
+#[derive(Clone, Copy)]
+struct Place {
+    table: u32,
+    row: u32,
+}
+
+// The places of the entries, side by side: a mark visits no more than one of them.
+fn places_of(alloc: Global, entries: &[Entry]) -> Result<Vec<Place>, AllocError>
+    ensures { IfOk result (λ v. v.items ≡ map (λ e. record { table = e.table; row = 0 }) entries.now) }
 {
-    entries.iter().map(|entry| entry.table).collect(alloc)
+    entries
+        .iter()
+        .map(|entry| {
+            let table = entry.table;
+            Place { table, row: 0 }
+        })
+        .collect(alloc)
 }
 
 // The events of the marks, which are those of the entries in order.
@@ -80,25 +93,24 @@ fn place_events(
     requires few { length marks.now < 4294967296 }
     ensures { IfOk result (λ events. HaveEvents entries.items marks.now events.items) }
 {
-    let of_tables = tables_of(alloc, &entries)?;
+    let mut places = places_of(alloc, &entries)?;
     let mut next_rows = vec![in alloc; 0u32; tables]?;
-    let mut rows = vec![in alloc; 0u32; entries.len()]?;
     let mut events = Vec::with_capacity(alloc, marks.len())?;
     'marks: for mark in marks {
         let number = mark.entry as usize;
-        let table = of_tables[number];
+        let table = places[number].table;
         let event = if mark.starts {
             start_entry(
                 alloc,
                 &mut entries[number],
-                &mut rows[number],
+                &mut places[number].row,
                 &mut next_rows[table as usize],
                 mark.at,
             )
         } else {
             Event::End {
                 table,
-                row: rows[number],
+                row: places[number].row,
                 at: mark.at,
             }
         };

@@ -1,17 +1,17 @@
 // What a data record of a file holds.
 
-ghost use Rattle.std.specs.Prelude.{◌≡◌, ◌≢◌, ◌+◌, ◌≤◌, [], Err, IfErr, IfOk, Ok, length};
+ghost use Rattle.std.specs.Prelude.{◌≡◌, ◌≢◌, ◌+◌, ◌≤◌, [], Err, IfErr, IfOk, OnOk, Ok, length};
 ghost use Rattle.csv.specs.Records.{fields_of};
-ghost use Rattle.tq_event.specs.Loading.{entry_of, make_period, period_fields, period_of, value_fields, value_of, values_after};
+ghost use Rattle.tq_event.specs.Loading.{entry_in, entry_of, make_period, period_fields, period_of, value_fields, value_of, values_after};
 
-use crate::entry::Entry;
+use crate::entry::Validity;
 use crate::fault::LoadFaultKind;
 use crate::records::field_at;
 use csv::ByteRecord;
 use std::alloc::{AllocError, Global};
 use std::str;
 use tq_base::{
-    Bound, Column, Instant, Kind, MAX_TEXT, Text, Value, Values, read_bound, read_instant, read_int,
+    Bound, Column, Instant, Kind, MAX_TEXT, Text, Value, read_bound, read_instant, read_int,
 };
 
 // The text that a field holds.
@@ -42,23 +42,24 @@ fn read_value(alloc: Global, kind: Kind, field: &[u8]) -> Result<Value, LoadFaul
     }
 }
 
-// The values that the record holds, one for each column.
+// The values that the record holds, one for each column, in place of those in the list.
 fn read_values(
     alloc: Global,
     columns: &[Column],
     record: &ByteRecord,
-) -> Result<Values, LoadFaultKind>
+    values: &mut Vec<Value>,
+) -> Result<(), LoadFaultKind>
     requires { length (fields_of record.now) ≡ length columns.now + 2 }
-    ensures ok { IfOk result (λ values. values_after [] columns.now (value_fields (fields_of record.now)) ≡ Ok values) }
+    ensures ok { OnOk result (values_after [] columns.now (value_fields (fields_of record.now)) ≡ Ok values.new.items) }
     ensures fault { IfErr result (λ fault. fault ≢ LoadFaultKind.OutOfMemory
         → values_after [] columns.now (value_fields (fields_of record.now)) ≡ Err fault) }
 {
-    let mut values = Vec::with_capacity(alloc, columns.len())?;
+    values.clear();
     'columns: for (place, column) in columns.iter().enumerate() {
         let value = read_value(alloc, column.kind, field_at(record, place))?;
         values.push(value).map_err(AllocError::from)?;
     }
-    Ok(Values::of(values))
+    Ok(())
 }
 
 // The instant and the bound above it.
@@ -89,14 +90,17 @@ fn read_period(record: &ByteRecord) -> Result<(Instant, Bound), LoadFaultKind>
     make_period(read_instant(from), read_bound(to))
 }
 
-/// The row that a record tells, of the table of this number and these columns.
+/// The row that a record tells, of the table of this number and these columns: its values come to stand
+/// in the list.
 pub fn read_entry(
     alloc: Global,
     table: u32,
     columns: &[Column],
     record: &ByteRecord,
-) -> Result<Entry, LoadFaultKind>
-    ensures ok { IfOk result (λ entry. entry_of table columns.now (fields_of record.now) ≡ Ok entry) }
+    values: &mut Vec<Value>,
+) -> Result<Validity, LoadFaultKind>
+    ensures ok { IfOk result (λ validity. entry_of table columns.now (fields_of record.now)
+        ≡ Ok (entry_in (values.new.items, validity))) }
     ensures fault { IfErr result (λ fault. fault ≢ LoadFaultKind.OutOfMemory
         → entry_of table columns.now (fields_of record.now) ≡ Err fault) }
 {
@@ -104,12 +108,7 @@ pub fn read_entry(
     if width < 2 || width - 2 != columns.len() {
         return Err(LoadFaultKind::FieldCount);
     }
-    let values = read_values(alloc, columns, record)?;
+    read_values(alloc, columns, record, values)?;
     let (from, to) = read_period(record)?;
-    Ok(Entry {
-        table,
-        values,
-        from,
-        to,
-    })
+    Ok(Validity { table, from, to })
 }

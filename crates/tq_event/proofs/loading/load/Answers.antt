@@ -6,14 +6,14 @@ use Rattle.tq_event.proofs.loading.load.Goals as goal
 
 pub order_events-requires-clause-few : goal.order_events-requires-clause-few
 order_events-requires-clause-few c =
-    omega (arith, c.into_vec.result.ok.0, ap length c.into_vec.ensures, entries_within c.files.entries, c.files.invariant.within, c.requires)
+    omega (arith, c.in_ok-entries.entries.ok.0, ap length c.in_ok-entries.ensures, entries_within c.files.entries, c.files.invariant.within, c.requires)
 
 pub order_events-requires-clause-periods : goal.order_events-requires-clause-periods
 order_events-requires-clause-periods c =
     let all : contents_of c.args.files.now c.args.limit ≡ Ok (record { tables = c.files.tables.items; entries = c.files.entries }) = c.files.invariant.rest ∙ rw (drop_all c.files.file-index c.args.files.now (omega arith)) refl in
-    rw c.into_vec.ensures (λ k d below. (contents_placeable c.args.limit c.args.files.now (record { tables = c.files.tables.items; entries = c.files.entries }) all k d below).0)
+    rw c.in_ok-entries.ensures (λ k d below. (contents_placeable c.args.limit c.args.files.now (record { tables = c.files.tables.items; entries = c.files.entries }) all k d below).0)
 
 pub order_events-requires-clause-tables : goal.order_events-requires-clause-tables
 order_events-requires-clause-tables c =
     let all : contents_of c.args.files.now c.args.limit ≡ Ok (record { tables = c.files.tables.items; entries = c.files.entries }) = c.files.invariant.rest ∙ rw (drop_all c.files.file-index c.args.files.now (omega arith)) refl in
-    rw c.into_vec.ensures (λ k d below. omega (arith, (contents_placeable c.args.limit c.args.files.now (record { tables = c.files.tables.items; entries = c.files.entries }) all k d below).1, c.len.ensures, c.files.tables.ok.0))
+    rw c.in_ok-entries.ensures (λ k d below. omega (arith, (contents_placeable c.args.limit c.args.files.now (record { tables = c.files.tables.items; entries = c.files.entries }) all k d below).1, c.len.ensures, c.files.tables.ok.0))

@@ -1,7 +1,7 @@
 use Rattle.std.proofs.Common.{◌≡◌, ◌∙◌, List, ℕ, drop, sym, ap, refl, arith}
 use Rattle.csv.specs.Records.{fields_of}
 use Rattle.tq_event.specs.declared.fault.LoadFaultKind.TheVariants.{BadHeader, OutOfMemory}
-use Rattle.tq_event.specs.Loading.{csv_records, entries_after}
+use Rattle.tq_event.specs.Loading.{csv_records, entries_after, entry_in}
 use Rattle.tq_event.proofs.LoadLemmas.{known_kind, header_fault, columns_first, columns_none, read_ok, read_fault, entry_fault, add_fault, add_ok}
 use Rattle.tq_event.proofs.loading.read_table.Goals as goal
 
@@ -60,7 +60,7 @@ returns-in-Err-add-clause-fault c known =
     let kind = known_kind c.in-Err-add.kind c.fault_at-in-Err-add.result c.fault_at-in-Err-add.ensures.out_of_memory known in
     read_fault c.args.limit c.args.table c.args.entries.now c.args.bytes.now c.in-Ok.columns.items c.fault_at-in-Err-add.result i.columns
     (i.rest ∙ add_fault c.args.limit c.args.table c.in-Ok.columns.items c.records.number c.records.entries (fields_of c.next_record-in-records.new.record) more i.left split
-    c.in-Ok-read_entry.entry c.in-Err-add.kind c.fault_at-in-Err-add.result (rw c.deref.ensures.value at c.in-Ok-read_entry.ensures.ok) (c.in-Err-add.ensures.fault kind) (c.fault_at-in-Err-add.ensures.named kind))
+    (entry_in (c.read_entry.new.values.items, c.in-Ok-read_entry.validity)) c.in-Err-add.kind c.fault_at-in-Err-add.result (rw c.deref.ensures.value at c.in-Ok-read_entry.ensures.ok) (c.in-Err-add.ensures.fault kind) (c.fault_at-in-Err-add.ensures.named kind))
 
 pub records-preserved : goal.records-preserved
 records-preserved c =
@@ -73,5 +73,5 @@ records-preserved c =
       left = more;
       has = has;
       rest = i.rest ∙ add_ok c.args.limit c.args.table c.in-Ok.columns.items c.records.number c.records.entries (fields_of c.next_record-in-records.new.record) more i.left split
-          c.in-Ok-read_entry.entry c.add.new.self (rw c.deref.ensures.value at c.in-Ok-read_entry.ensures.ok) c.in_default.ensures.ok;
+          (entry_in (c.read_entry.new.values.items, c.in-Ok-read_entry.validity)) c.add.new.self (rw c.deref.ensures.value at c.in-Ok-read_entry.ensures.ok) c.in_default.ensures.ok;
     }

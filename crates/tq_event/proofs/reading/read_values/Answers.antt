@@ -9,7 +9,7 @@ use Rattle.tq_event.proofs.reading.read_values.Goals as goal
 
 pub returns-in_err-value-clause-fault : goal.returns-in_err-value-clause-fault
 returns-in_err-value-clause-fault c =
-    let p = err_from_is_err_and c.from_residual-in_err-value.result c.from_residual-in_err-value.ensures.1 in
+    let p = err_from_is_err_and c.from_residual.result c.from_residual.ensures.1 in
     rw (p.1, p.2) (λ known.
     let fields = fields_of c.args.record.now in
     let columns = c.args.columns.now in
