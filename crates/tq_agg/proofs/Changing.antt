@@ -5,7 +5,7 @@ use Rattle.std.proofs.lemmas.Int.{ints}
 use Rattle.tq_base.specs.declared.period.Period.{Period}
 use Rattle.tq_base.specs.Periods.{holds, Overlap, IsOverlap}
 use Rattle.tq_agg.specs.declared.summands.Summand.{Summand}
-use Rattle.tq_agg.specs.declared.groups.Ranked.{Ranked}
+use Rattle.tq_agg.specs.declared.rows.Ranked.{Ranked}
 use Rattle.tq_agg.specs.declared.changes.Change.{Change}
 use Rattle.tq_agg.specs.Totals.{change_weight, total_held, total_upto, weight_of}
 use Rattle.tq_agg.proofs.Adding.{added-append, added-step}

@@ -8,7 +8,7 @@ use Rattle.tq_base.specs.declared.fragment.Fragment.{Fragment}
 use Rattle.tq_base.specs.Periods.{holds}
 use Rattle.tq_base.specs.Fragments.{at}
 use Rattle.tq_ops.specs.Sides.{is_overlap, overlapping}
-use Rattle.tq_agg.specs.declared.groups.Ranked.{Ranked}
+use Rattle.tq_agg.specs.declared.rows.Ranked.{Ranked}
 use Rattle.tq_agg.specs.Totals.{added}
 use Rattle.tq_agg.proofs.Adding.{added-filter, added-map, added-same}
 

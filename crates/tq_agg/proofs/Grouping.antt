@@ -1,9 +1,9 @@
 -- Groups of rows of one key in a sorted list, and what the rows of one add.
 use Rattle.std.proofs.Common.{◌≡◌, ◌≢◌, ℕ, zero, suc, ◌+◌, ◌-◌, ◌<◌, ◌≤◌, ℤ, pos, ◌+ℤ◌, inl, inr, Bool, true, false, ◌&&◌, cond, List, [], ◌∷◌, ◌++◌, length, take, drop, map, get_or, refl, sym, subst, ap, ◌∙◌, arith, length-drop, length-take}
-use Rattle.std.specs.Prelude.{All, IsPermutation, Option, slice_get}
+use Rattle.std.specs.Prelude.{All}
 use Rattle.std.proofs.Math.Seq.{take-add}
-use Rattle.std.specs.Ordering.{int_cmp, is_lt, ordering_reverse, ordering_then}
-use Rattle.std.specs.Cmp.{IsTotalOrder, int_cmp_total, on_total, then_total}
+use Rattle.std.specs.Ordering.{bool_cmp, nat_cmp, is_lt, ordering_reverse, ordering_then}
+use Rattle.std.specs.Cmp.{IsTotalOrder, bool_cmp_total, nat_cmp_total, on_total, ranked, then_total}
 use Rattle.std.specs.List.Sorted.{IsSortedBy}
 use Rattle.std.specs.declared.cmp.Ordering.{Ordering}
 use Rattle.std.specs.declared.cmp.Ordering.TheVariants.{Less, Equal, Greater}
@@ -11,7 +11,7 @@ use Rattle.std.proofs.lemmas.Bool.{cases_lt, false≢true}
 use Rattle.std.proofs.lemmas.Int.{ints}
 use Rattle.std.proofs.lemmas.List.{get_or-drop, get_or-take, get_or_default, length-map, take_at}
 use Rattle.std.proofs.lemmas.List.Elements.{All-head, All-tail, All-weaker}
-use Rattle.std.proofs.lemmas.List.Sorted.{sorted_far, ranks_by, All-permutation}
+use Rattle.std.proofs.lemmas.List.Sorted.{sorted_far, ranks_by}
 use Rattle.tq_base.specs.declared.value.Value.{Value}
 use Rattle.tq_base.specs.declared.value.Value.TheVariants.{Int}
 use Rattle.tq_base.specs.declared.period.Period.{Period}
@@ -22,9 +22,10 @@ use Rattle.tq_base.specs.Fragments.{copies}
 use Rattle.tq_ops.specs.Ordinary.{projection}
 use Rattle.tq_ops.specs.Conditions.{value_at}
 use Rattle.tq_agg.specs.declared.summands.Summand.{Summand}
-use Rattle.tq_agg.specs.declared.groups.Ranked.{Ranked}
-use Rattle.tq_agg.specs.Grouping.{number_of, same_row}
-use Rattle.tq_agg.specs.Keys.{first_rank, key_of, rank_key_cmp, AreOfKey, AreRanked}
+use Rattle.tq_agg.specs.declared.rows.Ranked.{Ranked}
+use Rattle.tq_agg.specs.Grouping.{same_row}
+use Rattle.tq_base.specs.Ranks.{has_exact_rank, ranks_tell, value_rank}
+use Rattle.tq_agg.specs.Keys.{key_of, keys_left, rank_key_cmp, AreOfKey, AreRanked, IsRanked}
 use Rattle.tq_agg.specs.Totals.{added, has_rows, shown_copies, total_held, totals_held, weight_of}
 use Rattle.tq_agg.proofs.Adding.{added-append}
 use Rattle.tq_agg.proofs.Instants.{one_if}
@@ -34,41 +35,83 @@ use Rattle.tq_agg.proofs.Maps.{map_same}
 pub record IsBoundary (keys : List ℕ) (rows : List Ranked) (start : ℕ) : Type 0 where
   pub differs : (d : Ranked) → 0 < start → start < length rows → key_of keys (get_or rows start d) ≢ key_of keys (get_or rows (start - 1) d)
 
-pub rank_key_total : (keys : List ℕ) → IsTotalOrder (rank_key_cmp keys)
-rank_key_total keys = then_total (on_total (λ (r : Ranked). r.rank) int_cmp_total) (on_total (key_of keys) values_total)
+-- the values that the rank does not tell
+left_key : List ℕ → Ranked → List Value
+left_key keys r = key_of (keys_left r.exact keys) r
 
-then_equal : (r s : Ordering) → ordering_then r s ≡ Equal → s ≡ Equal
+pub rank_key_total : (keys : List ℕ) → IsTotalOrder (rank_key_cmp keys)
+rank_key_total keys =
+    then_total (on_total (λ (r : Ranked). r.rank) nat_cmp_total)
+    (then_total (on_total (λ (r : Ranked). r.exact) bool_cmp_total) (on_total (λ (r : Ranked). key_of (keys_left r.exact keys) r) values_total))
+
+then_equal : (r s : Ordering) → ordering_then r s ≡ Equal → (r ≡ Equal) × (s ≡ Equal)
 then_equal Less s is = cc
-then_equal Equal s is = is
+then_equal Equal s is = (refl, is)
 then_equal Greater s is = cc
 
+same_bool : (a b : Bool) → bool_cmp a b ≡ Equal → a ≡ b
+same_bool true true is = refl
+same_bool true false is = cc
+same_bool false true is = cc
+same_bool false false is = refl
+
+-- rows of one rank whose other values are equal have one key
+told_keys : (keys : List ℕ) (a b : Ranked) (e : Bool) → a.exact ≡ e → b.exact ≡ e → a.rank ≡ b.rank → IsRanked keys a → IsRanked keys b
+    → key_of (keys_left e keys) a ≡ key_of (keys_left e keys) b → key_of keys a ≡ key_of keys b
+told_keys [] a b e a_exact b_exact ranks a_ranked b_ranked left = refl
+told_keys (k ∷ keys) a b false a_exact b_exact ranks a_ranked b_ranked left = left
+told_keys (k ∷ keys) a b true a_exact b_exact ranks a_ranked b_ranked left =
+    let v = value_at a.fragment.now.values k in
+    let w = value_at b.fragment.now.values k in
+    let first : v ≡ w =
+    ranks_tell v w a_ranked.2 b_ranked.2 (sym a_ranked.1 ∙ a_exact) (sym b_ranked.1 ∙ b_exact) (sym a_ranked.0 ∙ ranks ∙ b_ranked.0) in
+    ap (λ u. u ∷ key_of keys a) first ∙ ap (λ l. w ∷ l) left
+
+-- rows that tie have one key
+pub tied_keys : (keys : List ℕ) (a b : Ranked) → IsRanked keys a → IsRanked keys b → rank_key_cmp keys a b ≡ Equal → key_of keys a ≡ key_of keys b
+unfolding left_key
+tied_keys keys a b a_ranked b_ranked tie =
+    let outer = then_equal (nat_cmp a.rank b.rank) (ordering_then (bool_cmp a.exact b.exact) (values_cmp (left_key keys a) (left_key keys b))) tie in
+    let inner = then_equal (bool_cmp a.exact b.exact) (values_cmp (left_key keys a) (left_key keys b)) outer.1 in
+    let exact = same_bool a.exact b.exact inner.0 in
+    let left : key_of (keys_left a.exact keys) a ≡ key_of (keys_left b.exact keys) b = values_same (left_key keys a) (left_key keys b) inner.1 in
+    told_keys keys a b a.exact refl (sym exact) (ranked a.rank b.rank Equal (sym outer.0)) a_ranked b_ranked
+    (left ∙ ap (λ e. key_of (keys_left e keys) b) (sym exact))
+
+-- rows of one key have one rank
+one_rank : (keys : List ℕ) (a b : Ranked) → IsRanked keys a → IsRanked keys b → key_of keys a ≡ key_of keys b → (a.rank ≡ b.rank) × (a.exact ≡ b.exact)
+one_rank [] a b a_ranked b_ranked same = (a_ranked.0 ∙ sym b_ranked.0, a_ranked.1 ∙ sym b_ranked.1)
+one_rank (k ∷ keys) a b a_ranked b_ranked same =
+    let first : value_at a.fragment.now.values k ≡ value_at b.fragment.now.values k = cc in
+    (a_ranked.0 ∙ ap value_rank first ∙ sym b_ranked.0, a_ranked.1 ∙ ap has_exact_rank first ∙ sym b_ranked.1)
+
+left_same : (keys : List ℕ) (a b : Ranked) (e : Bool) → key_of keys a ≡ key_of keys b → key_of (keys_left e keys) a ≡ key_of (keys_left e keys) b
+left_same [] a b true same = refl
+left_same (k ∷ keys) a b true same = cc
+left_same keys a b false same = same
+
+-- rows of one key stand alike to every row
+pub same_order : (keys : List ℕ) (a b c : Ranked) → IsRanked keys a → IsRanked keys b → key_of keys a ≡ key_of keys b → rank_key_cmp keys c a ≡ rank_key_cmp keys c b
+same_order keys a b c a_ranked b_ranked same =
+    let one = one_rank keys a b a_ranked b_ranked same in
+    let left : key_of (keys_left a.exact keys) a ≡ key_of (keys_left b.exact keys) b = left_same keys a b a.exact same ∙ ap (λ e. key_of (keys_left e keys) b) one.1 in
+    let order = λ (n : ℕ) (e : Bool) (l : List Value). ordering_then (nat_cmp c.rank n) (ordering_then (bool_cmp c.exact e) (values_cmp (key_of (keys_left c.exact keys) c) l)) in
+    ap (λ n. order n a.exact (key_of (keys_left a.exact keys) a)) one.0 ∙ ap (λ e. order b.rank e (key_of (keys_left a.exact keys) a)) one.1 ∙ ap (order b.rank b.exact) left
+
 -- neither row is below the other
-tied_keys : (keys : List ℕ) (a b : Ranked) → is_lt (rank_key_cmp keys a b) ≡ false → is_lt (rank_key_cmp keys b a) ≡ false → key_of keys a ≡ key_of keys b
-tied_keys keys a b not_below not_above = split (rank_key_cmp keys a b) refl
+neither_below : (keys : List ℕ) (a b : Ranked) → IsRanked keys a → IsRanked keys b → is_lt (rank_key_cmp keys a b) ≡ false → is_lt (rank_key_cmp keys b a) ≡ false → key_of keys a ≡ key_of keys b
+neither_below keys a b a_ranked b_ranked not_below not_above = split (rank_key_cmp keys a b) refl
   where
     split : (r : Ordering) → rank_key_cmp keys a b ≡ r → key_of keys a ≡ key_of keys b
     split Less is = absurd (false≢true (sym not_below ∙ ap is_lt is))
-    split Equal is = values_same (key_of keys a) (key_of keys b) (then_equal (int_cmp a.rank b.rank) (values_cmp (key_of keys a) (key_of keys b)) is)
+    split Equal is = tied_keys keys a b a_ranked b_ranked is
     split Greater is = absurd (false≢true (sym not_above ∙ ap is_lt ((rank_key_total keys).antisymm b a ∙ ap ordering_reverse is)))
 
 abbrev pub AreSorted : List ℕ → List Ranked → Type 0
 AreSorted keys rows = IsSortedBy (λ (x y : Ranked). is_lt (rank_key_cmp keys x y)) rows
 
--- rows of one key have one rank
-abbrev pub AreKeyed : List ℕ → List Ranked → Type 0
-AreKeyed keys rows = All (λ r. r.rank ≡ number_of (value_at (key_of keys r) 0)) rows
-
-rank_of_key : (keys : List ℕ) (o : Option ℕ) (r : Ranked) → o ≡ slice_get keys 0 → r.rank ≡ first_rank o r.fragment.now.values → r.rank ≡ number_of (value_at (key_of keys r) 0)
-rank_of_key [] o r first is = is ∙ ap (λ place. first_rank place r.fragment.now.values) first
-rank_of_key (k ∷ keys) o r first is = is ∙ ap (λ place. first_rank place r.fragment.now.values) first
-
-pub keyed : (keys : List ℕ) (o : Option ℕ) (rows sorted : List Ranked) → o ≡ slice_get keys 0 → AreRanked o rows → IsPermutation rows sorted → AreKeyed keys sorted
-keyed keys o rows sorted first ranked same =
-    All-permutation (λ (r : Ranked). r.rank ≡ number_of (value_at (key_of keys r) 0)) rows sorted same
-    (All-weaker (λ (r : Ranked). r.rank ≡ first_rank o r.fragment.now.values) (λ (r : Ranked). r.rank ≡ number_of (value_at (key_of keys r) 0)) (λ r is. rank_of_key keys o r first is) rows ranked)
-
 -- rows before a boundary have other keys than the row at it
-apart_before : (keys : List ℕ) (rows : List Ranked) (start : ℕ) → AreSorted keys rows → AreKeyed keys rows → IsBoundary keys rows start → start < length rows → (d : Ranked)
+apart_before : (keys : List ℕ) (rows : List Ranked) (start : ℕ) → AreSorted keys rows → AreRanked keys rows → IsBoundary keys rows start → start < length rows → (d : Ranked)
     → All (λ r. key_of keys r ≢ key_of keys (get_or rows start d)) (take start rows)
 apart_before keys rows start sorted ranks boundary below d k e lt same =
     let before : k < start = omega (arith, length-take start rows) in
@@ -77,13 +120,14 @@ apart_before keys rows start sorted ranks boundary below d k e lt same =
     let b = get_or rows (start - 1) d in
     let c = get_or rows start d in
     let equal : key_of keys a ≡ key_of keys c = ap (key_of keys) (get_or_default rows k d e (omega arith)) ∙ sym (ap (key_of keys) here) ∙ same in
-    let ranked : a.rank ≡ c.rank = ranks k d (omega arith) ∙ ap (λ u. number_of (value_at u 0)) equal ∙ sym (ranks start d below) in
     let up = sorted_far (λ (x y : Ranked). is_lt (rank_key_cmp keys x y)) (ranks_by (rank_key_total keys) (λ r. r)) rows sorted in
     let one : is_lt (rank_key_cmp keys b a) ≡ false = up k (start - 1) d (omega arith) (omega arith) in
     let two : is_lt (rank_key_cmp keys c b) ≡ false = up (start - 1) start d (omega arith) below in
-    let alike : rank_key_cmp keys b a ≡ rank_key_cmp keys b c =
-    ap (λ n. ordering_then (int_cmp b.rank n) (values_cmp (key_of keys b) (key_of keys a))) ranked ∙ ap (λ u. ordering_then (int_cmp b.rank c.rank) (values_cmp (key_of keys b) u)) equal in
-    boundary.differs d (omega arith) below (sym (tied_keys keys b c (sym (ap is_lt alike) ∙ one) two))
+    let of_a = ranks k d (omega arith) in
+    let of_b = ranks (start - 1) d (omega arith) in
+    let of_c = ranks start d below in
+    let alike : rank_key_cmp keys b a ≡ rank_key_cmp keys b c = same_order keys a c b of_a of_c equal in
+    boundary.differs d (omega arith) below (sym (neither_below keys b c of_b of_c (sym (ap is_lt alike) ∙ one) two))
 
 -- an element of the list
 pub item_at : {X : Type 0} (xs : List X) (i : ℕ) → i < length xs → (x : X) × (x ≡ get_or xs i x)
@@ -200,7 +244,7 @@ pub record Grouping (keys : List ℕ) (summands : List Summand) (window : Period
   pub boundary : IsBoundary keys rows start
   pub within : start ≤ length rows
 
-pub adds_group : (keys : List ℕ) (summands : List Summand) (window : Period) (rows : List Ranked) (start len : ℕ) (out new : List Fragment) (x : Ranked) → AreSorted keys rows → AreKeyed keys rows
+pub adds_group : (keys : List ℕ) (summands : List Summand) (window : Period) (rows : List Ranked) (start len : ℕ) (out new : List Fragment) (x : Ranked) → AreSorted keys rows → AreRanked keys rows
     → start < length rows → x ≡ get_or rows start x → start + len ≤ length rows
     → AreOfKey keys (key_of keys x) (take len (drop start rows)) → IsBoundary keys rows (start + len)
     → ((t : ℕ) (v : List Value) → copies new v t ≡ copies out v t + cond (holds window t) (shown_copies false (key_of keys x) (totals_held summands window (take len (drop start rows)) t) v) 0)

@@ -10,7 +10,7 @@ use Rattle.tq_base.specs.declared.period.Period.{Period}
 use Rattle.tq_base.specs.declared.fragment.Fragment.{Fragment}
 use Rattle.tq_ops.specs.Sides.{is_overlap, overlapping}
 use Rattle.tq_agg.specs.declared.summands.Summand.TheVariants.{Column, One}
-use Rattle.tq_agg.specs.declared.groups.Ranked.{Ranked}
+use Rattle.tq_agg.specs.declared.rows.Ranked.{Ranked}
 use Rattle.tq_agg.specs.Grouping.{AreSummable}
 use Rattle.tq_agg.specs.Totals.{HaveSmall}
 

@@ -11,7 +11,7 @@ use Rattle.tq_ops.specs.Conditions.{value_at}
 use Rattle.tq_agg.specs.declared.summands.Summand.{Summand}
 use Rattle.tq_agg.specs.declared.summands.Summand.TheVariants.{Column, One}
 use Rattle.tq_agg.specs.declared.changes.Change.{Change}
-use Rattle.tq_agg.specs.declared.groups.Ranked.{Ranked}
+use Rattle.tq_agg.specs.declared.rows.Ranked.{Ranked}
 use Rattle.tq_agg.specs.Grouping.{number_of}
 
 -- what a row adds: 1, or the number at the place

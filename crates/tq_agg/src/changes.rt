@@ -6,7 +6,7 @@ ghost use Rattle.tq_agg.specs.declared.summands.Summand.{Summand};
 ghost use Rattle.tq_agg.specs.declared.changes.Change.{Change};
 ghost use Rattle.tq_agg.specs.Totals.{total_held, total_upto, AreSmall, AreWithin, HaveSmall};
 
-use crate::groups::Ranked;
+use crate::rows::Ranked;
 use std::alloc::AllocError;
 use tq_base::{Bound, Fragment, Instant, Period};
 
@@ -42,7 +42,7 @@ pub(crate) fn changes_of<'a>(
 {
     room.clear();
     'rows: for row in rows {
-        let Some(period) = row.fragment.period.overlap(window) else {
+        let Some(period) = row.period.overlap(window) else {
             continue;
         };
         let starts = Change {

@@ -11,7 +11,8 @@ ghost use Rattle.tq_agg.specs.Keys.{AreOfKey};
 ghost use Rattle.tq_agg.specs.Totals.{shown_copies, totals_held, HaveSmall};
 
 use crate::changes::{Change, changes_of};
-use crate::groups::{Ranked, compare_rows, gathered, group_len};
+use crate::groups::{compare_rows, gathered, group_len};
+use crate::rows::Ranked;
 use crate::summands::{Summand, summands_of};
 use crate::sweeping::{Head, sweep};
 use std::alloc::{AllocError, Global};
@@ -61,7 +62,7 @@ pub fn group_count_sum(
     ensures outside { IfOk result (λ out. IsEmptyOutside window.now out.items) }
 {
     let summands = summands_of(alloc, sums)?;
-    let mut ranked = gathered(alloc, rows, window, keys.first().copied())?;
+    let mut ranked = gathered(alloc, rows, window, keys)?;
     ranked.sort_unstable_by(|one, other| compare_rows(keys, one, other));
     let mut room = Vec::new(alloc);
     let mut out = Vec::new(alloc);
@@ -85,7 +86,7 @@ pub fn count_all(
     ensures inside { IfOk result (λ out. HasInside window.now out.items (λ t v. occurrences (count_rows (at rows.now t)) v)) }
     ensures outside { IfOk result (λ out. IsEmptyOutside window.now out.items) }
 {
-    let ranked = gathered(alloc, rows, window, None)?;
+    let ranked = gathered(alloc, rows, window, &[])?;
     let changes = changes_of(Vec::new(alloc), &ranked, window)?;
     let head = Head {
         row: &[],

@@ -153,3 +153,24 @@ fn keys_of_one_prefix_are_two_groups(rt: HostRuntime) -> Result<(), Fail> {
     );
     Ok(())
 }
+
+#[test]
+fn keys_that_begin_alike_are_groups_of_their_own(rt: HostRuntime) -> Result<(), Fail> {
+    let rows = pairs(
+        rt.alloc(),
+        &[
+            ("sixteen bytes ..b", 1, 0, 9),
+            ("sixteen bytes ..", 1, 0, 9),
+            ("sixteen bytes ..a", 1, 0, 4),
+            ("sixteen bytes ..b", 1, 4, 9),
+            ("sixteen bytes ..\0", 1, 0, 9),
+            ("sixteen bytes ..a", 1, 4, 9),
+        ],
+    )?;
+    let out = group_count_sum(rt.alloc(), &rows, &period(0, FOREVER)?, &[0], &[])?;
+    assert_eq!(rt;
+        shown(rt.alloc(), out)?.as_str(),
+        "sixteen bytes ..,1,0,9 sixteen bytes ..\0,1,0,9 sixteen bytes ..a,1,0,9 sixteen bytes ..b,1,0,4 sixteen bytes ..b,2,4,9 "
+    );
+    Ok(())
+}

@@ -7,6 +7,7 @@ pub mod Layers
 pub mod Names
 pub mod Numbers
 pub mod Periods
+pub mod Ranks
 pub mod Rows
 pub mod Sweep
 pub mod ValueOrder

@@ -6,6 +6,7 @@ ghost use Rattle.tq_base.specs.declared.value.Value.{Value};
 ghost use Rattle.tq_base.specs.Fragments.{copies};
 ghost use Rattle.tq_base.specs.Layers.{IsLayers};
 ghost use Rattle.tq_base.specs.Layering.{AddsLayers};
+ghost use Rattle.tq_table.specs.Ranks.{row_rank};
 
 use crate::layering::layered;
 use crate::ranking::{Ranked, in_order};
@@ -19,14 +20,19 @@ fn periods_of(alloc: Global, rows: &[Fragment]) -> Result<Vec<Period>, AllocErro
     rows.iter().map(|row| row.period).collect(alloc)
 }
 
-// Whether the row has other values than the rows of the group, which are alike.
-fn begins_group(group: &[Fragment], row: &Fragment) -> bool
-    ensures yes { OnTrue result ((v : List Value) → All (λ f. f.values ≡ v) group.now → row.now.values ≢ v) }
+// Whether the row has other values than the rows of the group, which are alike and of the rank.
+fn begins_group(group: &[Fragment], rank: u128, next: &Ranked) -> bool
+    requires { next.now.rank ≡ row_rank next.now.row.values }
+    ensures yes { OnTrue result ((v : List Value) → All (λ f. f.values ≡ v) group.now → rank ≡ row_rank v
+        → next.now.row.values ≢ v) }
     ensures no { OnFalse result ((v : List Value) → All (λ f. f.values ≡ v) group.now
-        → All (λ f. f.values ≡ row.now.values) group.now) }
+        → All (λ f. f.values ≡ next.now.row.values) group.now) }
 {
+    if next.rank != rank {
+        return true;
+    }
     match group.first() {
-        Some(first) => first.values != row.values,
+        Some(first) => first.values != next.row.values,
         None => false,
     }
 }
@@ -71,11 +77,13 @@ pub fn coalesce(alloc: Global, rows: Vec<Fragment>) -> Result<Vec<Fragment>, All
     let rows = in_order(alloc, rows)?;
     let mut table = Vec::new(alloc);
     let mut group = Vec::new(alloc);
-    'rows: for Ranked { row, .. } in rows {
-        if begins_group(&group, &row) {
+    let mut rank = 0;
+    'rows: for next in rows {
+        if begins_group(&group, rank, &next) {
             add_layers(alloc, &mut group, &mut table)?;
         }
-        group.push(row)?;
+        rank = next.rank;
+        group.push(next.row)?;
     }
     add_layers(alloc, &mut group, &mut table)?;
     Ok(table)

@@ -1,8 +1,9 @@
-use Rattle.std.proofs.Common.{rules, ◌≤◌, ◌∷◌, [], ℕ, true, false, cond, pos, nat_le, refl, ap, ◌∙◌, arith, FitsSigned}
+use Rattle.std.proofs.Common.{◌≡◌, rules, ◌≤◌, ◌∷◌, [], ℕ, true, false, cond, pos, nat_le, refl, ap, ◌∙◌, arith, FitsSigned}
 use Rattle.std.specs.Int.{w64}
 use Rattle.std.proofs.lemmas.List.{take_all}
 use Rattle.std.proofs.lemmas.List.Elements.{All-append, All-cons, All-nil}
 use Rattle.std.proofs.lemmas.List.Sorted.{answers_always, All-permutation}
+use Rattle.tq_base.specs.Periods.{IsOverlap}
 use Rattle.tq_agg.specs.declared.changes.Change.{Change}
 use Rattle.tq_agg.specs.Totals.{change_weight, total_held, weight_of}
 use Rattle.tq_agg.proofs.Adding.{added-IsPermutation}
@@ -13,7 +14,7 @@ use Rattle.tq_agg.proofs.changes.changes_of.Goals as goal
 pub rows-preserved-in_default : goal.rows-preserved-in_default
 rows-preserved-in_default c = record {
   totals = λ s t. adds_nothing c.args.window.now c.args.rows.now c.rows.row-index c.row-item.result c.rows-test.true c.row-item.is s c.rows.room.items
-      (λ overlap. let some = c.in_default.ensures.some.1 overlap in cc) t (c.rows.invariant.totals s t);
+      (λ overlap. let some = c.in_default.ensures.some.1 (rw (← c.row-item.result.own) at overlap) in cc) t (c.rows.invariant.totals s t);
   within = c.rows.invariant.within;
   small = c.rows.invariant.small;
 }
@@ -24,11 +25,13 @@ rows-preserved c =
     let starts : Change = record { at = c.bound_at.result; rises = true; row = row } in
     let ends : Change = record { at = c.in-Some.period.end; rises = false; row = row } in
     let starting : ℕ → Change = λ at. record { at = at; rises = true; row = row } in
-    let bounds = overlap_within row.now.period c.args.window.now c.in-Some.period c.in-Some.ensures.value in
+    let own : c.row-item.result.period ≡ row.now.period = c.row-item.result.own in
+    let both : IsOverlap row.now.period c.args.window.now c.in-Some.period = rw own at c.in-Some.ensures.value in
+    let bounds = overlap_within row.now.period c.args.window.now c.in-Some.period both in
     let Within : Change → Type 0 = λ change. (c.args.window.now.start ≤ change.at) × (change.at ≤ c.args.window.now.end) in
     record {
       totals = λ s t. adds_on c.args.window.now c.args.rows.now c.rows.row-index c.row-item.result c.rows-test.true c.row-item.is s c.in-Some.period starts ends
-          c.rows.room.items c.extend_from_slice.new.self.items c.in-Some.ensures.value (ap starting c.bound_at.ensures) refl c.in_ok-extend_from_slice.ensures.items t (c.rows.invariant.totals s t);
+          c.rows.room.items c.extend_from_slice.new.self.items both (ap starting c.bound_at.ensures) refl c.in_ok-extend_from_slice.ensures.items t (c.rows.invariant.totals s t);
       within = rw c.in_ok-extend_from_slice.ensures.items
           (All-append Within c.rows.room.items (starts ∷ ends ∷ []) c.rows.invariant.within
           (All-cons Within starts (ends ∷ []) (omega (arith, c.bound_at.ensures, bounds.0), omega (arith, c.bound_at.ensures, bounds.1)) (All-cons Within ends [] (bounds.2, bounds.3) (All-nil Within))));

@@ -5,7 +5,7 @@ use Rattle.tq_base.specs.Fragments.{copies}
 use Rattle.tq_ops.specs.Ordinary.{projection}
 use Rattle.tq_agg.specs.declared.summands.Summand.{Summand}
 use Rattle.tq_agg.specs.declared.changes.Change.{Change}
-use Rattle.tq_agg.specs.declared.groups.Ranked.{Ranked}
+use Rattle.tq_agg.specs.declared.rows.Ranked.{Ranked}
 use Rattle.tq_agg.specs.Keys.{key_of}
 use Rattle.tq_agg.specs.Totals.{shown_copies, total_held, total_upto, totals_held, totals_upto}
 use Rattle.std.specs.Prelude.{None, slice_get}

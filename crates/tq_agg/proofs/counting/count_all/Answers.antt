@@ -9,7 +9,7 @@ use Rattle.tq_base.specs.Periods.{holds}
 use Rattle.tq_base.specs.Fragments.{at, copies, occurrences}
 use Rattle.tq_ops.specs.Sides.{overlapping}
 use Rattle.tq_agg.specs.declared.summands.Summand.TheVariants.{One}
-use Rattle.tq_agg.specs.declared.groups.Ranked.{Ranked}
+use Rattle.tq_agg.specs.declared.rows.Ranked.{Ranked}
 use Rattle.tq_agg.specs.Grouping.{count_rows}
 use Rattle.tq_agg.specs.Totals.{total_held, total_upto, weight_of}
 use Rattle.tq_agg.proofs.Instants.{inside_from_counts, one_if, outside_from_counts}

@@ -3,7 +3,7 @@ use Rattle.std.specs.Prelude.{IsPermutation}
 use Rattle.std.specs.Ordering.{is_lt}
 use Rattle.std.proofs.lemmas.List.{take_all, take_rest, get_or-drop}
 use Rattle.std.proofs.lemmas.List.Elements.{All-drop, All-take}
-use Rattle.std.proofs.lemmas.List.Sorted.{ranks_by}
+use Rattle.std.proofs.lemmas.List.Sorted.{ranks_by, All-permutation}
 use Rattle.std.proofs.lemmas.Fn.{always_returns_same}
 use Rattle.tq_base.specs.declared.value.Value.{Value}
 use Rattle.tq_base.specs.declared.period.Period.{Period}
@@ -13,13 +13,13 @@ use Rattle.tq_base.specs.Fragments.{at, copies, occurrences}
 use Rattle.tq_ops.specs.Sides.{overlapping}
 use Rattle.tq_agg.specs.declared.summands.Summand.{Summand}
 use Rattle.tq_agg.specs.declared.summands.Summand.TheVariants.{Column, One}
-use Rattle.tq_agg.specs.declared.groups.Ranked.{Ranked}
+use Rattle.tq_agg.specs.declared.rows.Ranked.{Ranked}
 use Rattle.tq_agg.specs.Grouping.{grouped_rows, AreSummable}
-use Rattle.tq_agg.specs.Keys.{key_of, rank_key_cmp, AreOfKey}
+use Rattle.tq_agg.specs.Keys.{key_of, rank_key_cmp, AreOfKey, AreRanked, IsRanked}
 use Rattle.tq_agg.specs.Totals.{added, shown_copies, totals_held}
 use Rattle.tq_agg.proofs.Adding.{added-IsPermutation}
 use Rattle.tq_agg.proofs.Gathering.{gathered_add}
-use Rattle.tq_agg.proofs.Grouping.{adds_group, group_ends, group_not_empty, item_at, keyed, keyed_totals, of_key, rank_key_total, Grouping}
+use Rattle.tq_agg.proofs.Grouping.{adds_group, group_ends, group_not_empty, item_at, keyed_totals, of_key, rank_key_total, Grouping}
 use Rattle.tq_agg.proofs.GroupRows.{grouped_occurrences}
 use Rattle.tq_agg.proofs.Instants.{inside_from_counts, outside_from_counts}
 use Rattle.tq_agg.proofs.Maps.{map_same}
@@ -48,6 +48,16 @@ all_counted window keys sums summands fragments rows sorted start out are_summan
         ∙ sym (grouped_occurrences keys sums (at fragments t) v)
     split false outside =
         ap (λ b. cond b (shown_copies false (take (length keys) v) (keyed_totals keys (take (length keys) v) window t summands (take start sorted)) v) 0) outside
+
+sorted_ranked : (keys : List ℕ) (rows sorted : List Ranked) → IsPermutation rows sorted → AreRanked keys rows → AreRanked keys sorted
+sorted_ranked keys rows sorted same ranked = All-permutation (λ (r : Ranked). IsRanked keys r) rows sorted same ranked
+
+pub group_len-requires : goal.group_len-requires
+group_len-requires c =
+    let rows = c.sort_unstable_by.new.self.items in
+    let Own : Ranked → Type 0 = λ r. IsRanked c.args.keys.now r in
+    let all = sorted_ranked c.args.keys.now c.in_ok-ranked.ranked.items rows c.sort_unstable_by.ensures.permutation c.in_ok-ranked.ensures.ranked in
+    rw c.deref.ensures.value (All-take Own (length rows - c.groups.start) (drop c.groups.start rows) (All-drop Own c.groups.start rows all))
 
 -- what the calls of one turn say of the sorted rows
 record Turn (keys : List ℕ) (rows : List Ranked) (start len : ℕ) : Type 0 where
@@ -105,7 +115,7 @@ groups-preserved c =
     let same = c.sort_unstable_by.ensures.permutation in
     adds_group keys c.in_ok-summands.summands.items c.args.window.now rows start len c.groups.out.items c.add_group.new.out.items x
     (c.sort_unstable_by.ensures.sorted (λ (x y : Ranked). is_lt (rank_key_cmp keys x y)) (ranks_by (rank_key_total keys) (λ (r : Ranked). r)) (always_returns_same _ _ _ (λ a r f k. search rules)))
-    (keyed keys c.copied.result c.in_ok-ranked.ranked.items rows (c.copied.ensures ∙ c.first.ensures.value) c.in_ok-ranked.ensures.ranked same)
+    (sorted_ranked keys c.in_ok-ranked.ranked.items rows same c.in_ok-ranked.ensures.ranked)
     t.below is (omega (arith, t.within, length-drop start rows)) alike (group_ends keys rows start len t.within t.alike t.ends t.below) (adds (key_of keys x) alike) c.groups.invariant
 
 pub returns-clause-inside : goal.returns-clause-inside

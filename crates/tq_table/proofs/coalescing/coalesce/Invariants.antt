@@ -1,13 +1,15 @@
--- The rows are those in the table, as layers, those of the group, which are alike, and those to come.
+-- The rows are those in the table, as layers, those of the group, which are alike and of the rank, and those to come, each with its rank.
 use Rattle.std.proofs.Common.{◌≡◌, ◌++◌, List, map}
 use Rattle.std.specs.Prelude.{All}
 use Rattle.std.specs.Vec.Iter.{into_iter_items}
 use Rattle.tq_base.specs.declared.value.Value.{Value}
 use Rattle.tq_base.specs.Groups.{Grouping}
+use Rattle.tq_table.specs.Ranks.{row_rank, AreRanked}
 use Rattle.tq_table.proofs.coalescing.coalesce.Given as goal
 
 abbrev pub invariant-rows : goal.invariant-rows
 invariant-rows l = record {
-  alike : (v : List Value) × All (λ f. f.values ≡ v) l.group.items;
-  grouping : Grouping l.fn.rows.items (l.group.items ++ map (λ r. r.row) (into_iter_items l.row-iterator)) l.table.items;
+  alike : (v : List Value) × (All (λ f. f.values ≡ v) l.group.items × (l.rank ≡ row_rank v));
+  grouping : Grouping l.fn.rows.items (l.group.items ++ map (λ r. r.row) (into_iter_items l.next-iterator)) l.table.items;
+  ranks : AreRanked (into_iter_items l.next-iterator);
 }

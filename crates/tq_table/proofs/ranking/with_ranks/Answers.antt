@@ -4,13 +4,13 @@ use Rattle.std.proofs.lemmas.List.{map-append, nil_from_length}
 use Rattle.std.proofs.lemmas.List.Elements.{All-nil, All-push}
 use Rattle.tq_base.specs.declared.fragment.Fragment.{Fragment}
 use Rattle.tq_table.specs.declared.ranking.Ranked.{Ranked}
-use Rattle.tq_table.specs.Ranks.{rank_of, BeginsWithBytes}
+use Rattle.tq_table.specs.Ranks.{row_rank, BeginsWithBytes}
 use Rattle.tq_table.proofs.ranking.with_ranks.Goals as goal
 
 pub rows-init : goal.rows-init
 rows-init c = record {
   rows = rw c.in_ok-ranked.ensures.items c.into_iter-row-iterator.ensures.into_iter_gives.0;
-  ranks = rw c.in_ok-ranked.ensures.items (All-nil (λ r. (r.rank ≡ rank_of r.row.values) × BeginsWithBytes r.row.values));
+  ranks = rw c.in_ok-ranked.ensures.items (All-nil (λ r. (r.rank ≡ row_rank r.row.values) × BeginsWithBytes r.row.values));
 }
 
 pub rows-preserved : goal.rows-preserved
@@ -18,12 +18,12 @@ rows-preserved c =
     let rest = into_iter_items c.next.new.self in
     let left : into_iter_items c.rows.row-iterator ≡ c.in-Some.row ∷ rest = c.in-Some.ensures.steps.0 in
     let row : Ranked → Fragment = λ r. r.row in
-    let one : Ranked = record { rank = c.rank_of-rank.result; row = c.in-Some.row } in
+    let one : Ranked = record { rank = c.row_rank-rank.result; row = c.in-Some.row } in
     let before : map row c.rows.ranked.items ++ c.in-Some.row ∷ rest ≡ c.args.rows.items = rw left at c.rows.invariant.rows in
     record {
       rows = rw (c.in_ok-push.ensures.items, map-append row c.rows.ranked.items (one ∷ [])) (append_assoc (map row c.rows.ranked.items) (c.in-Some.row ∷ []) rest ∙ before);
       ranks = rw c.in_ok-push.ensures.items
-          (All-push (λ r. (r.rank ≡ rank_of r.row.values) × BeginsWithBytes r.row.values) c.rows.ranked.items one c.rows.invariant.ranks (c.rank_of-rank.ensures.rank, c.rank_of-rank.ensures.bytes));
+          (All-push (λ r. (r.rank ≡ row_rank r.row.values) × BeginsWithBytes r.row.values) c.rows.ranked.items one c.rows.invariant.ranks (c.row_rank-rank.ensures.rank, c.row_rank-rank.ensures.bytes));
     }
 
 pub returns-clause-rows : goal.returns-clause-rows

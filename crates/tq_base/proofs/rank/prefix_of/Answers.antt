@@ -4,9 +4,9 @@ use Rattle.std.specs.Prelude.{All}
 use Rattle.std.proofs.lemmas.Grind.{get_or_default_zero}
 use Rattle.std.proofs.lemmas.List.{length-drop, take_all}
 use Rattle.std.proofs.lemmas.List.Elements.{All-tail}
-use Rattle.tq_table.specs.Ranks.{prefix}
-use Rattle.tq_table.proofs.ranking.prefix_of.Goals as goal
-use Rattle.tq_table.proofs.ranking.prefix_of.Goals.{in_default, in-len1-up}
+use Rattle.tq_base.specs.Ranks.{prefix}
+use Rattle.tq_base.proofs.rank.prefix_of.Goals as goal
+use Rattle.tq_base.proofs.rank.prefix_of.Goals.{in_default, in-len1-up}
 
 -- so many digits leave room for one more
 room : (i digits byte : ℕ) → i < 16 → digits < 256 ^ i → byte < 256 → digits * 256 + byte < 2 ^ 128

@@ -1,8 +1,8 @@
 -- The digits so far and the bytes that are left give the same number.
 use Rattle.std.proofs.Common.{◌≡◌, ◌-◌, ◌^◌, ◌<◌}
 use Rattle.std.specs.Prelude.{All}
-use Rattle.tq_table.specs.Ranks.{prefix}
-use Rattle.tq_table.proofs.ranking.prefix_of.Given as goal
+use Rattle.tq_base.specs.Ranks.{prefix}
+use Rattle.tq_base.proofs.rank.prefix_of.Given as goal
 
 abbrev pub invariant-places : goal.invariant-places
 invariant-places l = record {
