@@ -7,5 +7,6 @@ pub mod Layers
 pub mod Names
 pub mod Numbers
 pub mod Periods
+pub mod Ranks
 pub mod Sweep
 pub mod ValueOrder

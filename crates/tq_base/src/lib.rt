@@ -13,6 +13,7 @@ pub mod laws;
 mod name;
 mod number;
 mod period;
+mod rank;
 mod value;
 
 pub use catalogue::{Catalogue, Column, Kind, MAX_TEXT, Schema};
@@ -21,6 +22,7 @@ pub use items::Items;
 pub use name::{MAX_NAME, Name, RESERVED, fold_name, is_name, is_reserved, is_same_word};
 pub use number::{read_bound, read_instant, read_int, read_natural};
 pub use period::{Bound, FOREVER, Instant, Period};
+pub use rank::{is_exact, rank_of};
 pub use value::{Text, Value, Values};
 
 #[cfg(test)]

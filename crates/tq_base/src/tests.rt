@@ -1,6 +1,7 @@
 // Values of the public calls, written out.
 
 mod orders;
+mod ranks;
 mod readers;
 mod tables;
 
