@@ -21,8 +21,8 @@ use Rattle.tq_base.specs.Copies.{tally, copies-sum_by, copies-append}
 use Rattle.tq_ops.specs.declared.sides.Side.{Side}
 use Rattle.tq_ops.specs.declared.sides.Side.TheVariants.{Left, Right}
 use Rattle.tq_ops.specs.declared.sides.Row.{Row}
-use Rattle.tq_ops.specs.Sides.{is_same_side}
-use Rattle.tq_ops.specs.Differences.{side_held, side_copies, AddsDifference, AreOfValues}
+use Rattle.tq_ops.specs.Sides.{is_same_side, lives}
+use Rattle.tq_ops.specs.Differences.{is_told, side_held, side_copies, AddsDifference, AreOfValues}
 use Rattle.tq_ops.specs.Sides.{ranked_cmp}
 use Rattle.tq_ops.proofs.Ranking.{ranked_total, tied}
 use Rattle.tq_ops.proofs.Counting.{one_if}
@@ -31,7 +31,7 @@ abbrev values : Row → List Value
 values r = r.fragment.now.values
 
 abbrev pub AreSorted : List Row → Type 0
-AreSorted rows = IsSortedBy (λ (x y : Row). is_lt (ranked_cmp x.fragment.now.values y.fragment.now.values)) rows
+AreSorted rows = IsSortedBy (λ (x y : Row). is_lt (ranked_cmp is_told x.fragment.now.values y.fragment.now.values)) rows
 
 -- no group goes on over the place
 abbrev pub IsBoundary : List Row → ℕ → Type 0
@@ -46,10 +46,10 @@ apart_before rows start sorted boundary below d k e lt same =
     let b = values (get_or rows (start - 1) d) in
     let c = values (get_or rows start d) in
     let equal : a ≡ c = ap values (get_or_default rows k d e (omega arith)) ∙ sym (ap values here) ∙ same in
-    let up = sorted_far (λ (x y : Row). is_lt (ranked_cmp x.fragment.now.values y.fragment.now.values)) (ranks_by ranked_total values) rows sorted in
-    let one : is_lt (ranked_cmp b a) ≡ false = up k (start - 1) d (omega arith) (omega arith) in
-    let two : is_lt (ranked_cmp c b) ≡ false = up (start - 1) start d (omega arith) below in
-    boundary d (omega arith) below (sym (tied b c (subst (λ v. is_lt (ranked_cmp b v) ≡ false) equal one) two))
+    let up = sorted_far (λ (x y : Row). is_lt (ranked_cmp is_told x.fragment.now.values y.fragment.now.values)) (ranks_by (ranked_total is_told) values) rows sorted in
+    let one : is_lt (ranked_cmp is_told b a) ≡ false = up k (start - 1) d (omega arith) (omega arith) in
+    let two : is_lt (ranked_cmp is_told c b) ≡ false = up (start - 1) start d (omega arith) below in
+    boundary d (omega arith) below (sym (tied is_told b c (subst (λ v. is_lt (ranked_cmp is_told b v) ≡ false) equal one) two))
 
 -- an element of the list
 pub item_at : {X : Type 0} (xs : List X) (i : ℕ) → i < length xs → (x : X) × (x ≡ get_or xs i x)
@@ -108,16 +108,16 @@ copies-rows_of u v (p ∷ ps) t =
 
 module _ (window : Period) (side : Side) (v : List Value) (t : ℕ) where
   there : Row → Bool
-  there r = is_same_side side r.side && (holds r.fragment.now.period t && holds window t)
+  there r = is_same_side side r.side && (lives r t && holds window t)
 
-  side_copies-cons : (r : Row) (rows : List Row) → side_copies window side (r ∷ rows) v t ≡ one_if ((is_same_side side r.side && (holds r.fragment.now.period t && holds window t)) && eq_by_cmp values_cmp r.fragment.now.values v) + side_copies window side rows v t
-  side_copies-cons r rows = sum_by-cons (λ (r : Row). one_if ((is_same_side side r.side && (holds r.fragment.now.period t && holds window t)) && eq_by_cmp values_cmp r.fragment.now.values v)) r rows
+  side_copies-cons : (r : Row) (rows : List Row) → side_copies window side (r ∷ rows) v t ≡ one_if ((is_same_side side r.side && (lives r t && holds window t)) && eq_by_cmp values_cmp r.fragment.now.values v) + side_copies window side rows v t
+  side_copies-cons r rows = sum_by-cons (λ (r : Row). one_if ((is_same_side side r.side && (lives r t && holds window t)) && eq_by_cmp values_cmp r.fragment.now.values v)) r rows
 
-  side_held-cons : (r : Row) (rows : List Row) → side_held window side (r ∷ rows) t ≡ one_if (is_same_side side r.side && (holds r.fragment.now.period t && holds window t)) + side_held window side rows t
-  side_held-cons r rows = sum_by-cons (λ (r : Row). one_if (is_same_side side r.side && (holds r.fragment.now.period t && holds window t))) r rows
+  side_held-cons : (r : Row) (rows : List Row) → side_held window side (r ∷ rows) t ≡ one_if (is_same_side side r.side && (lives r t && holds window t)) + side_held window side rows t
+  side_held-cons r rows = sum_by-cons (λ (r : Row). one_if (is_same_side side r.side && (lives r t && holds window t))) r rows
 
   side_copies-append : (rows others : List Row) → side_copies window side (rows ++ others) v t ≡ side_copies window side rows v t + side_copies window side others v t
-  side_copies-append rows others = sum_by-append (λ (r : Row). one_if ((is_same_side side r.side && (holds r.fragment.now.period t && holds window t)) && eq_by_cmp values_cmp r.fragment.now.values v)) rows others
+  side_copies-append rows others = sum_by-append (λ (r : Row). one_if ((is_same_side side r.side && (lives r t && holds window t)) && eq_by_cmp values_cmp r.fragment.now.values v)) rows others
 
   with_test : (a b c : Bool) → b ≡ c → one_if (a && b) ≡ cond c (one_if a) 0
   with_test true true c same = ap (λ (b : Bool). cond b (one_if true) 0) same
@@ -135,8 +135,8 @@ module _ (window : Period) (side : Side) (v : List Value) (t : ℕ) where
   side_copies_alike u (r ∷ rows) alike =
       let first : r.fragment.now.values ≡ u = All-head (λ (r : Row). r.fragment.now.values ≡ u) r rows alike in
       let rest = side_copies_alike u rows (All-tail (λ (r : Row). r.fragment.now.values ≡ u) r rows alike) in
-      let one = with_test (is_same_side side r.side && (holds r.fragment.now.period t && holds window t)) (eq_by_cmp values_cmp r.fragment.now.values v) (eq_by_cmp values_cmp u v) (ap (λ w. eq_by_cmp values_cmp w v) first) in
-      omega (arith, side_copies-cons r rows, rest, one, cases (eq_by_cmp values_cmp u v) (one_if (is_same_side side r.side && (holds r.fragment.now.period t && holds window t))) (side_held window side rows t) (side_held window side (r ∷ rows) t) (side_held-cons r rows))
+      let one = with_test (is_same_side side r.side && (lives r t && holds window t)) (eq_by_cmp values_cmp r.fragment.now.values v) (eq_by_cmp values_cmp u v) (ap (λ w. eq_by_cmp values_cmp w v) first) in
+      omega (arith, side_copies-cons r rows, rest, one, cases (eq_by_cmp values_cmp u v) (one_if (is_same_side side r.side && (lives r t && holds window t))) (side_held window side rows t) (side_held window side (r ∷ rows) t) (side_held-cons r rows))
     where
       cases : (b : Bool) (m n k : ℕ) → k ≡ m + n → cond b k 0 ≡ cond b m 0 + cond b n 0
       cases true m n k is = is
@@ -146,7 +146,7 @@ module _ (window : Period) (side : Side) (v : List Value) (t : ℕ) where
   side_copies_apart : (rows : List Row) → All (λ r. r.fragment.now.values ≢ v) rows → side_copies window side rows v t ≡ 0
   side_copies_apart [] apart = refl
   side_copies_apart (r ∷ rows) apart =
-      let one = with_test (is_same_side side r.side && (holds r.fragment.now.period t && holds window t)) (eq_by_cmp values_cmp r.fragment.now.values v) false (not_equal r.fragment.now.values v (All-head (λ (r : Row). r.fragment.now.values ≢ v) r rows apart)) in
+      let one = with_test (is_same_side side r.side && (lives r t && holds window t)) (eq_by_cmp values_cmp r.fragment.now.values v) false (not_equal r.fragment.now.values v (All-head (λ (r : Row). r.fragment.now.values ≢ v) r rows apart)) in
       omega (arith, side_copies-cons r rows, one, side_copies_apart rows (All-tail (λ (r : Row). r.fragment.now.values ≢ v) r rows apart))
 
 -- ---- the pass

@@ -1,10 +1,11 @@
 -- Difference, one group of rows of equal values at a time: what changes the count of a group, and when.
-use Rattle.std.specs.Prelude.{◌≡◌, ℕ, ◌-◌, ◌++◌, ◌&&◌, not, List, All, count_by, nat_le}
-use Rattle.std.specs.Ordering.{eq_by_cmp, int_cmp, on, then_cmp}
+use Rattle.std.specs.Prelude.{◌≡◌, ℕ, ◌-◌, ◌++◌, ◌&&◌, not, Bool, List, [], length, if◌then◌else◌, All, count_by, nat_eq, nat_le}
+use Rattle.std.specs.Ordering.{bool_cmp, eq_by_cmp, nat_cmp, on, then_cmp}
 use Rattle.std.specs.declared.cmp.Ordering.{Ordering}
 use Rattle.tq_base.specs.declared.value.Value.{Value}
 use Rattle.tq_base.specs.declared.period.Period.{Period}
 use Rattle.tq_base.specs.ValueOrder.{values_cmp}
+use Rattle.tq_base.specs.Ranks.{has_exact_rank}
 use Rattle.tq_base.specs.declared.fragment.Fragment.{Fragment}
 use Rattle.tq_base.specs.Periods.{holds}
 use Rattle.tq_base.specs.Layering.{held, rows_of}
@@ -12,16 +13,17 @@ use Rattle.tq_ops.specs.declared.sides.Side.{Side}
 use Rattle.tq_ops.specs.declared.sides.Side.TheVariants.{Left, Right}
 use Rattle.tq_ops.specs.declared.sides.Row.{Row}
 use Rattle.tq_ops.specs.declared.difference.Change.{Change}
-use Rattle.tq_ops.specs.Sides.{is_same_side}
+use Rattle.tq_ops.specs.Sides.{is_same_side, lives}
+use Rattle.tq_ops.specs.Conditions.{value_at}
 
 -- how many rows of the side are valid at the instant, inside the window
 abbrev pub side_held : Period → Side → List Row → ℕ → ℕ
-side_held window side rows t = count_by (λ r. is_same_side side r.side && (holds r.fragment.now.period t && holds window t)) rows
+side_held window side rows t = count_by (λ r. is_same_side side r.side && (lives r t && holds window t)) rows
 
 -- how many of them have the values
 abbrev pub side_copies : Period → Side → List Row → List Value → ℕ → ℕ
 side_copies window side rows v t =
-    count_by (λ r. (is_same_side side r.side && (holds r.fragment.now.period t && holds window t)) && eq_by_cmp values_cmp r.fragment.now.values v) rows
+    count_by (λ r. (is_same_side side r.side && (lives r t && holds window t)) && eq_by_cmp values_cmp r.fragment.now.values v) rows
 
 -- how many changes up to the instant let the count rise
 abbrev pub rises_upto : List Change → ℕ → ℕ
@@ -45,6 +47,14 @@ pub record AddsDifference (window : Period) (group : List Row) (v : List Value) 
   pub counted : (t : ℕ) → held periods t ≡ side_held window Left group t - side_held window Right group t
   pub added : new ≡ old ++ rows_of v periods
 
--- by the rank, then by the values
+-- whether the rank of the first value tells all values
+abbrev pub is_told : List Value → Bool
+is_told values = has_exact_rank (value_at values 0) && nat_eq (length values) 1
+
+-- the row's values, if its rank does not tell them
+abbrev pub untold_values : Row → List Value
+untold_values row = if row.whole then [] else row.fragment.now.values
+
+-- by the rank, then by whether it tells the values, then by the values that it does not tell
 abbrev pub by_rank_cmp : Row → Row → Ordering
-by_rank_cmp = then_cmp (on (λ r. r.rank) int_cmp) (on (λ r. r.fragment.now.values) values_cmp)
+by_rank_cmp = then_cmp (then_cmp (on (λ r. r.rank) nat_cmp) (on (λ r. r.whole) bool_cmp)) (on untold_values values_cmp)

@@ -1,6 +1,6 @@
 //! Difference: the rows of each list of values are counted up and down along the time line.
 
-ghost use Rattle.std.specs.Prelude.{◌≡◌, ◌≢◌, ℕ, ◌+◌, ◌-◌, ◌<◌, ◌≤◌, ◌↔◌, length, drop, take, slice_index_or, IfOk, IfSome, IsSome, List, OnOk, IsSortedByKey};
+ghost use Rattle.std.specs.Prelude.{◌≡◌, ◌≢◌, ℕ, ◌+◌, ◌-◌, ◌<◌, ◌≤◌, ◌↔◌, length, drop, take, slice_index_or, IfOk, IfSome, IsSome, List, OnOk, Some, IsSortedByKey};
 ghost use Rattle.std.specs.Ordering.{nat_cmp};
 ghost use Rattle.tq_base.specs.declared.value.Value.{Value};
 ghost use Rattle.tq_base.specs.ValueOrder.{values_cmp};
@@ -10,7 +10,7 @@ ghost use Rattle.tq_ops.specs.declared.sides.Row.{Row};
 ghost use Rattle.tq_ops.specs.declared.sides.Side.TheVariants.{Left, Right};
 ghost use Rattle.tq_ops.specs.declared.difference.Change.{Change};
 ghost use Rattle.tq_ops.specs.Differences.{by_rank_cmp, falls_upto, rises_upto, side_held, AddsDifference, AreOfValues, IsEven};
-ghost use Rattle.tq_ops.specs.Sides.{is_same_side};
+ghost use Rattle.tq_ops.specs.Sides.{is_same_side, Know};
 ghost use Rattle.tq_ops.specs.Ordinary.{HasInside, IsEmptyOutside};
 
 use crate::links::Link;
@@ -59,7 +59,7 @@ fn changes_of(alloc: Global, rows: &[Row<'_>], window: &Period) -> Result<Vec<Ch
 {
     let mut changes = Vec::new(alloc);
     'rows: for row in rows {
-        let Some(period) = row.fragment.period.overlap(window) else {
+        let Some(period) = row.within(window) else {
             continue;
         };
         let rises = is_left(row.side);
@@ -114,6 +114,7 @@ fn swept(alloc: Global, changes: &[Change]) -> Result<Vec<Period>, AllocError>
 
 // How many rows at the front have the values of the first.
 fn group_len(rows: &[Row<'_>]) -> usize
+    requires know { Know (Some (record { left = 0; right = 0 })) rows.now }
     ensures within { result ≤ length rows.now }
     ensures alike { (d : Row) → AreOfValues (slice_index_or rows.now 0 d).fragment.now.values (take result rows.now) }
     ensures ends { (d : Row) → result < length rows.now
@@ -122,10 +123,9 @@ fn group_len(rows: &[Row<'_>]) -> usize
     let Some(first) = rows.first() else {
         return 0;
     };
-    let first = first.fragment;
     let mut len = 0;
     'rows: for row in rows {
-        if row.fragment.values != first.values {
+        if compare_rows(row, first).is_ne() {
             return len;
         }
         len += 1;
@@ -157,13 +157,13 @@ fn add_difference(
     Ok(())
 }
 
-// By the rank, then by the values.
+// By the rank, then by the values where it does not tell them.
 fn compare_rows(one: &Row<'_>, other: &Row<'_>) -> Ordering
     ensures { result ≡ by_rank_cmp one.now other.now }
 {
-    let ranks = one.rank.cmp(&other.rank);
-    if ranks.is_ne() {
-        return ranks;
+    let told = one.rank.cmp(&other.rank).then(one.whole.cmp(&other.whole));
+    if told.is_ne() || one.whole {
+        return told;
     }
     one.fragment.values.compare(&other.fragment.values)
 }

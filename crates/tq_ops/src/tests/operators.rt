@@ -160,3 +160,38 @@ fn takes_away_equal_rows_alone(rt: HostRuntime) -> Result<(), Fail> {
     assert!(rt; except_all(rt.alloc(), &[], &left, &period(0, FOREVER)?)?.is_empty());
     Ok(())
 }
+
+#[test]
+fn joins_rows_that_agree_in_all_links(rt: HostRuntime) -> Result<(), Fail> {
+    let left = pairs(
+        rt.alloc(),
+        &[(0, "x", 0, 4), (0, "y", 0, 4), (5, "x", 0, 4)],
+    )?;
+    let right = pairs(
+        rt.alloc(),
+        &[(0, "y", 1, 9), (5, "y", 1, 9), (5, "x", 2, 9)],
+    )?;
+    let test = both(
+        rt.alloc(),
+        compare(Operand::Column(0), Compare::Eq, Operand::Column(2)),
+        compare(Operand::Column(1), Compare::Eq, Operand::Column(3)),
+    )?;
+    let out = join(rt.alloc(), &left, &right, &period(0, FOREVER)?, Some(&test))?;
+    assert_eq!(rt;
+        shown(rt.alloc(), out)?.as_str(),
+        "0,y,0,y,1,4 5,x,5,x,2,4 "
+    );
+    Ok(())
+}
+
+#[test]
+fn takes_no_text_for_a_number(rt: HostRuntime) -> Result<(), Fail> {
+    let zero = numbers(rt.alloc(), &[(0, 0, 4)])?;
+    let texts = pairs(rt.alloc(), &[(0, "", 0, 4), (0, "0", 0, 4)])?;
+    let texts = project(rt.alloc(), &texts, &[1])?;
+    let out = except_all(rt.alloc(), &texts, &zero, &period(0, FOREVER)?)?;
+    assert_eq!(rt; shown(rt.alloc(), out)?.as_str(), ",0,4 0,0,4 ");
+    let test = compare(Operand::Column(0), Compare::Eq, Operand::Column(1));
+    assert!(rt; join(rt.alloc(), &zero, &texts, &period(0, FOREVER)?, Some(&test))?.is_empty());
+    Ok(())
+}

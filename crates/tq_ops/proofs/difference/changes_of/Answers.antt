@@ -11,7 +11,7 @@ use Rattle.tq_ops.proofs.difference.changes_of.Goals as goal
 pub rows-preserved-in_default : goal.rows-preserved-in_default
 rows-preserved-in_default c = record {
   counted = λ t. counts_past c.args.window.now c.args.rows.now c.rows.row-index c.row-item.result c.rows-test.true c.row-item.is c.rows.changes.items
-      (λ overlap. let some = c.in_default.ensures.some.1 overlap in cc) t (c.rows.invariant.counted t);
+      (λ inside. let some = c.in_default.ensures.some.1 inside in cc) t (c.rows.invariant.counted t);
   even = c.rows.invariant.even;
 }
 
@@ -19,7 +19,7 @@ pub rows-preserved : goal.rows-preserved
 rows-preserved c = record {
   counted = λ t. counts_on c.args.window.now c.args.rows.now c.rows.row-index c.row-item.result c.rows-test.true c.row-item.is
       c.in-Some.period c.is_left-rises.result c.bound_at.result c.in-Some.period.end c.rows.changes.items c.push.new.self.items c.push-in-rows.new.self.items
-      c.in-Some.ensures.value c.is_left-rises.ensures c.bound_at.ensures refl c.in_ok-push.ensures.items c.in_ok-push-2.ensures.items t (c.rows.invariant.counted t);
+      c.in-Some.ensures.start c.in-Some.ensures.end c.is_left-rises.ensures c.bound_at.ensures refl c.in_ok-push.ensures.items c.in_ok-push-2.ensures.items t (c.rows.invariant.counted t);
   even = stays_even c.rows.changes.items c.push.new.self.items c.push-in-rows.new.self.items c.is_left-rises.result c.bound_at.result c.in-Some.period.end
       c.in_ok-push.ensures.items c.in_ok-push-2.ensures.items c.rows.invariant.even;
 }

@@ -6,5 +6,5 @@ use Rattle.tq_ops.proofs.difference.group_len.Given as goal
 abbrev pub invariant-rows : goal.invariant-rows
 invariant-rows l = record {
   counted : l.len ≡ l.row-index;
-  alike : AreOfValues l.first.values (take l.row-index l.rows);
+  alike : AreOfValues l.first.fragment.now.values (take l.row-index l.rows);
 }
