@@ -18,7 +18,7 @@ mod sides;
 
 pub use condition::{Compare, Operand, Test};
 pub use difference::except_all;
-pub use joining::join;
+pub use joining::{join, join_shown};
 pub use links::width_of;
 pub use selection::{project, projected, select, show};
 

@@ -1,7 +1,7 @@
 // Selection, projection, join and difference.
 
 use super::{both, compare, counts, either, number, numbers, pairs, period, shown};
-use crate::{Compare, Operand, except_all, join, project, select};
+use crate::{Compare, Operand, except_all, join, join_shown, project, select};
 use std::test::Fail;
 use tq_base::{FOREVER, Fragment};
 
@@ -193,5 +193,22 @@ fn takes_no_text_for_a_number(rt: HostRuntime) -> Result<(), Fail> {
     assert_eq!(rt; shown(rt.alloc(), out)?.as_str(), ",0,4 0,0,4 ");
     let test = compare(Operand::Column(0), Compare::Eq, Operand::Column(1));
     assert!(rt; join(rt.alloc(), &zero, &texts, &period(0, FOREVER)?, Some(&test))?.is_empty());
+    Ok(())
+}
+
+#[test]
+fn shows_columns_of_joined_rows(rt: HostRuntime) -> Result<(), Fail> {
+    let rows = staff(&rt)?;
+    let test = both(
+        rt.alloc(),
+        compare(Operand::Column(2), Compare::Eq, Operand::Column(5)),
+        compare(Operand::Column(1), Compare::Lt, Operand::Column(4)),
+    )?;
+    let all = period(0, FOREVER)?;
+    let out = join_shown(rt.alloc(), &rows, &rows, &all, Some(&test), &[4, 1, 3, 6])?;
+    assert_eq!(rt;
+        shown(rt.alloc(), out)?.as_str(),
+        "bob,ann,2,0,15,20 bob,ann,2,0,20,25 "
+    );
     Ok(())
 }
