@@ -1,7 +1,7 @@
 -- One step of loading a table.
 use Rattle.std.proofs.Common.{◌≡◌, ◌≢◌, ℕ, ◌+◌, true, false, List, [], ◌∷◌, Ok, Err, drop, refl, ap}
 use Rattle.tq_base.specs.declared.catalogue.Column.{Column}
-use Rattle.tq_event.specs.declared.entry.Entry.{Entry}
+use Rattle.tq_event.specs.Entries.{Entry}
 use Rattle.tq_event.specs.declared.fault.LoadFault.{LoadFault}
 use Rattle.tq_event.specs.declared.fault.LoadFaultKind.{LoadFaultKind}
 use Rattle.tq_event.specs.declared.fault.LoadFaultKind.TheVariants.{BadHeader, OutOfMemory}

@@ -8,7 +8,7 @@ use Rattle.tq_base.specs.declared.catalogue.Column.{Column}
 use Rattle.tq_base.specs.declared.period.TheConstants.{FOREVER}
 use Rattle.tq_base.specs.declared.value.Value.{Value}
 use Rattle.tq_base.specs.Numbers.{bound_of, instant_of}
-use Rattle.tq_event.specs.declared.entry.Entry.{Entry}
+use Rattle.tq_event.specs.Entries.{Entry}
 use Rattle.tq_event.specs.declared.fault.LoadFaultKind.{LoadFaultKind}
 use Rattle.tq_event.specs.declared.fault.LoadFaultKind.TheVariants.{FieldCount, TooManyEvents, BadPeriod}
 use Rattle.tq_event.specs.declared.file.TableFile.{TableFile}

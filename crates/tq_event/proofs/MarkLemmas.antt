@@ -14,7 +14,7 @@ use Rattle.std.proofs.lemmas.List.Folds.{list_any_at, Any-from_list_any}
 use Rattle.std.proofs.lemmas.List.Sums.{sum_by-cons, sum_by-append, position_or_len_is}
 use Rattle.std.proofs.lemmas.List.Sorted.{sum_by-IsPermutation, All-permutation, sorted_far, ranks_by}
 use Rattle.tq_base.specs.declared.period.TheConstants.{FOREVER}
-use Rattle.tq_event.specs.declared.entry.Entry.{Entry}
+use Rattle.tq_event.specs.Entries.{Entry}
 use Rattle.tq_event.specs.declared.mark.Mark.{Mark}
 use Rattle.tq_event.specs.Loading.{mark_cmp, marks_from, marks_of_entry, starts_entry, starts_in, row_number, table_at}
 

@@ -8,7 +8,9 @@ use Rattle.std.proofs.lemmas.Option.{get_or_from_slice_get, slice_get_within}
 use Rattle.std.proofs.lemmas.List.{length-take-le, take_more, get_or-map, get_or-set_same, get_or-set_other, map-set, set-get_or}
 use Rattle.std.proofs.lemmas.List.Folds.{list_any_more}
 use Rattle.std.proofs.lemmas.List.Sums.{sum_by-cons, sum_by_push}
-use Rattle.tq_event.specs.declared.entry.Entry.{Entry}
+use Rattle.tq_base.specs.declared.value.Value.{Value}
+use Rattle.tq_event.specs.declared.entry.Validity.{Validity}
+use Rattle.tq_event.specs.Entries.{Entry, entry_in}
 use Rattle.tq_event.specs.declared.mark.Mark.{Mark}
 use Rattle.tq_event.specs.declared.order.Place.{Place}
 use Rattle.tq_event.specs.declared.event.Event.{Event}
@@ -35,9 +37,13 @@ rows_in places = map (λ (p : Place). p.row) places
 abbrev pub tables_in : List Place → List ℕ
 tables_in places = map (λ (p : Place). p.table) places
 
-pub tables_of_entries : (entries : List Entry) → tables_in (map (λ (e : Entry). record { table = e.table; row = 0 }) entries) ≡ map (λ (e : Entry). e.table) entries
+-- the place of an entry of which no row has started
+abbrev pub place_of : List Value × Validity → Place
+place_of row = record { table = row.1.table; row = 0 }
+
+pub tables_of_entries : (rows : List (List Value × Validity)) → tables_in (map place_of rows) ≡ map (λ (e : Entry). e.table) (map entry_in rows)
 tables_of_entries [] = refl
-tables_of_entries (e ∷ entries) = ap (λ l. e.table ∷ l) (tables_of_entries entries)
+tables_of_entries (row ∷ rows) = ap (λ l. row.1.table ∷ l) (tables_of_entries rows)
 
 -- the row and the table that stand at a place
 pub row_in : (places : List Place) (i : ℕ) (p : Place) → i < length places → p ≡ get_or places i p → p.row ≡ get_or (rows_in places) i 0

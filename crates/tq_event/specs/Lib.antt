@@ -1,3 +1,4 @@
+pub mod Entries
 pub mod History
 pub mod Laws
 pub mod Loading

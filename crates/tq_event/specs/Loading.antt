@@ -18,8 +18,7 @@ use Rattle.tq_base.specs.Names.{folded_name}
 use Rattle.tq_base.specs.Numbers.{int_of, instant_of, bound_of}
 use Rattle.tq_event.specs.declared.event.Event.{Event}
 use Rattle.tq_event.specs.declared.event.Event.TheVariants.{Start, End}
-use Rattle.tq_event.specs.declared.entry.Entry.{Entry}
-use Rattle.tq_event.specs.declared.entry.Validity.{Validity}
+use Rattle.tq_event.specs.Entries.{Entry}
 use Rattle.tq_event.specs.declared.mark.Mark.{Mark}
 use Rattle.tq_event.specs.declared.file.TableFile.{TableFile}
 use Rattle.tq_event.specs.declared.file.Loaded.{Loaded}
@@ -153,10 +152,6 @@ entry_of table columns fields =
     else and_then (values_after [] columns (value_fields fields)) (λ values.
     and_then (period_of (period_fields fields)) (λ period.
     Ok (record { table = table; values = values; from = period.0; to = period.1 })))
-
--- the entry of these values, with what stands beside them
-abbrev pub entry_in : List Value × Validity → Entry
-entry_in row = record { table = row.1.table; values = row.0; from = row.1.from; to = row.1.to }
 
 -- a start, and an end unless that is `forever`
 abbrev pub event_count : Entry → ℕ

@@ -1,13 +1,14 @@
 // The entries so far, and how many events they make.
 
 ghost use Rattle.std.specs.Prelude.{◌≡◌, ◌≢◌, ◌<◌, ◌≤◌, [], Err, IfErr, IfOk, OnOk, Ok, if◌then◌else◌, ◌==◌, map, sum_by};
-ghost use Rattle.tq_event.specs.Loading.{entry_in, event_count};
+ghost use Rattle.tq_event.specs.Entries.{entry_in};
+ghost use Rattle.tq_event.specs.Loading.{event_count};
 
 use crate::entry::{Entry, Validity};
 use crate::fault::LoadFaultKind;
 use std::alloc::{AllocError, Global};
 use std::marker::Model;
-use tq_base::{Bound, FOREVER, RowBuffer, Value, Values};
+use tq_base::{Bound, FOREVER, RowBuffer, Value};
 
 /// Entries, seen as their list, with the number of events that they make: one for each start, and one
 /// for each end that is not `forever`.
@@ -19,8 +20,8 @@ pub struct Entries {
 
 impl Model for Entries {
     ghost use Rattle.std.specs.Prelude.{◌≡◌, List, map, sum_by};
-    ghost use Rattle.tq_event.specs.declared.entry.Entry.{Entry as OneEntry};
-    ghost use Rattle.tq_event.specs.Loading.{entry_in, event_count};
+    ghost use Rattle.tq_event.specs.Entries.{Entry as OneEntry, entry_in};
+    ghost use Rattle.tq_event.specs.Loading.{event_count};
 
     ghost Value = { List OneEntry };
 
@@ -36,20 +37,8 @@ fn event_count(to: Bound) -> u32
     if to.number() == FOREVER { 1 } else { 2 }
 }
 
-fn make_entry(row: (Values, Validity)) -> Entry
-    ensures { result ≡ entry_in row }
-{
-    let (values, validity) = row;
-    Entry {
-        table: validity.table,
-        values,
-        from: validity.from,
-        to: validity.to,
-    }
-}
-
 impl Entries {
-    ghost use Rattle.tq_event.specs.Loading.{entry_in, event_count, next_entries};
+    ghost use Rattle.tq_event.specs.Loading.{event_count, next_entries};
 
     /// No entries.
     pub fn new(alloc: Global) -> Entries
@@ -90,13 +79,9 @@ impl Entries {
     }
 
     /// The entries, handed out; `AllocError` where a growth was refused.
-    pub fn finish(self, alloc: Global) -> Result<Vec<Entry>, AllocError>
-        ensures { IfOk result (λ entries. entries.items ≡ self) }
+    pub fn finish(self) -> Result<Vec<Entry>, AllocError>
+        ensures { IfOk result (λ entries. map entry_in entries.items ≡ self) }
     {
-        self.rows
-            .finish()?
-            .into_iter()
-            .map(make_entry)
-            .collect(alloc)
+        self.rows.finish()
     }
 }

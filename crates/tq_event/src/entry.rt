@@ -2,16 +2,6 @@
 
 use tq_base::{Bound, Instant, Values};
 
-/// A row as a record of a file tells it: its table's number, its values, and from when until when it
-/// is valid.
-#[derive(Drop, Debug)]
-pub struct Entry {
-    pub table: u32,
-    pub values: Values,
-    pub from: Instant,
-    pub to: Bound,
-}
-
 /// What stands beside the values of an entry: its table's number, and from when until when it is valid.
 #[derive(Clone, Copy, Debug)]
 pub struct Validity {
@@ -19,3 +9,6 @@ pub struct Validity {
     pub from: Instant,
     pub to: Bound,
 }
+
+/// A row as a record of a file tells it: its values, and what stands beside them.
+pub type Entry = (Values, Validity);

@@ -152,7 +152,7 @@ pub fn load(alloc: Global, files: &[TableFile], limit: u32) -> Result<Loaded, Lo
     'files: for file in files {
         load_file(alloc, limit, &mut tables, &mut entries, file)?;
     }
-    let entries = entries.finish(alloc)?;
+    let entries = entries.finish()?;
     let events = order_events(alloc, tables.len(), entries)?;
     Ok(Loaded {
         catalogue: Catalogue {

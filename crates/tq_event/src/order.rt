@@ -1,6 +1,7 @@
 // The events that entries make, in order.
 
 ghost use Rattle.std.specs.Prelude.{◌≡◌, ◌+◌, ◌<◌, ◌≤◌, All, IfOk, IsPermutation, IsSorted, length, map, vec_len};
+ghost use Rattle.tq_event.specs.Entries.{entry_in};
 ghost use Rattle.tq_event.specs.Loading.{AreEventsOf, HaveEvents, mark_cmp, marks_from};
 
 use crate::entry::Entry;
@@ -13,18 +14,18 @@ use tq_base::{Instant, Values};
 // The start of each entry, and its end unless that is `forever`.
 fn marks_of(alloc: Global, entries: &[Entry]) -> Result<Vec<Mark>, AllocError>
     requires { length entries.now ≤ 16777216 }
-    ensures { IfOk result (λ marks. marks.items ≡ marks_from 0 entries.now) }
+    ensures { IfOk result (λ marks. marks.items ≡ marks_from 0 (map entry_in entries.now)) }
 {
     let mut marks = Vec::new(alloc);
     'entries: for (place, item) in entries.iter().enumerate() {
         let entry = place as u32;
-        let at = item.from;
+        let at = item.1.from;
         marks.push(Mark {
             at,
             starts: true,
             entry,
         })?;
-        if let Some(at) = Instant::new(item.to.number()) {
+        if let Some(at) = Instant::new(item.1.to.number()) {
             marks.push(Mark {
                 at,
                 starts: false,
@@ -35,28 +36,24 @@ fn marks_of(alloc: Global, entries: &[Entry]) -> Result<Vec<Mark>, AllocError>
     Ok(marks)
 }
 
-// The event that starts an entry: it takes the values, and the row gets the next number of its table.
+// The event that starts an entry of the table: it takes the values, and the row gets the next number.
 fn start_entry(
     alloc: Global,
-    entry: &mut Entry,
+    table: u32,
+    values: &mut Values,
     row: &mut u32,
     next_row: &mut u32,
     at: Instant,
 ) -> Event
     requires { next_row.old < 4294967295 }
-    ensures event { result ≡ Event.Start entry.old.table entry.old.values at }
-    ensures table { entry.new.table ≡ entry.old.table }
+    ensures event { result ≡ Event.Start table values.old at }
     ensures row { row.new ≡ next_row.old }
     ensures next { next_row.new ≡ next_row.old + 1 }
 {
     *row = *next_row;
     *next_row += 1;
-    let values = mem::replace(&mut entry.values, Values::of(Vec::new(alloc)));
-    Event::Start {
-        table: entry.table,
-        values,
-        at,
-    }
+    let values = mem::replace(values, Values::of(Vec::new(alloc)));
+    Event::Start { table, values, at }
 }
 
 // The table of an entry, and the number of its row in it, which is 0 until the row starts.
@@ -68,15 +65,14 @@ struct Place {
 
 // The places of the entries, side by side: a mark visits no more than one of them.
 fn places_of(alloc: Global, entries: &[Entry]) -> Result<Vec<Place>, AllocError>
-    ensures { IfOk result (λ v. v.items ≡ map (λ e. record { table = e.table; row = 0 }) entries.now) }
+    ensures { IfOk result (λ v. v.items ≡ map (λ e. record { table = e.1.table; row = 0 }) entries.now) }
 {
-    entries
-        .iter()
-        .map(|entry| {
-            let table = entry.table;
-            Place { table, row: 0 }
-        })
-        .collect(alloc)
+    let mut places = Vec::with_capacity(alloc, entries.len())?;
+    for entry in entries {
+        let table = entry.1.table;
+        places.push(Place { table, row: 0 })?;
+    }
+    Ok(places)
 }
 
 // The events of the marks, which are those of the entries in order.
@@ -86,12 +82,12 @@ fn place_events(
     mut entries: Vec<Entry>,
     marks: &[Mark],
 ) -> Result<Vec<Event>, AllocError>
-    requires all { IsPermutation (marks_from 0 entries.items) marks.now }
+    requires all { IsPermutation (marks_from 0 (map entry_in entries.items)) marks.now }
     requires ordered { IsSorted mark_cmp marks.now }
-    requires periods { All (λ e. e.from < e.to) entries.items }
-    requires tables { All (λ e. e.table < tables) entries.items }
+    requires periods { All (λ e. e.from < e.to) (map entry_in entries.items) }
+    requires tables { All (λ e. e.table < tables) (map entry_in entries.items) }
     requires few { length marks.now < 4294967296 }
-    ensures { IfOk result (λ events. HaveEvents entries.items marks.now events.items) }
+    ensures { IfOk result (λ events. HaveEvents (map entry_in entries.items) marks.now events.items) }
 {
     let mut places = places_of(alloc, &entries)?;
     let mut next_rows = vec![in alloc; 0u32; tables]?;
@@ -102,7 +98,8 @@ fn place_events(
         let event = if mark.starts {
             start_entry(
                 alloc,
-                &mut entries[number],
+                table,
+                &mut entries[number].0,
                 &mut places[number].row,
                 &mut next_rows[table as usize],
                 mark.at,
@@ -126,9 +123,9 @@ pub fn order_events(
     entries: Vec<Entry>,
 ) -> Result<Vec<Event>, AllocError>
     requires few { vec_len entries ≤ 16777216 }
-    requires periods { All (λ e. e.from < e.to) entries.items }
-    requires tables { All (λ e. e.table < tables) entries.items }
-    ensures { IfOk result (λ events. AreEventsOf entries.items events.items) }
+    requires periods { All (λ e. e.from < e.to) (map entry_in entries.items) }
+    requires tables { All (λ e. e.table < tables) (map entry_in entries.items) }
+    ensures { IfOk result (λ events. AreEventsOf (map entry_in entries.items) events.items) }
 {
     let mut marks = marks_of(alloc, &entries)?;
     marks.sort_unstable();

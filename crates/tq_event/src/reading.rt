@@ -2,7 +2,8 @@
 
 ghost use Rattle.std.specs.Prelude.{◌≡◌, ◌≢◌, ◌+◌, ◌≤◌, [], Err, IfErr, IfOk, OnOk, Ok, length};
 ghost use Rattle.csv.specs.Records.{fields_of};
-ghost use Rattle.tq_event.specs.Loading.{entry_in, entry_of, make_period, period_fields, period_of, value_fields, value_of, values_after};
+ghost use Rattle.tq_event.specs.Entries.{entry_in};
+ghost use Rattle.tq_event.specs.Loading.{entry_of, make_period, period_fields, period_of, value_fields, value_of, values_after};
 
 use crate::entry::Validity;
 use crate::fault::LoadFaultKind;

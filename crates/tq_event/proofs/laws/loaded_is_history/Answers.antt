@@ -1,7 +1,7 @@
 use Rattle.std.proofs.Common.{◌<◌, length, sym, subst}
 use Rattle.std.specs.Prelude.{All}
 use Rattle.std.proofs.lemmas.List.Elements.{All-weaker}
-use Rattle.tq_event.specs.declared.entry.Entry.{Entry}
+use Rattle.tq_event.specs.Entries.{Entry}
 use Rattle.tq_event.proofs.CatalogueLemmas.{Stored, contents_loaded}
 use Rattle.tq_event.proofs.HistoryLemmas.{is_history}
 use Rattle.tq_event.proofs.LoadedLemmas.{Placeable, contents_placeable}

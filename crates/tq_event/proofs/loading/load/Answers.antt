@@ -1,12 +1,13 @@
 use Rattle.std.proofs.Common.{◌≡◌, ◌∙◌, Ok, ap, arith, length, refl}
-use Rattle.std.proofs.lemmas.List.{drop_all}
+use Rattle.std.proofs.lemmas.List.{drop_all, length-map}
+use Rattle.tq_event.specs.Entries.{entry_in}
 use Rattle.tq_event.specs.Loading.{contents_of}
 use Rattle.tq_event.proofs.LoadedLemmas.{contents_placeable, entries_within}
 use Rattle.tq_event.proofs.loading.load.Goals as goal
 
 pub order_events-requires-clause-few : goal.order_events-requires-clause-few
 order_events-requires-clause-few c =
-    omega (arith, c.in_ok-entries.entries.ok.0, ap length c.in_ok-entries.ensures, entries_within c.files.entries, c.files.invariant.within, c.requires)
+    omega (arith, c.in_ok-entries.entries.ok.0, ap length c.in_ok-entries.ensures, length-map c.in_ok-entries.entries.items entry_in, entries_within c.files.entries, c.files.invariant.within, c.requires)
 
 pub order_events-requires-clause-periods : goal.order_events-requires-clause-periods
 order_events-requires-clause-periods c =

@@ -1,7 +1,8 @@
 use Rattle.std.proofs.Common.{◌≡◌, ◌∙◌, List, ℕ, drop, sym, ap, refl, arith}
 use Rattle.csv.specs.Records.{fields_of}
 use Rattle.tq_event.specs.declared.fault.LoadFaultKind.TheVariants.{BadHeader, OutOfMemory}
-use Rattle.tq_event.specs.Loading.{csv_records, entries_after, entry_in}
+use Rattle.tq_event.specs.Entries.{entry_in}
+use Rattle.tq_event.specs.Loading.{csv_records, entries_after}
 use Rattle.tq_event.proofs.LoadLemmas.{known_kind, header_fault, columns_first, columns_none, read_ok, read_fault, entry_fault, add_fault, add_ok}
 use Rattle.tq_event.proofs.loading.read_table.Goals as goal
 

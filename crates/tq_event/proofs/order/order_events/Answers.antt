@@ -1,5 +1,7 @@
-use Rattle.std.proofs.Common.{ap, arith, length}
+use Rattle.std.proofs.Common.{ap, arith, length, map}
 use Rattle.std.proofs.lemmas.List.Sorted.{length_permutation}
+use Rattle.std.proofs.lemmas.List.{length-map}
+use Rattle.tq_event.specs.Entries.{entry_in}
 use Rattle.tq_event.proofs.MarkLemmas.{few_marks}
 use Rattle.tq_event.proofs.order.order_events.Goals as goal
 
@@ -12,7 +14,8 @@ place_events-requires-clause-few c =
       c.in_ok-marks.marks.ok.0,
       ap length c.in_ok-marks.ensures,
       ap length c.deref.ensures.value,
-      few_marks 0 c.deref.result.now,
+      few_marks 0 (map entry_in c.deref.result.now),
+      length-map c.deref.result.now entry_in,
       c.requires.few,
       c.args.entries.ok.0,
       length_permutation c.in_ok-marks.marks.items c.sort_unstable.new.self.items c.sort_unstable.ensures.permutation,
