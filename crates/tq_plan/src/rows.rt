@@ -123,25 +123,16 @@ fn started(table: u32, event: &Event) -> Option<&Values>
 {
     match event {
         Event::Start {
-            table: of, values, ..
-        } => {
-            if *of == table {
-                Some(values)
-            } else {
-                None
-            }
-        }
+            table: of,
+            values,
+            ..
+        } => { if *of == table { Some(values) } else { None } }
         Event::End { .. } => None,
     }
 }
 
 // When the row is valid within the window, if it is kept and is valid there.
-fn kept_period(
-    values: &Values,
-    row: Validity,
-    which: Filter<'_>,
-    window: &Period,
-) -> Option<Period>
+fn kept_period(values: &Values, row: Validity, which: Filter<'_>, window: &Period) -> Option<Period>
     ensures { (t : ℕ) → option_holds result t ≡ (keeps which.entry values.now && (holds window.now t && (nat_le row.from t && nat_lt t row.to))) }
 {
     let valid = Period::new(row.from, row.to)?;

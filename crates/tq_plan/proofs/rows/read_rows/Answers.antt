@@ -1,6 +1,6 @@
-use Rattle.std.proofs.Common.{None, Some, ap, sym, map, ◌∙◌, option_copied}
+use Rattle.std.proofs.Common.{None, Some, ap, ◌∙◌, option_copied}
 use Rattle.std.proofs.lemmas.Result.{IfOk-weaker}
-use Rattle.tq_plan.specs.Rows.{keeps, kept, kept_rows}
+use Rattle.tq_plan.specs.Rows.{keeps, kept}
 use Rattle.tq_plan.proofs.RowLemmas.{open_at-history}
 use Rattle.tq_plan.proofs.rows.read_rows.Goals as goal
 

@@ -1,6 +1,5 @@
-use Rattle.std.proofs.Common.{◌+◌, ◌∷◌, drop, map, sym, ap, ◌∙◌}
+use Rattle.std.proofs.Common.{◌+◌, ◌∷◌, drop, sym, ap, ◌∙◌}
 use Rattle.std.proofs.lemmas.List.{drop_all, drop_more}
-use Rattle.tq_plan.specs.Rows.{validity}
 use Rattle.tq_plan.proofs.RowLemmas.{all_taken, future, takes}
 use Rattle.tq_plan.proofs.rows.validities.Goals as goal
 
