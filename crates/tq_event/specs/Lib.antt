@@ -3,3 +3,4 @@ pub mod History
 pub mod Laws
 pub mod Loading
 pub mod Reading
+pub mod Tables

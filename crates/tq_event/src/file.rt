@@ -1,7 +1,7 @@
 // What goes into a load and what comes out.
 
 use crate::event::Event;
-use tq_base::{Catalogue, Items};
+use tq_base::{Catalogue, Fragment, Items};
 
 /// A table's name and the bytes of its file.
 #[derive(Drop, Debug)]
@@ -15,4 +15,11 @@ pub struct TableFile {
 pub struct Loaded {
     pub catalogue: Catalogue,
     pub events: Items<Event>,
+}
+
+/// The tables of some files, and for each of them its rows, in the order of their records.
+#[derive(Drop, Debug)]
+pub struct Tables {
+    pub catalogue: Catalogue,
+    pub rows: Items<Items<Fragment>>,
 }

@@ -8,3 +8,4 @@ pub mod Ordinary
 pub mod Answers
 pub mod Rows
 pub mod Running
+pub mod TableAnswers
