@@ -5,7 +5,9 @@ pub mod RowLemmas
 pub mod BagLemmas
 pub mod RunningLemmas
 pub mod SourceLemmas
+pub mod TableLemmas
 pub mod GroupBags
 pub mod GroupingLemmas
+pub mod HeldNumbers
 pub mod NumberLemmas
 pub mod PlanLemmas

@@ -29,13 +29,13 @@ abbrev pub IsNumber : Value → Type 0
 IsNumber value = FitsSigned w64 (number_of value)
 
 -- what holds of the first, and of the others
-first_of : {X : Type 0} (P : X → Type 0) (x : X) (xs : List X) → All P (x ∷ xs) → P x
+pub first_of : {X : Type 0} (P : X → Type 0) (x : X) (xs : List X) → All P (x ∷ xs) → P x
 first_of P x xs all = all 0 x (omega arith)
 
-others_of : {X : Type 0} (P : X → Type 0) (x : X) (xs : List X) → All P (x ∷ xs) → All P xs
+pub others_of : {X : Type 0} (P : X → Type 0) (x : X) (xs : List X) → All P (x ∷ xs) → All P xs
 others_of P x xs all = All-tail P x xs all
 
-none_of : {X : Type 0} (P : X → Type 0) → All P []
+pub none_of : {X : Type 0} (P : X → Type 0) → All P []
 none_of P k d less = absurd (omega (arith, less))
 
 -- ---- rows of a table
@@ -89,7 +89,7 @@ products_have events n t (table ∷ next ∷ tables) all =
 
 -- ---- fragments
 
-in_both : (rows found : List Row) (v : Row) → occurrences found v ≡ occurrences rows v → 0 < occurrences found v → All AreNumbers rows → AreNumbers v
+pub in_both : (rows found : List Row) (v : Row) → occurrences found v ≡ occurrences rows v → 0 < occurrences found v → All AreNumbers rows → AreNumbers v
 in_both rows found v same some all =
     let s = split rows v (omega (arith, same, some)) in
     middle s.before s.after (subst (All AreNumbers) s.is all)
@@ -102,7 +102,7 @@ starts_inside : (f : Fragment) → holds f.period f.period.start ≡ true
 starts_inside f = let ordered : f.period.start < f.period.end = f.period.ordered in grind (arith, nat_tests)
 
 -- a fragment's values stand among those valid at its start
-stands : (out : List Fragment) (k : ℕ) (d : Fragment) → k < length out → 0 < occurrences (at out (get_or out k d).period.start) (get_or out k d).values
+pub stands : (out : List Fragment) (k : ℕ) (d : Fragment) → k < length out → 0 < occurrences (at out (get_or out k d).period.start) (get_or out k d).values
 stands [] k d less = absurd (omega (arith, less))
 stands (f ∷ out) zero d less = by_start (holds f.period f.period.start) (starts_inside f)
   where

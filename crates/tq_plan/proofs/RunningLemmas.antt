@@ -46,7 +46,7 @@ ordinary_alone query lists no_group none =
     ap (λ g. map (λ group. map (output_value group) query.outputs) (groups g query.outputs (selection query.test (product_of lists)))) no_group
     ∙ rw none (rows_alone (selection query.test (product_of lists)) query.outputs none)
 
-no_places : (group : List ℕ) → no_group group ≡ true → group ≡ []
+pub no_places : (group : List ℕ) → no_group group ≡ true → group ≡ []
 no_places [] none = refl
 no_places (first ∷ more) none = cc
 
