@@ -30,7 +30,7 @@ use Rattle.tq_event.proofs.MarkLemmas.{mark_total, marks_stand, row_number_at, s
 abbrev tally : Bool → ℕ
 tally b = cond b 1 0
 
-eqb-same : (n : ℕ) → (n == n) ≡ true
+pub eqb-same : (n : ℕ) → (n == n) ≡ true
 eqb-same n = grind (arith, nat_tests)
 
 -- ---- counting
@@ -64,10 +64,10 @@ module _ {X : Type 0} (p : X → Bool) where
 
 -- ---- each entry ends at most once
 
-abbrev ends_entry : ℕ → Mark → Bool
+abbrev pub ends_entry : ℕ → Mark → Bool
 ends_entry j m = not m.starts && (m.entry == j)
 
-abbrev counted : ℕ → Mark → ℕ
+abbrev pub counted : ℕ → Mark → ℕ
 counted j m = tally (ends_entry j m)
 
 ends_own : (n j : ℕ) (e : Entry) (b : Bool) → sum_by (counted j) (record { at = e.from; starts = true; entry = n } ∷ (if b then [] else record { at = e.to; starts = false; entry = n } ∷ [])) ≤ tally (n == j)
@@ -75,7 +75,7 @@ ends_own n j e true = omega (arith, sum_by-cons (counted j) (record { at = e.fro
 ends_own n j e false =
     omega (arith, sum_by-cons (counted j) (record { at = e.from; starts = true; entry = n }) (record { at = e.to; starts = false; entry = n } ∷ []), sum_by-cons (counted j) (record { at = e.to; starts = false; entry = n }) [])
 
-no_end : (n j : ℕ) (entries : List Entry) → j < n → sum_by (counted j) (marks_from n entries) ≡ 0
+pub no_end : (n j : ℕ) (entries : List Entry) → j < n → sum_by (counted j) (marks_from n entries) ≡ 0
 no_end n j [] below = refl
 no_end n j (e ∷ entries) below =
     let other : tally (n == j) ≡ 0 = grind (arith, nat_tests) in
@@ -95,31 +95,31 @@ few_ends n j (e ∷ entries) = elim (cases_lt j (n + 1)) [
 -- ---- what the event of a mark is
 
 module _ (entries : List Entry) (marks : List Mark) where
-  record IsStart (m : Mark) (e : Event) : Type 0 where
+  pub record IsStart (m : Mark) (e : Event) : Type 0 where
     pub entry : Entry
     pub stands : slice_get entries m.entry ≡ Some entry
     pub is : e ≡ Start entry.table entry.values m.at
 
-  record IsEnd (m : Mark) (e : Event) : Type 0 where
+  pub record IsEnd (m : Mark) (e : Event) : Type 0 where
     pub entry : Entry
     pub stands : slice_get entries m.entry ≡ Some entry
     pub is : e ≡ End entry.table (row_number entries marks m.entry) m.at
 
-  start_is : (m : Mark) (e : Event) → IsEventAt entries marks m e → m.starts ≡ true → IsStart m e
+  pub start_is : (m : Mark) (e : Event) → IsEventAt entries marks m e → m.starts ≡ true → IsStart m e
   start_is m e at starts = by (slice_get entries m.entry) refl at
     where
       by : (o : Option Entry) → slice_get entries m.entry ≡ o → IsSomeAnd o (λ x. e ≡ event_at entries marks m x) → IsStart m e
       by None i at = absurd at
       by (Some x) i at = record { entry = x; stands = i; is = at ∙ ap (λ b. if b then Start x.table x.values m.at else End x.table (row_number entries marks m.entry) m.at) starts }
 
-  end_is : (m : Mark) (e : Event) → IsEventAt entries marks m e → m.starts ≡ false → IsEnd m e
+  pub end_is : (m : Mark) (e : Event) → IsEventAt entries marks m e → m.starts ≡ false → IsEnd m e
   end_is m e at ends = by (slice_get entries m.entry) refl at
     where
       by : (o : Option Entry) → slice_get entries m.entry ≡ o → IsSomeAnd o (λ x. e ≡ event_at entries marks m x) → IsEnd m e
       by None i at = absurd at
       by (Some x) i at = record { entry = x; stands = i; is = at ∙ ap (λ b. if b then Start x.table x.values m.at else End x.table (row_number entries marks m.entry) m.at) ends }
 
-  table_is : (m : Mark) (x : Entry) → slice_get entries m.entry ≡ Some x → table_at entries m.entry ≡ x.table
+  pub table_is : (m : Mark) (x : Entry) → slice_get entries m.entry ≡ Some x → table_at entries m.entry ≡ x.table
   table_is m x i = rw i refl
 
   time_is : (m : Mark) (e : Event) → IsEventAt entries marks m e → time_of e ≡ m.at
@@ -130,7 +130,7 @@ module _ (entries : List Entry) (marks : List Mark) where
       by false i = ap time_of ((end_is m e at i).is)
 
   -- an event that does not start a row of the table leaves the rows that follow as they are
-  passes_over : (t : ℕ) (m : Mark) (e : Event) → IsEventAt entries marks m e → starts_in entries t m ≡ false → (next : ℕ) (es : List Event) → rows_from t next (e ∷ es) ≡ rows_from t next es
+  pub passes_over : (t : ℕ) (m : Mark) (e : Event) → IsEventAt entries marks m e → starts_in entries t m ≡ false → (next : ℕ) (es : List Event) → rows_from t next (e ∷ es) ≡ rows_from t next es
   passes_over t m e at none next es = by m.starts refl
     where
       by : (b : Bool) → m.starts ≡ b → rows_from t next (e ∷ es) ≡ rows_from t next es
@@ -162,7 +162,7 @@ module _ (entries : List Entry) (marks : List Mark) where
   there_later : (r row : Row) (rows : List Row) → Contains rows row → Contains (r ∷ rows) row
   there_later r row rows (k, below, is) = (suc k, omega (arith, below), is)
 
-  starts_row : (t next : ℕ) (x : Entry) (at : ℕ) (e : Event) (es : List Event) → e ≡ Start x.table x.values at → x.table ≡ t
+  pub starts_row : (t next : ℕ) (x : Entry) (at : ℕ) (e : Event) (es : List Event) → e ≡ Start x.table x.values at → x.table ≡ t
       → rows_from t next (e ∷ es) ≡ record { number = next; values = x.values; from = at; to = end_of t next es } ∷ rows_from t (next + 1) es
   starts_row t next x at e es is own = rw (is, own, eqb-same t) refl
 
@@ -233,7 +233,7 @@ module _ (entries : List Entry) (marks : List Mark) where
       let rest = split_at ms before event after d zip.1 in
       record { front = (zip.0, rest.front); here = rest.here; within = omega (arith, rest.within) }
 
-  at_place : (ms : List Mark) (es : List Event) (i : ℕ) (d : Mark) (x : Event) → AllZip (IsEventAt entries marks) ms es → i < length es → IsEventAt entries marks (get_or ms i d) (get_or es i x)
+  pub at_place : (ms : List Mark) (es : List Event) (i : ℕ) (d : Mark) (x : Event) → AllZip (IsEventAt entries marks) ms es → i < length es → IsEventAt entries marks (get_or ms i d) (get_or es i x)
   at_place [] [] i d x zip here = absurd (omega arith)
   at_place [] (e ∷ es) i d x zip here = absurd zip
   at_place (m ∷ ms) [] i d x zip here = absurd zip
@@ -261,7 +261,7 @@ module _ (catalogue : Catalogue) (entries : List Entry) (marks : List Mark) (all
       never b e f = cc (e, f)
 
   -- two entries of a table whose rows have the same number are the same
-  same_entry : (i j : ℕ) (d : Mark) → i < length entries → j < length entries → table_at entries i ≡ table_at entries j → row_number entries marks i ≡ row_number entries marks j → i ≡ j
+  pub same_entry : (i j : ℕ) (d : Mark) → i < length entries → j < length entries → table_at entries i ≡ table_at entries j → row_number entries marks i ≡ row_number entries marks j → i ≡ j
   same_entry i j d below_i below_j tables rows =
       let (p, x, here_p, is_p, starts_p) = Any-from_list_any (starts_entry i) marks (starts_listed entries marks all i below_i) in
       let (q, y, here_q, is_q, starts_q) = Any-from_list_any (starts_entry j) marks (starts_listed entries marks all j below_j) in

@@ -7,4 +7,5 @@ pub mod LoadedLemmas
 pub mod MarkLemmas
 pub mod PlacingLemmas
 pub mod RecordLemmas
+pub mod SortLemmas
 pub mod UniqueLemmas
