@@ -1,4 +1,4 @@
-use Rattle.tq_event.proofs.SortLemmas.{has_sorted}
+use Rattle.tq_event.proofs.TableLemmas.{all_marks_valid}
 use Rattle.tq_event.proofs.laws.tables_are_loaded.Goals as goal
 
 pub returns : goal.returns
