@@ -35,7 +35,7 @@ module _ {X : Type 0} (R : X → X → Ordering) (o : IsTotalOrder R) where
       subst (λ j. is_lt (R (get_or (x ∷ y ∷ ys) j d) (get_or (y ∷ ys) k d)) ≡ false) (sym then)
       (subst (λ j. is_lt (R (get_or (y ∷ ys) j d) (get_or (y ∷ ys) k d)) ≡ false) next (sorted k d (omega arith) (omega arith)))
 
-  sorted_tail : (x : X) (xs : List X) → IsSorted R (x ∷ xs) → IsSorted R xs
+  pub sorted_tail : (x : X) (xs : List X) → IsSorted R (x ∷ xs) → IsSorted R xs
   sorted_tail x xs sorted k d low high =
       let next : suc k + 1 ≡ suc (k + 1) = omega arith in
       subst (λ j. is_lt (R (get_or (x ∷ xs) j d) (get_or xs k d)) ≡ false) next (sorted (suc k) d (omega arith) (omega arith))

@@ -1,5 +1,5 @@
 -- Files hold one list of events.
-use Rattle.std.proofs.Common.{◌≡◌, ◌≢◌, ℕ, suc, ◌+◌, ◌≤◌, ◌==◌, Bool, true, false, cond, if◌then◌else◌, List, [], ◌∷◌, ◌++◌, Option, Some, None, Result, Ok, Err, length, drop, get_or, slice_get, nat_lt, sum_by, refl, sym, ap, subst, ◌∙◌, arith, length-append}
+use Rattle.std.proofs.Common.{◌≡◌, ◌≢◌, ℕ, ◌+◌, ◌≤◌, ◌==◌, Bool, true, false, cond, if◌then◌else◌, List, [], ◌∷◌, ◌++◌, Option, Some, None, Result, Ok, Err, length, drop, get_or, slice_get, nat_lt, sum_by, refl, sym, ap, subst, ◌∙◌, arith, length-append}
 use Rattle.std.specs.Prelude.{All, IsSorted, IsSomeAnd}
 use Rattle.std.specs.List.{AllZip}
 use Rattle.std.specs.Ordering.{eq_by_cmp, is_lt, nat_cmp, bool_cmp, ordering_reverse, ordering_then}
@@ -21,6 +21,7 @@ use Rattle.tq_event.specs.declared.mark.Mark.{Mark}
 use Rattle.tq_event.specs.Loading.{AreEventsOf, Contents, HaveEvents, IsEventAt, IsLoaded, at_record, columns_of, contents_after, contents_of, csv_records, entries_after, entry_of, event_at, event_count, mark_cmp, marks_from, marks_of_entry, next_contents, next_entries, next_name, table_contents}
 use Rattle.tq_event.proofs.LoadedLemmas.{at_record_passed, passed}
 use Rattle.tq_event.proofs.MarkLemmas.{mark_total}
+use Rattle.tq_event.proofs.SortLemmas.{sorted_tail}
 
 abbrev tally : Bool → ℕ
 tally b = cond b 1 0
@@ -60,18 +61,13 @@ module _ {X : Type 0} (R : X → X → Ordering) (o : IsTotalOrder R) (same : (x
           let yes : is_lt (R z y) ≡ true = ap is_lt down in
           cc (yes, far)
 
-  sorted_tail : (x : X) (xs : List X) → IsSorted R (x ∷ xs) → IsSorted R xs
-  sorted_tail x xs sorted k d low high =
-      let next : suc k + 1 ≡ suc (k + 1) = omega arith in
-      subst (λ j. is_lt (R (get_or (x ∷ xs) j d) (get_or xs k d)) ≡ false) next (sorted (suc k) d (omega arith) (omega arith))
-
   pub sorted_same : (xs ys : List X) → ((m : X) → sum_by (counted m) xs ≡ sum_by (counted m) ys) → IsSorted R xs → IsSorted R ys → xs ≡ ys
   sorted_same [] [] alike xs_sorted ys_sorted = refl
   sorted_same [] (y ∷ ys) alike xs_sorted ys_sorted = absurd (omega (arith, alike y, sum_by-cons (counted y) y ys, own y, none_alike y [] (λ k d lt. absurd (omega arith))))
   sorted_same (x ∷ xs) [] alike xs_sorted ys_sorted = absurd (omega (arith, alike x, sum_by-cons (counted x) x xs, own x, none_alike x [] (λ k d lt. absurd (omega arith))))
   sorted_same (x ∷ xs) (y ∷ ys) alike xs_sorted ys_sorted =
       let first = split (R x y) refl in
-      let rest = sorted_same xs ys (λ m. omega (arith, alike m, sum_by-cons (counted m) x xs, sum_by-cons (counted m) y ys, ap (λ z. tally (eq_by_cmp R z m)) first)) (sorted_tail x xs xs_sorted) (sorted_tail y ys ys_sorted) in
+      let rest = sorted_same xs ys (λ m. omega (arith, alike m, sum_by-cons (counted m) x xs, sum_by-cons (counted m) y ys, ap (λ z. tally (eq_by_cmp R z m)) first)) (sorted_tail R o x xs xs_sorted) (sorted_tail R o y ys ys_sorted) in
       cc (first, rest)
     where
       split : (r : Ordering) → R x y ≡ r → x ≡ y
