@@ -8,5 +8,5 @@ pub mod MarkLemmas
 pub mod PlacingLemmas
 pub mod RecordLemmas
 pub mod SortLemmas
-pub mod TableLemmas
+pub mod HeldLemmas
 pub mod UniqueLemmas

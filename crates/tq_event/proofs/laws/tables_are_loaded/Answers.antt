@@ -4,7 +4,7 @@ use Rattle.std.proofs.lemmas.List.Elements.{All-weaker}
 use Rattle.tq_event.specs.Entries.{Entry}
 use Rattle.tq_event.proofs.CatalogueLemmas.{Stored, contents_loaded}
 use Rattle.tq_event.proofs.LoadedLemmas.{Placeable, contents_placeable}
-use Rattle.tq_event.proofs.TableLemmas.{entries_have_some, tables_hold}
+use Rattle.tq_event.proofs.HeldLemmas.{entries_have_some, tables_hold}
 use Rattle.tq_event.proofs.laws.tables_are_loaded.Goals as goal
 
 pub returns : goal.returns
