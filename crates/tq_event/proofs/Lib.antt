@@ -9,4 +9,5 @@ pub mod PlacingLemmas
 pub mod RecordLemmas
 pub mod SortLemmas
 pub mod HeldLemmas
+pub mod TableLemmas
 pub mod UniqueLemmas

@@ -1,9 +1,10 @@
 //! Histories: events that start and end rows of tables, and the history that a table file holds.
 //!
 //! `load` reads a file of CSV and gives the catalogue and the one list of events that its records
-//! make, ordered by time, or the first fault in the order of tables, records and checks. What a
-//! history means, the rows of a table as of its first n events and the values valid at an instant,
-//! stands in `specs/`.
+//! make, ordered by time, or the first fault in the order of tables, records and checks. `load_tables`
+//! gives the catalogue and, for each table, its rows with their periods in the order of their records,
+//! or that same fault. What a history means, the rows of a table as of its first n events and the
+//! values valid at an instant, stands in `specs/`.
 #![tactic(auto)]
 
 mod entries;
@@ -18,11 +19,12 @@ mod mark;
 mod order;
 mod reading;
 mod records;
+mod tables;
 
 pub use event::Event;
 pub use fault::{LoadFault, LoadFaultKind};
-pub use file::{Loaded, TableFile};
-pub use loading::{MAX_EVENTS, MAX_TABLES, load};
+pub use file::{Loaded, TableFile, Tables};
+pub use loading::{MAX_EVENTS, MAX_TABLES, load, load_tables};
 
 #[cfg(test)]
 mod tests;

@@ -1,15 +1,19 @@
 // Loading files.
 
-ghost use Rattle.std.specs.Prelude.{◌≡◌, ◌≢◌, ◌<◌, ◌≤◌, ◌++◌, ◌∷◌, Err, IfErr, IfOk, OnOk, Ok, length, sum_by};
+ghost use Rattle.std.specs.Prelude.{◌≡◌, ◌≢◌, ◌<◌, ◌≤◌, ◌++◌, ◌∷◌, Err, IfErr, IfOk, OnOk, Ok, length, map, sum_by};
+ghost use Rattle.tq_event.specs.Entries.{entry_in};
 ghost use Rattle.tq_event.specs.Loading.{IsLoaded, contents_of, event_count, has_table, next_contents, next_name, out_of_memory, table_contents};
+ghost use Rattle.tq_event.specs.Tables.{AreTables};
 
 use crate::entries::Entries;
+use crate::entry::Entry;
 use crate::fault::{LoadFault, LoadFaultKind};
-use crate::file::{Loaded, TableFile};
+use crate::file::{Loaded, TableFile, Tables};
 use crate::header::read_header;
 use crate::order::order_events;
 use crate::reading::read_entry;
 use crate::records::{is_marked_twice, next_record, record_reader};
+use crate::tables::rows_by_table;
 use csv::ByteRecord;
 use std::alloc::{AllocError, Global};
 use tq_base::{Catalogue, Column, Items, Name, Schema, fold_name};
@@ -137,6 +141,29 @@ fn load_file(
     Ok(())
 }
 
+// The tables of files, and the entries of their records.
+fn read_files(
+    alloc: Global,
+    files: &[TableFile],
+    limit: u32,
+) -> Result<(Vec<Schema>, Vec<Entry>), LoadFault>
+    requires { limit ≤ MAX_EVENTS }
+    ensures ok { IfOk result (λ read. contents_of files.now limit
+        ≡ Ok (record { tables = read.0.items; entries = map entry_in read.1.items })) }
+    ensures few { IfOk result (λ read. length read.0.items ≤ 16) }
+    ensures within { IfOk result (λ read. sum_by event_count (map entry_in read.1.items) ≤ limit) }
+    ensures fault { IfErr result (λ fault. fault.kind ≢ LoadFaultKind.OutOfMemory → contents_of files.now limit ≡ Err fault) }
+    ensures out_of_memory { IfErr result (λ fault. fault.kind ≡ LoadFaultKind.OutOfMemory → fault ≡ out_of_memory) }
+{
+    let mut tables = Vec::new(alloc);
+    let mut entries = Entries::new(alloc);
+    'files: for file in files {
+        load_file(alloc, limit, &mut tables, &mut entries, file)?;
+    }
+    let entries = entries.finish()?;
+    Ok((tables, entries))
+}
+
 /// Loads files into a catalogue and one list of at most `limit` events: for each data record a start
 /// and, unless `to` is `forever`, an end, ordered by time, ends before starts, table, record. The first
 /// fault is answered, in the order of tables, records and checks; `OutOfMemory` where a growth was
@@ -147,17 +174,30 @@ pub fn load(alloc: Global, files: &[TableFile], limit: u32) -> Result<Loaded, Lo
     ensures fault { IfErr result (λ fault. fault.kind ≢ LoadFaultKind.OutOfMemory → contents_of files.now limit ≡ Err fault) }
     ensures out_of_memory { IfErr result (λ fault. fault.kind ≡ LoadFaultKind.OutOfMemory → fault ≡ out_of_memory) }
 {
-    let mut tables = Vec::new(alloc);
-    let mut entries = Entries::new(alloc);
-    'files: for file in files {
-        load_file(alloc, limit, &mut tables, &mut entries, file)?;
-    }
-    let entries = entries.finish()?;
+    let (tables, entries) = read_files(alloc, files, limit)?;
     let events = order_events(alloc, tables.len(), entries)?;
     Ok(Loaded {
         catalogue: Catalogue {
             tables: Items::of(tables),
         },
         events: Items::of(events),
+    })
+}
+
+/// Loads files into their tables, each with the rows that its records tell, in their order. The files are refused just
+/// as `load` refuses them.
+pub fn load_tables(alloc: Global, files: &[TableFile], limit: u32) -> Result<Tables, LoadFault>
+    requires { limit ≤ MAX_EVENTS }
+    ensures tables { IfOk result (AreTables files.now limit) }
+    ensures fault { IfErr result (λ fault. fault.kind ≢ LoadFaultKind.OutOfMemory → contents_of files.now limit ≡ Err fault) }
+    ensures out_of_memory { IfErr result (λ fault. fault.kind ≡ LoadFaultKind.OutOfMemory → fault ≡ out_of_memory) }
+{
+    let (tables, entries) = read_files(alloc, files, limit)?;
+    let rows = rows_by_table(alloc, tables.len(), entries)?;
+    Ok(Tables {
+        catalogue: Catalogue {
+            tables: Items::of(tables),
+        },
+        rows: Items::of(rows),
     })
 }

@@ -1,7 +1,7 @@
 -- What the files that are left make of the tables and entries so far is what all make.
 use Rattle.std.proofs.Common.{◌≡◌, ◌≤◌, drop, length, sum_by}
 use Rattle.tq_event.specs.Loading.{contents_after, contents_of, event_count}
-use Rattle.tq_event.proofs.loading.load.Given as goal
+use Rattle.tq_event.proofs.loading.read_files.Given as goal
 
 abbrev pub invariant-files : goal.invariant-files
 invariant-files l = record {
