@@ -11,14 +11,13 @@ use Rattle.tq_base.specs.declared.fragment.Fragment.{Fragment}
 use Rattle.tq_base.specs.declared.period.Period.{Period}
 use Rattle.tq_base.specs.Fragments.{at, occurrences}
 use Rattle.tq_base.specs.Periods.{holds}
-use Rattle.tq_event.specs.declared.event.Event.{Event}
 use Rattle.tq_ops.specs.Conditions.{value_at}
 use Rattle.tq_ops.specs.Ordinary.{HasInside, projection, selection}
 use Rattle.tq_agg.specs.Grouping.{Row, count_rows, first_row, group_row, grouped_by, grouped_rows, sum_at}
 use Rattle.tq_plan.specs.declared.plans.Output.{Output}
 use Rattle.tq_plan.specs.declared.plans.Output.TheVariants.{Column, Count, Sum}
 use Rattle.tq_plan.specs.declared.plans.QueryPlan.{QueryPlan}
-use Rattle.tq_plan.specs.Answers.{lists_at, times_in}
+use Rattle.tq_plan.specs.TableAnswers.{lists_in, times_among}
 use Rattle.tq_plan.specs.Ordinary.{alone_or_together, groups, is_aggregate, ordinary, output_value, product_of}
 use Rattle.tq_plan.specs.Plans.{is_groupable}
 use Rattle.tq_plan.specs.Running.{item_places, items_stand, may_stand, no_group, number_in, summed_places}
@@ -203,14 +202,14 @@ next_items places (g ∷ out) f values rest t is = by_time (holds g.period t) (n
     by_time false later = later
 
 -- the items of groups of the rows that pass
-pub grouped_inside : (history : List Event) (query : QueryPlan) (window : Period) (passed found out : List Fragment) → no_group query.group ≡ false → items_stand query ≡ true
-    → HasInside window passed (λ t v. occurrences (selection query.test (product_of (lists_at history (length history) t query.tables))) v)
+pub grouped_inside : (tables : List (List Fragment)) (query : QueryPlan) (window : Period) (passed found out : List Fragment) → no_group query.group ≡ false → items_stand query ≡ true
+    → HasInside window passed (λ t v. occurrences (selection query.test (product_of (lists_in tables t query.tables))) v)
     → HasInside window found (λ t v. occurrences (grouped_rows query.group (summed_places query.outputs) (at passed t)) v)
     → ((t : ℕ) → at out t ≡ map (projection (item_places query.group (length query.group + 1) query.outputs)) (at found t))
-    → HasInside window out (λ t v. times_in history (length history) query v t)
-grouped_inside history query window passed found out some stand on_passed on_found each t v inside =
+    → HasInside window out (λ t v. times_among tables query v t)
+grouped_inside tables query window passed found out some stand on_passed on_found each t v inside =
     let places = item_places query.group (length query.group + 1) query.outputs in
-    let lists = lists_at history (length history) t query.tables in
+    let lists = lists_in tables t query.tables in
     let rows = selection query.test (product_of lists) in
     let sums = summed_places query.outputs in
     ap (λ l. occurrences l v) (each t)
@@ -218,14 +217,14 @@ grouped_inside history query window passed found out some stand on_passed on_fou
     ∙ ap (λ l. occurrences l v) (ordinary_grouped query lists some stand)
 
 -- the items of the count of the rows that pass
-pub counted_inside : (history : List Event) (query : QueryPlan) (window : Period) (places : List ℕ) (passed found out : List Fragment) → no_group query.group ≡ true → list_any is_aggregate query.outputs ≡ true → items_stand query ≡ true
-    → HasInside window passed (λ t v. occurrences (map (projection places) (selection query.test (product_of (lists_at history (length history) t query.tables)))) v)
+pub counted_inside : (tables : List (List Fragment)) (query : QueryPlan) (window : Period) (places : List ℕ) (passed found out : List Fragment) → no_group query.group ≡ true → list_any is_aggregate query.outputs ≡ true → items_stand query ≡ true
+    → HasInside window passed (λ t v. occurrences (map (projection places) (selection query.test (product_of (lists_in tables t query.tables)))) v)
     → HasInside window found (λ t v. occurrences (count_rows (at passed t)) v)
     → ((t : ℕ) → at out t ≡ map (projection (item_places query.group (length query.group + 1) query.outputs)) (at found t))
-    → HasInside window out (λ t v. times_in history (length history) query v t)
-counted_inside history query window places passed found out none counted stand on_passed on_found each t v inside =
+    → HasInside window out (λ t v. times_among tables query v t)
+counted_inside tables query window places passed found out none counted stand on_passed on_found each t v inside =
     let shown = item_places query.group (length query.group + 1) query.outputs in
-    let lists = lists_at history (length history) t query.tables in
+    let lists = lists_in tables t query.tables in
     let rows = selection query.test (product_of lists) in
     let as_many = same_lengths (at passed t) (map (projection places) rows) (λ w. on_passed t w inside) ∙ length-map rows (projection places) in
     ap (λ l. occurrences l v) (each t)

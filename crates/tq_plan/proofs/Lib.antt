@@ -1,6 +1,7 @@
 pub mod ConditionLemmas
 pub mod ScopeLemmas
 pub mod AnswerLemmas
+pub mod KeptLemmas
 pub mod RowLemmas
 pub mod BagLemmas
 pub mod RunningLemmas

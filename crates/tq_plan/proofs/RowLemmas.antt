@@ -13,11 +13,12 @@ use Rattle.tq_base.specs.declared.period.TheConstants.{FOREVER}
 use Rattle.tq_event.specs.declared.event.Event.{Event}
 use Rattle.tq_event.specs.declared.event.Event.TheVariants.{Start, End}
 use Rattle.tq_event.specs.History.{Row as AnyRow, end_of, rows_from, time_of, valid_at}
-use Rattle.tq_plan.specs.declared.rows.Validity.{Validity}
+use Rattle.tq_plan.specs.declared.histories.Validity.{Validity}
 use Rattle.tq_base.specs.declared.period.Period.{Period}
 use Rattle.tq_base.specs.Periods.{holds}
 use Rattle.tq_agg.specs.Grouping.{Row}
-use Rattle.tq_plan.specs.Rows.{ended, kept_rows, open_at, option_holds, starts, taken, validity, with_end, with_some}
+use Rattle.tq_plan.specs.Rows.{ended, open_at, option_holds, starts, taken, validity, with_end, with_some}
+use Rattle.tq_plan.proofs.KeptLemmas.{with_some-append}
 
 eqb-same : (n : ℕ) → (n == n) ≡ true
 eqb-same n = grind (arith, nat_tests)
@@ -147,34 +148,25 @@ all_taken table rows = append-nil (closed table 0 rows []) ∙ closed-nil table 
 
 -- ---- rows at an instant
 
-with_some-append : (kept : Option Row) (rest rows : List Row) → with_some kept rest ++ rows ≡ with_some kept (rest ++ rows)
-with_some-append None rest rows = refl
-with_some-append (Some row) rest rows = refl
-
 -- one row and then the others
-pub open_at-cons : (window : Period) (keep : Row → Option Row) (row : AnyRow) (rest : List AnyRow) (t : ℕ) → open_at window keep (row ∷ rest) t ≡ open_at window keep (row ∷ []) t ++ open_at window keep rest t
-open_at-cons window keep row rest t =
-    sym (with_some-append (if holds window t && (nat_le row.from t && nat_lt t row.to) then keep row.values else None) [] (open_at window keep rest t))
+pub open_at-cons : (row : AnyRow) (rest : List AnyRow) (t : ℕ) → open_at (row ∷ rest) t ≡ open_at (row ∷ []) t ++ open_at rest t
+open_at-cons row rest t = sym (with_some-append (if nat_le row.from t && nat_lt t row.to then Some row.values else None) [] (open_at rest t))
 
-by_window : (window : Period) (keep : Row → Option Row) (rows : List AnyRow) (t : ℕ) (b : Bool) → holds window t ≡ b
-    → open_at window keep rows t ≡ (if b then kept_rows keep (map (λ row. row.values) (filter (λ row. nat_le row.from t && nat_lt t row.to) rows)) else [])
-by_window window keep [] t true is = refl
-by_window window keep [] t false is = refl
-by_window window keep (row ∷ rows) t true is = rw is (by_time (nat_le row.from t && nat_lt t row.to) (by_window window keep rows t true is))
+open_at-valid : (rows : List AnyRow) (t : ℕ) → open_at rows t ≡ map (λ row. row.values) (filter (λ row. nat_le row.from t && nat_lt t row.to) rows)
+open_at-valid [] t = refl
+open_at-valid (row ∷ rows) t = by_time (nat_le row.from t && nat_lt t row.to) (open_at-valid rows t)
   where
-    by_time : (b : Bool) → open_at window keep rows t ≡ kept_rows keep (map (λ (r : AnyRow). r.values) (filter (λ r. nat_le r.from t && nat_lt t r.to) rows))
-        → with_some (if b then keep row.values else None) (open_at window keep rows t)
-        ≡ kept_rows keep (map (λ (r : AnyRow). r.values) (cond b (row ∷ filter (λ r. nat_le r.from t && nat_lt t r.to) rows) (filter (λ r. nat_le r.from t && nat_lt t r.to) rows)))
-    by_time true rest = ap (with_some (keep row.values)) rest
+    by_time : (b : Bool) → open_at rows t ≡ map (λ (r : AnyRow). r.values) (filter (λ r. nat_le r.from t && nat_lt t r.to) rows)
+        → with_some (if b then Some row.values else None) (open_at rows t)
+        ≡ map (λ (r : AnyRow). r.values) (cond b (row ∷ filter (λ r. nat_le r.from t && nat_lt t r.to) rows) (filter (λ r. nat_le r.from t && nat_lt t r.to) rows))
+    by_time true rest = ap (λ l. row.values ∷ l) rest
     by_time false rest = rest
-by_window window keep (row ∷ rows) t false is = rw is (by_window window keep rows t false is)
 
 -- of all events
-pub open_at-history : (window : Period) (keep : Row → Option Row) (events : List Event) (table t : ℕ)
-    → open_at window keep (rows_from table 0 events) t ≡ (if holds window t then kept_rows keep (valid_at events (length events) table t) else [])
-open_at-history window keep events table t =
-    ap (λ l. open_at window keep (rows_from table 0 l) t) (sym (take_all (length events) events (omega arith)))
-    ∙ by_window window keep (rows_from table 0 (take (length events) events)) t (holds window t) refl
+pub open_at-history : (events : List Event) (table t : ℕ) → open_at (rows_from table 0 events) t ≡ valid_at events (length events) table t
+open_at-history events table t =
+    ap (λ l. open_at (rows_from table 0 l) t) (sym (take_all (length events) events (omega arith)))
+    ∙ open_at-valid (rows_from table 0 (take (length events) events)) t
 
 -- ---- the rows once more, in the order of their starts
 
@@ -211,49 +203,25 @@ row_at (first ∷ rows) rest row (suc next) d left =
     let there = row_at rows rest row next d left in
     (omega (arith, there.0), there.1, ap (λ n. drop n (first ∷ rows)) (let same : suc next + 1 ≡ suc (next + 1) = omega arith in same) ∙ there.2)
 
--- with what is kept of the next row, all is still all
-pub next_row : (window : Period) (keep : Row → Option Row) (rows rest : List AnyRow) (row : AnyRow) (next t : ℕ) (before after all : List Row)
+-- with the next row, all is still all
+pub next_row : (rows rest : List AnyRow) (row : AnyRow) (next t : ℕ) (before after all : List Row)
     → drop next rows ≡ row ∷ rest → drop (next + 1) rows ≡ rest
-    → after ≡ before ++ open_at window keep (row ∷ []) t
-    → before ++ open_at window keep (drop next rows) t ≡ all
-    → after ++ open_at window keep (drop (next + 1) rows) t ≡ all
-next_row window keep rows rest row next t before after all left dropped is whole =
-    ap (λ l. l ++ open_at window keep (drop (next + 1) rows) t) is
-    ∙ append_assoc before (open_at window keep (row ∷ []) t) (open_at window keep (drop (next + 1) rows) t)
-    ∙ ap (λ l. before ++ (open_at window keep (row ∷ []) t ++ open_at window keep l t)) dropped
-    ∙ ap (λ l. before ++ l) (sym (open_at-cons window keep row rest t))
-    ∙ ap (λ l. before ++ open_at window keep l t) (sym left)
+    → after ≡ before ++ open_at (row ∷ []) t
+    → before ++ open_at (drop next rows) t ≡ all
+    → after ++ open_at (drop (next + 1) rows) t ≡ all
+next_row rows rest row next t before after all left dropped is whole =
+    ap (λ l. l ++ open_at (drop (next + 1) rows) t) is
+    ∙ append_assoc before (open_at (row ∷ []) t) (open_at (drop (next + 1) rows) t)
+    ∙ ap (λ l. before ++ (open_at (row ∷ []) t ++ open_at l t)) dropped
+    ∙ ap (λ l. before ++ l) (sym (open_at-cons row rest t))
+    ∙ ap (λ l. before ++ open_at l t) (sym left)
     ∙ whole
 
--- one more fragment
-pub at-pushed : (fragments : List Fragment) (values : Row) (period : Period) (t : ℕ)
-    → at (fragments ++ record { values = values; period = period } ∷ []) t ≡ at fragments t ++ (if holds period t then values ∷ [] else [])
-at-pushed [] values period t = by_hold (holds period t)
+-- the row, valid in the period
+pub open_row : (row : AnyRow) (period : Option Period) (t : ℕ) → option_holds period t ≡ (nat_le row.from t && nat_lt t row.to)
+    → open_at (row ∷ []) t ≡ (if option_holds period t then row.values ∷ [] else [])
+open_row row period t held = rw held (by_test (nat_le row.from t && nat_lt t row.to))
   where
-    by_hold : (b : Bool) → map (λ (f : Fragment). f.values) (cond b (record { values = values; period = period } ∷ []) []) ≡ (if b then values ∷ [] else [])
-    by_hold true = refl
-    by_hold false = refl
-at-pushed (f ∷ fragments) values period t = by_hold (holds f.period t) (at-pushed fragments values period t)
-  where
-    more : List Fragment
-    more = fragments ++ record { values = values; period = period } ∷ []
-
-    by_hold : (b : Bool) → at more t ≡ at fragments t ++ (if holds period t then values ∷ [] else [])
-        → map (λ (g : Fragment). g.values) (cond b (f ∷ filter (λ (g : Fragment). holds g.period t) more) (filter (λ (g : Fragment). holds g.period t) more))
-        ≡ map (λ (g : Fragment). g.values) (cond b (f ∷ filter (λ (g : Fragment). holds g.period t) fragments) (filter (λ (g : Fragment). holds g.period t) fragments)) ++ (if holds period t then values ∷ [] else [])
-    by_hold true rest = ap (λ l. f.values ∷ l) rest
-    by_hold false rest = rest
-
--- the row, valid in the period, is what is kept of it at each instant
-pub kept_row : (window : Period) (keep : Row → Option Row) (row : AnyRow) (period : Option Period) (is_kept : Bool) (shown : Row) (t : ℕ)
-    → keep row.values ≡ (if is_kept then Some shown else None)
-    → option_holds period t ≡ (is_kept && (holds window t && (nat_le row.from t && nat_lt t row.to)))
-    → open_at window keep (row ∷ []) t ≡ (if option_holds period t then shown ∷ [] else [])
-kept_row window keep row period is_kept shown t keeps held =
-    rw (keeps, held) (by_tests is_kept (holds window t && (nat_le row.from t && nat_lt t row.to)))
-  where
-    by_tests : (k v : Bool) → with_some (if v then (if k then Some shown else None) else None) [] ≡ (if k && v then shown ∷ [] else [])
-    by_tests true true = refl
-    by_tests true false = refl
-    by_tests false true = refl
-    by_tests false false = refl
+    by_test : (b : Bool) → with_some (if b then Some row.values else None) [] ≡ (if b then row.values ∷ [] else [])
+    by_test true = refl
+    by_test false = refl

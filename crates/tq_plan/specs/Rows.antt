@@ -1,5 +1,6 @@
 -- The rows of one table while its events are taken one by one, and what is kept of each.
 use Rattle.std.specs.Prelude.{ℕ, ◌+◌, ◌==◌, ◌&&◌, nat_le, nat_lt, Bool, true, false, if◌then◌else◌, List, [], ◌∷◌, ◌++◌, Option, Some, None}
+use Rattle.tq_base.specs.declared.fragment.Fragment.{Fragment}
 use Rattle.tq_base.specs.declared.period.Period.{Period}
 use Rattle.tq_base.specs.declared.period.TheConstants.{FOREVER}
 use Rattle.tq_base.specs.Periods.{holds}
@@ -12,7 +13,7 @@ use Rattle.tq_ops.specs.Known.{may_pass}
 use Rattle.tq_ops.specs.Ordinary.{projection}
 use Rattle.tq_plan.specs.declared.rows.Filter.{Filter}
 use Rattle.tq_plan.specs.declared.rows.Filter.TheVariants as filter
-use Rattle.tq_plan.specs.declared.rows.Validity.{Validity}
+use Rattle.tq_plan.specs.declared.histories.Validity.{Validity}
 use Rattle.tq_agg.specs.Grouping.{Row}
 
 -- the values at the places, or all of them where no places are named
@@ -67,11 +68,16 @@ abbrev pub starts : ℕ → Event → Option Row
 starts table (Start t values at) = if t == table then Some values else None
 starts table (End t number at) = None
 
+-- the values of the rows that are valid at the instant
+abbrev pub open_at : List AnyRow → ℕ → List Row
+open_at [] t = []
+open_at (row ∷ rows) t = with_some (if nat_le row.from t && nat_lt t row.to then Some row.values else None) (open_at rows t)
+
 -- what is kept of the rows that are valid at the instant, where it lies in the window
-abbrev pub open_at : Period → (Row → Option Row) → List AnyRow → ℕ → List Row
-open_at window keep [] t = []
-open_at window keep (row ∷ rows) t =
-    with_some (if holds window t && (nat_le row.from t && nat_lt t row.to) then keep row.values else None) (open_at window keep rows t)
+abbrev pub kept_in : Period → (Row → Option Row) → List Fragment → ℕ → List Row
+kept_in window keep [] t = []
+kept_in window keep (row ∷ rows) t =
+    with_some (if holds window t && holds row.period t then keep row.values else None) (kept_in window keep rows t)
 
 -- whether the period holds the instant, if there is one
 abbrev pub option_holds : Option Period → ℕ → Bool

@@ -13,13 +13,13 @@ pub group_count_sum-requires : goal.group_count_sum-requires
 group_count_sum-requires c = record {
   summable =
       subst (λ rows. All (λ (row : Fragment). AreSummable c.deref-2.result.now row.values) rows) (sym c.deref.ensures.value)
-      (passing_sums c.args.events.now c.args.window.now c.args.query.now.tables c.args.query.now.test c.deref-2.result.now c.in_ok-rows.rows.items c.in_ok-rows.ensures.inside c.in_ok-rows.ensures.outside c.requires.numbers);
+      (passing_sums c.args.tables.now c.args.window.now c.args.query.now.tables c.args.query.now.test c.deref-2.result.now c.in_ok-rows.rows.items c.in_ok-rows.ensures.inside c.in_ok-rows.ensures.outside c.requires.numbers);
 }
 
 pub returns-clause-inside : goal.returns-clause-inside
 returns-clause-inside c =
     IfOk-weaker c.item_rows.result _ _
-    (λ out each. grouped_inside c.args.events.now c.args.query.now c.args.window.now c.in_ok-rows.rows.items c.in_ok-groups.groups.items out.items c.requires.grouped c.requires.stand
+    (λ out each. grouped_inside c.args.tables.now c.args.query.now c.args.window.now c.in_ok-rows.rows.items c.in_ok-groups.groups.items out.items c.requires.grouped c.requires.stand
     c.in_ok-rows.ensures.inside
     (λ t v inside.
     c.in_ok-groups.ensures.inside t v inside

@@ -1,44 +1,31 @@
-use Rattle.std.proofs.Common.{◌≡◌, ◌+◌, ◌&&◌, ◌∷◌, ◌++◌, [], ℕ, None, ap, sym, refl, drop, get_or, nat_le, nat_lt, if◌then◌else◌, append-nil, ◌∙◌}
-use Rattle.std.proofs.lemmas.List.{drop_more}
+use Rattle.std.proofs.Common.{◌≡◌, ◌+◌, ◌&&◌, ◌∷◌, ◌++◌, [], ℕ, None, ap, sym, refl, drop, if◌then◌else◌, append-nil, ◌∙◌}
+use Rattle.std.proofs.lemmas.List.{drop_all, drop_more}
 use Rattle.tq_base.specs.Fragments.{at}
 use Rattle.tq_base.specs.Periods.{holds}
-use Rattle.tq_event.specs.History.{Row as AnyRow, end_of, rows_from, time_of}
-use Rattle.tq_plan.specs.Rows.{keeps, kept, option_holds, validity}
-use Rattle.tq_plan.proofs.RowLemmas.{at-pushed, kept_row, next_row, row_at, starts_some}
+use Rattle.tq_plan.specs.Rows.{keeps, kept, kept_in, option_holds}
+use Rattle.tq_plan.proofs.KeptLemmas.{at-pushed, kept_row, next_kept}
 use Rattle.tq_plan.proofs.rows.copied_rows.Goals as goal
-use Rattle.tq_plan.proofs.rows.copied_rows.Goals.{in-Some-kept_period+in_ok-values+in_ok-push, in_default-kept_period}
+use Rattle.tq_plan.proofs.rows.copied_rows.Goals.{in-Some+in_ok-values+in_ok-push, in_default}
 
-pub events-preserved : goal.events-preserved
-events-preserved c =
+pub rows-preserved : goal.rows-preserved
+rows-preserved c t =
     let keep = kept (keeps c.args.which) None in
-    let history = rows_from c.args.table 0 c.args.events.now in
-    let later = drop (c.events.event-index + 1) c.args.events.now in
-    let row : AnyRow = record { number = c.events.next; values = c.in-Some.values.now; from = time_of c.event-item.result; to = end_of c.args.table c.events.next later } in
-    let rest = rows_from c.args.table (c.events.next + 1) later in
-    let left : drop c.events.next history ≡ row ∷ rest =
-    sym c.events.invariant.0
-    ∙ ap (rows_from c.args.table c.events.next) (drop_more c.args.events.now c.events.event-index c.event-item.result c.events-test.true ∙ ap (λ e. e ∷ later) (sym c.event-item.is))
-    ∙ starts_some c.args.table c.events.next c.event-item.result later c.in-Some.values.now c.in-Some.ensures.some in
-    let place = row_at history rest row c.events.next c.index.result.now left in
-    let here : c.index.result.now ≡ validity row = c.index.ensures ∙ ap (λ l. get_or l c.events.next c.index.result.now) c.in_ok-rows.ensures ∙ place.1 in
-    let held = λ (t : ℕ). kept_row c.args.window.now keep row c.kept_period.result (keeps c.args.which row.values) row.values t refl
-    (c.kept_period.ensures t ∙ ap (λ v. keeps c.args.which row.values && (holds c.args.window.now t && (nat_le v.from t && nat_lt t v.to))) here) in (
-      sym place.2,
-      λ t.
-          next_row c.args.window.now keep history rest row c.events.next t (at c.events.fragments.items t) (at c.match-kept_period.fragments.items t) _ left place.2
-          (elim c.match-kept_period.branch [
-            | in-Some-kept_period+in_ok-values+in_ok-push w ↦
-                ap (λ v. at v.items t) w.fragments-is
-                ∙ ap (λ l. at l t) w.in_ok-push.ensures.items
-                ∙ at-pushed c.events.fragments.items w.in_ok-values.values w.in-Some-kept_period.period t
-                ∙ ap (λ v. at c.events.fragments.items t ++ (if holds w.in-Some-kept_period.period t then v ∷ [] else [])) w.in_ok-values.ensures
-                ∙ ap (λ p. at c.events.fragments.items t ++ (if option_holds p t then row.values ∷ [] else [])) (sym w.in-Some-kept_period.is)
-                ∙ ap (λ l. at c.events.fragments.items t ++ l) (sym (held t))
-            | in_default-kept_period w ↦
-                ap (λ v. at v.items t) w.fragments-is
-                ∙ sym (append-nil (at c.events.fragments.items t))
-                ∙ ap (λ p. at c.events.fragments.items t ++ (if option_holds p t then row.values ∷ [] else [])) (sym w.in_default-kept_period.is)
-                ∙ ap (λ l. at c.events.fragments.items t ++ l) (sym (held t))
-          ])
-          (c.events.invariant.1 t),
-    )
+    let row = c.row-item.result in
+    let left = drop_more c.args.rows.now c.rows.row-index row c.rows-test.true ∙ ap (λ r. r ∷ drop (c.rows.row-index + 1) c.args.rows.now) (sym c.row-item.is) in
+    let held = kept_row c.args.window.now keep row c.kept_period.result (keeps c.args.which row.values) row.values t refl (c.kept_period.ensures t) in
+    next_kept c.args.window.now keep c.args.rows.now row c.rows.row-index t (at c.rows.fragments.items t) (at c.match-kept_period.fragments.items t) _ left
+    (elim c.match-kept_period.branch [
+      | in-Some+in_ok-values+in_ok-push w ↦
+          ap (λ v. at v.items t) w.fragments-is
+          ∙ ap (λ l. at l t) w.in_ok-push.ensures.items
+          ∙ at-pushed c.rows.fragments.items w.in_ok-values.values w.in-Some.period t
+          ∙ ap (λ v. at c.rows.fragments.items t ++ (if holds w.in-Some.period t then v ∷ [] else [])) w.in_ok-values.ensures
+          ∙ ap (λ p. at c.rows.fragments.items t ++ (if option_holds p t then row.values ∷ [] else [])) (sym w.in-Some.is)
+          ∙ ap (λ l. at c.rows.fragments.items t ++ l) (sym held)
+      | in_default w ↦
+          ap (λ v. at v.items t) w.fragments-is
+          ∙ sym (append-nil (at c.rows.fragments.items t))
+          ∙ ap (λ p. at c.rows.fragments.items t ++ (if option_holds p t then row.values ∷ [] else [])) (sym w.in_default.is)
+          ∙ ap (λ l. at c.rows.fragments.items t ++ l) (sym held)
+    ])
+    (c.rows.invariant t)

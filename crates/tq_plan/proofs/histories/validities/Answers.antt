@@ -1,7 +1,7 @@
 use Rattle.std.proofs.Common.{◌+◌, ◌∷◌, drop, sym, ap, ◌∙◌}
 use Rattle.std.proofs.lemmas.List.{drop_all, drop_more}
 use Rattle.tq_plan.proofs.RowLemmas.{all_taken, future, takes}
-use Rattle.tq_plan.proofs.rows.validities.Goals as goal
+use Rattle.tq_plan.proofs.histories.validities.Goals as goal
 
 pub events-preserved : goal.events-preserved
 events-preserved c =
