@@ -1,4 +1,4 @@
--- Numbers of 64 signed bits: what events bring, and what is made of it.
+-- Numbers of 64 signed bits: those of tables of rows, and what is made of them.
 use Rattle.std.proofs.Common.{◌≡◌, ℕ, zero, suc, ◌+◌, ◌<◌, ◌==◌, ◌&&◌, nat_le, nat_lt, Bool, true, false, cond, List, [], ◌∷◌, ◌++◌, map, length, take, get_or, Option, refl, sym, ap, subst, arith}
 use Rattle.std.specs.Prelude.{All, FitsSigned, pos, filter, if◌then◌else◌}
 use Rattle.std.specs.Int.{w64}
@@ -13,16 +13,14 @@ use Rattle.tq_base.specs.declared.period.Period.{Period}
 use Rattle.tq_base.specs.Fragments.{at, occurrences}
 use Rattle.tq_base.specs.Periods.{holds}
 use Rattle.tq_base.specs.ValueOrder.{eq_from_same}
-use Rattle.tq_event.specs.declared.event.Event.{Event}
-use Rattle.tq_event.specs.declared.event.Event.TheVariants.{Start, End}
-use Rattle.tq_event.specs.History.{Row as AnyRow, end_of, rows_from, valid_at}
+use Rattle.tq_event.specs.Tables.{rows_in}
 use Rattle.tq_ops.specs.declared.condition.Test.{Test}
 use Rattle.tq_ops.specs.Conditions.{value_at}
 use Rattle.tq_ops.specs.Ordinary.{HasInside, IsEmptyOutside, admits, product, selection}
 use Rattle.tq_agg.specs.Grouping.{AreSummable, Row, number_of}
-use Rattle.tq_plan.specs.Answers.{lists_at}
+use Rattle.tq_plan.specs.TableAnswers.{AreAllNumbers, lists_in}
 use Rattle.tq_plan.specs.Ordinary.{product_of}
-use Rattle.tq_plan.specs.Running.{AreNumbers, HasNumbers}
+use Rattle.tq_plan.specs.Running.{AreNumbers}
 use Rattle.tq_plan.proofs.BagLemmas.{is_it, one_if, split}
 
 abbrev pub IsNumber : Value → Type 0
@@ -40,32 +38,18 @@ none_of P k d less = absurd (omega (arith, less))
 
 -- ---- rows of a table
 
-rows_have : (table next : ℕ) (events : List Event) → All HasNumbers events → All (λ (row : AnyRow). AreNumbers row.values) (rows_from table next events)
-rows_have table next [] all = none_of (λ (row : AnyRow). AreNumbers row.values)
-rows_have table next (Start t v when ∷ events) all = by_table (t == table) (rows_have table (next + 1) events (others_of HasNumbers (Start t v when) events all)) (rows_have table next events (others_of HasNumbers (Start t v when) events all))
-  where
-    HasThem : List AnyRow → Type 0
-    HasThem rows = All (λ (row : AnyRow). AreNumbers row.values) rows
+abbrev HaveNumbers : List Fragment → Type 0
+HaveNumbers rows = All (λ (row : Fragment). AreNumbers row.values) rows
 
-    new : AnyRow
-    new = record { number = next; values = v; from = when; to = end_of table next events }
+table_has : (tables : List (List Fragment)) (table : ℕ) → AreAllNumbers tables → HaveNumbers (rows_in tables table)
+table_has [] table all = none_of (λ (row : Fragment). AreNumbers row.values)
+table_has (rows ∷ tables) zero all = first_of HaveNumbers rows tables all
+table_has (rows ∷ tables) (suc table) all = table_has tables table (others_of HaveNumbers rows tables all)
 
-    by_table : (b : Bool) → HasThem (rows_from table (next + 1) events) → HasThem (rows_from table next events)
-        → HasThem (if b then new ∷ rows_from table (next + 1) events else rows_from table next events)
-    by_table true after same = All-cons (λ (row : AnyRow). AreNumbers row.values) new (rows_from table (next + 1) events) (first_of HasNumbers (Start t v when) events all) after
-    by_table false after same = same
-rows_have table next (End t r when ∷ events) all = rows_have table next events (others_of HasNumbers (End t r when) events all)
-
-taken_have : (n : ℕ) (events : List Event) → All HasNumbers events → All HasNumbers (take n events)
-taken_have zero events all = none_of HasNumbers
-taken_have (suc n) [] all = none_of HasNumbers
-taken_have (suc n) (event ∷ events) all = All-cons HasNumbers event (take n events) (first_of HasNumbers event events all) (taken_have n events (others_of HasNumbers event events all))
-
-valid_have : (events : List Event) (n table t : ℕ) → All HasNumbers events → All AreNumbers (valid_at events n table t)
-valid_have events n table t all =
-    All-map AreNumbers (λ (row : AnyRow). row.values) (filter (λ (row : AnyRow). nat_le row.from t && nat_lt t row.to) (rows_from table 0 (take n events)))
-    (All-filter (λ (row : AnyRow). nat_le row.from t && nat_lt t row.to) (λ (row : AnyRow). AreNumbers row.values) (rows_from table 0 (take n events))
-    (rows_have table 0 (take n events) (taken_have n events all)))
+valid_have : (tables : List (List Fragment)) (table t : ℕ) → AreAllNumbers tables → All AreNumbers (at (rows_in tables table) t)
+valid_have tables table t all =
+    All-map AreNumbers (λ (row : Fragment). row.values) (filter (λ (row : Fragment). holds row.period t) (rows_in tables table))
+    (All-filter (λ (row : Fragment). holds row.period t) (λ (row : Fragment). AreNumbers row.values) (rows_in tables table) (table_has tables table all))
 
 -- ---- rows of the sources' product
 
@@ -81,11 +65,11 @@ product_has (row ∷ left) right on_left on_right =
     (All-append AreNumbers (map (λ r. row ++ r) right) (product left right) (pairs_have row right (first_of AreNumbers row left on_left) on_right)
     (product_has left right (others_of AreNumbers row left on_left) on_right))
 
-products_have : (events : List Event) (n t : ℕ) (tables : List ℕ) → All HasNumbers events → All AreNumbers (product_of (lists_at events n t tables))
-products_have events n t [] all = All-cons AreNumbers [] [] (none_of IsNumber) (none_of AreNumbers)
-products_have events n t (table ∷ []) all = valid_have events n table t all
-products_have events n t (table ∷ next ∷ tables) all =
-    product_has (valid_at events n table t) (product_of (lists_at events n t (next ∷ tables))) (valid_have events n table t all) (products_have events n t (next ∷ tables) all)
+products_have : (tables : List (List Fragment)) (t : ℕ) (numbers : List ℕ) → AreAllNumbers tables → All AreNumbers (product_of (lists_in tables t numbers))
+products_have tables t [] all = All-cons AreNumbers [] [] (none_of IsNumber) (none_of AreNumbers)
+products_have tables t (table ∷ []) all = valid_have tables table t all
+products_have tables t (table ∷ next ∷ numbers) all =
+    product_has (at (rows_in tables table) t) (product_of (lists_in tables t (next ∷ numbers))) (valid_have tables table t all) (products_have tables t (next ∷ numbers) all)
 
 -- ---- fragments
 
@@ -144,10 +128,10 @@ summable [] row all = none_of (λ place. IsNumber (value_at row place))
 summable (place ∷ places) row all = All-cons (λ p. IsNumber (value_at row p)) place places (number_at row place all) (summable places row all)
 
 -- the values of the rows that pass can be summed
-pub passing_sums : (events : List Event) (window : Period) (tables : List ℕ) (test : Option Test) (places : List ℕ) (out : List Fragment)
-    → HasInside window out (λ t v. occurrences (selection test (product_of (lists_at events (length events) t tables))) v) → IsEmptyOutside window out
-    → All HasNumbers events → All (λ (f : Fragment). AreSummable places f.values) out
-passing_sums events window tables test places out inside outside all =
+pub passing_sums : (tables : List (List Fragment)) (window : Period) (numbers : List ℕ) (test : Option Test) (places : List ℕ) (out : List Fragment)
+    → HasInside window out (λ t v. occurrences (selection test (product_of (lists_in tables t numbers))) v) → IsEmptyOutside window out
+    → AreAllNumbers tables → All (λ (f : Fragment). AreSummable places f.values) out
+passing_sums tables window numbers test places out inside outside all =
     All-weaker (λ (f : Fragment). AreNumbers f.values) (λ (f : Fragment). AreSummable places f.values) (λ f is. summable places f.values is) out
-    (fragments_have window out (λ t. selection test (product_of (lists_at events (length events) t tables))) inside outside
-    (λ t. All-filter (admits test) AreNumbers (product_of (lists_at events (length events) t tables)) (products_have events (length events) t tables all)))
+    (fragments_have window out (λ t. selection test (product_of (lists_in tables t numbers))) inside outside
+    (λ t. All-filter (admits test) AreNumbers (product_of (lists_in tables t numbers)) (products_have tables t numbers all)))

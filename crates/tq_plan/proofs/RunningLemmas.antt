@@ -5,17 +5,18 @@ use Rattle.std.specs.List.{list_any}
 use Rattle.std.proofs.lemmas.List.{take_all}
 use Rattle.tq_base.specs.declared.fragment.Fragment.{Fragment}
 use Rattle.tq_base.specs.declared.period.Period.{Period}
-use Rattle.tq_base.specs.Fragments.{copies, occurrences}
+use Rattle.tq_base.specs.Fragments.{at, copies, occurrences}
 use Rattle.tq_base.specs.Periods.{holds}
 use Rattle.tq_event.specs.declared.event.Event.{Event}
 use Rattle.tq_event.specs.History.{rows_from, valid_at}
+use Rattle.tq_event.specs.Tables.{HoldsRows, rows_in}
 use Rattle.tq_ops.specs.Conditions.{value_at}
 use Rattle.tq_ops.specs.Ordinary.{HasInside, IsEmptyOutside, projection, selection}
 use Rattle.tq_plan.specs.declared.plans.Output.{Output}
 use Rattle.tq_plan.specs.declared.plans.Output.TheVariants.{Column, Count, Sum}
 use Rattle.tq_plan.specs.declared.plans.Plan.{Plan}
 use Rattle.tq_plan.specs.declared.plans.QueryPlan.{QueryPlan}
-use Rattle.tq_plan.specs.Answers.{lists_at, times_at, times_in, times_in_right}
+use Rattle.tq_plan.specs.TableAnswers.{lists_in, times_among, times_among_right, times_over}
 use Rattle.tq_agg.specs.Grouping.{Row}
 use Rattle.tq_plan.specs.Ordinary.{groups, is_aggregate, ordinary, output_value, product_of}
 use Rattle.tq_plan.specs.Running.{no_group, output_place}
@@ -51,13 +52,13 @@ no_places [] none = refl
 no_places (first ∷ more) none = cc
 
 -- the values at the items' places of all rows that pass
-pub shown_alone : (history : List Event) (query : QueryPlan) (window : Period) (places : List ℕ) (out : List Fragment) → no_group query.group ≡ true → list_any is_aggregate query.outputs ≡ false → places ≡ map output_place query.outputs
-    → HasInside window out (λ t v. occurrences (map (projection places) (selection query.test (product_of (lists_at history (length history) t query.tables)))) v)
-    → HasInside window out (λ t v. times_in history (length history) query v t)
-shown_alone history query window places out alone none same shown t v inside =
+pub shown_alone : (tables : List (List Fragment)) (query : QueryPlan) (window : Period) (places : List ℕ) (out : List Fragment) → no_group query.group ≡ true → list_any is_aggregate query.outputs ≡ false → places ≡ map output_place query.outputs
+    → HasInside window out (λ t v. occurrences (map (projection places) (selection query.test (product_of (lists_in tables t query.tables)))) v)
+    → HasInside window out (λ t v. times_among tables query v t)
+shown_alone tables query window places out alone none same shown t v inside =
     shown t v inside
-    ∙ ap (λ ps. occurrences (map (projection ps) (selection query.test (product_of (lists_at history (length history) t query.tables)))) v) same
-    ∙ ap (λ l. occurrences l v) (sym (ordinary_alone query (lists_at history (length history) t query.tables) (no_places query.group alone) none))
+    ∙ ap (λ ps. occurrences (map (projection ps) (selection query.test (product_of (lists_in tables t query.tables)))) v) same
+    ∙ ap (λ l. occurrences l v) (sym (ordinary_alone query (lists_in tables t query.tables) (no_places query.group alone) none))
 
 -- ---- plans
 
@@ -70,48 +71,38 @@ by_window window out count inside outside v t = by_time (holds window t) refl
     by_time true is = inside t v is
     by_time false is = ap (λ l. occurrences l v) (outside t is)
 
-pub left_alone : (history : List Event) (plan : Plan) (out : List Fragment) → plan.right ≡ None → HasInside plan.window out (λ t v. times_in history (length history) plan.left v t) → IsEmptyOutside plan.window out
-    → (v : Row) (t : ℕ) → copies out v t ≡ times_at history (length history) plan v t
-left_alone history plan out none inside outside v t =
-    by_window plan.window out (λ t v. times_in history (length history) plan.left v t) inside outside v t
+pub left_alone : (tables : List (List Fragment)) (plan : Plan) (out : List Fragment) → plan.right ≡ None → HasInside plan.window out (λ t v. times_among tables plan.left v t) → IsEmptyOutside plan.window out
+    → (v : Row) (t : ℕ) → copies out v t ≡ times_over tables plan v t
+left_alone tables plan out none inside outside v t =
+    by_window plan.window out (λ t v. times_among tables plan.left v t) inside outside v t
     ∙ ap (λ n. if holds plan.window t then n else 0)
-    (let less : times_in history (length history) plan.left v t ≡ times_in history (length history) plan.left v t - 0 = omega arith in
-    less ∙ ap (λ r. times_in history (length history) plan.left v t - times_in_right history (length history) r v t) (sym none))
+    (let less : times_among tables plan.left v t ≡ times_among tables plan.left v t - 0 = omega arith in
+    less ∙ ap (λ r. times_among tables plan.left v t - times_among_right tables r v t) (sym none))
 
-pub left_less_right : (history : List Event) (plan : Plan) (query : QueryPlan) (left right out : List Fragment) → plan.right ≡ Some query
-    → HasInside plan.window left (λ t v. times_in history (length history) plan.left v t) → HasInside plan.window right (λ t v. times_in history (length history) query v t)
+pub left_less_right : (tables : List (List Fragment)) (plan : Plan) (query : QueryPlan) (left right out : List Fragment) → plan.right ≡ Some query
+    → HasInside plan.window left (λ t v. times_among tables plan.left v t) → HasInside plan.window right (λ t v. times_among tables query v t)
     → HasInside plan.window out (λ t v. copies left v t - copies right v t) → IsEmptyOutside plan.window out
-    → (v : Row) (t : ℕ) → copies out v t ≡ times_at history (length history) plan v t
-left_less_right history plan query left right out some on_left on_right inside outside v t = by_time (holds plan.window t) refl
+    → (v : Row) (t : ℕ) → copies out v t ≡ times_over tables plan v t
+left_less_right tables plan query left right out some on_left on_right inside outside v t = by_time (holds plan.window t) refl
   where
-    by_time : (b : Bool) → holds plan.window t ≡ b → copies out v t ≡ times_at history (length history) plan v t
+    by_time : (b : Bool) → holds plan.window t ≡ b → copies out v t ≡ times_over tables plan v t
     by_time true is =
         rw is (inside t v is
         ∙ ap (λ n. n - copies right v t) (on_left t v is)
-        ∙ ap (λ n. times_in history (length history) plan.left v t - n) (on_right t v is)
-        ∙ ap (λ r. times_in history (length history) plan.left v t - times_in_right history (length history) r v t) (sym some))
+        ∙ ap (λ n. times_among tables plan.left v t - n) (on_right t v is)
+        ∙ ap (λ r. times_among tables plan.left v t - times_among_right tables r v t) (sym some))
     by_time false is = rw is (ap (λ l. occurrences l v) (outside t is))
 
--- ---- the first n events
+-- ---- tables that hold a history
 
-first_lists : (history : List Event) (n t : ℕ) (tables : List ℕ) → lists_at (take n history) (length (take n history)) t tables ≡ lists_at history n t tables
-first_lists history n t [] = refl
-first_lists history n t (table ∷ tables) = λ i. first table i ∷ first_lists history n t tables i
-  where
-    first : (table : ℕ) → valid_at (take n history) (length (take n history)) table t ≡ valid_at history n table t
-    first table = ap (λ l. map (λ row. row.values) (filter (λ row. nat_le row.from t && nat_lt t row.to) (rows_from table 0 l))) (take_all (length (take n history)) (take n history) (omega arith))
+first_valid : (history : List Event) (n table t : ℕ) → valid_at (take n history) (length (take n history)) table t ≡ valid_at history n table t
+first_valid history n table t =
+    ap (λ l. map (λ row. row.values) (filter (λ row. nat_le row.from t && nat_lt t row.to) (rows_from table 0 l))) (take_all (length (take n history)) (take n history) (omega arith))
 
-first_in : (history : List Event) (n : ℕ) (query : QueryPlan) (v : Row) (t : ℕ) → times_in (take n history) (length (take n history)) query v t ≡ times_in history n query v t
-first_in history n query v t = ap (λ lists. occurrences (ordinary query lists) v) (first_lists history n t query.tables)
-
-first_right : (history : List Event) (n : ℕ) (query : Option QueryPlan) (v : Row) (t : ℕ) → times_in_right (take n history) (length (take n history)) query v t ≡ times_in_right history n query v t
-first_right history n None v t = refl
-first_right history n (Some query) v t = first_in history n query v t
-
--- as of the first n events nothing else is known
-pub first_events : (history : List Event) (n : ℕ) (plan : Plan) (v : Row) (t : ℕ) → times_at (take n history) (length (take n history)) plan v t ≡ times_at history n plan v t
-first_events history n plan v t =
-    λ i. if holds plan.window t then first_in history n plan.left v t i - first_right history n plan.right v t i else 0
+-- what the first n events make valid is what is valid by n events
+pub hold_first : (history : List Event) (n table : ℕ) (tables : List (List Fragment))
+    → ((t : ℕ) → at (rows_in tables table) t ≡ valid_at (take n history) (length (take n history)) table t) → HoldsRows tables history n table
+hold_first history n table tables same t v = ap (λ l. occurrences l v) (same t ∙ first_valid history n table t)
 
 -- ---- what a call gives
 
