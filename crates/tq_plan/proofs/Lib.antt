@@ -3,6 +3,7 @@ pub mod ScopeLemmas
 pub mod AnswerLemmas
 pub mod KeptLemmas
 pub mod RowLemmas
+pub mod HistoryLemmas
 pub mod BagLemmas
 pub mod RunningLemmas
 pub mod SourceLemmas

@@ -93,17 +93,6 @@ left_less_right tables plan query left right out some on_left on_right inside ou
         ∙ ap (λ r. times_among tables plan.left v t - times_among_right tables r v t) (sym some))
     by_time false is = rw is (ap (λ l. occurrences l v) (outside t is))
 
--- ---- tables that hold a history
-
-first_valid : (history : List Event) (n table t : ℕ) → valid_at (take n history) (length (take n history)) table t ≡ valid_at history n table t
-first_valid history n table t =
-    ap (λ l. map (λ row. row.values) (filter (λ row. nat_le row.from t && nat_lt t row.to) (rows_from table 0 l))) (take_all (length (take n history)) (take n history) (omega arith))
-
--- what the first n events make valid is what is valid by n events
-pub hold_first : (history : List Event) (n table : ℕ) (tables : List (List Fragment))
-    → ((t : ℕ) → at (rows_in tables table) t ≡ valid_at (take n history) (length (take n history)) table t) → HoldsRows tables history n table
-hold_first history n table tables same t v = ap (λ l. occurrences l v) (same t ∙ first_valid history n table t)
-
 -- ---- what a call gives
 
 pub if_ok_both : {A E : Type 0} (r : Result A E) (P Q : A → Type 0) → IfOk r P → IfOk r Q → IfOk r (λ a. P a × Q a)

@@ -1,0 +1,11 @@
+-- The rows that are left are those from the next number on; what is copied so far, and they, are all.
+use Rattle.std.proofs.Common.{◌≡◌, ℕ, ◌++◌, drop}
+use Rattle.tq_base.specs.Fragments.{at}
+use Rattle.tq_event.specs.History.{rows_from}
+use Rattle.tq_plan.specs.Rows.{open_at}
+use Rattle.tq_plan.proofs.histories.table_of.Given as goal
+
+abbrev pub invariant-events : goal.invariant-events
+invariant-events l =
+    (rows_from l.table l.next (drop l.event-index l.events) ≡ drop l.next (rows_from l.table 0 l.events))
+    × ((t : ℕ) → at l.fragments.items t ++ open_at (drop l.next (rows_from l.table 0 l.events)) t ≡ open_at (rows_from l.table 0 l.events) t)
