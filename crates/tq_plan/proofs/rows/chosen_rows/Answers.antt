@@ -1,8 +1,7 @@
-use Rattle.std.proofs.Common.{◌≡◌, ◌+◌, ◌&&◌, ◌∷◌, ◌++◌, [], ℕ, Some, ap, sym, refl, drop, map, if◌then◌else◌, append-nil, ◌∙◌}
+use Rattle.std.proofs.Common.{◌+◌, ◌∷◌, ◌++◌, [], ℕ, Some, ap, sym, refl, drop, map, if◌then◌else◌, append-nil, ◌∙◌}
 use Rattle.std.proofs.lemmas.List.{drop_all, drop_more, map-append}
 use Rattle.std.proofs.lemmas.Result.{IfOk-weaker}
 use Rattle.tq_base.specs.Fragments.{at, fragment_of}
-use Rattle.tq_base.specs.Periods.{holds}
 use Rattle.tq_ops.specs.Ordinary.{projection}
 use Rattle.tq_plan.specs.Rows.{keeps, kept, kept_in, option_holds}
 use Rattle.tq_plan.proofs.KeptLemmas.{at-pushed, kept_row, next_kept}

@@ -1,8 +1,8 @@
-use Rattle.std.proofs.Common.{◌≡◌, ◌+◌, ◌&&◌, ◌∷◌, ◌++◌, [], ℕ, None, ap, sym, refl, drop, if◌then◌else◌, append-nil, ◌∙◌}
-use Rattle.std.proofs.lemmas.List.{drop_all, drop_more}
+use Rattle.std.proofs.Common.{◌+◌, ◌∷◌, ◌++◌, [], None, ap, sym, refl, drop, if◌then◌else◌, append-nil, ◌∙◌}
+use Rattle.std.proofs.lemmas.List.{drop_more}
 use Rattle.tq_base.specs.Fragments.{at}
 use Rattle.tq_base.specs.Periods.{holds}
-use Rattle.tq_plan.specs.Rows.{keeps, kept, kept_in, option_holds}
+use Rattle.tq_plan.specs.Rows.{keeps, kept, option_holds}
 use Rattle.tq_plan.proofs.KeptLemmas.{at-pushed, kept_row, next_kept}
 use Rattle.tq_plan.proofs.rows.copied_rows.Goals as goal
 use Rattle.tq_plan.proofs.rows.copied_rows.Goals.{in-Some+in_ok-values+in_ok-push, in_default}
