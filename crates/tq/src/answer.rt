@@ -1,19 +1,22 @@
 // From the bytes of files and of a statement to the bytes of the answer.
 
-ghost use Rattle.std.specs.Prelude.{◌≡◌, ◌≢◌, ◌≤◌, Err, IfErr, IfOk, OnOk, length};
+ghost use Rattle.std.specs.Prelude.{◌≡◌, ◌≢◌, ◌≤◌, ℕ, Err, IfErr, IfOk, List, OnOk, length};
 ghost use Rattle.std.specs.Io.KnownBytes.{Appends};
-ghost use Rattle.tq_event.specs.History.{IsHistory};
+ghost use Rattle.tq_event.specs.declared.event.Event.{Event as AnyEvent};
+ghost use Rattle.tq_event.specs.Tables.{HoldsRows};
 ghost use Rattle.tq_table.specs.Sink.{AppendsPrefix, one_more};
 ghost use Rattle.tq_table.specs.Text.{text_of};
 ghost use Rattle.tq_table.specs.declared.table.Table.{Table as AnyTable};
 ghost use Rattle.tq.specs.Answers.{HasAnswer, IsFault, IsStatementFault};
 ghost use Rattle.tq_plan.specs.Answers.{IsAnswer};
+ghost use Rattle.tq_plan.specs.TableAnswers.{AreAllNumbers};
 
 use std::alloc::{AllocError, Global};
 use std::io::Write;
-use tq_event::laws::{loaded_is_history, loaded_is_within};
-use tq_event::{LoadFault, LoadFaultKind, Loaded, MAX_EVENTS, TableFile, load};
-use tq_plan::{PlanFault, answer_list, plan};
+use tq_event::laws::{loaded_is_history, tables_are_loaded};
+use tq_event::{LoadFault, LoadFaultKind, MAX_EVENTS, TableFile, Tables, load_tables};
+use tq_plan::laws::{numbers_are_held, tables_answer};
+use tq_plan::{PlanFault, answer_tables, plan};
 use tq_sql::{SqlFault, SqlFaultKind, Statement, read};
 use tq_table::{Sink, Table, WriteFault, write_table};
 
@@ -83,20 +86,20 @@ impl From<AllocError> for AnswerFault {
     }
 }
 
-// The answer of a statement over tables, as of all their events.
+// The answer of a statement over tables: that over any history of which they hold all.
 fn answer_statement(
     alloc: Global,
-    loaded: &Loaded,
+    tables: &Tables,
     statement: &Statement,
 ) -> Result<Table, AnswerFault>
-    requires few { length loaded.now.events ≤ 16777216 }
-    requires history { IsHistory loaded.now.catalogue loaded.now.events }
-    ensures answer { IfOk result (IsAnswer loaded.now.catalogue statement.now loaded.now.events (length loaded.now.events)) }
-    ensures fault { IfErr result (IsStatementFault loaded.now.catalogue statement.now) }
+    requires numbers { AreAllNumbers tables.now.rows }
+    ensures answer { (history : List AnyEvent) → ((table : ℕ) → HoldsRows tables.now.rows history (length history) table)
+        → IfOk result (IsAnswer tables.now.catalogue statement.now history (length history)) }
+    ensures fault { IfErr result (IsStatementFault tables.now.catalogue statement.now) }
 {
-    let plan = plan(alloc, &loaded.catalogue, statement)?;
-    let events = loaded.events.get();
-    let table = answer_list(alloc, events, events.len() as u32, &plan)?;
+    let plan = plan(alloc, &tables.catalogue, statement)?;
+    let table = answer_tables(alloc, tables.rows.get(), &plan)?;
+    tables_answer();
     Ok(table)
 }
 
@@ -105,11 +108,12 @@ pub fn answer(alloc: Global, files: &[TableFile], bytes: &[u8]) -> Result<Table,
     ensures answer { IfOk result (HasAnswer files.now bytes.now) }
     ensures fault { IfErr result (IsFault files.now bytes.now) }
 {
-    let loaded = load(alloc, files, MAX_EVENTS)?;
-    loaded_is_within();
+    let tables = load_tables(alloc, files, MAX_EVENTS)?;
+    tables_are_loaded();
     loaded_is_history();
+    numbers_are_held();
     let statement = read(alloc, bytes)?;
-    answer_statement(alloc, &loaded, &statement)
+    answer_statement(alloc, &tables, &statement)
 }
 
 /// Writes the text of the answer of the statement that the bytes make, over the tables of the files.
