@@ -6,7 +6,6 @@ use Rattle.std.proofs.lemmas.Bool.Decides.{nat_tests}
 use Rattle.std.specs.Prelude.{filter}
 use Rattle.std.proofs.lemmas.Bool.{false≢true}
 use Rattle.std.specs.Option.{is_some}
-use Rattle.tq_base.specs.declared.fragment.Fragment.{Fragment}
 use Rattle.tq_base.specs.Fragments.{at}
 use Rattle.tq_base.specs.declared.value.Value.{Value}
 use Rattle.tq_base.specs.declared.period.TheConstants.{FOREVER}
@@ -15,7 +14,6 @@ use Rattle.tq_event.specs.declared.event.Event.TheVariants.{Start, End}
 use Rattle.tq_event.specs.History.{Row as AnyRow, end_of, rows_from, time_of, valid_at}
 use Rattle.tq_plan.specs.declared.histories.Validity.{Validity}
 use Rattle.tq_base.specs.declared.period.Period.{Period}
-use Rattle.tq_base.specs.Periods.{holds}
 use Rattle.tq_agg.specs.Grouping.{Row}
 use Rattle.tq_plan.specs.Rows.{ended, open_at, option_holds, starts, taken, validity, with_end, with_some}
 use Rattle.tq_plan.proofs.KeptLemmas.{with_some-append}

@@ -1,15 +1,10 @@
 -- Evaluated rows, and the ordinary statement.
-use Rattle.std.proofs.Common.{◌≡◌, ℕ, ◌-◌, ◌&&◌, nat_le, nat_lt, Bool, true, false, if◌then◌else◌, List, [], ◌∷◌, Result, Ok, Err, IfOk, Option, Some, None, map, length, take, refl, sym, ap, ◌∙◌, arith}
-use Rattle.std.specs.Prelude.{filter}
+use Rattle.std.proofs.Common.{◌≡◌, ℕ, ◌-◌, Bool, true, false, if◌then◌else◌, List, [], ◌∷◌, Result, Ok, Err, IfOk, Some, None, map, refl, sym, ap, ◌∙◌, arith}
 use Rattle.std.specs.List.{list_any}
-use Rattle.std.proofs.lemmas.List.{take_all}
 use Rattle.tq_base.specs.declared.fragment.Fragment.{Fragment}
 use Rattle.tq_base.specs.declared.period.Period.{Period}
-use Rattle.tq_base.specs.Fragments.{at, copies, occurrences}
+use Rattle.tq_base.specs.Fragments.{copies, occurrences}
 use Rattle.tq_base.specs.Periods.{holds}
-use Rattle.tq_event.specs.declared.event.Event.{Event}
-use Rattle.tq_event.specs.History.{rows_from, valid_at}
-use Rattle.tq_event.specs.Tables.{HoldsRows, rows_in}
 use Rattle.tq_ops.specs.Conditions.{value_at}
 use Rattle.tq_ops.specs.Ordinary.{HasInside, IsEmptyOutside, projection, selection}
 use Rattle.tq_plan.specs.declared.plans.Output.{Output}
