@@ -2,12 +2,13 @@
 
 mod faults;
 mod loading;
+mod tables;
 
 use crate::{Event, LoadFault, Loaded, TableFile, load};
 use std::alloc::{AllocError, Global};
 use std::fmt::Write;
 use std::test::Fail;
-use tq_base::{Items, Value};
+use tq_base::{Fragment, Items, Value};
 
 const EMP: &[u8] = b"emp:int,name:text,dept:text,from,to
 1,ann,toys,10,20
@@ -28,6 +29,30 @@ fn load_one(alloc: Global, name: &[u8], bytes: &[u8]) -> Result<Loaded, LoadFaul
     load(alloc, &[file(alloc, name, bytes)?], 1000)
 }
 
+// The values, with a space before each.
+fn tell_values(line: &mut String, values: &[Value]) -> Result<(), Fail> {
+    for value in values {
+        match value {
+            Value::Int(number) => write!(line, " {number}")?,
+            Value::Text(text) => write!(line, " {}", text.get())?,
+        }
+    }
+    Ok(())
+}
+
+// A line for each row.
+fn told_rows(alloc: Global, rows: &[Fragment]) -> Result<String, Fail> {
+    let mut lines = String::new(alloc);
+    for row in rows {
+        write!(lines, "row:")?;
+        tell_values(&mut lines, row.values.get())?;
+        let start = row.period.start.number();
+        let end = row.period.end.number();
+        writeln!(lines, " from {start} to {end}")?;
+    }
+    Ok(lines)
+}
+
 // A line for each event.
 fn told(alloc: Global, events: &[Event]) -> Result<String, Fail> {
     let mut lines = String::new(alloc);
@@ -35,12 +60,7 @@ fn told(alloc: Global, events: &[Event]) -> Result<String, Fail> {
         match event {
             Event::Start { table, values, at } => {
                 write!(lines, "start {table}:")?;
-                for value in values.get() {
-                    match value {
-                        Value::Int(number) => write!(lines, " {number}")?,
-                        Value::Text(text) => write!(lines, " {}", text.get())?,
-                    }
-                }
+                tell_values(&mut lines, values.get())?;
                 writeln!(lines, " at {}", at.number())?;
             }
             Event::End { table, row, at } => {
