@@ -192,11 +192,11 @@ pub fn load_tables(alloc: Global, files: &[TableFile], limit: u32) -> Result<Tab
     ensures fault { IfErr result (λ fault. fault.kind ≢ LoadFaultKind.OutOfMemory → contents_of files.now limit ≡ Err fault) }
     ensures out_of_memory { IfErr result (λ fault. fault.kind ≡ LoadFaultKind.OutOfMemory → fault ≡ out_of_memory) }
 {
-    let (tables, entries) = read_files(alloc, files, limit)?;
-    let rows = rows_by_table(alloc, tables.len(), entries)?;
+    let (schemas, entries) = read_files(alloc, files, limit)?;
+    let rows = rows_by_table(alloc, schemas.len(), entries)?;
     Ok(Tables {
         catalogue: Catalogue {
-            tables: Items::of(tables),
+            tables: Items::of(schemas),
         },
         rows: Items::of(rows),
     })
