@@ -99,7 +99,13 @@ fn started(table: usize, event: &Event) -> Option<&Values>
             table: of,
             values,
             ..
-        } => { if *of as usize == table { Some(values) } else { None } }
+        } => {
+            if *of as usize == table {
+                Some(values)
+            } else {
+                None
+            }
+        }
         Event::End { .. } => None,
     }
 }

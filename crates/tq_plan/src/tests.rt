@@ -1,5 +1,9 @@
 // Statements over small catalogues, written out.
 
+ghost use Rattle.std.specs.Prelude.{IfOk};
+ghost use Rattle.tq_plan.specs.Running.{IsPlan};
+
+mod answers;
 mod faults;
 mod plans;
 mod windows;
@@ -37,7 +41,9 @@ fn catalogue_of(alloc: Global, tables: &[(&[u8], &[u8])]) -> Result<Catalogue, L
 }
 
 // The plan of a statement over these tables.
-fn planned(alloc: Global, tables: &[(&[u8], &[u8])], statement: &[u8]) -> Result<Plan, Fail> {
+fn planned(alloc: Global, tables: &[(&[u8], &[u8])], statement: &[u8]) -> Result<Plan, Fail>
+    ensures { IfOk result (λ plan. IsPlan plan) }
+{
     let catalogue = catalogue_of(alloc, tables)?;
     let statement = read(alloc, statement)?;
     Ok(plan(alloc, &catalogue, &statement)?)
