@@ -168,15 +168,6 @@ open_at-history events table t =
 
 -- ---- the rows once more, in the order of their starts
 
--- an event that starts no row of the table
-pub starts_none : (table next : ℕ) (event : Event) (events : List Event) → starts table event ≡ None → rows_from table next (event ∷ events) ≡ rows_from table next events
-starts_none table next (Start t values at) events none = by_table (t == table) none
-  where
-    by_table : (b : Bool) → (if b then Some values else None) ≡ None → (if b then record { number = next; values = values; from = at; to = end_of table next events } ∷ rows_from table (next + 1) events else rows_from table next events) ≡ rows_from table next events
-    by_table true none = absurd (false≢true (sym (ap (λ o. is_some o) none)))
-    by_table false none = refl
-starts_none table next (End t number at) events none = refl
-
 -- one that starts a row
 pub starts_some : (table next : ℕ) (event : Event) (events : List Event) (values : Row) → starts table event ≡ Some values
     → rows_from table next (event ∷ events) ≡ record { number = next; values = values; from = time_of event; to = end_of table next events } ∷ rows_from table (next + 1) events
