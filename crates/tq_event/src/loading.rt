@@ -184,8 +184,8 @@ pub fn load(alloc: Global, files: &[TableFile], limit: u32) -> Result<Loaded, Lo
     })
 }
 
-/// Loads files into their tables, each with the rows that its records tell, in their order. The files are refused just
-/// as `load` refuses them.
+/// Loads files into their tables, each with the rows that its records tell, in their order. The files
+/// are refused just as `load` refuses them.
 pub fn load_tables(alloc: Global, files: &[TableFile], limit: u32) -> Result<Tables, LoadFault>
     requires { limit ≤ MAX_EVENTS }
     ensures tables { IfOk result (AreTables files.now limit) }
