@@ -1,6 +1,6 @@
 -- Items of grouped and counted rows.
-use Rattle.std.proofs.Common.{◌≡◌, ℕ, suc, ◌+◌, ◌<◌, ◌==◌, ◌&&◌, ◌||◌, nat_lt, Bool, true, false, not, cond, List, [], ◌∷◌, ◌++◌, map, length, refl, sym, ap, ◌∙◌, arith}
-use Rattle.std.specs.Prelude.{filter, pos}
+use Rattle.std.proofs.Common.{◌≡◌, ℕ, suc, ◌+◌, ◌<◌, ◌==◌, ◌&&◌, ◌||◌, nat_lt, Bool, true, false, not, List, [], ◌∷◌, ◌++◌, map, length, refl, sym, ap, ◌∙◌, arith}
+use Rattle.std.specs.Prelude.{pos}
 use Rattle.std.specs.List.{list_all, list_any, position_or_len}
 use Rattle.std.proofs.lemmas.Bool.{false≢true, eqb-true, ltb-false}
 use Rattle.std.proofs.lemmas.List.{append_assoc, get_or-append-add, length-append, length-map}
@@ -10,7 +10,6 @@ use Rattle.tq_base.specs.declared.value.Value.TheVariants.{Int}
 use Rattle.tq_base.specs.declared.fragment.Fragment.{Fragment}
 use Rattle.tq_base.specs.declared.period.Period.{Period}
 use Rattle.tq_base.specs.Fragments.{at, occurrences}
-use Rattle.tq_base.specs.Periods.{holds}
 use Rattle.tq_ops.specs.Conditions.{value_at}
 use Rattle.tq_ops.specs.Ordinary.{HasInside, projection, selection}
 use Rattle.tq_agg.specs.Grouping.{Row, count_rows, first_row, group_row, grouped_by, grouped_rows, sum_at}
@@ -180,26 +179,6 @@ ordinary_counted query lists none counted stand = by_group query.group refl
     by_group (first ∷ more) is = absurd (false≢true (sym (ap no_group is) ∙ none))
 
 -- ---- fragments
-
--- one group more
-pub next_items : (places : List ℕ) (out : List Fragment) (f : Fragment) (values : List Value) (rest : List Fragment) (t : ℕ) → values ≡ projection places f.values
-    → at (out ++ record { values = values; period = f.period } ∷ []) t ++ map (projection places) (at rest t) ≡ at out t ++ map (projection places) (at (f ∷ rest) t)
-next_items places [] f values rest t is = by_time (holds f.period t)
-  where
-    by_time : (b : Bool) → map (λ (g : Fragment). g.values) (cond b (record { values = values; period = f.period } ∷ []) []) ++ map (projection places) (at rest t)
-        ≡ map (projection places) (map (λ (g : Fragment). g.values) (cond b (f ∷ filter (λ (g : Fragment). holds g.period t) rest) (filter (λ (g : Fragment). holds g.period t) rest)))
-    by_time true = ap (λ u. u ∷ map (projection places) (at rest t)) is
-    by_time false = refl
-next_items places (g ∷ out) f values rest t is = by_time (holds g.period t) (next_items places out f values rest t is)
-  where
-    more : List Fragment
-    more = out ++ record { values = values; period = f.period } ∷ []
-
-    by_time : (b : Bool) → at more t ++ map (projection places) (at rest t) ≡ at out t ++ map (projection places) (at (f ∷ rest) t)
-        → map (λ (h : Fragment). h.values) (cond b (g ∷ filter (λ (h : Fragment). holds h.period t) more) (filter (λ (h : Fragment). holds h.period t) more)) ++ map (projection places) (at rest t)
-        ≡ map (λ (h : Fragment). h.values) (cond b (g ∷ filter (λ (h : Fragment). holds h.period t) out) (filter (λ (h : Fragment). holds h.period t) out)) ++ map (projection places) (at (f ∷ rest) t)
-    by_time true later = ap (λ l. g.values ∷ l) later
-    by_time false later = later
 
 -- the items of groups of the rows that pass
 pub grouped_inside : (tables : List (List Fragment)) (query : QueryPlan) (window : Period) (passed found out : List Fragment) → no_group query.group ≡ false → items_stand query ≡ true

@@ -11,5 +11,6 @@ pub mod TableLemmas
 pub mod GroupBags
 pub mod GroupingLemmas
 pub mod HeldNumbers
+pub mod ItemLemmas
 pub mod NumberLemmas
 pub mod PlanLemmas

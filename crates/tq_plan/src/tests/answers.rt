@@ -81,6 +81,22 @@ fn statements_are_answered_over_tables_of_rows(rt: HostRuntime) -> Result<(), Fa
             b"count,sum,from,to\n1,2,15,25\n",
         ),
         (
+            b"VALIDTIME SELECT name, COUNT(*), SUM(id) FROM staff GROUP BY name",
+            b"name,count,sum,from,to\nann,1,1,10,30\nbob,1,2,15,25\n",
+        ),
+        (
+            b"VALIDTIME SELECT COUNT(*), name, SUM(id), name AS again FROM staff GROUP BY name",
+            b"count,name,sum,again,from,to\n1,ann,1,ann,10,30\n1,bob,2,bob,15,25\n",
+        ),
+        (
+            b"VALIDTIME SELECT name FROM staff GROUP BY name",
+            b"name,from,to\nann,10,30\nbob,15,25\n",
+        ),
+        (
+            b"VALIDTIME PERIOD '[12 - 28)' SELECT COUNT(*) FROM staff",
+            b"count,from,to\n1,12,15\n1,25,28\n2,15,25\n",
+        ),
+        (
             b"VALIDTIME SELECT name FROM staff EXCEPT ALL SELECT who FROM pay",
             b"name,from,to\nann,10,12\nbob,15,25\n",
         ),
