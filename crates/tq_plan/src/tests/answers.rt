@@ -8,6 +8,7 @@ ghost use Rattle.tq_plan.specs.TableAnswers.{AreAllNumbers};
 use super::planned;
 use crate::answer_tables;
 use std::alloc::Global;
+use std::process::Abort;
 use std::test::Fail;
 use tq_base::{Bound, FOREVER, Fragment, Instant, Items, Period, Text, Value, Values};
 use tq_table::table_text;
@@ -58,8 +59,11 @@ fn tables(alloc: Global, told: &[&[Told<'_>]]) -> Result<Vec<Items<Fragment>>, F
     Ok(tables)
 }
 
-#[test]
-fn statements_are_answered_over_tables_of_rows(rt: HostRuntime) -> Result<(), Fail> {
+// Sees that each statement over the tables `staff` and `pay` has its answer.
+fn assert_answered(
+    rt: &(impl Abort + AllocGlobal),
+    answers: &[(&[u8], &[u8])],
+) -> Result<(), Fail> {
     let tables = tables(
         rt.alloc(),
         &[
@@ -67,47 +71,64 @@ fn statements_are_answered_over_tables_of_rows(rt: HostRuntime) -> Result<(), Fa
             &[(7, "ann", 12, FOREVER)],
         ],
     )?;
-    for (statement, wanted) in [
-        (
-            b"VALIDTIME PERIOD '[0 - 22)' SELECT name FROM staff".as_slice(),
-            b"name,from,to\nann,10,22\nbob,15,22\n".as_slice(),
-        ),
-        (
-            b"VALIDTIME SELECT amount, name FROM staff, pay WHERE name = who",
-            b"amount,name,from,to\n7,ann,12,30\n",
-        ),
-        (
-            b"VALIDTIME SELECT COUNT(*), SUM(id) FROM staff WHERE id > 1 GROUP BY name",
-            b"count,sum,from,to\n1,2,15,25\n",
-        ),
-        (
-            b"VALIDTIME SELECT name, COUNT(*), SUM(id) FROM staff GROUP BY name",
-            b"name,count,sum,from,to\nann,1,1,10,30\nbob,1,2,15,25\n",
-        ),
-        (
-            b"VALIDTIME SELECT COUNT(*), name, SUM(id), name AS again FROM staff GROUP BY name",
-            b"count,name,sum,again,from,to\n1,ann,1,ann,10,30\n1,bob,2,bob,15,25\n",
-        ),
-        (
-            b"VALIDTIME SELECT name FROM staff GROUP BY name",
-            b"name,from,to\nann,10,30\nbob,15,25\n",
-        ),
-        (
-            b"VALIDTIME PERIOD '[12 - 28)' SELECT COUNT(*) FROM staff",
-            b"count,from,to\n1,12,15\n1,25,28\n2,15,25\n",
-        ),
-        (
-            b"VALIDTIME SELECT name FROM staff EXCEPT ALL SELECT who FROM pay",
-            b"name,from,to\nann,10,12\nbob,15,25\n",
-        ),
-    ] {
+    for (statement, wanted) in answers {
         let plan = planned(rt.alloc(), &[(b"staff", STAFF), (b"pay", PAY)], statement)?;
         let table = answer_tables(rt.alloc(), &tables, &plan)?;
         assert_eq!(rt;
             table_text(rt.alloc(), &table)?.as_slice(),
-            wanted,
+            *wanted,
             "{statement:?}"
         );
     }
     Ok(())
+}
+
+#[test]
+fn statements_are_answered_over_tables_of_rows(rt: HostRuntime) -> Result<(), Fail> {
+    assert_answered(
+        &rt,
+        &[
+            (
+                b"VALIDTIME PERIOD '[0 - 22)' SELECT name FROM staff",
+                b"name,from,to\nann,10,22\nbob,15,22\n",
+            ),
+            (
+                b"VALIDTIME SELECT amount, name FROM staff, pay WHERE name = who",
+                b"amount,name,from,to\n7,ann,12,30\n",
+            ),
+            (
+                b"VALIDTIME SELECT COUNT(*), SUM(id) FROM staff WHERE id > 1 GROUP BY name",
+                b"count,sum,from,to\n1,2,15,25\n",
+            ),
+            (
+                b"VALIDTIME SELECT name FROM staff EXCEPT ALL SELECT who FROM pay",
+                b"name,from,to\nann,10,12\nbob,15,25\n",
+            ),
+        ],
+    )
+}
+
+#[test]
+fn items_of_groups_stand_in_any_order(rt: HostRuntime) -> Result<(), Fail> {
+    assert_answered(
+        &rt,
+        &[
+            (
+                b"VALIDTIME SELECT name, COUNT(*), SUM(id) FROM staff GROUP BY name",
+                b"name,count,sum,from,to\nann,1,1,10,30\nbob,1,2,15,25\n",
+            ),
+            (
+                b"VALIDTIME PERIOD '[12 - 28)' SELECT COUNT(*) FROM staff",
+                b"count,from,to\n1,12,15\n1,25,28\n2,15,25\n",
+            ),
+            (
+                b"VALIDTIME SELECT name FROM staff GROUP BY name",
+                b"name,from,to\nann,10,30\nbob,15,25\n",
+            ),
+            (
+                b"VALIDTIME SELECT COUNT(*), name, SUM(id), name AS again FROM staff GROUP BY name",
+                b"count,name,sum,again,from,to\n1,ann,1,ann,10,30\n1,bob,2,bob,15,25\n",
+            ),
+        ],
+    )
 }
