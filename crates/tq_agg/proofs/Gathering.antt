@@ -23,22 +23,25 @@ module _ (window : Period) (t : ℕ) (inside : holds window t ≡ true) (w : Lis
   abbrev whole_weight : Fragment → ℤ
   whole_weight f = cond (holds f.period t) (w f.values) (pos 0)
 
-  overlaps : (f : Fragment) → cond (is_overlap f.period window) (cut_weight f) (pos 0) ≡ whole_weight f
-  overlaps f = cases (is_overlap f.period window) refl
+  cut_is_whole : (f : Fragment) → cut_weight f ≡ whole_weight f
+  cut_is_whole f = ap (λ b. cond (holds f.period t && b) (w f.values) (pos 0)) inside ∙ both (holds f.period t)
     where
       both : (h : Bool) → cond (h && true) (w f.values) (pos 0) ≡ cond h (w f.values) (pos 0)
       both true = refl
       both false = refl
 
-      same : cut_weight f ≡ whole_weight f
-      same = ap (λ b. cond (holds f.period t && b) (w f.values) (pos 0)) inside ∙ both (holds f.period t)
-
+  overlaps : (f : Fragment) → cond (is_overlap f.period window) (cut_weight f) (pos 0) ≡ whole_weight f
+  overlaps f = cases (is_overlap f.period window) refl
+    where
       cases : (b : Bool) → is_overlap f.period window ≡ b → cond b (cut_weight f) (pos 0) ≡ whole_weight f
-      cases true is = same
-      cases false is = sym (ap (λ b. cond b (w f.values) (pos 0)) (apart_at f.period.start f.period.end window.start window.end t is)) ∙ same
+      cases true is = cut_is_whole f
+      cases false is = sym (ap (λ b. cond b (w f.values) (pos 0)) (apart_at f.period.start f.period.end window.start window.end t is)) ∙ cut_is_whole f
 
   added-at : (fragments : List Fragment) → added w (at fragments t) ≡ added whole_weight fragments
   added-at fragments = added-map w (λ f. f.values) (filter (λ f. holds f.period t) fragments) ∙ added-filter (λ f. holds f.period t) (λ f. w f.values) fragments
+
+  pub all_add : (fragments : List Fragment) → added cut_weight fragments ≡ added w (at fragments t)
+  all_add fragments = added-same cut_weight whole_weight cut_is_whole fragments ∙ sym (added-at fragments)
 
   pub gathered_add : (fragments : List Fragment) (rows : List Ranked) → map (λ (r : Ranked). r.fragment.now) rows ≡ overlapping window fragments
       → added (λ (r : Ranked). cond (holds r.fragment.now.period t && holds window t) (w r.fragment.now.values) (pos 0)) rows ≡ added w (at fragments t)

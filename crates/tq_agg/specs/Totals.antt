@@ -5,6 +5,7 @@ use Rattle.std.specs.Ordering.{eq_by_cmp, int_eq}
 use Rattle.tq_base.specs.declared.value.Value.{Value}
 use Rattle.tq_base.specs.declared.value.Value.TheVariants.{Int}
 use Rattle.tq_base.specs.declared.period.Period.{Period}
+use Rattle.tq_base.specs.declared.fragment.Fragment.{Fragment}
 use Rattle.tq_base.specs.ValueOrder.{values_cmp}
 use Rattle.tq_base.specs.Periods.{holds}
 use Rattle.tq_ops.specs.Conditions.{value_at}
@@ -42,20 +43,28 @@ total_upto s changes t = added (λ c. cond (nat_le c.at t) (change_weight s c) (
 abbrev pub totals_upto : List Summand → List Change → ℕ → List ℤ
 totals_upto summands changes t = map (λ s. total_upto s changes t) summands
 
+-- what the row adds where it is valid at the instant, inside the window, else 0
+abbrev pub held_weight : Summand → Period → ℕ → Fragment → ℤ
+held_weight s window t row = cond (holds row.period t && holds window t) (weight_of s row.values) (pos 0)
+
 -- what the rows valid at the instant, inside the window, add
 abbrev pub total_held : Summand → Period → List Ranked → ℕ → ℤ
-total_held s window rows t = added (λ r. cond (holds r.fragment.now.period t && holds window t) (weight_of s r.fragment.now.values) (pos 0)) rows
+total_held s window rows t = added (λ r. held_weight s window t r.fragment.now) rows
 
 abbrev pub totals_held : List Summand → Period → List Ranked → ℕ → List ℤ
 totals_held summands window rows t = map (λ s. total_held s window rows t) summands
 
--- each row adds a number of 64 signed bits
+-- the row adds a number of 64 signed bits
+abbrev pub IsSmall : Summand → Fragment → Type 0
+IsSmall s row = FitsSigned w64 (weight_of s row.values)
+
+-- each row adds one
 abbrev pub HaveSmall : Summand → List Ranked → Type 0
-HaveSmall s rows = All (λ r. FitsSigned w64 (weight_of s r.fragment.now.values)) rows
+HaveSmall s rows = All (λ r. IsSmall s r.fragment.now) rows
 
 -- the row of each change adds one
 abbrev pub AreSmall : Summand → List Change → Type 0
-AreSmall s changes = All (λ c. FitsSigned w64 (weight_of s c.row.now.values)) changes
+AreSmall s changes = All (λ c. IsSmall s c.row.now) changes
 
 -- no change comes before the window's start or after its end
 abbrev pub AreWithin : Period → List Change → Type 0

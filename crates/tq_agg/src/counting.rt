@@ -10,7 +10,7 @@ ghost use Rattle.tq_agg.specs.Grouping.{AreSummable, count_rows, grouped_rows};
 ghost use Rattle.tq_agg.specs.Keys.{AreOfKey};
 ghost use Rattle.tq_agg.specs.Totals.{shown_copies, totals_held, HaveSmall};
 
-use crate::changes::{Change, changes_of};
+use crate::changes::{Change, all_changes_of, changes_of};
 use crate::groups::{compare_rows, gathered, group_len};
 use crate::rows::Ranked;
 use crate::summands::{Summand, summands_of};
@@ -86,8 +86,7 @@ pub fn count_all(
     ensures inside { IfOk result (λ out. HasInside window.now out.items (λ t v. occurrences (count_rows (at rows.now t)) v)) }
     ensures outside { IfOk result (λ out. IsEmptyOutside window.now out.items) }
 {
-    let ranked = gathered(alloc, rows, window, &[])?;
-    let changes = changes_of(Vec::new(alloc), &ranked, window)?;
+    let changes = all_changes_of(alloc, rows, window)?;
     let head = Head {
         row: &[],
         keys: &[],

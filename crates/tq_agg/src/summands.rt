@@ -5,7 +5,7 @@ ghost use Rattle.tq_agg.specs.declared.summands.Summand.TheVariants.{Column, One
 ghost use Rattle.tq_agg.specs.Totals.{weight_of};
 
 use std::alloc::{AllocError, Global};
-use tq_base::Value;
+use tq_base::{Fragment, Value};
 
 // What each row adds to a total: 1, or the number in the column, which is 0 for a text and where the row
 // has no such column.
@@ -15,15 +15,15 @@ pub(crate) enum Summand {
     Column(u32),
 }
 
-// What a row of these values adds.
-pub(crate) fn weight(summand: Summand, values: &[Value]) -> i128
-    ensures { result ≡ weight_of summand values.now }
+// What the row adds. Where it is counted alone its values are not looked at.
+pub(crate) fn weight(summand: Summand, row: &Fragment) -> i128
+    ensures { result ≡ weight_of summand row.now.values }
 {
     let column = match summand {
         Summand::One => return 1,
         Summand::Column(column) => column,
     };
-    match values.get(column as usize) {
+    match row.values.get().get(column as usize) {
         Some(Value::Int(number)) => *number,
         Some(Value::Text(_)) | None => 0,
     }

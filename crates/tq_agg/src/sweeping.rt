@@ -33,7 +33,7 @@ fn net(summand: Summand, changes: &[Change<'_>]) -> i128
 {
     let mut total: i128 = 0;
     'changes: for change in changes {
-        let number = weight(summand, change.row.values.get());
+        let number = weight(summand, change.row);
         if change.rises {
             total += number;
         } else {

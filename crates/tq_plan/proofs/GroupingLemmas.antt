@@ -1,6 +1,6 @@
 -- Items of grouped and counted rows.
 use Rattle.std.proofs.Common.{◌≡◌, ℕ, suc, ◌+◌, ◌<◌, ◌==◌, ◌&&◌, ◌||◌, nat_lt, Bool, true, false, not, List, [], ◌∷◌, ◌++◌, map, length, refl, sym, ap, ◌∙◌, arith}
-use Rattle.std.specs.Prelude.{pos}
+use Rattle.std.specs.Prelude.{IsTrue, pos}
 use Rattle.std.specs.List.{list_all, list_any, position_or_len}
 use Rattle.std.proofs.lemmas.Bool.{false≢true, eqb-true, ltb-false}
 use Rattle.std.proofs.lemmas.List.{append_assoc, get_or-append-add, length-append, length-map}
@@ -10,6 +10,7 @@ use Rattle.tq_base.specs.declared.value.Value.TheVariants.{Int}
 use Rattle.tq_base.specs.declared.fragment.Fragment.{Fragment}
 use Rattle.tq_base.specs.declared.period.Period.{Period}
 use Rattle.tq_base.specs.Fragments.{at, occurrences}
+use Rattle.tq_base.specs.Periods.{holds}
 use Rattle.tq_ops.specs.Conditions.{value_at}
 use Rattle.tq_ops.specs.Ordinary.{HasInside, projection, selection}
 use Rattle.tq_agg.specs.Grouping.{Row, count_rows, first_row, group_row, grouped_by, grouped_rows, sum_at}
@@ -181,31 +182,31 @@ ordinary_counted query lists none counted stand = by_group query.group refl
 -- ---- fragments
 
 -- the items of groups of the rows that pass
-pub grouped_inside : (tables : List (List Fragment)) (query : QueryPlan) (window : Period) (passed found out : List Fragment) → no_group query.group ≡ false → items_stand query ≡ true
+pub grouped_inside : (tables : List (List Fragment)) (query : QueryPlan) (window : Period) (passed out : List Fragment) → no_group query.group ≡ false → items_stand query ≡ true
     → HasInside window passed (λ t v. occurrences (selection query.test (product_of (lists_in tables t query.tables))) v)
-    → HasInside window found (λ t v. occurrences (grouped_rows query.group (summed_places query.outputs) (at passed t)) v)
-    → ((t : ℕ) → at out t ≡ map (projection (item_places query.group (length query.group + 1) query.outputs)) (at found t))
+    → HasInside window out (λ t v. occurrences (map (projection (item_places query.group (length query.group + 1) query.outputs)) (grouped_rows query.group (summed_places query.outputs) (at passed t))) v)
     → HasInside window out (λ t v. times_among tables query v t)
-grouped_inside tables query window passed found out some stand on_passed on_found each t v inside =
+grouped_inside tables query window passed out some stand on_passed on_out t v inside =
     let places = item_places query.group (length query.group + 1) query.outputs in
     let lists = lists_in tables t query.tables in
     let rows = selection query.test (product_of lists) in
     let sums = summed_places query.outputs in
-    ap (λ l. occurrences l v) (each t)
-    ∙ same_mapped (projection places) (at found t) (grouped_rows query.group sums rows) (λ u. on_found t u inside ∙ same_groups query.group sums (at passed t) rows (λ w. on_passed t w inside) u) v
+    on_out t v inside
+    ∙ same_mapped (projection places) (grouped_rows query.group sums (at passed t)) (grouped_rows query.group sums rows) (same_groups query.group sums (at passed t) rows (λ w. on_passed t w inside)) v
     ∙ ap (λ l. occurrences l v) (ordinary_grouped query lists some stand)
 
--- the items of the count of the rows that pass
-pub counted_inside : (tables : List (List Fragment)) (query : QueryPlan) (window : Period) (places : List ℕ) (passed found out : List Fragment) → no_group query.group ≡ true → list_any is_aggregate query.outputs ≡ true → items_stand query ≡ true
-    → HasInside window passed (λ t v. occurrences (map (projection places) (selection query.test (product_of (lists_in tables t query.tables)))) v)
-    → HasInside window found (λ t v. occurrences (count_rows (at passed t)) v)
-    → ((t : ℕ) → at out t ≡ map (projection (item_places query.group (length query.group + 1) query.outputs)) (at found t))
+-- the items of the count of as many rows as pass
+pub counted_inside : (tables : List (List Fragment)) (query : QueryPlan) (window : Period) (counted out : List Fragment) → no_group query.group ≡ true → list_any is_aggregate query.outputs ≡ true → items_stand query ≡ true
+    → ((t : ℕ) → IsTrue (holds window t) → length (at counted t) ≡ length (selection query.test (product_of (lists_in tables t query.tables))))
+    → HasInside window out (λ t v. occurrences (map (projection (item_places query.group (length query.group + 1) query.outputs)) (count_rows (at counted t))) v)
     → HasInside window out (λ t v. times_among tables query v t)
-counted_inside tables query window places passed found out none counted stand on_passed on_found each t v inside =
+counted_inside tables query window counted out none aggregate stand as_many on_out t v inside =
     let shown = item_places query.group (length query.group + 1) query.outputs in
     let lists = lists_in tables t query.tables in
-    let rows = selection query.test (product_of lists) in
-    let as_many = same_lengths (at passed t) (map (projection places) rows) (λ w. on_passed t w inside) ∙ length-map rows (projection places) in
-    ap (λ l. occurrences l v) (each t)
-    ∙ same_mapped (projection shown) (at found t) (count_rows rows) (λ u. on_found t u inside ∙ ap (λ n. occurrences ((Int (pos n) ∷ []) ∷ []) u) as_many) v
-    ∙ ap (λ l. occurrences l v) (ordinary_counted query lists none counted stand)
+    on_out t v inside
+    ∙ ap (λ n. occurrences (map (projection shown) ((Int (pos n) ∷ []) ∷ [])) v) (as_many t inside)
+    ∙ ap (λ l. occurrences l v) (ordinary_counted query lists none aggregate stand)
+
+-- as many rows as pass are shown
+pub as_many_shown : (places : List ℕ) (shown rows : List Row) → ((v : Row) → occurrences shown v ≡ occurrences (map (projection places) rows) v) → length shown ≡ length rows
+as_many_shown places shown rows same = same_lengths shown (map (projection places) rows) same ∙ length-map rows (projection places)

@@ -104,16 +104,11 @@ stands (f ∷ out) (suc k) d less = by_first (holds f.period (get_or out k d).pe
     by_first false some = some
 
 -- what holds of all rows valid at some instant holds of each fragment
-pub fragments_have : (window : Period) (out : List Fragment) (rows : ℕ → List Row) → HasInside window out (λ t v. occurrences (rows t) v) → IsEmptyOutside window out
-    → ((t : ℕ) → All AreNumbers (rows t)) → All (λ (f : Fragment). AreNumbers f.values) out
-fragments_have window out rows inside outside all k d less = by_window (holds window f.period.start) refl
-  where
-    f : Fragment
-    f = get_or out k d
-
-    by_window : (b : Bool) → holds window f.period.start ≡ b → AreNumbers f.values
-    by_window true is = in_both (rows f.period.start) (at out f.period.start) f.values (inside f.period.start f.values is) (stands out k d less) (all f.period.start)
-    by_window false is = absurd (omega (arith, stands out k d less, ap (λ l. occurrences l f.values) (outside f.period.start is)))
+fragments_have : (out : List Fragment) (rows : ℕ → List Row) → ((t : ℕ) (v : Row) → occurrences (at out t) v ≡ occurrences (rows t) v) → ((t : ℕ) → All AreNumbers (rows t))
+    → All (λ (f : Fragment). AreNumbers f.values) out
+fragments_have out rows same all k d less =
+    let f : Fragment = get_or out k d in
+    in_both (rows f.period.start) (at out f.period.start) f.values (same f.period.start f.values) (stands out k d less) (all f.period.start)
 
 zero_fits : FitsSigned w64 (pos 0)
 zero_fits = fits_signed_from_abs w64 (pos 0) (omega arith)
@@ -127,11 +122,33 @@ summable : (places : List ℕ) (row : Row) → AreNumbers row → AreSummable pl
 summable [] row all = none_of (λ place. IsNumber (value_at row place))
 summable (place ∷ places) row all = All-cons (λ p. IsNumber (value_at row p)) place places (number_at row place all) (summable places row all)
 
+fragments_sum : (places : List ℕ) (out : List Fragment) → All (λ (f : Fragment). AreNumbers f.values) out → All (λ (f : Fragment). AreSummable places f.values) out
+fragments_sum places out = All-weaker (λ (f : Fragment). AreNumbers f.values) (λ (f : Fragment). AreSummable places f.values) (λ f is. summable places f.values is) out
+
+passing_have : (tables : List (List Fragment)) (t : ℕ) (numbers : List ℕ) (test : Option Test) → AreAllNumbers tables → All AreNumbers (selection test (product_of (lists_in tables t numbers)))
+passing_have tables t numbers test all = All-filter (admits test) AreNumbers (product_of (lists_in tables t numbers)) (products_have tables t numbers all)
+
 -- the values of the rows that pass can be summed
+pub whole_sums : (tables : List (List Fragment)) (numbers : List ℕ) (test : Option Test) (places : List ℕ) (out : List Fragment)
+    → ((t : ℕ) (v : Row) → occurrences (at out t) v ≡ occurrences (selection test (product_of (lists_in tables t numbers))) v)
+    → AreAllNumbers tables → All (λ (f : Fragment). AreSummable places f.values) out
+whole_sums tables numbers test places out same all =
+    fragments_sum places out (fragments_have out (λ t. selection test (product_of (lists_in tables t numbers))) same (λ t. passing_have tables t numbers test all))
+
+-- and of those in a window
 pub passing_sums : (tables : List (List Fragment)) (window : Period) (numbers : List ℕ) (test : Option Test) (places : List ℕ) (out : List Fragment)
     → HasInside window out (λ t v. occurrences (selection test (product_of (lists_in tables t numbers))) v) → IsEmptyOutside window out
     → AreAllNumbers tables → All (λ (f : Fragment). AreSummable places f.values) out
 passing_sums tables window numbers test places out inside outside all =
-    All-weaker (λ (f : Fragment). AreNumbers f.values) (λ (f : Fragment). AreSummable places f.values) (λ f is. summable places f.values is) out
-    (fragments_have window out (λ t. selection test (product_of (lists_in tables t numbers))) inside outside
-    (λ t. All-filter (admits test) AreNumbers (product_of (lists_in tables t numbers)) (products_have tables t numbers all)))
+    fragments_sum places out (fragments_have out (λ t. within (holds window t) t) (λ t v. same t v (holds window t) refl) (λ t. have t (holds window t)))
+  where
+    within : Bool → ℕ → List Row
+    within b t = cond b (selection test (product_of (lists_in tables t numbers))) []
+
+    same : (t : ℕ) (v : Row) (b : Bool) → holds window t ≡ b → occurrences (at out t) v ≡ occurrences (within b t) v
+    same t v true is = inside t v is
+    same t v false is = ap (λ l. occurrences l v) (outside t is)
+
+    have : (t : ℕ) (b : Bool) → All AreNumbers (within b t)
+    have t true = passing_have tables t numbers test all
+    have t false = none_of AreNumbers

@@ -1,3 +1,4 @@
+pub mod Apart
 pub mod Ranks
 pub mod Sink
 pub mod Text

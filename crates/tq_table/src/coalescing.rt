@@ -6,10 +6,11 @@ ghost use Rattle.tq_base.specs.declared.value.Value.{Value};
 ghost use Rattle.tq_base.specs.Fragments.{copies};
 ghost use Rattle.tq_base.specs.Layers.{IsLayers};
 ghost use Rattle.tq_base.specs.Layering.{AddsLayers};
-ghost use Rattle.tq_table.specs.Ranks.{row_rank};
+ghost use Rattle.tq_table.specs.Apart.{AreApart};
+ghost use Rattle.tq_table.specs.Ranks.{IsRankOf};
 
 use crate::layering::layered;
-use crate::ranking::{Ranked, in_order};
+use crate::ranking::{Ordered, Ranked, in_order};
 use std::alloc::{AllocError, Global};
 use tq_base::{Fragment, Period};
 
@@ -21,15 +22,18 @@ fn periods_of(alloc: Global, rows: &[Fragment]) -> Result<Vec<Period>, AllocErro
 }
 
 // Whether the row has other values than the rows of the group, which are alike and of the rank.
-fn begins_group(group: &[Fragment], rank: u128, next: &Ranked) -> bool
-    requires { next.now.rank ≡ row_rank next.now.row.values }
-    ensures yes { OnTrue result ((v : List Value) → All (λ f. f.values ≡ v) group.now → rank ≡ row_rank v
+fn begins_group(group: &[Fragment], rank: u128, told: bool, next: &Ranked) -> bool
+    requires { IsRankOf told next.now.rank next.now.row.values }
+    ensures yes { OnTrue result ((v : List Value) → All (λ f. f.values ≡ v) group.now → IsRankOf told rank v
         → next.now.row.values ≢ v) }
-    ensures no { OnFalse result ((v : List Value) → All (λ f. f.values ≡ v) group.now
+    ensures no { OnFalse result ((v : List Value) → All (λ f. f.values ≡ v) group.now → IsRankOf told rank v
         → All (λ f. f.values ≡ next.now.row.values) group.now) }
 {
     if next.rank != rank {
         return true;
+    }
+    if told {
+        return false;
     }
     match group.first() {
         Some(first) => first.values != next.row.values,
@@ -37,7 +41,14 @@ fn begins_group(group: &[Fragment], rank: u128, next: &Ranked) -> bool
     }
 }
 
-// Moves a group of rows that are alike into the table, as its layers. One row is its own layer.
+// Whether each row ends before the next one begins: then they are their own layers.
+fn stand_apart(rows: &[Fragment]) -> bool
+    ensures { OnTrue result (AreApart rows.now) }
+{
+    rows.is_sorted_by(|one, next| one.period.end.number() < next.period.start.number())
+}
+
+// Moves a group of rows that are alike into the table, as its layers.
 fn add_layers(
     alloc: Global,
     group: &mut Vec<Fragment>,
@@ -47,7 +58,7 @@ fn add_layers(
         → AddsLayers v group.old.items table.old.items table.new.items) }
     ensures emptied { OnOk result (group.new.items ≡ []) }
 {
-    if group.len() <= 1 {
+    if stand_apart(group) {
         return table.append(group);
     }
     let periods = periods_of(alloc, group)?;
@@ -74,12 +85,12 @@ fn add_layers(
 pub fn coalesce(alloc: Global, rows: Vec<Fragment>) -> Result<Vec<Fragment>, AllocError>
     ensures { IfOk result (λ table. IsLayers (copies rows.items) table.items) }
 {
-    let rows = in_order(alloc, rows)?;
+    let Ordered { told, rows } = in_order(alloc, rows)?;
     let mut table = Vec::new(alloc);
     let mut group = Vec::new(alloc);
     let mut rank = 0;
     'rows: for next in rows {
-        if begins_group(&group, rank, &next) {
+        if begins_group(&group, rank, told, &next) {
             add_layers(alloc, &mut group, &mut table)?;
         }
         rank = next.rank;

@@ -1,12 +1,16 @@
 // The rank of a row is that of its first value, so that most rows are told apart by numbers alone, which
-// lie beside each other in memory.
+// lie beside each other in memory. Where each row is one value that its rank tells wholly, all are.
 
-ghost use Rattle.std.specs.Prelude.{◌≡◌, IfOk, IsPermutation, map};
-ghost use Rattle.tq_table.specs.Ranks.{by_rank_cmp, row_rank, AreRanked, BeginsWithBytes, Rises};
+ghost use Rattle.std.specs.Prelude.{◌≡◌, All, IfOk, IsPermutation, IsSorted, map, true};
+ghost use Rattle.std.specs.Bool.{OnTrue};
+ghost use Rattle.tq_table.specs.Ranks.{by_rank_cmp, is_told, row_rank, AreRanked, BeginsWithBytes, Rises};
 
 use std::alloc::{AllocError, Global};
 use std::cmp::Ordering;
-use tq_base::{Fragment, rank_of};
+use tq_base::{Fragment, is_exact, rank_of};
+
+// How long runs have to be on average to be long.
+const LONG_RUN: usize = 1024;
 
 // The rank of the first value, 0 where there is none: a row of a lower rank is of lower values.
 fn row_rank(row: &Fragment) -> u128
@@ -26,20 +30,39 @@ pub struct Ranked {
     pub row: Fragment,
 }
 
-// By the ranks, and where these are equal by the values.
-fn by_rank(one: &Ranked, other: &Ranked) -> Ordering
-    ensures { result ≡ by_rank_cmp one.now other.now }
+// Whether the rank tells the values wholly: there is none, or one that its rank tells.
+fn is_told(row: &Fragment) -> bool
+    ensures { result ≡ is_told row.now.values }
+{
+    match row.values.get() {
+        [] => true,
+        [value] => is_exact(value),
+        _ => false,
+    }
+}
+
+// Whether the rank of each row tells its values wholly.
+fn are_told(rows: &[Fragment]) -> bool
+    ensures { OnTrue result (All (λ row. is_told row.values ≡ true) rows.now) }
+{
+    rows.iter().all(|row| is_told(row))
+}
+
+// By the ranks, and where these are equal, and do not tell all, by the values.
+fn by_rank(told: bool, one: &Ranked, other: &Ranked) -> Ordering
+    ensures { result ≡ by_rank_cmp told one.now other.now }
 {
     match one.rank.cmp(&other.rank) {
-        Ordering::Equal => one.row.values.compare(&other.row.values),
-        unequal => unequal,
+        Ordering::Equal if !told => one.row.values.compare(&other.row.values),
+        order => order,
     }
 }
 
 // The rows with their ranks.
-fn with_ranks(alloc: Global, rows: Vec<Fragment>) -> Result<Vec<Ranked>, AllocError>
+fn with_ranks(alloc: Global, rows: Vec<Fragment>, told: bool) -> Result<Vec<Ranked>, AllocError>
+    requires { told ≡ true → All (λ row. is_told row.values ≡ true) rows.items }
     ensures rows { IfOk result (λ ranked. map (λ r. r.row) ranked.items ≡ rows.items) }
-    ensures ranks { IfOk result (λ ranked. AreRanked ranked.items) }
+    ensures ranks { IfOk result (λ ranked. AreRanked told ranked.items) }
 {
     let mut ranked = Vec::with_capacity(alloc, rows.len())?;
     'rows: for row in rows {
@@ -49,13 +72,51 @@ fn with_ranks(alloc: Global, rows: Vec<Fragment>) -> Result<Vec<Ranked>, AllocEr
     Ok(ranked)
 }
 
-/// The rows in the order of their values, each with its rank. `AllocError` where a growth was refused.
-pub fn in_order(alloc: Global, rows: Vec<Fragment>) -> Result<Vec<Ranked>, AllocError>
-    ensures same { IfOk result (λ sorted. IsPermutation rows.items (map (λ r. r.row) sorted.items)) }
-    ensures rising { IfOk result (λ sorted. Rises (map (λ r. r.row) sorted.items)) }
-    ensures ranks { IfOk result (λ sorted. AreRanked sorted.items) }
+// Whether the ranks rise and fall in long runs: as counts do over a time in which rows come and then go.
+fn are_long_runs(rows: &[Ranked]) -> bool {
+    let mut turns_left = rows.len() / LONG_RUN;
+    let mut rises = true;
+    let mut rank = 0;
+    'rows: for row in rows {
+        if (rank <= row.rank) != rises {
+            if turns_left == 0 {
+                return false;
+            }
+            turns_left -= 1;
+            rises = !rises;
+        }
+        rank = row.rank;
+    }
+    true
+}
+
+// The rows by their ranks. A stable sort takes runs as they stand, and is slower where there are none.
+fn by_ranks(mut rows: Vec<Ranked>, told: bool) -> Result<Vec<Ranked>, AllocError>
+    ensures same { IfOk result (λ sorted. IsPermutation rows.items sorted.items) }
+    ensures order { IfOk result (λ sorted. IsSorted (by_rank_cmp told) sorted.items) }
 {
-    let mut rows = with_ranks(alloc, rows)?;
-    rows.sort_unstable_by(|one, other| by_rank(one, other));
+    if are_long_runs(&rows) {
+        rows.sort_by(|one, other| by_rank(told, one, other))?;
+    } else {
+        rows.sort_unstable_by(|one, other| by_rank(told, one, other));
+    }
     Ok(rows)
+}
+
+/// Rows in the order of their values, each with its rank, and whether all ranks tell the values wholly.
+#[derive(Drop)]
+pub struct Ordered {
+    pub told: bool,
+    pub rows: Vec<Ranked>,
+}
+
+/// The rows in the order of their values, each with its rank. `AllocError` where a growth was refused.
+pub fn in_order(alloc: Global, rows: Vec<Fragment>) -> Result<Ordered, AllocError>
+    ensures same { IfOk result (λ sorted. IsPermutation rows.items (map (λ r. r.row) sorted.rows.items)) }
+    ensures rising { IfOk result (λ sorted. Rises (map (λ r. r.row) sorted.rows.items)) }
+    ensures ranks { IfOk result (λ sorted. AreRanked sorted.told sorted.rows.items) }
+{
+    let told = are_told(&rows);
+    let rows = by_ranks(with_ranks(alloc, rows, told)?, told)?;
+    Ok(Ordered { told, rows })
 }

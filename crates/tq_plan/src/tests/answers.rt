@@ -132,3 +132,28 @@ fn items_of_groups_stand_in_any_order(rt: HostRuntime) -> Result<(), Fail> {
         ],
     )
 }
+
+#[test]
+fn a_window_cuts_what_is_grouped_and_counted(rt: HostRuntime) -> Result<(), Fail> {
+    assert_answered(
+        &rt,
+        &[
+            (
+                b"VALIDTIME PERIOD '[12 - 22)' SELECT name, COUNT(*), SUM(id) FROM staff GROUP BY name",
+                b"name,count,sum,from,to\nann,1,1,12,22\nbob,1,2,15,22\n",
+            ),
+            (
+                b"VALIDTIME PERIOD '[26 - 40)' SELECT name FROM staff GROUP BY name",
+                b"name,from,to\nann,26,30\n",
+            ),
+            (
+                b"VALIDTIME PERIOD '[26 - 40)' SELECT COUNT(*) FROM staff",
+                b"count,from,to\n0,30,40\n1,26,30\n",
+            ),
+            (
+                b"VALIDTIME PERIOD '[12 - 28)' SELECT COUNT(*) FROM staff WHERE id > 1",
+                b"count,from,to\n0,12,15\n0,25,28\n1,15,25\n",
+            ),
+        ],
+    )
+}

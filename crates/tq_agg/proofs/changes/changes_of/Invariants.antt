@@ -6,7 +6,7 @@ use Rattle.tq_agg.proofs.changes.changes_of.Given as goal
 
 abbrev pub invariant-rows : goal.invariant-rows
 invariant-rows l = record {
-  totals : (s : Summand) (t : ℕ) → total_upto s l.room.items t ≡ total_held s l.window (take l.row-index l.rows) t;
-  within : AreWithin l.window l.room.items;
-  small : (s : Summand) → HaveSmall s l.rows → AreSmall s l.room.items;
+  totals : (s : Summand) (t : ℕ) → total_upto s l.changes.items t ≡ total_held s l.window (take l.row-index l.rows) t;
+  within : AreWithin l.window l.changes.items;
+  small : (s : Summand) → HaveSmall s l.rows → AreSmall s l.changes.items;
 }

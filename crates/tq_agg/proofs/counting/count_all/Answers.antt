@@ -1,4 +1,4 @@
-use Rattle.std.proofs.Common.{◌≡◌, ℕ, ◌+◌, ℤ, pos, Bool, true, false, cond, List, [], ◌∷◌, map, length, refl, ap, ◌∙◌, arith}
+use Rattle.std.proofs.Common.{◌≡◌, ℕ, ◌+◌, ℤ, pos, Bool, true, false, cond, List, [], ◌∷◌, length, refl, ap, ◌∙◌, arith}
 use Rattle.std.specs.Ordering.{eq_by_cmp}
 use Rattle.tq_base.specs.declared.value.Value.{Value}
 use Rattle.tq_base.specs.declared.value.Value.TheVariants.{Int}
@@ -7,30 +7,27 @@ use Rattle.tq_base.specs.declared.fragment.Fragment.{Fragment}
 use Rattle.tq_base.specs.ValueOrder.{values_cmp}
 use Rattle.tq_base.specs.Periods.{holds}
 use Rattle.tq_base.specs.Fragments.{at, copies, occurrences}
-use Rattle.tq_ops.specs.Sides.{overlapping}
 use Rattle.tq_agg.specs.declared.summands.Summand.TheVariants.{One}
-use Rattle.tq_agg.specs.declared.rows.Ranked.{Ranked}
 use Rattle.tq_agg.specs.Grouping.{count_rows}
-use Rattle.tq_agg.specs.Totals.{total_held, total_upto, weight_of}
+use Rattle.tq_agg.specs.Totals.{added, held_weight, total_upto, weight_of}
 use Rattle.tq_agg.proofs.Instants.{inside_from_counts, one_if, outside_from_counts}
-use Rattle.tq_agg.proofs.Gathering.{gathered_add, added-ones}
+use Rattle.tq_agg.proofs.Gathering.{all_add, added-ones}
 use Rattle.tq_agg.proofs.counting.count_all.Goals as goal
 
-module _ (window : Period) (rows : List Fragment) (ranked : List Ranked) (are : map (λ (r : Ranked). r.fragment.now) ranked ≡ overlapping window rows) where
-  counted_rows : (t : ℕ) (v : List Value) (total : ℤ) (old new : ℕ) → total ≡ total_held One window ranked t → old ≡ 0
-      → new ≡ old + cond (holds window t) (one_if (eq_by_cmp values_cmp (Int total ∷ []) v)) 0 → new ≡ cond (holds window t) (occurrences (count_rows (at rows t)) v) 0
-  counted_rows t v total old new is none more = split (holds window t) refl
-    where
-      split : (b : Bool) → holds window t ≡ b → new ≡ cond b (occurrences (count_rows (at rows t)) v) 0
-      split true inside =
-          let all : total ≡ pos (length (at rows t)) = is ∙ gathered_add window t inside (weight_of One) rows ranked are ∙ added-ones (at rows t) in
-          omega (arith, more, none, ap (λ b. cond b (one_if (eq_by_cmp values_cmp (Int total ∷ []) v)) 0) inside, ap (λ n. one_if (eq_by_cmp values_cmp (Int n ∷ []) v)) all)
-      split false outside = omega (arith, more, none, ap (λ b. cond b (one_if (eq_by_cmp values_cmp (Int total ∷ []) v)) 0) outside)
+counted_rows : (window : Period) (rows : List Fragment) (t : ℕ) (v : List Value) (total : ℤ) (old new : ℕ) → total ≡ added (held_weight One window t) rows → old ≡ 0
+    → new ≡ old + cond (holds window t) (one_if (eq_by_cmp values_cmp (Int total ∷ []) v)) 0 → new ≡ cond (holds window t) (occurrences (count_rows (at rows t)) v) 0
+counted_rows window rows t v total old new is none more = split (holds window t) refl
+  where
+    split : (b : Bool) → holds window t ≡ b → new ≡ cond b (occurrences (count_rows (at rows t)) v) 0
+    split true inside =
+        let all : total ≡ pos (length (at rows t)) = is ∙ all_add window t inside (weight_of One) rows ∙ added-ones (at rows t) in
+        omega (arith, more, none, ap (λ b. cond b (one_if (eq_by_cmp values_cmp (Int total ∷ []) v)) 0) inside, ap (λ n. one_if (eq_by_cmp values_cmp (Int n ∷ []) v)) all)
+    split false outside = omega (arith, more, none, ap (λ b. cond b (one_if (eq_by_cmp values_cmp (Int total ∷ []) v)) 0) outside)
 
-counted : (c : goal.After-drop-ranked-2) (t : ℕ) (v : List Value) → copies c.sweep.new.out.items v t ≡ cond (holds c.args.window.now t) (occurrences (count_rows (at c.args.rows.now t)) v) 0
+counted : (c : goal.After-drop-changes-2) (t : ℕ) (v : List Value) → copies c.sweep.new.out.items v t ≡ cond (holds c.args.window.now t) (occurrences (count_rows (at c.args.rows.now t)) v) 0
 counted c t v =
-    counted_rows c.args.window.now c.args.rows.now c.in_ok-ranked.ranked.items c.in_ok-ranked.ensures.all t v (total_upto One c.deref-2.result.now t) (copies c.new-out.result.items v t) (copies c.sweep.new.out.items v t)
-    (ap (λ l. total_upto One l t) c.deref-2.ensures.value ∙ c.in_ok-changes.ensures.totals One t ∙ ap (λ l. total_held One c.args.window.now l t) c.deref.ensures.value)
+    counted_rows c.args.window.now c.args.rows.now t v (total_upto One c.deref.result.now t) (copies c.new-out.result.items v t) (copies c.sweep.new.out.items v t)
+    (ap (λ l. total_upto One l t) c.deref.ensures.value ∙ c.in_ok-changes.ensures.totals One t)
     (ap (λ l. copies l v t) c.new-out.ensures.items) (c.in_ok-sweep.ensures t v)
 
 pub returns-clause-inside : goal.returns-clause-inside

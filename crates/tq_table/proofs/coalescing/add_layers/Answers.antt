@@ -1,12 +1,13 @@
-use Rattle.std.proofs.Common.{◌≡◌, ◌++◌, ◌∷◌, [], List, take, map, subst, append_assoc, sym, ap, ◌∙◌, get_or, arith, ℕ, ◌<◌, ◌≤◌, length, refl, cond, is_ok, Result, Ok, Err}
+use Rattle.std.proofs.Common.{◌≡◌, ◌++◌, ◌∷◌, [], List, take, map, subst, append_assoc, sym, ap, ◌∙◌, get_or, arith, cond, is_ok, Result, Ok, Err}
 use Rattle.std.specs.Prelude.{All, OnOk}
 use Rattle.std.proofs.lemmas.List.{map_more, take_all}
 use Rattle.std.proofs.lemmas.List.Elements.{All-head, All-tail}
-use Rattle.std.proofs.lemmas.List.{get_or_default, length-map}
 use Rattle.tq_base.specs.declared.value.Value.{Value}
 use Rattle.tq_base.specs.declared.period.Period.{Period}
 use Rattle.tq_base.specs.declared.fragment.Fragment.{Fragment}
 use Rattle.tq_base.specs.Layering.{rows_of, AddsLayers, IsLayering}
+use Rattle.tq_table.specs.Apart.{AreApart}
+use Rattle.tq_table.proofs.Apart.{adds_apart}
 use Rattle.tq_table.proofs.coalescing.add_layers.Goals as goal
 
 at_seam : (P : Fragment → Type 0) (front : List Fragment) (row : Fragment) (back : List Fragment) → All P (front ++ row ∷ back) → P row
@@ -40,7 +41,7 @@ loop-period-preserved c =
 pub returns-clause-added : goal.returns-clause-added
 returns-clause-added c v alike =
     let all = take_all c.loop-period.period-index c.deref-period-items.result.now c.loop-period-test.false in
-    let given = c.deref-2.ensures.value ∙ c.in_ok-periods.ensures ∙ ap (λ rows. map (λ (f : Fragment). f.period) rows) c.deref.ensures.value in
+    let given = c.deref-3.ensures.value ∙ c.in_ok-periods.ensures ∙ ap (λ rows. map (λ (f : Fragment). f.period) rows) c.deref-2.ensures.value in
     record {
       layering = c.in_ok-layering.layering.items;
       is_layering = subst (λ periods. IsLayering periods c.in_ok-layering.layering.items) given c.in_ok-layering.ensures.layering;
@@ -48,39 +49,11 @@ returns-clause-added c v alike =
       added = c.loop-period.invariant.table v alike ∙ ap (λ l. c.args.table.now.items ++ rows_of v l) (all ∙ c.deref-period-items.ensures.value);
     }
 
--- one row, or none, is its own layering
-alone : (v : List Value) (group : List Fragment) → length group ≤ 1 → All (λ f. f.values ≡ v) group → (old new : List Fragment) → new ≡ old ++ group → AddsLayers v group old new
-alone v group few alike old new is = record {
-  layering = periods;
-  is_layering = record { nested = λ i d below j e within. λ begins meets. absurd (begins_later i d below j e within begins); held_alike = λ t. refl };
-  in_order = λ k d low high. absurd (omega (arith, few, same_length, high));
-  added = is ∙ ap (λ l. old ++ l) (rows group alike);
-}
-  where
-    periods : List Period
-    periods = map (λ (f : Fragment). f.period) group
+appended : {E : Type 0} (r : Result (Unit {0}) E) (group old new : List Fragment) → AreApart group → new ≡ cond (is_ok r) (old ++ group) old → OnOk r ((v : List Value) → All (λ f. f.values ≡ v) group → AddsLayers v group old new)
+appended (Ok u) group old new apart is = λ v alike. adds_apart v group apart alike old new is
+appended (Err e) group old new apart is = tt
 
-    same_length : length periods ≡ length group
-    same_length = length-map group (λ (f : Fragment). f.period)
-
-    begins_later : (i : ℕ) (d : Period) → i < length periods → (j : ℕ) (e : Period) → j < length periods → (get_or periods i d).start < (get_or periods j e).start → ⊥
-    begins_later i d below j e within begins =
-        let first : i ≡ j = omega (arith, few, same_length, below, within) in
-        let same : get_or periods i d ≡ get_or periods j e = ap (λ k. get_or periods k d) first ∙ get_or_default periods j d e within in
-        let starts = ap (λ (p : Period). p.start) same in omega (arith, starts, begins)
-
-    rows : (fs : List Fragment) → All (λ f. f.values ≡ v) fs → fs ≡ rows_of v (map (λ (f : Fragment). f.period) fs)
-    rows [] all = refl
-    rows (f ∷ fs) all =
-        let first : f.values ≡ v = All-head (λ f. f.values ≡ v) f fs all in
-        let row = λ (u : List Value). let g : Fragment = record { values = u; period = f.period } in g in
-        ap (λ u. row u ∷ fs) first ∙ ap (λ l. row v ∷ l) (rows fs (All-tail (λ f. f.values ≡ v) f fs all))
-
-appended : {E : Type 0} (r : Result (Unit {0}) E) (group old new : List Fragment) → length group ≤ 1 → new ≡ cond (is_ok r) (old ++ group) old → OnOk r ((v : List Value) → All (λ f. f.values ≡ v) group → AddsLayers v group old new)
-appended (Ok u) group old new few is = λ v alike. alone v group few alike old new is
-appended (Err e) group old new few is = tt
-
-pub returns-then-len-le1-clause-added : goal.returns-then-len-le1-clause-added
-returns-then-len-le1-clause-added c =
-    let few : length c.args.group.now.items ≤ 1 = omega (arith, c.if-len-le1.true, c.len.ensures, c.args.group.now.ok.0) in
-    appended c.append.result c.args.group.now.items c.args.table.now.items c.append.new.self.items few c.append.ensures.items
+pub returns-then-stand_apart-clause-added : goal.returns-then-stand_apart-clause-added
+returns-then-stand_apart-clause-added c =
+    let apart : AreApart c.args.group.now.items = rw c.deref.ensures.value at c.if-stand_apart.ensures in
+    appended c.append.result c.args.group.now.items c.args.table.now.items c.append.new.self.items apart c.append.ensures.items

@@ -10,7 +10,7 @@ use Rattle.tq_base.specs.Copies.{copies-IsPermutation}
 use Rattle.tq_base.specs.Layers.{TakesIn}
 use Rattle.tq_base.specs.Groups.{Grouping, grouping_ends, closes_group, joins_group}
 use Rattle.tq_table.specs.declared.ranking.Ranked.{Ranked}
-use Rattle.tq_table.specs.Ranks.{row_rank, BeginsWithBytes, Rises}
+use Rattle.tq_table.specs.Ranks.{IsRankOf, Rises}
 use Rattle.tq_table.proofs.coalescing.coalesce.Goals as goal
 use Rattle.tq_table.proofs.coalescing.coalesce.Goals.{then-begins_group+in_ok-add_layers, else-begins_group}
 
@@ -26,23 +26,23 @@ grouping_starts rows sorted same rises = record {
 
 pub rows-init : goal.rows-init
 rows-init c =
-    let sorted = c.in_ok-rows.rows.items in
+    let sorted = c.in_ok-told.field-0.rows.items in
     let all : into_iter_items c.into_iter-next-iterator.result ≡ sorted = c.into_iter-next-iterator.ensures.into_iter_gives.0 in
     record {
-      alike = ([], (rw (c.new-group.ensures.items) (All-nil (λ f. f.values ≡ [])), refl));
+      alike = ([], (rw (c.new-group.ensures.items) (All-nil (λ f. f.values ≡ [])), record { is_rank = refl; bytes = tt; tells = λ told. refl }));
       grouping = rw (c.new-group.ensures.items, c.new-table.ensures.items, all)
-          (grouping_starts c.args.rows.items (map (λ (r : Ranked). r.row) sorted) c.in_ok-rows.ensures.same c.in_ok-rows.ensures.rising);
-      ranks = rw all c.in_ok-rows.ensures.ranks;
+          (grouping_starts c.args.rows.items (map (λ (r : Ranked). r.row) sorted) c.in_ok-told.ensures.same c.in_ok-told.ensures.rising);
+      ranks = rw all c.in_ok-told.ensures.ranks;
     }
 
 -- the row at hand has its own rank
-own_rank : (c : goal.After-next-in-rows-1) → (c.in-Some.next.rank ≡ row_rank c.in-Some.next.row.values) × BeginsWithBytes c.in-Some.next.row.values
+own_rank : (c : goal.After-next-in-rows-1) → IsRankOf c.in_ok-told.field-0.told c.in-Some.next.rank c.in-Some.next.row.values
 own_rank c =
     let left : into_iter_items c.rows.next-iterator ≡ c.in-Some.next ∷ into_iter_items c.next.new.self = c.in-Some.ensures.steps.0 in
-    All-head (λ (r : Ranked). (r.rank ≡ row_rank r.row.values) × BeginsWithBytes r.row.values) c.in-Some.next (into_iter_items c.next.new.self) (rw left at c.rows.invariant.ranks)
+    All-head (λ (r : Ranked). IsRankOf c.in_ok-told.field-0.told r.rank r.row.values) c.in-Some.next (into_iter_items c.next.new.self) (rw left at c.rows.invariant.ranks)
 
 pub begins_group-requires : goal.begins_group-requires
-begins_group-requires c = (own_rank c).0
+begins_group-requires c = own_rank c
 
 pub rows-preserved : goal.rows-preserved
 rows-preserved c =
@@ -51,7 +51,7 @@ rows-preserved c =
     let later = into_iter_items c.next.new.self in
     let rest = map (λ (r : Ranked). r.row) later in
     let left : into_iter_items c.rows.next-iterator ≡ c.in-Some.next ∷ later = c.in-Some.ensures.steps.0 in
-    let Own : Ranked → Type 0 = λ r. (r.rank ≡ row_rank r.row.values) × BeginsWithBytes r.row.values in
+    let Own : Ranked → Type 0 = λ r. IsRankOf c.in_ok-told.field-0.told r.rank r.row.values in
     let ranks : All Own (c.in-Some.next ∷ later) = rw left at c.rows.invariant.ranks in
     let own = All-head Own c.in-Some.next later ranks in
     let (v, alike) = c.rows.invariant.alike in
@@ -60,15 +60,15 @@ rows-preserved c =
       | then-begins_group+in_ok-add_layers w ↦
           let differs : row.values ≢ v = w.if-begins_group.ensures.yes v (rw c.deref.ensures.value alike.0) alike.1 in
           record {
-            alike = (row.values, (rw (c.in_ok-push.ensures.items, w.group-is, w.in_ok-add_layers.ensures.emptied) (All-cons (λ f. f.values ≡ row.values) row [] refl (All-nil (λ f. f.values ≡ row.values))), own.0));
+            alike = (row.values, (rw (c.in_ok-push.ensures.items, w.group-is, w.in_ok-add_layers.ensures.emptied) (All-cons (λ f. f.values ≡ row.values) row [] refl (All-nil (λ f. f.values ≡ row.values))), own));
             grouping = rw (c.in_ok-push.ensures.items, w.group-is, w.in_ok-add_layers.ensures.emptied, w.table-is)
                 (closes_group rows c.rows.group.items (row ∷ rest) c.rows.table.items w.add_layers.new.table.items v before alike.0 differs (w.in_ok-add_layers.ensures.added v alike.0));
             ranks = All-tail Own c.in-Some.next later ranks;
           }
       | else-begins_group w ↦
-          let same : All (λ f. f.values ≡ row.values) c.rows.group.items = rw c.deref.ensures.value at (w.if-begins_group.ensures.no v (rw c.deref.ensures.value alike.0)) in
+          let same : All (λ f. f.values ≡ row.values) c.rows.group.items = rw c.deref.ensures.value at (w.if-begins_group.ensures.no v (rw c.deref.ensures.value alike.0) alike.1) in
           record {
-            alike = (row.values, (rw (c.in_ok-push.ensures.items, w.group-is) (All-push (λ f. f.values ≡ row.values) c.rows.group.items row same refl), own.0));
+            alike = (row.values, (rw (c.in_ok-push.ensures.items, w.group-is) (All-push (λ f. f.values ≡ row.values) c.rows.group.items row same refl), own));
             grouping = rw (c.in_ok-push.ensures.items, w.group-is, w.table-is) (joins_group rows c.rows.group.items rest c.rows.table.items row before);
             ranks = All-tail Own c.in-Some.next later ranks;
           }

@@ -7,5 +7,5 @@ use Rattle.tq_table.proofs.ranking.with_ranks.Given as goal
 abbrev pub invariant-rows : goal.invariant-rows
 invariant-rows l = record {
   rows : map (λ r. r.row) l.ranked.items ++ into_iter_items l.row-iterator ≡ l.fn.rows.items;
-  ranks : AreRanked l.ranked.items;
+  ranks : AreRanked l.told l.ranked.items;
 }
