@@ -1,28 +1,15 @@
 -- Periods cut to a window.
-use Rattle.std.specs.Prelude.{◌≡◌, ℕ, ◌<◌, ◌≤◌, Bool, true, false, ◌&&◌, min, max, nat_le, nat_lt, refl}
+use Rattle.std.specs.Prelude.{◌≡◌, ℕ, ◌<◌, ◌≤◌, ◌&&◌, min, max, nat_le, nat_lt}
 use Rattle.std.proofs.Common.{ap, ◌∙◌, arith}
 use Rattle.std.proofs.lemmas.Bool.Decides.{nat_tests}
 use Rattle.tq_base.specs.declared.period.Period.{Period}
-use Rattle.tq_base.specs.Periods.{holds, Overlap, IsOverlap}
+use Rattle.tq_base.specs.Periods.{holds, IsOverlap}
 
 holds_both : (a b c d t : ℕ) → (nat_le (max a c) t && nat_lt t (min b d)) ≡ ((nat_le a t && nat_lt t b) && (nat_le c t && nat_lt t d))
 holds_both a b c d t = grind (arith, nat_tests)
 
 pub holds-overlap : (p q both : Period) → IsOverlap p q both → (t : ℕ) → holds both t ≡ (holds p t && holds q t)
 holds-overlap p q both is t = ap (λ s. nat_le s t && nat_lt t both.end) is.0 ∙ ap (λ e. nat_le (max p.start q.start) t && nat_lt t e) is.1 ∙ holds_both p.start p.end q.start q.end t
-
-starts_before : (a b c d t : ℕ) → ((nat_le a t && nat_lt t b) && (nat_le c t && nat_lt t d)) ≡ true → a < d
-starts_before a b c d t both = grind (arith, nat_tests)
-
-ends_after : (a b c d t : ℕ) → ((nat_le a t && nat_lt t b) && (nat_le c t && nat_lt t d)) ≡ true → c < b
-ends_after a b c d t both = grind (arith, nat_tests)
-
-pub holds_apart : (p q : Period) → (Overlap p q → ⊥) → (t : ℕ) → (holds p t && holds q t) ≡ false
-holds_apart p q apart t = split (holds p t && holds q t) refl
-  where
-    split : (b : Bool) → (holds p t && holds q t) ≡ b → b ≡ false
-    split false is = refl
-    split true is = absurd (apart (starts_before p.start p.end q.start q.end t is, ends_after p.start p.end q.start q.end t is))
 
 -- the overlap lies within the second period
 pub overlap_within : (p q both : Period) → IsOverlap p q both → (q.start ≤ both.start) × (both.start ≤ q.end) × (q.start ≤ both.end) × (both.end ≤ q.end)

@@ -1,18 +1,14 @@
 use Rattle.std.proofs.Common.{◌≡◌, ◌++◌, ◌∷◌, [], List, take, map, subst, append_assoc, sym, ap, ◌∙◌, get_or, arith, cond, is_ok, Result, Ok, Err}
 use Rattle.std.specs.Prelude.{All, OnOk}
 use Rattle.std.proofs.lemmas.List.{map_more, take_all}
-use Rattle.std.proofs.lemmas.List.Elements.{All-head, All-tail}
 use Rattle.tq_base.specs.declared.value.Value.{Value}
 use Rattle.tq_base.specs.declared.period.Period.{Period}
 use Rattle.tq_base.specs.declared.fragment.Fragment.{Fragment}
 use Rattle.tq_base.specs.Layering.{rows_of, AddsLayers, IsLayering}
 use Rattle.tq_table.specs.Apart.{AreApart}
 use Rattle.tq_table.proofs.Apart.{adds_apart}
+use Rattle.tq_table.proofs.Seams.{at_seam}
 use Rattle.tq_table.proofs.coalescing.add_layers.Goals as goal
-
-at_seam : (P : Fragment → Type 0) (front : List Fragment) (row : Fragment) (back : List Fragment) → All P (front ++ row ∷ back) → P row
-at_seam P [] row back all = All-head P row back all
-at_seam P (f ∷ front) row back all = at_seam P front row back (All-tail P f (front ++ row ∷ back) all)
 
 pub loop-period-preserved : goal.loop-period-preserved
 loop-period-preserved c =
