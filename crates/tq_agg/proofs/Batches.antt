@@ -21,8 +21,8 @@ use Rattle.tq_agg.proofs.Adding.{added-append}
 use Rattle.tq_agg.proofs.Maps.{map_agrees, map_same}
 
 -- the changes before `start` are done; up to `since` the rows stand in the list, and from there on the totals are those of the changes done
-pub record Sweeping (always : Bool) (key : List Value) (summands : List Summand) (window : Period) (changes : List Change) (old : List Fragment) (start since : ℕ) (totals : List ℤ) (out : List Fragment) : Type 0 where
-  pub counted : (t : ℕ) (v : List Value) → copies out v t ≡ copies old v t + cond (nat_le window.start t && nat_lt t since) (shown_copies always key (totals_upto summands (take start changes) t) v) 0
+pub record Sweeping (key : List Value) (summands : List Summand) (window : Period) (changes : List Change) (old : List Fragment) (start since : ℕ) (totals : List ℤ) (out : List Fragment) : Type 0 where
+  pub counted : (t : ℕ) (v : List Value) → copies out v t ≡ copies old v t + cond (nat_le window.start t && nat_lt t since) (shown_copies key (totals_upto summands (take start changes) t) v) 0
   pub current : totals ≡ totals_of summands (take start changes)
   pub settled : (t : ℕ) → since ≤ t → totals_upto summands (take start changes) t ≡ totals
   pub from : window.start ≤ since
@@ -48,20 +48,23 @@ upto_batch s a t (c ∷ batch) alike =
     cases false = refl
 
 -- the rows up to a bound, and those of the totals from there to a later one
-extended : (from since to t x y : ℕ) → from ≤ since → since ≤ to → (since ≤ t → x ≡ y)
+pub extended : (from since to t x y : ℕ) → from ≤ since → since ≤ to → (since ≤ t → t < to → x ≡ y)
     → cond (nat_le from t && nat_lt t since) x 0 + cond (nat_le since t && nat_lt t to) y 0 ≡ cond (nat_le from t && nat_lt t to) x 0
 extended from since to t x y low high same = elim (cases_lt t since) [
   | inl before ↦ grind (arith, nat_tests)
-  | inr past ↦ let is = same past in grind (arith, nat_tests)
+  | inr past ↦ elim (cases_lt t to) [
+    | inl inside ↦ let is = same past inside in grind (arith, nat_tests)
+    | inr late ↦ grind (arith, nat_tests)
+  ]
 ]
 
-module _ (always : Bool) (key : List Value) (summands : List Summand) (window : Period) (changes : List Change) (old : List Fragment) where
+module _ (key : List Value) (summands : List Summand) (window : Period) (changes : List Change) (old : List Fragment) where
   -- before any change
-  pub begins : (totals : List ℤ) → AreWithin window changes → totals ≡ totals_of summands [] → Sweeping always key summands window changes old 0 window.start totals old
+  pub begins : (totals : List ℤ) → AreWithin window changes → totals ≡ totals_of summands [] → Sweeping key summands window changes old 0 window.start totals old
   begins totals inside none =
       let ordered : window.start < window.end = window.ordered in
       record {
-        counted = λ t v. nothing (shown_copies always key (totals_upto summands [] t) v) t (copies old v t);
+        counted = λ t v. nothing (shown_copies key (totals_upto summands [] t) v) t (copies old v t);
         current = none;
         settled = λ t past. sym none;
         from = omega arith;
@@ -73,7 +76,7 @@ module _ (always : Bool) (key : List Value) (summands : List Summand) (window : 
       nothing : (x t n : ℕ) → n ≡ n + cond (nat_le window.start t && nat_lt t window.start) x 0
       nothing x t n = grind (arith, nat_tests)
 
-  module _ (start len since a : ℕ) (totals next : List ℤ) (out : List Fragment) (w : Sweeping always key summands window changes old start since totals out)
+  module _ (start len since a : ℕ) (totals next : List ℤ) (out : List Fragment) (w : Sweeping key summands window changes old start since totals out)
       (fits : start + len ≤ length changes) (alike : All (λ c. c.at ≡ a) (take len (drop start changes)))
       (are_next : next ≡ totals_of summands (take (start + len) changes)) where
     total_more : (s : Summand) → total_of s (take (start + len) changes) ≡ total_of s (take start changes) +ℤ total_of s (take len (drop start changes))
@@ -123,9 +126,9 @@ module _ (always : Bool) (key : List Value) (summands : List Summand) (window : 
         all m n o is = grind (arith, ints, nat_tests)
 
     -- the batch changes no total
-    pub passes : next ≡ totals → Sweeping always key summands window changes old (start + len) since totals out
+    pub passes : next ≡ totals → Sweeping key summands window changes old (start + len) since totals out
     passes same = record {
-      counted = λ t v. w.counted t v ∙ ap (λ l. copies old v t + cond (nat_le window.start t && nat_lt t since) (shown_copies always key l v) 0) (sym (never same t));
+      counted = λ t v. w.counted t v ∙ ap (λ l. copies old v t + cond (nat_le window.start t && nat_lt t since) (shown_copies key l v) 0) (sym (never same t));
       current = sym same ∙ are_next;
       settled = λ t past. never same t ∙ w.settled t past;
       from = w.from;
@@ -136,12 +139,12 @@ module _ (always : Bool) (key : List Value) (summands : List Summand) (window : 
 
     -- the batch changes the totals, and a row of those before goes to the end of the list
     pub turns : (new : List Fragment) → AreWithin window changes → IsSortedByKey (λ (c : Change). c.at) nat_cmp changes → start < length changes → (c : Change) → c ≡ get_or changes start c → c.at ≡ a
-        → ((t : ℕ) (v : List Value) → copies new v t ≡ copies out v t + cond (nat_le since t && nat_lt t a) (shown_copies always key totals v) 0)
-        → Sweeping always key summands window changes old (start + len) a next new
+        → ((t : ℕ) (v : List Value) → copies new v t ≡ copies out v t + cond (nat_le since t && nat_lt t a) (shown_copies key totals v) 0)
+        → Sweeping key summands window changes old (start + len) a next new
     turns new inside sorted below c is at_a more = record {
       counted = λ t v.
-          let step = extended window.start since a t (shown_copies always key (totals_upto summands (take start changes) t) v) (shown_copies always key totals v) w.from later
-          (λ past. ap (λ l. shown_copies always key l v) (w.settled t past)) in
+          let step = extended window.start since a t (shown_copies key (totals_upto summands (take start changes) t) v) (shown_copies key totals v) w.from later
+          (λ past before. ap (λ l. shown_copies key l v) (w.settled t past)) in
           omega (arith, more t v, w.counted t v, step, same_before t v);
       current = are_next;
       settled = λ t late. then_on t (omega (arith, later)) late;
@@ -161,22 +164,22 @@ module _ (always : Bool) (key : List Value) (summands : List Summand) (window : 
             let ahead = w.ahead 0 c (omega (arith, length-drop start changes)) in
             omega (arith, ahead, at_a, ap (λ (c : Change). c.at) is, ap (λ (c : Change). c.at) here, ap (λ (c : Change). c.at) there)
 
-        same_before : (t : ℕ) (v : List Value) → cond (nat_le window.start t && nat_lt t a) (shown_copies always key (totals_upto summands (take (start + len) changes) t) v) 0
-            ≡ cond (nat_le window.start t && nat_lt t a) (shown_copies always key (totals_upto summands (take start changes) t) v) 0
+        same_before : (t : ℕ) (v : List Value) → cond (nat_le window.start t && nat_lt t a) (shown_copies key (totals_upto summands (take (start + len) changes) t) v) 0
+            ≡ cond (nat_le window.start t && nat_lt t a) (shown_copies key (totals_upto summands (take start changes) t) v) 0
         same_before t v = elim (cases_lt t a) [
-          | inl before ↦ ap (λ l. cond (nat_le window.start t && nat_lt t a) (shown_copies always key l v) 0) (not_yet t before)
-          | inr past ↦ nothing (shown_copies always key (totals_upto summands (take (start + len) changes) t) v) (shown_copies always key (totals_upto summands (take start changes) t) v) past
+          | inl before ↦ ap (λ l. cond (nat_le window.start t && nat_lt t a) (shown_copies key l v) 0) (not_yet t before)
+          | inr past ↦ nothing (shown_copies key (totals_upto summands (take (start + len) changes) t) v) (shown_copies key (totals_upto summands (take start changes) t) v) past
         ]
           where
             nothing : (x y : ℕ) → a ≤ t → cond (nat_le window.start t && nat_lt t a) x 0 ≡ cond (nat_le window.start t && nat_lt t a) y 0
             nothing x y past = grind (arith, nat_tests)
 
   -- after all changes, a row of the last totals goes to the end of the list
-  pub ends : (start since : ℕ) (totals : List ℤ) (out new : List Fragment) → Sweeping always key summands window changes old start since totals out → length changes ≤ start
-      → ((t : ℕ) (v : List Value) → copies new v t ≡ copies out v t + cond (nat_le since t && nat_lt t window.end) (shown_copies always key totals v) 0)
-      → (t : ℕ) (v : List Value) → copies new v t ≡ copies old v t + cond (holds window t) (shown_copies always key (totals_upto summands changes t) v) 0
+  pub ends : (start since : ℕ) (totals : List ℤ) (out new : List Fragment) → Sweeping key summands window changes old start since totals out → length changes ≤ start
+      → ((t : ℕ) (v : List Value) → copies new v t ≡ copies out v t + cond (nat_le since t && nat_lt t window.end) (shown_copies key totals v) 0)
+      → (t : ℕ) (v : List Value) → copies new v t ≡ copies old v t + cond (holds window t) (shown_copies key (totals_upto summands changes t) v) 0
   ends start since totals out new w past more t v =
       let all = take_all start changes past in
-      let step = extended window.start since window.end t (shown_copies always key (totals_upto summands (take start changes) t) v) (shown_copies always key totals v) w.from w.until
-      (λ past. ap (λ l. shown_copies always key l v) (w.settled t past)) in
-      omega (arith, more t v, w.counted t v, step, ap (λ l. cond (holds window t) (shown_copies always key (totals_upto summands l t) v) 0) all)
+      let step = extended window.start since window.end t (shown_copies key (totals_upto summands (take start changes) t) v) (shown_copies key totals v) w.from w.until
+      (λ past before. ap (λ l. shown_copies key l v) (w.settled t past)) in
+      omega (arith, more t v, w.counted t v, step, ap (λ l. cond (holds window t) (shown_copies key (totals_upto summands l t) v) 0) all)

@@ -204,7 +204,7 @@ module _ (keys sums : List ℕ) where
 
     -- the row stands once among those of the groups where its key is there and the rest are count and sums
     pub grouped_occurrences : occurrences (grouped_rows keys sums rows) v
-        ≡ shown_copies false key_of_row (map (λ s. added (of_key keys key_of_row s) rows) (One ∷ map Column sums)) v
+        ≡ shown_copies key_of_row (map (λ s. added (of_key keys key_of_row s) rows) (One ∷ map Column sums)) v
     grouped_occurrences =
         occurrences-map (each_once (map (projection keys) rows))
         ∙ sum_by-same (λ k. stands k ≡ true) (λ k. one_if (same_row (made k) v)) (λ k. cond (same_row k key_of_row) (one_if (same_row (made key_of_row) v)) 0)

@@ -226,12 +226,12 @@ pub nothing : (b : Bool) → let none : ℕ = 0 in cond b none none ≡ none
 nothing true = refl
 nothing false = refl
 
-pub none_shown : (key : List Value) (summands : List Summand) (v : List Value) → shown_copies false key (map (λ s. pos 0) summands) v ≡ 0
+pub none_shown : (key : List Value) (summands : List Summand) (v : List Value) → shown_copies key (map (λ s. pos 0) summands) v ≡ 0
 none_shown key [] v = refl
 none_shown key (s ∷ summands) v = refl
 
 -- rows of one key are no rows of another
-other_shown : (key : List Value) (n : ℕ) (totals : List ℤ) (v : List Value) → length key ≡ n → key ≢ take n v → shown_copies false key totals v ≡ 0
+other_shown : (key : List Value) (n : ℕ) (totals : List ℤ) (v : List Value) → length key ≡ n → key ≢ take n v → shown_copies key totals v ≡ 0
 other_shown key n totals v long differ =
     ap (λ b. cond (has_rows totals) (one_if b) 0) (not_equal (key ++ map Int totals) v (λ same. differ (sym (take_at key (map Int totals) n long) ∙ ap (take n) same))) ∙ nothing (has_rows totals)
 
@@ -240,14 +240,14 @@ other_shown key n totals v long differ =
 -- the rows before the place are counted, and no group goes on over it
 pub record Grouping (keys : List ℕ) (summands : List Summand) (window : Period) (rows : List Ranked) (start : ℕ) (out : List Fragment) : Type 0 where
   pub counted : (t : ℕ) (v : List Value) → copies out v t
-      ≡ cond (holds window t) (shown_copies false (take (length keys) v) (keyed_totals keys (take (length keys) v) window t summands (take start rows)) v) 0
+      ≡ cond (holds window t) (shown_copies (take (length keys) v) (keyed_totals keys (take (length keys) v) window t summands (take start rows)) v) 0
   pub boundary : IsBoundary keys rows start
   pub within : start ≤ length rows
 
 pub adds_group : (keys : List ℕ) (summands : List Summand) (window : Period) (rows : List Ranked) (start len : ℕ) (out new : List Fragment) (x : Ranked) → AreSorted keys rows → AreRanked keys rows
     → start < length rows → x ≡ get_or rows start x → start + len ≤ length rows
     → AreOfKey keys (key_of keys x) (take len (drop start rows)) → IsBoundary keys rows (start + len)
-    → ((t : ℕ) (v : List Value) → copies new v t ≡ copies out v t + cond (holds window t) (shown_copies false (key_of keys x) (totals_held summands window (take len (drop start rows)) t) v) 0)
+    → ((t : ℕ) (v : List Value) → copies new v t ≡ copies out v t + cond (holds window t) (shown_copies (key_of keys x) (totals_held summands window (take len (drop start rows)) t) v) 0)
     → Grouping keys summands window rows start out → Grouping keys summands window rows (start + len) new
 adds_group keys summands window rows start len out new x sorted ranks below is enough alike boundary adds w = record {
   counted = λ t v. split t v (same_row (key_of keys x) (take (length keys) v)) refl;
@@ -259,21 +259,21 @@ adds_group keys summands window rows start len out new x sorted ranks below is e
     apart_done = subst (λ y. All (λ r. key_of keys r ≢ key_of keys y) (take start rows)) (sym is) (apart_before keys rows start sorted ranks w.boundary below x)
 
     split : (t : ℕ) (v : List Value) (b : Bool) → same_row (key_of keys x) (take (length keys) v) ≡ b
-        → copies new v t ≡ cond (holds window t) (shown_copies false (take (length keys) v) (keyed_totals keys (take (length keys) v) window t summands (take (start + len) rows)) v) 0
+        → copies new v t ≡ cond (holds window t) (shown_copies (take (length keys) v) (keyed_totals keys (take (length keys) v) window t summands (take (start + len) rows)) v) 0
     split t v true equal =
         let same : key_of keys x ≡ take (length keys) v = same_from_eq (key_of keys x) (take (length keys) v) equal in
         let apart = subst (λ k. All (λ r. key_of keys r ≢ k) (take start rows)) same apart_done in
         let alike' = subst (λ k. AreOfKey keys k (take len (drop start rows))) same alike in
-        let before = ap (λ l. cond (holds window t) (shown_copies false (take (length keys) v) l v) 0) (totals_none keys (take (length keys) v) window t summands (take start rows) apart) in
+        let before = ap (λ l. cond (holds window t) (shown_copies (take (length keys) v) l v) 0) (totals_none keys (take (length keys) v) window t summands (take start rows) apart) in
         let none = ap (λ m. cond (holds window t) m 0) (none_shown (take (length keys) v) summands v) in
-        let after = ap (λ l. cond (holds window t) (shown_copies false (take (length keys) v) (keyed_totals keys (take (length keys) v) window t summands l) v) 0) (take-add start len rows) in
-        let there = ap (λ l. cond (holds window t) (shown_copies false (take (length keys) v) l v) 0) (totals_begin keys (take (length keys) v) window t summands (take start rows) (take len (drop start rows)) apart alike') in
-        let of_v = ap (λ key. cond (holds window t) (shown_copies false key (totals_held summands window (take len (drop start rows)) t) v) 0) same in
+        let after = ap (λ l. cond (holds window t) (shown_copies (take (length keys) v) (keyed_totals keys (take (length keys) v) window t summands l) v) 0) (take-add start len rows) in
+        let there = ap (λ l. cond (holds window t) (shown_copies (take (length keys) v) l v) 0) (totals_begin keys (take (length keys) v) window t summands (take start rows) (take len (drop start rows)) apart alike') in
+        let of_v = ap (λ key. cond (holds window t) (shown_copies key (totals_held summands window (take len (drop start rows)) t) v) 0) same in
         omega (arith, adds t v, w.counted t v, before, none, nothing (holds window t), after, there, of_v)
     split t v false differ =
         let differs : key_of keys x ≢ take (length keys) v = λ same. false≢true (sym differ ∙ eq_from_same (key_of keys x) (take (length keys) v) same) in
         let apart = All-weaker (λ r. key_of keys r ≡ key_of keys x) (λ r. key_of keys r ≢ take (length keys) v) (λ r of_x same. differs (sym of_x ∙ same)) (take len (drop start rows)) alike in
-        let after = ap (λ l. cond (holds window t) (shown_copies false (take (length keys) v) (keyed_totals keys (take (length keys) v) window t summands l) v) 0) (take-add start len rows) in
-        let stay = ap (λ l. cond (holds window t) (shown_copies false (take (length keys) v) l v) 0) (totals_stay keys (take (length keys) v) window t summands (take start rows) (take len (drop start rows)) apart) in
+        let after = ap (λ l. cond (holds window t) (shown_copies (take (length keys) v) (keyed_totals keys (take (length keys) v) window t summands l) v) 0) (take-add start len rows) in
+        let stay = ap (λ l. cond (holds window t) (shown_copies (take (length keys) v) l v) 0) (totals_stay keys (take (length keys) v) window t summands (take start rows) (take len (drop start rows)) apart) in
         let other = ap (λ m. cond (holds window t) m 0) (other_shown (key_of keys x) (length keys) (totals_held summands window (take len (drop start rows)) t) v (length-map keys (value_at x.fragment.now.values)) differs) in
         omega (arith, adds t v, w.counted t v, after, stay, other, nothing (holds window t))

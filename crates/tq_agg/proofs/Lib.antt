@@ -9,3 +9,4 @@ pub mod Instants
 pub mod Maps
 pub mod Summable
 pub mod Totals
+pub mod Starts

@@ -1,3 +1,4 @@
+pub mod Edges
 pub mod Grouping
 pub mod Keys
 pub mod Totals

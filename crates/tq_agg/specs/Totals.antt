@@ -1,5 +1,5 @@
 -- Totals over a group of rows: what each row adds, and what the changes up to an instant add.
-use Rattle.std.specs.Prelude.{ℕ, ℤ, pos, neg_ℤ, ◌+ℤ◌, ◌≤◌, nat_le, FitsSigned, Bool, false, not, cond, ◌&&◌, ◌||◌, List, [], ◌∷◌, ◌++◌, map, All}
+use Rattle.std.specs.Prelude.{ℕ, ℤ, pos, neg_ℤ, ◌+ℤ◌, ◌≤◌, nat_le, FitsSigned, Bool, false, not, cond, ◌&&◌, List, [], ◌∷◌, ◌++◌, map, All}
 use Rattle.std.specs.Int.{w64}
 use Rattle.std.specs.Ordering.{eq_by_cmp, int_eq}
 use Rattle.tq_base.specs.declared.value.Value.{Value}
@@ -75,10 +75,10 @@ abbrev pub has_rows : List ℤ → Bool
 has_rows [] = false
 has_rows (count ∷ totals) = not (int_eq count (pos 0))
 
--- whether there is a row of these totals
-abbrev pub is_shown : Bool → List ℤ → Bool
-is_shown always totals = always || has_rows totals
+-- 1 where these are the values of the row of the totals, else 0
+abbrev pub row_copies : List Value → List ℤ → List Value → ℕ
+row_copies key totals v = cond (eq_by_cmp values_cmp (key ++ map Int totals) v) 1 0
 
--- 1 where there is a row of the totals and these are its values, else 0
-abbrev pub shown_copies : Bool → List Value → List ℤ → List Value → ℕ
-shown_copies always key totals v = cond (is_shown always totals) (cond (eq_by_cmp values_cmp (key ++ map Int totals) v) 1 0) 0
+-- the same where the totals count any row, else 0
+abbrev pub shown_copies : List Value → List ℤ → List Value → ℕ
+shown_copies key totals v = cond (has_rows totals) (row_copies key totals v) 0

@@ -78,25 +78,6 @@ pub(crate) fn changes_of<'a>(
     Ok(changes)
 }
 
-// The same for rows that need no order.
-pub(crate) fn all_changes_of<'a>(
-    alloc: Global,
-    rows: &'a [Fragment],
-    window: &Period,
-) -> Result<Vec<Change<'a>>, AllocError>
-    ensures totals { IfOk result (λ changes. (s : Summand) (t : ℕ) → total_upto s changes.items t ≡ added (held_weight s window.now t) rows.now) }
-    ensures sorted { IfOk result (λ changes. IsSortedByKey (λ (c : Change). c.at) nat_cmp changes.items) }
-    ensures within { IfOk result (λ changes. AreWithin window.now changes.items) }
-    ensures small { IfOk result (λ changes. (s : Summand) → All (IsSmall s) rows.now → AreSmall s changes.items) }
-{
-    let mut changes = Vec::new(alloc);
-    'rows: for row in rows {
-        changes = with_changes(changes, row, row.period, window)?;
-    }
-    changes.sort_unstable_by_key(|change| change.at);
-    Ok(changes)
-}
-
 // How many changes at the front come at the bound of the first.
 pub(crate) fn batch_len(changes: &[Change<'_>]) -> usize
     ensures within { result ≤ length changes.now }

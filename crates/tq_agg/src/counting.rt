@@ -10,7 +10,8 @@ ghost use Rattle.tq_agg.specs.Grouping.{AreSummable, count_rows, grouped_rows};
 ghost use Rattle.tq_agg.specs.Keys.{AreOfKey};
 ghost use Rattle.tq_agg.specs.Totals.{shown_copies, totals_held, HaveSmall};
 
-use crate::changes::{Change, all_changes_of, changes_of};
+use crate::changes::{Change, changes_of};
+use crate::edges::{Edges, edges_of, sweep_edges};
 use crate::groups::{compare_rows, gathered, group_len};
 use crate::rows::Ranked;
 use crate::summands::{Summand, summands_of};
@@ -30,7 +31,7 @@ fn add_group<'a>(
 ) -> Result<Vec<Change<'a>>, AllocError>
     requires { All (λ s. HaveSmall s group.now) summands.now }
     ensures { OnOk result ((k : List Value) → AreOfKey keys.now k group.now → (t : ℕ) (v : List Value) → copies out.new.items v t
-        ≡ copies out.old.items v t + (if holds window.now t then shown_copies false k (totals_held summands.now window.now group.now t) v else 0)) }
+        ≡ copies out.old.items v t + (if holds window.now t then shown_copies k (totals_held summands.now window.now group.now t) v else 0)) }
 {
     let Some(first) = group.first() else {
         return Ok(room);
@@ -39,7 +40,6 @@ fn add_group<'a>(
     let head = Head {
         row: first.fragment.values.get(),
         keys,
-        always: false,
     };
     sweep(alloc, &head, summands, &changes, window, out)?;
     Ok(changes)
@@ -86,13 +86,8 @@ pub fn count_all(
     ensures inside { IfOk result (λ out. HasInside window.now out.items (λ t v. occurrences (count_rows (at rows.now t)) v)) }
     ensures outside { IfOk result (λ out. IsEmptyOutside window.now out.items) }
 {
-    let changes = all_changes_of(alloc, rows, window)?;
-    let head = Head {
-        row: &[],
-        keys: &[],
-        always: true,
-    };
+    let Edges { starts, ends } = edges_of(alloc, rows, window)?;
     let mut out = Vec::new(alloc);
-    sweep(alloc, &head, &[Summand::One], &changes, window, &mut out)?;
+    sweep_edges(alloc, &starts, &ends, window, &mut out)?;
     Ok(out)
 }

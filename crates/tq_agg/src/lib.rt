@@ -9,6 +9,7 @@
 
 mod changes;
 mod counting;
+mod edges;
 mod groups;
 mod rows;
 mod summands;

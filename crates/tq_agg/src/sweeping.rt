@@ -9,7 +9,7 @@ ghost use Rattle.tq_base.specs.Periods.{holds};
 ghost use Rattle.tq_ops.specs.Conditions.{value_at};
 ghost use Rattle.tq_ops.specs.Ordinary.{projection};
 ghost use Rattle.tq_agg.specs.declared.changes.Change.{Change};
-ghost use Rattle.tq_agg.specs.Totals.{is_shown, shown_copies, total_of, totals_of, totals_upto, AreSmall, AreWithin};
+ghost use Rattle.tq_agg.specs.Totals.{has_rows, row_copies, shown_copies, total_of, totals_of, totals_upto, AreSmall, AreWithin};
 
 use crate::changes::{Change, batch_len, bound_at};
 use crate::summands::{Summand, weight};
@@ -18,12 +18,11 @@ use std::mem;
 use tq_base::{Bound, Fragment, Instant, Period, Value, Values};
 
 // What stands before the totals in the rows of a group: the values of one of its rows in the key
-// columns. Where no row of the group is valid, there is a row of totals only if there is always one.
+// columns.
 #[derive(Clone, Copy)]
 pub(crate) struct Head<'a> {
     pub(crate) row: &'a [Value],
     pub(crate) keys: &'a [u32],
-    pub(crate) always: bool,
 }
 
 // What the changes add in all.
@@ -96,19 +95,19 @@ fn joined(alloc: Global, head: &Head<'_>, totals: &[i128]) -> Result<Values, All
     Ok(Values::of(values))
 }
 
-// Whether there is a row of the totals, of which the first counts rows.
-fn is_shown(always: bool, totals: &[i128]) -> bool
-    ensures { result ≡ is_shown always totals.now }
+// Whether the first of the totals, the count of rows, is not 0.
+fn has_rows(totals: &[i128]) -> bool
+    ensures { result ≡ has_rows totals.now }
 {
     match totals.first() {
-        Some(count) => always || *count != 0,
-        None => always,
+        Some(count) => *count != 0,
+        None => false,
     }
 }
 
 // A row of the totals from the one bound to the other, if there are instants between, goes to the end of
 // the list.
-fn add_row(
+pub(crate) fn add_row(
     alloc: Global,
     head: &Head<'_>,
     totals: &[i128],
@@ -117,7 +116,7 @@ fn add_row(
     out: &mut Vec<Fragment>,
 ) -> Result<(), AllocError>
     ensures { OnOk result ((t : ℕ) (v : List Value) → copies out.new.items v t ≡ copies out.old.items v t
-        + (if nat_le since t && nat_lt t until then shown_copies head.now.always (projection head.now.keys.now head.now.row.now) totals.now v else 0)) }
+        + (if nat_le since t && nat_lt t until then row_copies (projection head.now.keys.now head.now.row.now) totals.now v else 0)) }
 {
     let Some(start) = Instant::new(since.number()) else {
         return Ok(());
@@ -125,11 +124,28 @@ fn add_row(
     let Some(period) = Period::new(start, until) else {
         return Ok(());
     };
-    if is_shown(head.always, totals) {
-        let values = joined(alloc, head, totals)?;
-        out.push(Fragment { values, period })?;
-    }
+    let values = joined(alloc, head, totals)?;
+    out.push(Fragment { values, period })?;
     Ok(())
+}
+
+// The same where the totals count any row.
+fn add_shown(
+    alloc: Global,
+    head: &Head<'_>,
+    totals: &[i128],
+    since: Bound,
+    until: Bound,
+    out: &mut Vec<Fragment>,
+) -> Result<(), AllocError>
+    ensures { OnOk result ((t : ℕ) (v : List Value) → copies out.new.items v t ≡ copies out.old.items v t
+        + (if nat_le since t && nat_lt t until then shown_copies (projection head.now.keys.now head.now.row.now) totals.now v else 0)) }
+{
+    if has_rows(totals) {
+        add_row(alloc, head, totals, since, until, out)
+    } else {
+        Ok(())
+    }
 }
 
 // The rows of the totals after the changes up to each instant of the window go to the end of the list.
@@ -145,7 +161,7 @@ pub(crate) fn sweep(
     requires within { AreWithin window.now changes.now }
     requires small { All (λ s. AreSmall s changes.now) summands.now }
     ensures { OnOk result ((t : ℕ) (v : List Value) → copies out.new.items v t ≡ copies out.old.items v t
-        + (if holds window.now t then shown_copies head.now.always (projection head.now.keys.now head.now.row.now) (totals_upto summands.now changes.now t) v else 0)) }
+        + (if holds window.now t then shown_copies (projection head.now.keys.now head.now.row.now) (totals_upto summands.now changes.now t) v else 0)) }
 {
     let mut totals = no_totals(alloc, summands)?;
     let mut next = Vec::new(alloc);
@@ -156,11 +172,11 @@ pub(crate) fn sweep(
         let end = start + batch_len(&changes[start..]);
         fill_totals(summands, changes, start, end, &totals, &mut next)?;
         if next != totals {
-            add_row(alloc, head, &totals, since, at, out)?;
+            add_shown(alloc, head, &totals, since, at, out)?;
             mem::swap(&mut totals, &mut next);
             since = at;
         }
         start = end;
     }
-    add_row(alloc, head, &totals, since, window.end, out)
+    add_shown(alloc, head, &totals, since, window.end, out)
 }

@@ -1,4 +1,4 @@
-use Rattle.std.proofs.Common.{◌≡◌, ℕ, ◌+◌, false, cond, List, [], ◌∷◌, refl, ap, ◌∙◌, arith}
+use Rattle.std.proofs.Common.{◌≡◌, ℕ, ◌+◌, cond, List, [], ◌∷◌, refl, ap, ◌∙◌, arith}
 use Rattle.tq_base.specs.declared.period.Period.{Period}
 use Rattle.tq_base.specs.Periods.{holds}
 use Rattle.tq_base.specs.Fragments.{copies}
@@ -31,10 +31,10 @@ returns c k alike t v =
     let totals = same_totals c.args.window.now c.args.group.now c.deref.result.now t
     (λ s. ap (λ l. total_upto s l t) c.deref.ensures.value ∙ c.in_ok-changes.ensures.totals s t) c.args.summands.now in
     c.in_ok-sweep.ensures t v
-    ∙ ap (λ u. copies c.args.out.now.items v t + cond (holds c.args.window.now t) (shown_copies false u (totals_upto c.args.summands.now c.deref.result.now t) v) 0) of_k
-    ∙ ap (λ l. copies c.args.out.now.items v t + cond (holds c.args.window.now t) (shown_copies false k l v) 0) totals
+    ∙ ap (λ u. copies c.args.out.now.items v t + cond (holds c.args.window.now t) (shown_copies u (totals_upto c.args.summands.now c.deref.result.now t) v) 0) of_k
+    ∙ ap (λ l. copies c.args.out.now.items v t + cond (holds c.args.window.now t) (shown_copies k l v) 0) totals
 
 pub returns-in_default : goal.returns-in_default
 returns-in_default c k alike t v =
-    let none = ap (λ l. cond (holds c.args.window.now t) (shown_copies false k (totals_held c.args.summands.now c.args.window.now l t) v) 0) (no_row c.args.group.now c.in_default.ensures.value) in
+    let none = ap (λ l. cond (holds c.args.window.now t) (shown_copies k (totals_held c.args.summands.now c.args.window.now l t) v) 0) (no_row c.args.group.now c.in_default.ensures.value) in
     omega (arith, none, ap (λ m. cond (holds c.args.window.now t) m 0) (none_shown k c.args.summands.now v), nothing (holds c.args.window.now t))

@@ -34,20 +34,20 @@ all_counted window keys sums summands fragments rows sorted start out are_summan
     w.counted t v ∙ split (holds window t) refl
   where
     split : (b : Bool) → holds window t ≡ b
-        → cond (holds window t) (shown_copies false (take (length keys) v) (keyed_totals keys (take (length keys) v) window t summands (take start sorted)) v) 0
+        → cond (holds window t) (shown_copies (take (length keys) v) (keyed_totals keys (take (length keys) v) window t summands (take start sorted)) v) 0
         ≡ cond b (occurrences (grouped_rows keys sums (at fragments t)) v) 0
     split true inside =
-        ap (λ b. cond b (shown_copies false (take (length keys) v) (keyed_totals keys (take (length keys) v) window t summands (take start sorted)) v) 0) inside
-        ∙ ap (λ l. shown_copies false (take (length keys) v) (keyed_totals keys (take (length keys) v) window t summands l) v) (take_all start sorted past)
-        ∙ ap (λ l. shown_copies false (take (length keys) v) l v)
+        ap (λ b. cond b (shown_copies (take (length keys) v) (keyed_totals keys (take (length keys) v) window t summands (take start sorted)) v) 0) inside
+        ∙ ap (λ l. shown_copies (take (length keys) v) (keyed_totals keys (take (length keys) v) window t summands l) v) (take_all start sorted past)
+        ∙ ap (λ l. shown_copies (take (length keys) v) l v)
         (map_same (λ s. added (λ (r : Ranked). cond (holds r.fragment.now.period t && holds window t) (of_key keys (take (length keys) v) s r.fragment.now.values) (pos 0)) sorted)
         (λ s. added (of_key keys (take (length keys) v) s) (at fragments t)) summands
         (λ k d lt. added-IsPermutation (λ (r : Ranked). cond (holds r.fragment.now.period t && holds window t) (of_key keys (take (length keys) v) (get_or summands k d) r.fragment.now.values) (pos 0)) rows sorted same
         ∙ gathered_add window t inside (of_key keys (take (length keys) v) (get_or summands k d)) fragments rows are))
-        ∙ ap (λ l. shown_copies false (take (length keys) v) (map (λ s. added (of_key keys (take (length keys) v) s) (at fragments t)) l) v) are_summands
+        ∙ ap (λ l. shown_copies (take (length keys) v) (map (λ s. added (of_key keys (take (length keys) v) s) (at fragments t)) l) v) are_summands
         ∙ sym (grouped_occurrences keys sums (at fragments t) v)
     split false outside =
-        ap (λ b. cond b (shown_copies false (take (length keys) v) (keyed_totals keys (take (length keys) v) window t summands (take start sorted)) v) 0) outside
+        ap (λ b. cond b (shown_copies (take (length keys) v) (keyed_totals keys (take (length keys) v) window t summands (take start sorted)) v) 0) outside
 
 sorted_ranked : (keys : List ℕ) (rows sorted : List Ranked) → IsPermutation rows sorted → AreRanked keys rows → AreRanked keys sorted
 sorted_ranked keys rows sorted same ranked = All-permutation (λ (r : Ranked). IsRanked keys r) rows sorted same ranked
@@ -110,7 +110,7 @@ groups-preserved c =
     let group : take (start + len - start) (drop start c.deref-in-groups.result.now) ≡ take len (drop start rows) =
     ap (λ n. take n (drop start c.deref-in-groups.result.now)) (omega arith) ∙ ap (λ l. take len (drop start l)) c.deref-in-groups.ensures.value in
     let Adds : List Summand → List Ranked → Type 0 = λ summands l. (k : List Value) → AreOfKey keys k l → (t : ℕ) (v : List Value) → copies c.add_group.new.out.items v t
-    ≡ copies c.groups.out.items v t + cond (holds c.args.window.now t) (shown_copies false k (totals_held summands c.args.window.now l t) v) 0 in
+    ≡ copies c.groups.out.items v t + cond (holds c.args.window.now t) (shown_copies k (totals_held summands c.args.window.now l t) v) 0 in
     let adds = subst (λ (summands : List Summand). Adds summands (take len (drop start rows))) c.deref-in-groups-2.ensures.value (subst (λ (l : List Ranked). Adds c.deref-in-groups-2.result.now l) group c.in_ok-room.ensures) in
     let same = c.sort_unstable_by.ensures.permutation in
     adds_group keys c.in_ok-summands.summands.items c.args.window.now rows start len c.groups.out.items c.add_group.new.out.items x

@@ -28,28 +28,28 @@ batches-preserved c =
     let changes = c.args.changes.now in
     let start = c.batches.start in
     let first = c.index-changes-start.result in
-    passes c.args.head.now.always (projection c.args.head.now.keys.now c.args.head.now.row.now) c.args.summands.now c.args.window.now changes c.args.out.now.items
+    passes (projection c.args.head.now.keys.now c.args.head.now.row.now) c.args.summands.now c.args.window.now changes c.args.out.now.items
     start c.batch_len.result c.batches.since (get_or changes start first).at c.batches.totals.items c.fill_totals.new.next.items c.batches.out.items c.batches.invariant
     (fits_in changes start c.batch_len.result first c.batches-test.true c.batch_len.ensures.within)
     (all_at changes start c.batch_len.result first c.batch_len.ensures.alike) c.in_ok-fill_totals.ensures
     ((signed_items c.fill_totals.new.next.items c.batches.totals.items).0 (from_not _ c.if-ne.ensures))
 
-pub batches-preserved-in_ok-add_row : goal.batches-preserved-in_ok-add_row
-batches-preserved-in_ok-add_row c =
+pub batches-preserved-in_ok-add_shown : goal.batches-preserved-in_ok-add_shown
+batches-preserved-in_ok-add_shown c =
     let changes = c.args.changes.now in
     let start = c.batches.start in
     let first = c.index-changes-start.result in
-    let w = turns c.args.head.now.always (projection c.args.head.now.keys.now c.args.head.now.row.now) c.args.summands.now c.args.window.now changes c.args.out.now.items
+    let w = turns (projection c.args.head.now.keys.now c.args.head.now.row.now) c.args.summands.now c.args.window.now changes c.args.out.now.items
     start c.batch_len.result c.batches.since (get_or changes start first).at c.batches.totals.items c.fill_totals.new.next.items c.batches.out.items c.batches.invariant
     (fits_in changes start c.batch_len.result first c.batches-test.true c.batch_len.ensures.within)
     (all_at changes start c.batch_len.result first c.batch_len.ensures.alike) c.in_ok-fill_totals.ensures
-    c.add_row.new.out.items c.requires.within c.requires.sorted c.batches-test.true first c.index-changes-start.is (ap (λ (e : Change). e.at) c.index-changes-start.is)
-    (rw c.deref-then-ne.ensures.value at c.in_ok-add_row.ensures) in
+    c.add_shown.new.out.items c.requires.within c.requires.sorted c.batches-test.true first c.index-changes-start.is (ap (λ (e : Change). e.at) c.index-changes-start.is)
+    (rw c.deref-then-ne.ensures.value at c.in_ok-add_shown.ensures) in
     rw c.swap.ensures.x_after w
 
 pub returns : goal.returns
 returns c =
-    on_ok_weaker c.add_row-2.result
-    (λ more. ends c.args.head.now.always (projection c.args.head.now.keys.now c.args.head.now.row.now) c.args.summands.now c.args.window.now c.args.changes.now c.args.out.now.items
-    c.batches.start c.batches.since c.batches.totals.items c.batches.out.items c.add_row-2.new.out.items c.batches.invariant c.batches-test.false
-    (rw c.deref-2.ensures.value at more)) c.add_row-2.ensures
+    on_ok_weaker c.add_shown-2.result
+    (λ more. ends (projection c.args.head.now.keys.now c.args.head.now.row.now) c.args.summands.now c.args.window.now c.args.changes.now c.args.out.now.items
+    c.batches.start c.batches.since c.batches.totals.items c.batches.out.items c.add_shown-2.new.out.items c.batches.invariant c.batches-test.false
+    (rw c.deref-2.ensures.value at more)) c.add_shown-2.ensures

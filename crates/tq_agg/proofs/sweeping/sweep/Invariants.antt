@@ -6,7 +6,7 @@ use Rattle.tq_agg.proofs.sweeping.sweep.Given as goal
 
 abbrev pub invariant-batches : goal.invariant-batches
 invariant-batches l =
-    Sweeping l.head.always (projection l.head.keys.now l.head.row.now) l.summands l.window l.changes l.initial.out.items l.start l.since l.totals.items l.out.items
+    Sweeping (projection l.head.keys.now l.head.row.now) l.summands l.window l.changes l.initial.out.items l.start l.since l.totals.items l.out.items
 
 abbrev pub decreases-batches : goal.decreases-batches
 decreases-batches l = length l.changes - l.start

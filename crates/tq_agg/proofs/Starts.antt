@@ -1,0 +1,217 @@
+-- The sweep over starts and ends, one bound after another: what holds between two bounds.
+use Rattle.std.proofs.Common.{◌≡◌, ℕ, ◌+◌, ◌-◌, ◌<◌, ◌≤◌, pos, ◌-ℤ◌, inl, inr, ◌&&◌, cond, nat_le, nat_lt, List, [], ◌∷◌, length, take, drop, get_or, refl, sym, subst, ap, ◌∙◌, arith, length-drop, length-take}
+use Rattle.std.specs.Prelude.{All}
+use Rattle.std.proofs.Math.Seq.{take-add}
+use Rattle.std.proofs.lemmas.Bool.{cases_lt}
+use Rattle.std.proofs.lemmas.Bool.Decides.{nat_tests}
+use Rattle.std.proofs.lemmas.Int.{ints}
+use Rattle.std.proofs.lemmas.List.{take-append-drop, get_or-drop}
+use Rattle.std.proofs.lemmas.List.Sums.{sum_by-append}
+use Rattle.std.proofs.lemmas.List.Elements.{All-nil, All-head, All-tail, All-append, All-weaker}
+use Rattle.std.proofs.lemmas.List.Sorted.{IsNonDecreasingBy-from_sort}
+use Rattle.tq_base.specs.declared.value.Value.{Value}
+use Rattle.tq_base.specs.declared.period.Period.{Period}
+use Rattle.tq_base.specs.declared.fragment.Fragment.{Fragment}
+use Rattle.tq_base.specs.Periods.{holds}
+use Rattle.tq_base.specs.Fragments.{copies}
+use Rattle.tq_base.specs.Sweep.{upto, upto-cons, upto_none, all_after, Rises}
+use Rattle.tq_agg.specs.Edges.{count_upto, AreEdges, IsAtFront}
+use Rattle.tq_agg.specs.Totals.{row_copies}
+use Rattle.tq_agg.proofs.Batches.{extended}
+
+-- ---- one list of bounds in order, gone through up to a place
+
+upto_all : (bounds : List ℕ) (t : ℕ) → All (λ b. b ≤ t) bounds → upto bounds t ≡ length bounds
+upto_all [] t by = refl
+upto_all (b ∷ bounds) t by =
+    let first : b ≤ t = All-head (λ b. b ≤ t) b bounds by in
+    let rest = upto_all bounds t (All-tail (λ b. b ≤ t) b bounds by) in
+    let sum = upto-cons b bounds t in
+    grind (arith, nat_tests)
+
+-- the bounds before the place come by the last, the others not before it
+pub record Reached (bounds : List ℕ) (last place : ℕ) : Type 0 where
+  pub within : place ≤ length bounds
+  pub by : All (λ b. b ≤ last) (take place bounds)
+  pub ahead : All (λ b. last ≤ b) (drop place bounds)
+
+-- so many have passed, where the others are later
+reached_upto : (bounds : List ℕ) (last place : ℕ) → Reached bounds last place → (t : ℕ) → last ≤ t → All (λ b. t < b) (drop place bounds) → upto bounds t ≡ place
+reached_upto bounds last place r t past later =
+    let whole = ap (λ l. upto l t) (take-append-drop place bounds) in
+    let parts = sum_by-append (λ b. cond (nat_le b t) 1 0) (take place bounds) (drop place bounds) in
+    let front = upto_all (take place bounds) t (All-weaker (λ b. b ≤ last) (λ b. b ≤ t) (λ b le. omega (arith, le, past)) (take place bounds) r.by) in
+    omega (arith, whole, parts, front, upto_none (drop place bounds) t later, length-take place bounds, r.within)
+
+module _ (window : Period) (bounds : List ℕ) (edges : AreEdges window bounds) where
+  rest_rises : (place : ℕ) → Rises (drop place bounds)
+  rest_rises place i j d lt below =
+      let there : place + j < length bounds = omega (arith, length-drop place bounds, below) in
+      let order = IsNonDecreasingBy-from_sort (λ (b : ℕ). b) bounds edges.0 (place + i) (place + j) d (omega (arith, lt)) there in
+      omega (arith, order, get_or-drop place bounds i d, get_or-drop place bounds j d)
+
+  -- all left are later, where the first of them is
+  later : (place t : ℕ) → ((d : ℕ) → 0 < length (drop place bounds) → t < get_or (drop place bounds) 0 d) → All (λ b. t < b) (drop place bounds)
+  later place t first =
+      all_after bounds place t (rest_rises place)
+      (λ below. let is = first 0 (omega (arith, length-drop place bounds, below)) in omega (arith, is, get_or-drop place bounds 0 0, ap (λ i. get_or bounds i 0) (there place)))
+    where
+      there : (place : ℕ) → place + 0 ≡ place
+      there place = omega arith
+
+  module _ (last place at len : ℕ) (r : Reached bounds last place) (past : last ≤ at) (within : len ≤ length (drop place bounds))
+      (by : All (λ b. b ≤ at) (take len (drop place bounds))) (then : (d : ℕ) → len < length (drop place bounds) → at < get_or (drop place bounds) len d) where
+    then_later : All (λ b. at < b) (drop (place + len) bounds)
+    then_later =
+        later (place + len) at
+        (λ d below. let is = then d (omega (arith, length-drop place bounds, length-drop (place + len) bounds, below)) in
+        omega (arith, is, get_or-drop place bounds len d, get_or-drop (place + len) bounds 0 d, ap (λ i. get_or bounds i d) there))
+      where
+        there : place + len + 0 ≡ place + len
+        there = omega arith
+
+    reaches : Reached bounds at (place + len)
+    reaches = record {
+      within = omega (arith, length-drop place bounds, within, r.within);
+      by =
+          subst (All (λ b. b ≤ at)) (sym (take-add place len bounds))
+          (All-append (λ b. b ≤ at) (take place bounds) (take len (drop place bounds)) (All-weaker (λ b. b ≤ last) (λ b. b ≤ at) (λ b le. omega (arith, le, past)) (take place bounds) r.by) by);
+      ahead = All-weaker (λ b. at < b) (λ b. at ≤ b) (λ b lt. omega (arith, lt)) (drop (place + len) bounds) then_later;
+    }
+
+-- ---- both lists
+
+-- up to `since` the rows stand in the list, and from there on as many are valid as are left of those that began
+pub record Counting (starts ends : List ℕ) (window : Period) (old : List Fragment) (begun ended since : ℕ) (out : List Fragment) : Type 0 where
+  pub last : ℕ
+  pub counted : (t : ℕ) (v : List Value) → copies out v t ≡ copies old v t + cond (nat_le window.start t && nat_lt t since) (row_copies [] (count_upto starts ends t ∷ []) v) 0
+  pub settled : (t : ℕ) → since ≤ t → All (λ b. t < b) (drop begun starts) → All (λ b. t < b) (drop ended ends) → count_upto starts ends t ≡ pos begun -ℤ pos ended
+  pub starts_reached : Reached starts last begun
+  pub ends_reached : Reached ends last ended
+  pub from : window.start ≤ since
+  pub behind : since ≤ last
+  pub until : since ≤ window.end
+
+module _ (starts ends : List ℕ) (window : Period) (old : List Fragment) (start_edges : AreEdges window starts) (end_edges : AreEdges window ends) where
+  -- nothing is gone through yet
+  nothing_reached : (bounds : List ℕ) → AreEdges window bounds → Reached bounds window.start 0
+  nothing_reached bounds edges = record {
+    within = omega arith;
+    by = All-nil (λ b. b ≤ window.start);
+    ahead = All-weaker (λ (b : ℕ). (window.start ≤ b) × (b ≤ window.end)) (λ b. window.start ≤ b) (λ b is. is.0) bounds edges.1;
+  }
+
+  pub begins : Counting starts ends window old 0 0 window.start old
+  begins =
+      let ordered : window.start < window.end = window.ordered in
+      record {
+        last = window.start;
+        counted = λ t v. nothing (row_copies [] (count_upto starts ends t ∷ []) v) t (copies old v t);
+        settled = λ t past starts_later ends_later. omega (arith, ints, upto_none starts t starts_later, upto_none ends t ends_later);
+        starts_reached = nothing_reached starts start_edges;
+        ends_reached = nothing_reached ends end_edges;
+        from = omega arith;
+        behind = omega arith;
+        until = omega (arith, ordered);
+      }
+    where
+      nothing : (x t n : ℕ) → n ≡ n + cond (nat_le window.start t && nat_lt t window.start) x 0
+      nothing x t n = grind (arith, nat_tests)
+
+  module _ (begun ended since at : ℕ) (out : List Fragment) (w : Counting starts ends window old begun ended since out) (front : IsAtFront at (drop begun starts) (drop ended ends)) where
+    -- the bound at the front is one that is left
+    from_last : (bounds : List ℕ) (place : ℕ) → Reached bounds w.last place → ((d : ℕ) → (0 < length (drop place bounds)) × (get_or (drop place bounds) 0 d ≤ at)) → w.last ≤ at
+    from_last bounds place r there = let is = there 0 in let ahead = r.ahead 0 0 is.0 in omega (arith, is.1, ahead)
+
+    goes_on : w.last ≤ at
+    goes_on = elim front.2 [ inl there ↦ from_last starts begun w.starts_reached there | inr there ↦ from_last ends ended w.ends_reached there ]
+
+    by_end : (bounds : List ℕ) (place : ℕ) → AreEdges window bounds → ((d : ℕ) → 0 < length (drop place bounds) → at ≤ get_or (drop place bounds) 0 d) → 0 < length (drop place bounds) → at ≤ window.end
+    by_end bounds place edges low some =
+        let inside = edges.1 place 0 (omega (arith, length-drop place bounds, some)) in
+        omega (arith, low 0 some, inside.1, get_or-drop place bounds 0 0, ap (λ i. get_or bounds i 0) there)
+      where
+        there : place + 0 ≡ place
+        there = omega arith
+
+    in_window : at ≤ window.end
+    in_window = elim front.2 [ inl there ↦ by_end starts begun start_edges front.0 (there 0).0 | inr there ↦ by_end ends ended end_edges front.1 (there 0).0 ]
+
+    -- up to it nothing changes
+    before : (t : ℕ) → since ≤ t → t < at → count_upto starts ends t ≡ pos begun -ℤ pos ended
+    before t past lt =
+        w.settled t past
+        (later window starts start_edges begun t (λ d some. let low = front.0 d some in omega (arith, low, lt)))
+        (later window ends end_edges ended t (λ d some. let low = front.1 d some in omega (arith, low, lt)))
+
+    module _ (m n : ℕ) (within_starts : m ≤ length (drop begun starts)) (within_ends : n ≤ length (drop ended ends))
+        (starts_by : All (λ b. b ≤ at) (take m (drop begun starts))) (ends_by : All (λ b. b ≤ at) (take n (drop ended ends)))
+        (starts_then : (d : ℕ) → m < length (drop begun starts) → at < get_or (drop begun starts) m d) (ends_then : (d : ℕ) → n < length (drop ended ends) → at < get_or (drop ended ends) n d) where
+      starts_on : Reached starts at (begun + m)
+      starts_on = reaches window starts start_edges w.last begun at m w.starts_reached goes_on within_starts starts_by starts_then
+
+      ends_on : Reached ends at (ended + n)
+      ends_on = reaches window ends end_edges w.last ended at n w.ends_reached goes_on within_ends ends_by ends_then
+
+      -- from it on so many are left
+      after : (t : ℕ) → at ≤ t → All (λ b. t < b) (drop (begun + m) starts) → All (λ b. t < b) (drop (ended + n) ends) → count_upto starts ends t ≡ pos (begun + m) -ℤ pos (ended + n)
+      after t past starts_later ends_later =
+          omega (arith, ints, reached_upto starts at (begun + m) starts_on t past starts_later, reached_upto ends at (ended + n) ends_on t past ends_later)
+
+      -- as many begin there as end
+      pub passes : m ≡ n → Counting starts ends window old (begun + m) (ended + n) since out
+      passes same = record {
+        last = at;
+        counted = w.counted;
+        settled = λ t past starts_later ends_later. elim (cases_lt t at) [
+          | inl lt ↦ before t past lt ∙ omega (arith, ints, same)
+          | inr late ↦ after t late starts_later ends_later
+        ];
+        starts_reached = starts_on;
+        ends_reached = ends_on;
+        from = w.from;
+        behind = omega (arith, w.behind, goes_on);
+        until = w.until;
+      }
+
+      -- others are left, and a row of those before goes to the end of the list
+      pub turns : (new : List Fragment) → ((t : ℕ) (v : List Value) → copies new v t ≡ copies out v t + cond (nat_le since t && nat_lt t at) (row_copies [] ((pos begun -ℤ pos ended) ∷ []) v) 0)
+          → Counting starts ends window old (begun + m) (ended + n) at new
+      turns new more = record {
+        last = at;
+        counted = λ t v.
+            let step = extended window.start since at t (row_copies [] (count_upto starts ends t ∷ []) v) (row_copies [] ((pos begun -ℤ pos ended) ∷ []) v) w.from (omega (arith, w.behind, goes_on))
+            (λ past lt. ap (λ n. row_copies [] (n ∷ []) v) (before t past lt)) in
+            omega (arith, more t v, w.counted t v, step);
+        settled = λ t past starts_later ends_later. after t past starts_later ends_later;
+        starts_reached = starts_on;
+        ends_reached = ends_on;
+        from = omega (arith, w.from, w.behind, goes_on);
+        behind = omega arith;
+        until = in_window;
+      }
+
+      -- one of the lists is a bound shorter
+      pub fewer : (length starts - (begun + m)) + (length ends - (ended + n)) < (length starts - begun) + (length ends - ended)
+      fewer = elim front.2 [
+        | inl there ↦ let some = moves starts begun m there starts_then in omega (arith, length-drop begun starts, length-drop ended ends, within_starts, within_ends, some, (there 0).0)
+        | inr there ↦ let some = moves ends ended n there ends_then in omega (arith, length-drop begun starts, length-drop ended ends, within_starts, within_ends, some, (there 0).0)
+      ]
+        where
+          moves : (bounds : List ℕ) (place len : ℕ) → ((d : ℕ) → (0 < length (drop place bounds)) × (get_or (drop place bounds) 0 d ≤ at)) → ((d : ℕ) → len < length (drop place bounds) → at < get_or (drop place bounds) len d) → 0 < len
+          moves bounds place len there then = elim (cases_lt 0 len) [
+            | inl some ↦ some
+            | inr none ↦
+                let zero' : len ≡ 0 = omega (arith, none) in
+                let is = there 0 in
+                absurd (omega (arith, is.1, then 0 (omega (arith, is.0, zero')), ap (λ i. get_or (drop place bounds) i 0) zero'))
+          ]
+
+  -- after all bounds, a row of what is left goes to the end of the list
+  pub ends_with : (begun ended since : ℕ) (out new : List Fragment) → Counting starts ends window old begun ended since out → drop begun starts ≡ [] → drop ended ends ≡ []
+      → ((t : ℕ) (v : List Value) → copies new v t ≡ copies out v t + cond (nat_le since t && nat_lt t window.end) (row_copies [] ((pos begun -ℤ pos ended) ∷ []) v) 0)
+      → (t : ℕ) (v : List Value) → copies new v t ≡ copies old v t + cond (holds window t) (row_copies [] (count_upto starts ends t ∷ []) v) 0
+  ends_with begun ended since out new w no_starts no_ends more t v =
+      let step = extended window.start since window.end t (row_copies [] (count_upto starts ends t ∷ []) v) (row_copies [] ((pos begun -ℤ pos ended) ∷ []) v) w.from w.until
+      (λ past lt. ap (λ n. row_copies [] (n ∷ []) v) (w.settled t past (subst (All (λ b. t < b)) (sym no_starts) (All-nil (λ b. t < b))) (subst (All (λ b. t < b)) (sym no_ends) (All-nil (λ b. t < b))))) in
+      omega (arith, more t v, w.counted t v, step)

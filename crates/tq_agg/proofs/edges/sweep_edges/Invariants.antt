@@ -1,0 +1,10 @@
+-- What holds between two bounds.
+use Rattle.std.proofs.Common.{◌-◌, ◌+◌, length}
+use Rattle.tq_agg.proofs.Starts.{Counting}
+use Rattle.tq_agg.proofs.edges.sweep_edges.Given as goal
+
+abbrev pub invariant-edges : goal.invariant-edges
+invariant-edges l = Counting l.starts l.ends l.window l.initial.out.items l.begun l.ended l.since l.out.items
+
+abbrev pub decreases-edges : goal.decreases-edges
+decreases-edges l = (length l.starts - l.begun) + (length l.ends - l.ended)
