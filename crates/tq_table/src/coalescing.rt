@@ -10,7 +10,7 @@ ghost use Rattle.tq_table.specs.Apart.{AreApart};
 ghost use Rattle.tq_table.specs.Ranks.{IsRankOf};
 
 use crate::layering::layered;
-use crate::ranking::{Ordered, Ranked, in_order};
+use crate::ranking::{Ranked, RankedRows, in_order};
 use std::alloc::{AllocError, Global};
 use tq_base::{Fragment, Period};
 
@@ -85,7 +85,7 @@ fn add_layers(
 pub fn coalesce(alloc: Global, rows: Vec<Fragment>) -> Result<Vec<Fragment>, AllocError>
     ensures { IfOk result (λ table. IsLayers (copies rows.items) table.items) }
 {
-    let Ordered { told, rows } = in_order(alloc, rows)?;
+    let RankedRows { told, rows } = in_order(alloc, rows)?;
     let mut table = Vec::new(alloc);
     let mut group = Vec::new(alloc);
     let mut rank = 0;

@@ -2,7 +2,6 @@
 // lie beside each other in memory. Where each row is one value that its rank tells wholly, all are.
 
 ghost use Rattle.std.specs.Prelude.{◌≡◌, All, IfOk, IsPermutation, IsSorted, map, true};
-ghost use Rattle.std.specs.Bool.{OnTrue};
 ghost use Rattle.tq_table.specs.Ranks.{by_rank_cmp, is_told, row_rank, AreRanked, BeginsWithBytes, Rises};
 
 use std::alloc::{AllocError, Global};
@@ -41,13 +40,6 @@ fn is_told(row: &Fragment) -> bool
     }
 }
 
-// Whether the rank of each row tells its values wholly.
-fn are_told(rows: &[Fragment]) -> bool
-    ensures { OnTrue result (All (λ row. is_told row.values ≡ true) rows.now) }
-{
-    rows.iter().all(|row| is_told(row))
-}
-
 // By the ranks, and where these are equal, and do not tell all, by the values.
 fn by_rank(told: bool, one: &Ranked, other: &Ranked) -> Ordering
     ensures { result ≡ by_rank_cmp told one.now other.now }
@@ -58,18 +50,26 @@ fn by_rank(told: bool, one: &Ranked, other: &Ranked) -> Ordering
     }
 }
 
+/// Rows, each with its rank, and whether all ranks tell the values wholly.
+#[derive(Drop)]
+pub struct RankedRows {
+    pub told: bool,
+    pub rows: Vec<Ranked>,
+}
+
 // The rows with their ranks.
-fn with_ranks(alloc: Global, rows: Vec<Fragment>, told: bool) -> Result<Vec<Ranked>, AllocError>
-    requires { told ≡ true → All (λ row. is_told row.values ≡ true) rows.items }
-    ensures rows { IfOk result (λ ranked. map (λ r. r.row) ranked.items ≡ rows.items) }
-    ensures ranks { IfOk result (λ ranked. AreRanked told ranked.items) }
+fn with_ranks(alloc: Global, rows: Vec<Fragment>) -> Result<RankedRows, AllocError>
+    ensures rows { IfOk result (λ ranked. map (λ r. r.row) ranked.rows.items ≡ rows.items) }
+    ensures ranks { IfOk result (λ ranked. AreRanked ranked.told ranked.rows.items) }
 {
+    let mut told = true;
     let mut ranked = Vec::with_capacity(alloc, rows.len())?;
     'rows: for row in rows {
+        told &= is_told(&row);
         let rank = row_rank(&row);
         ranked.push(Ranked { rank, row })?;
     }
-    Ok(ranked)
+    Ok(RankedRows { told, rows: ranked })
 }
 
 // Whether the ranks rise and fall in long runs: as counts do over a time in which rows come and then go.
@@ -103,20 +103,13 @@ fn by_ranks(mut rows: Vec<Ranked>, told: bool) -> Result<Vec<Ranked>, AllocError
     Ok(rows)
 }
 
-/// Rows in the order of their values, each with its rank, and whether all ranks tell the values wholly.
-#[derive(Drop)]
-pub struct Ordered {
-    pub told: bool,
-    pub rows: Vec<Ranked>,
-}
-
 /// The rows in the order of their values, each with its rank. `AllocError` where a growth was refused.
-pub fn in_order(alloc: Global, rows: Vec<Fragment>) -> Result<Ordered, AllocError>
+pub fn in_order(alloc: Global, rows: Vec<Fragment>) -> Result<RankedRows, AllocError>
     ensures same { IfOk result (λ sorted. IsPermutation rows.items (map (λ r. r.row) sorted.rows.items)) }
     ensures rising { IfOk result (λ sorted. Rises (map (λ r. r.row) sorted.rows.items)) }
     ensures ranks { IfOk result (λ sorted. AreRanked sorted.told sorted.rows.items) }
 {
-    let told = are_told(&rows);
-    let rows = by_ranks(with_ranks(alloc, rows, told)?, told)?;
-    Ok(Ordered { told, rows })
+    let RankedRows { told, rows } = with_ranks(alloc, rows)?;
+    let rows = by_ranks(rows, told)?;
+    Ok(RankedRows { told, rows })
 }

@@ -8,16 +8,16 @@ use Rattle.tq_table.proofs.ranking.in_order.Goals as goal
 
 pub returns-clause-same : goal.returns-clause-same
 returns-clause-same c =
-    let ranked = c.in_ok-with_ranks.field-0.items in
+    let ranked = c.in_ok-told.field-0.rows.items in
     let sorted = c.in_ok-rows.rows.items in
-    subst (λ l. IsPermutation l (map (λ (r : Ranked). r.row) sorted)) c.in_ok-with_ranks.ensures.rows
+    subst (λ l. IsPermutation l (map (λ (r : Ranked). r.row) sorted)) c.in_ok-told.ensures.rows
     (IsPermutation-map (λ (r : Ranked). r.row) ranked sorted c.in_ok-rows.ensures.same)
 
 pub returns-clause-rising : goal.returns-clause-rising
 returns-clause-rising c =
-    rises c.are_told-told.result c.in_ok-with_ranks.field-0.items c.in_ok-rows.rows.items c.in_ok-with_ranks.ensures.ranks c.in_ok-rows.ensures.same c.in_ok-rows.ensures.order
+    rises c.in_ok-told.field-0.told c.in_ok-told.field-0.rows.items c.in_ok-rows.rows.items c.in_ok-told.ensures.ranks c.in_ok-rows.ensures.same c.in_ok-rows.ensures.order
 
 pub returns-clause-ranks : goal.returns-clause-ranks
 returns-clause-ranks c =
-    All-permutation (λ (r : Ranked). IsRankOf c.are_told-told.result r.rank r.row.values) c.in_ok-with_ranks.field-0.items c.in_ok-rows.rows.items
-    c.in_ok-rows.ensures.same c.in_ok-with_ranks.ensures.ranks
+    All-permutation (λ (r : Ranked). IsRankOf c.in_ok-told.field-0.told r.rank r.row.values) c.in_ok-told.field-0.rows.items c.in_ok-rows.rows.items
+    c.in_ok-rows.ensures.same c.in_ok-told.ensures.ranks
