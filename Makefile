@@ -1,25 +1,28 @@
-# `make` proves and builds the program and prints a first answer, `make test` is the gate, and
+# `make` shows a first answer and then proves and builds the program, `make test` is the gate, and
 # `make bench` measures the program beside what one would write without it.
 SHELL := /bin/bash
 .SHELLFLAGS := -eu -o pipefail -c
-.PHONY: answer build test bench
+.PHONY: answer first build test bench
 
-answer: build
-	bin/tq ask --table emp=examples/emp.csv "VALIDTIME SELECT name FROM emp"
+QUESTION := ask --table emp=examples/emp.csv "VALIDTIME SELECT name FROM emp"
 
-# Tells what is being proved. A first build takes minutes, a later one what changed.
-PROGRESS := s/^rt: chose .* for /proving /p; s/^so far: ([0-9]+ of [0-9]+ functions).*/  \1/p; s/^checked (.*, [0-9]+ of [0-9]+)$$/  \1/p
+answer: first build
+	bin/tq $(QUESTION)
 
+# The first answer from a build that is not proved, where there is no proved one yet: some 70 seconds.
+first:
+	@[ -x bin/tq ] || { mkdir -p crates/tq/out; cd crates/tq; \
+		echo "a first answer in a minute or two, from a build that is not proved yet:"; \
+		rt try --data emp.csv=../../examples/emp.csv -- $(subst examples/,,$(QUESTION)) 2> out/first.log || cat out/first.log; }
+
+# What was proved before is kept: a first build takes minutes, a later one what changed.
 build:
-	@echo "proving and building bin/tq: minutes the first time (the log: crates/tq/out/build.log)"
-	@mkdir -p bin crates/tq/out
-	@cd crates/tq && { rt run -- --help 2>&1 | tee out/build.log | sed -u -n -E '$(PROGRESS)'; } \
-		|| { grep -E 'error|no proof|not proved' out/build.log; exit 1; }
-	@cp crates/tq/out/tq bin/tq
+	@python3 gate/build.py
 
-# The gate: proves every crate and its tests from nothing, tries the must-fail edits, runs tests and programs.
+# The gate: proves every crate and its tests from nothing, tries the must-fail edits, runs tests and programs, and
+# puts the cases of gate/ to the program.
 test:
-	rt ci
+	gate/run.sh
 
 bench: build
 	bench/run.sh

@@ -26,3 +26,33 @@ print(counts, end="")
 print(f"time of the tree over that of the map: {(tree - keys) / (plain - keys):.2f}")
 print(f"microseconds an update: tree {(tree - keys) / (int(count) * 1.5) * 1e6:.2f}, map {(plain - keys) / (int(count) * 1.5) * 1e6:.2f}")
 PY
+
+# Questions of the same keys: 250 neighbouring keys at the version of the last insert, which the deletes came after,
+# and all keys at that version, beside ranges of 250 keys in a map without versions. The time to fill is taken off.
+python3 - "$count" <<'PY'
+import subprocess, sys, time
+
+count = sys.argv[1]
+
+def best(mode, questions, runs):
+    times = []
+    for _ in range(runs):
+        begin = time.perf_counter()
+        out = subprocess.run(["out/bench_tree", mode, count, str(questions)], check=True, capture_output=True, text=True).stdout
+        times.append(time.perf_counter() - begin)
+    return min(times), dict((line.rsplit(" ", 1)[0], int(line.rsplit(" ", 1)[1])) for line in out.splitlines())
+
+def question(mode, questions, runs=3):
+    empty, _ = best(mode, 0, runs)
+    full, found = best(mode, questions, runs)
+    return (full - empty) / questions * 1e6, found
+
+plain, _ = question("range", 100000)
+for mode, questions, what in (("scan", 100000, "250 neighbouring keys"), ("all", 20, "all keys")):
+    micros, found = question(mode, questions)
+    keys, leaves, reads = (found[word] / questions for word in ("keys found", "leaves met", "nodes read"))
+    bound = leaves + (found["levels"] - 1) * leaves
+    print(f"{what}: {micros:.1f} microseconds a question, {reads:.1f} reads for {leaves:.1f} leaves (bound {bound:.1f}), {keys:.0f} keys (bound on leaves {keys // 5 + 2:.0f})")
+    if mode == "scan":
+        print(f"the map's range of 250 keys: {plain:.1f} microseconds; the tree over the map: {micros / plain:.1f}")
+PY

@@ -4,18 +4,34 @@
 //!     bench_tree tree N     N keys with N / 2 deletes, in the tree
 //!     bench_tree map N      the same in a BTreeMap, without versions
 //!     bench_tree keys N     the keys alone
+//!     bench_tree scan N Q   the tree, and Q questions for 250 neighbouring keys at the version of the last insert
+//!     bench_tree all N Q    the tree, and Q questions for all keys at that version
+//!     bench_tree range N Q  the keys in a BTreeMap, and Q ranges of 250 neighbouring keys
 #![tactic(auto)]
 
 ghost use Rattle.std.specs.Prelude.{◌<◌};
 
 mod load;
+mod questions;
 mod sizes;
 
 use load::Load;
+use questions::{ask_all, ask_map, ask_tree};
 use sizes::Sizes;
 use std::alloc::{AllocError, Global};
 use std::collections::BTreeMap;
 use std::env;
+
+/// What is measured.
+#[derive(Clone, Copy)]
+enum Mode {
+    Tree,
+    Map,
+    Keys,
+    Scan,
+    All,
+    Range,
+}
 
 // The fronts of the keys, from a linear congruential generator.
 fn fronts(alloc: Global, count: u32) -> Result<Vec<u64>, AllocError> {
@@ -73,21 +89,73 @@ fn fill_map(alloc: Global, fronts: &[u64]) -> anyhow::Result<usize> {
     Ok(map.len())
 }
 
+// All the keys, in order, as they are put into a tree or a map.
+fn sorted_keys(alloc: Global, fronts: &[u64]) -> Result<Vec<u128>, AllocError> {
+    let mut keys = Vec::new(alloc);
+    for (row, front) in fronts.iter().enumerate() {
+        keys.push(*front as u128 * 4294967296 + row as u128 % 4294967296)?;
+    }
+    keys.sort()?;
+    Ok(keys)
+}
+
+// Fills a tree or a map, asks it, and prints what was found.
+fn ask<R: Print>(
+    rt: &R,
+    alloc: Global,
+    mode: Mode,
+    fronts: &[u64],
+    count: u32,
+) -> anyhow::Result<()> {
+    let sorted = sorted_keys(alloc, fronts)?;
+    if matches!(mode, Mode::Range) {
+        let mut map: BTreeMap<u128, u32> = BTreeMap::new(alloc);
+        for key in &sorted {
+            map.insert(*key, 1)?;
+        }
+        println!(rt; "keys found {}", ask_map(alloc, &map, &sorted, count)?)?;
+        return Ok(());
+    }
+    let load = fill_tree(alloc, fronts)?;
+    let version = fronts.len().min(16777216) as u32;
+    let answers = if matches!(mode, Mode::All) {
+        ask_all(alloc, &load.tree, version, count)?
+    } else {
+        ask_tree(alloc, &load.tree, &sorted, version, count)?
+    };
+    println!(rt; "keys found {}", answers.keys)?;
+    println!(rt; "leaves met {}", answers.leaves)?;
+    println!(rt; "nodes read {}", answers.reads)?;
+    println!(rt; "levels {}", load.tree.levels(version))?;
+    Ok(())
+}
+
 fn main(rt: HostRuntime) -> anyhow::Result<()> {
     let alloc = rt.alloc();
     let mut count: u32 = 2000;
-    let mut in_map = false;
-    let mut in_tree = true;
+    let mut questions: u32 = 100;
+    let mut mode = Mode::Tree;
     for (place, word) in env::args(&rt)?.enumerate() {
         if place == 1 {
-            in_map = word.as_str() == "map";
-            in_tree = word.as_str() == "tree";
+            mode = match word.as_str() {
+                "tree" => Mode::Tree,
+                "map" => Mode::Map,
+                "scan" => Mode::Scan,
+                "all" => Mode::All,
+                "range" => Mode::Range,
+                _ => Mode::Keys,
+            };
         } else if place == 2 {
             count = word.parse().unwrap_or(2000);
+        } else if place == 3 {
+            questions = word.parse().unwrap_or(100);
         }
     }
     let fronts = fronts(alloc, count.min(11000000))?;
-    if in_tree {
+    if matches!(mode, Mode::Scan | Mode::All | Mode::Range) {
+        return ask(&rt, alloc, mode, &fronts, questions);
+    }
+    if matches!(mode, Mode::Tree) {
         let load = fill_tree(alloc, &fronts)?;
         let sizes = Sizes::of(&load.tree)?;
         println!(rt; "updates {}", load.tree.version())?;
@@ -100,7 +168,7 @@ fn main(rt: HostRuntime) -> anyhow::Result<()> {
             sizes.entries.saturating_mul(100) / updates
         )?;
         println!(rt; "bytes an update {}", sizes.bytes / updates)?;
-    } else if in_map {
+    } else if matches!(mode, Mode::Map) {
         println!(rt; "keys left {}", fill_map(alloc, &fronts)?)?;
     } else {
         println!(rt; "keys {}", fronts.len())?;

@@ -11,7 +11,7 @@ use Rattle.tq_base.specs.declared.catalogue.Kind.{Kind}
 use Rattle.tq_base.specs.declared.catalogue.Kind.TheVariants as kind
 use Rattle.tq_base.specs.declared.catalogue.Schema.{Schema}
 use Rattle.tq_base.specs.declared.value.Value.{Value}
-use Rattle.tq_base.specs.declared.value.Value.TheVariants.{Int, Text}
+use Rattle.tq_base.specs.Contents.{Int, Text}
 use Rattle.tq_base.specs.Catalogues.{Fit, IsOfKind}
 use Rattle.tq_event.specs.declared.event.Event.{Event}
 use Rattle.tq_event.specs.declared.event.Event.TheVariants.{Start, End}

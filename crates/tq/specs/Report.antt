@@ -1,5 +1,5 @@
--- Which refusal each fault is, and the statuses that the program ends with.
-use Rattle.std.specs.Prelude.{ℕ, Vec}
+-- Which refusal each fault is, the lines that tell them, and the statuses that the program ends with.
+use Rattle.std.specs.Prelude.{ℕ, Vec, List, ◌++◌, codes, decimal}
 use Rattle.std.specs.declared.alloc.Global.{Global}
 use Rattle.tq.specs.declared.answer.AnswerFault.{AnswerFault}
 use Rattle.tq.specs.declared.answer.AnswerFault.TheVariants as answer
@@ -7,6 +7,7 @@ use Rattle.tq.specs.declared.command_line.CommandLineFault.{CommandLineFault}
 use Rattle.tq.specs.declared.command_line.CommandLineFault.TheVariants as command_line
 use Rattle.tq.specs.declared.source.FileFault.{FileFault}
 use Rattle.tq.specs.declared.source.FileFault.TheVariants as source
+use Rattle.tq.specs.FaultNames.{load_name, plan_name, sql_name}
 use Rattle.tq.specs.declared.report.Refusal.{Refusal}
 use Rattle.tq.specs.declared.report.Refusal.TheVariants.{BadCommandLine, CannotRead, Load, Statement, Plan, WriteFailed, OutOfMemory}
 
@@ -38,3 +39,14 @@ status_of (Statement fault) = 1
 status_of (Plan fault) = 1
 status_of WriteFailed = 1
 status_of OutOfMemory = 1
+
+-- The line that tells a refusal. (This project's own.)
+abbrev pub line_of : Refusal → List ℕ
+line_of BadCommandLine = codes "tq: BadCommandLine\n"
+line_of (CannotRead path) = codes "tq: cannot read " ++ path.items ++ codes "\n"
+line_of (Load fault) =
+    codes "tq: load " ++ load_name fault.kind ++ codes " table " ++ decimal fault.table ++ codes " record " ++ decimal fault.number ++ codes "\n"
+line_of (Statement fault) = codes "tq: statement " ++ sql_name fault.kind ++ codes " at " ++ decimal fault.at ++ codes "\n"
+line_of (Plan fault) = codes "tq: plan " ++ plan_name fault ++ codes "\n"
+line_of WriteFailed = codes "tq: write failed\n"
+line_of OutOfMemory = codes "tq: OutOfMemory\n"

@@ -15,6 +15,14 @@ source_code {R} code =
     code_by (R × (ℕ × ℕ)) (coded× code (coded× coded_ℕ coded_ℕ)) (λ s. (s.reader, (s.reads, s.failed)))
     (λ p. record { reader = p.0; reads = p.1.0; failed = p.1.1 }) (λ _. refl)
 
+-- The most bytes that a file may have. (This project's own.)
+abbrev pub most_bytes : ℕ
+most_bytes = 1073741824
+
+-- The most reads of one file. (This project's own.)
+abbrev pub most_reads : ℕ
+most_reads = 2147483648
+
 -- Known bytes lose some of their first. (This project's own.)
 abbrev pub ConsumesSome : Option (List ℕ) → Option (List ℕ) → Type 0
 ConsumesSome old new = (taken : List ℕ) × Consumes old new taken

@@ -13,6 +13,7 @@ ghost use Rattle.tq_plan.specs.TableAnswers.{AreAllNumbers};
 
 use std::alloc::{AllocError, Global};
 use std::io::Write;
+use thiserror::Error;
 use tq_event::laws::{loaded_is_history, tables_are_loaded};
 use tq_event::{LoadFault, LoadFaultKind, MAX_EVENTS, TableFile, Tables, load_tables};
 use tq_plan::laws::{numbers_are_held, tables_answer};
@@ -22,12 +23,17 @@ use tq_table::{Sink, Table, WriteFault, write_table};
 
 /// Why there is no answer: the first fault of the files, of the statement's text, or of its plan; or
 /// the sink failed; or a growth was refused.
-#[derive(Clone, Copy, Debug, PartialEq, Eq)]
+#[derive(Clone, Copy, Debug, PartialEq, Eq, Error)]
 pub enum AnswerFault {
+    #[error(transparent)]
     Load(LoadFault),
+    #[error(transparent)]
     Sql(SqlFault),
+    #[error(transparent)]
     Plan(PlanFault),
+    #[error("write failed")]
     Write,
+    #[error("out of memory")]
     OutOfMemory,
 }
 

@@ -1,6 +1,9 @@
 // The command line: what the program was asked, with names, paths and statements as their bytes.
 
-ghost use Rattle.std.specs.Prelude.{◌≡◌, ◌≤◌, [], ◌∷◌, ◌++◌, IfOk, IfErr, Contains};
+ghost use Rattle.std.specs.Prelude.{◌≡◌, ◌≤◌, [], ◌∷◌, ◌++◌, IfOk, IfErr, Contains, map};
+ghost use Rattle.std.specs.Str.{chars};
+ghost use Rattle.tq.specs.CommandLine.{option_word};
+ghost use Rattle.tq.specs.Words.{byte_of};
 
 use crate::words::bytes_of;
 use clap::error::ErrorKind;
@@ -20,7 +23,7 @@ Statement:
   VALIDTIME PERIOD '[10 - 20)' SELECT name FROM emp WHERE dept = 'toys'
   VALIDTIME SELECT a.name, b.name FROM emp a, emp b WHERE a.dept = b.dept AND a.emp < b.emp
   VALIDTIME SELECT dept, COUNT(*), SUM(emp) AS total FROM emp GROUP BY dept
-  VALIDTIME SELECT name FROM emp EXCEPT ALL SELECT name FROM boss
+  VALIDTIME SELECT emp FROM emp EXCEPT ALL SELECT emp FROM posted
 
 Table file (the first column is a key; an open end is `forever`):
   emp:int,name:text,dept:text,from,to
@@ -126,16 +129,23 @@ fn ask_command<'a>(alloc: Global) -> Result<Command<'a>, AllocError> {
     command.arg(table)?.arg(workers)?.arg(statement)
 }
 
-// What `tq ask` was asked.
-fn read_ask(alloc: Global, ask: &ArgMatches<'_>) -> Result<AskRequest, CommandLineFault> {
-    let options = ask.get_strs("table").unwrap_or(&[]);
+// The tables that the words name, in their order.
+fn read_options(alloc: Global, words: &[&str]) -> Result<Vec<TableOption>, CommandLineFault>
+    ensures { IfOk result (λ tables. map option_word tables.items ≡ map (λ w. map byte_of (chars w.now)) words.now) }
+{
     let mut tables = Vec::new(alloc);
-    for option in options {
-        let word = bytes_of(alloc, option)?;
+    'words: for word in words {
+        let word = bytes_of(alloc, word)?;
         tables
             .push(split_table(alloc, &word)?)
             .map_err(AllocError::from)?;
     }
+    Ok(tables)
+}
+
+// What `tq ask` was asked.
+fn read_ask(alloc: Global, ask: &ArgMatches<'_>) -> Result<AskRequest, CommandLineFault> {
+    let tables = read_options(alloc, ask.get_strs("table").unwrap_or(&[]))?;
     let workers = ask.get_one::<u32>("workers").unwrap_or(0);
     if workers < 1 || workers > WORKER_LIMIT {
         return Err(CommandLineFault::BadCommandLine);

@@ -3,8 +3,14 @@
 //! answered on standard output, and tells on standard error why there is no answer.
 #![tactic(auto)]
 
+ghost use Rattle.std.specs.Prelude.{◌≡◌, ◌≢◌, IfErr, IfOk, map};
+ghost use Rattle.tq.specs.declared.command_line.TableOption.{TableOption as AnyOption};
+ghost use Rattle.tq_event.specs.declared.file.TableFile.{TableFile as AnyFile};
+
 mod answer;
 mod command_line;
+mod fault_names;
+mod file;
 mod laws;
 mod report;
 mod source;
@@ -12,8 +18,9 @@ mod words;
 
 use answer::answer_bytes;
 use command_line::{AskRequest, Request, TableOption, read_command_line};
+use file::read_file;
 use report::Refusal;
-use source::{FileFault, Source, read_file};
+use source::{FileFault, Source};
 use std::alloc::AllocError;
 use std::env::Env;
 use std::io::ErrorKind;
@@ -25,7 +32,7 @@ use tq_event::TableFile;
 use tq_table::Sink;
 use words::read_words;
 
-// The bytes of the file at a path. One that is no UTF-8 names no file.
+// The bytes of the file at a path. The standard library opens no path that is no UTF-8.
 fn read_path<R: Files + AllocGlobal>(rt: &R, path: &[u8]) -> Result<Vec<u8>, FileFault> {
     let Ok(path) = str::from_utf8(path) else {
         return Err(FileFault::Read);
@@ -38,7 +45,10 @@ fn read_path<R: Files + AllocGlobal>(rt: &R, path: &[u8]) -> Result<Vec<u8>, Fil
 }
 
 // A table's name, and the bytes of its file.
-fn read_table<R: Files + AllocGlobal>(rt: &R, option: TableOption) -> Result<TableFile, Refusal> {
+fn read_table<R: Files + AllocGlobal>(rt: &R, option: TableOption) -> Result<TableFile, Refusal>
+    ensures name { IfOk result (λ file. file.name ≡ option.name.items) }
+    ensures refused { IfErr result (λ refusal. refusal ≢ Refusal.OutOfMemory → refusal ≡ Refusal.CannotRead option.path) }
+{
     let TableOption { name, path } = option;
     match read_path(rt, &path) {
         Ok(bytes) => Ok(TableFile {
@@ -49,6 +59,22 @@ fn read_table<R: Files + AllocGlobal>(rt: &R, option: TableOption) -> Result<Tab
     }
 }
 
+// The tables in the order of their options.
+fn read_tables<R: Files + AllocGlobal>(
+    rt: &R,
+    options: Vec<TableOption>,
+) -> Result<Vec<TableFile>, Refusal>
+    ensures { IfOk result (λ tables. map (λ (t : AnyFile). t.name) tables.items ≡ map (λ (o : AnyOption). o.name.items) options.items) }
+{
+    let mut tables = Vec::new(rt.alloc());
+    'options: for option in options {
+        tables
+            .push(read_table(rt, option)?)
+            .map_err(AllocError::from)?;
+    }
+    Ok(tables)
+}
+
 // Answers a request on standard output, once all files are read.
 fn ask<R: Files + AllocGlobal + Print>(rt: &R, request: AskRequest) -> Result<(), Refusal> {
     let AskRequest {
@@ -56,12 +82,7 @@ fn ask<R: Files + AllocGlobal + Print>(rt: &R, request: AskRequest) -> Result<()
         workers,
         statement,
     } = request;
-    let mut tables = Vec::new(rt.alloc());
-    for option in options {
-        tables
-            .push(read_table(rt, option)?)
-            .map_err(AllocError::from)?;
-    }
+    let tables = read_tables(rt, options)?;
     let mut sink = Sink::over(io::writer(rt));
     answer_bytes(rt.alloc(), &tables, &statement, workers, &mut sink)?;
     Ok(())

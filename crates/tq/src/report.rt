@@ -1,11 +1,13 @@
 // What the program prints where it gives no answer, and its status then.
 
-ghost use Rattle.std.specs.Prelude.{◌≡◌};
+ghost use Rattle.std.specs.Prelude.{◌≡◌, OnOk};
+ghost use Rattle.std.specs.Io.KnownBytes.{Appends};
 ghost use Rattle.std.specs.Process.{exit_status};
-ghost use Rattle.tq.specs.Report.{refused_answer, refused_command_line, refused_file, status_of};
+ghost use Rattle.tq.specs.Report.{line_of, refused_answer, refused_command_line, refused_file, status_of};
 
 use crate::answer::AnswerFault;
 use crate::command_line::CommandLineFault;
+use crate::fault_names::{load_name, plan_name, sql_name};
 use crate::source::FileFault;
 use std::alloc::AllocError;
 use std::io::{self, Write};
@@ -83,7 +85,9 @@ impl Refusal {
     }
 
     /// Prints the one line of the refusal. A fault is printed by its name, a path as its bytes.
-    pub fn print<W: Write>(&self, errors: &mut W) -> io::Result<()> {
+    pub fn print<W: Write>(&self, errors: &mut W) -> io::Result<()>
+        ensures { OnOk result (Appends (W.contents errors.old) (W.contents errors.new) (line_of self.now)) }
+    {
         match self {
             Refusal::BadCommandLine => errors.write_all(b"tq: BadCommandLine\n"),
             Refusal::CannotRead(path) => {
@@ -97,11 +101,15 @@ impl Refusal {
                     table,
                     number,
                 },
-            ) => writeln!(errors, "tq: load {kind:?} table {table} record {number}"),
+            ) => writeln!(
+                errors,
+                "tq: load {} table {table} record {number}",
+                load_name(*kind)
+            ),
             Refusal::Statement(SqlFault { kind, at }) => {
-                writeln!(errors, "tq: statement {kind:?} at {at}")
+                writeln!(errors, "tq: statement {} at {at}", sql_name(*kind))
             }
-            Refusal::Plan(fault) => writeln!(errors, "tq: plan {fault:?}"),
+            Refusal::Plan(fault) => writeln!(errors, "tq: plan {}", plan_name(*fault)),
             Refusal::WriteFailed => errors.write_all(b"tq: write failed\n"),
             Refusal::OutOfMemory => errors.write_all(b"tq: OutOfMemory\n"),
         }

@@ -9,7 +9,7 @@ use Rattle.std.proofs.lemmas.List.{length-map, take_at}
 use Rattle.std.proofs.lemmas.List.Elements.{All-nil, All-cons, All-head, All-tail, All-weaker, All-filter}
 use Rattle.std.proofs.lemmas.List.Sums.{sum_by-cons}
 use Rattle.tq_base.specs.declared.value.Value.{Value}
-use Rattle.tq_base.specs.declared.value.Value.TheVariants.{Int}
+use Rattle.tq_base.specs.Contents.{Int}
 use Rattle.tq_base.specs.ValueOrder.{values_cmp, same_from_eq, eq_from_same}
 use Rattle.tq_base.specs.Fragments.{occurrences}
 use Rattle.tq_ops.specs.Conditions.{value_at}

@@ -3,7 +3,7 @@ use Rattle.std.specs.Prelude.{ℕ, ℤ, pos, ◌+ℤ◌, Bool, not, FitsSigned, 
 use Rattle.std.specs.Int.{w64}
 use Rattle.std.specs.Ordering.{eq_by_cmp}
 use Rattle.tq_base.specs.declared.value.Value.{Value}
-use Rattle.tq_base.specs.declared.value.Value.TheVariants.{Int, Text}
+use Rattle.tq_base.specs.Contents.{Int, Text}
 use Rattle.tq_base.specs.ValueOrder.{values_cmp}
 use Rattle.tq_ops.specs.Conditions.{value_at}
 use Rattle.tq_ops.specs.Ordinary.{projection}

@@ -16,6 +16,3 @@ mod summands;
 mod sweeping;
 
 pub use counting::{count_all, group_count_sum};
-
-#[cfg(test)]
-mod tests;

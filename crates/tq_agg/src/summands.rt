@@ -2,10 +2,11 @@
 
 ghost use Rattle.std.specs.Prelude.{◌≡◌, ◌∷◌, map, IfOk};
 ghost use Rattle.tq_agg.specs.declared.summands.Summand.TheVariants.{Column, One};
+ghost use Rattle.tq_agg.specs.Grouping.{number_of};
 ghost use Rattle.tq_agg.specs.Totals.{weight_of};
 
 use std::alloc::{AllocError, Global};
-use tq_base::{Fragment, Value};
+use tq_base::{Fragment, Seen, Value};
 
 // What each row adds to a total: 1, or the number in the column, which is 0 for a text and where the row
 // has no such column.
@@ -13,6 +14,15 @@ use tq_base::{Fragment, Value};
 pub(crate) enum Summand {
     One,
     Column(u32),
+}
+
+fn number_of(value: &Value) -> i128
+    ensures { result ≡ number_of value.now }
+{
+    match value.seen() {
+        Seen::Int(number) => number,
+        Seen::Text(_) => 0,
+    }
 }
 
 // What the row adds. Where it is counted alone its values are not looked at.
@@ -24,8 +34,8 @@ pub(crate) fn weight(summand: Summand, row: &Fragment) -> i128
         Summand::Column(column) => column,
     };
     match row.values.get().get(column as usize) {
-        Some(Value::Int(number)) => *number,
-        Some(Value::Text(_)) | None => 0,
+        Some(value) => number_of(value),
+        None => 0,
     }
 }
 

@@ -3,7 +3,7 @@
 ghost use Rattle.std.specs.Prelude.{◌≡◌, ◌++◌, ◌+◌, ◌<◌, ◌≤◌, ◌&&◌, ℕ, [], if◌then◌else◌, nat_le, nat_lt, length, map, take, All, IfOk, IsSortedByKey, List, OnOk};
 ghost use Rattle.std.specs.Ordering.{nat_cmp};
 ghost use Rattle.tq_base.specs.declared.value.Value.{Value};
-ghost use Rattle.tq_base.specs.declared.value.Value.TheVariants.{Int};
+ghost use Rattle.tq_base.specs.Contents.{Int};
 ghost use Rattle.tq_base.specs.Fragments.{copies};
 ghost use Rattle.tq_base.specs.Periods.{holds};
 ghost use Rattle.tq_ops.specs.Conditions.{value_at};
@@ -77,7 +77,7 @@ fn copied_at(row: &[Value], column: u32) -> Result<Value, AllocError>
 {
     match row.get(column as usize) {
         Some(value) => value.try_copy(),
-        None => Ok(Value::Int(0)),
+        None => Ok(Value::int(0)),
     }
 }
 
@@ -90,7 +90,7 @@ fn joined(alloc: Global, head: &Head<'_>, totals: &[i128]) -> Result<Values, All
         values.push(copied_at(head.row, *key)?)?;
     }
     'totals: for total in totals {
-        values.push(Value::Int(*total))?;
+        values.push(Value::number(alloc, *total)?)?;
     }
     Ok(Values::of(values))
 }

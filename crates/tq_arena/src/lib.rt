@@ -11,6 +11,3 @@ mod meter;
 
 pub use arena::{Arena, NodeNo};
 pub use meter::Meter;
-
-#[cfg(test)]
-mod tests;

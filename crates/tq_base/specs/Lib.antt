@@ -1,4 +1,5 @@
 pub mod Catalogues
+pub mod Contents
 pub mod Copies
 pub mod Fragments
 pub mod Groups
@@ -11,3 +12,4 @@ pub mod Ranks
 pub mod Rows
 pub mod Sweep
 pub mod ValueOrder
+pub mod Values

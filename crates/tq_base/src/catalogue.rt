@@ -5,7 +5,7 @@ ghost use Rattle.std.specs.Str.{str_eq_ignore_ascii_case};
 
 use crate::items::Items;
 use crate::name::{Name, is_same_word};
-use crate::value::Value;
+use crate::value::{Seen, Value};
 use crate::values::Values;
 use std::alloc::{AllocError, Global};
 
@@ -47,9 +47,9 @@ impl Kind {
     pub fn takes(self, value: &Value) -> bool
         ensures { IsTrue result ↔ IsOfKind self value.now }
     {
-        match (self, value) {
-            (Kind::Int, Value::Int(number)) => i64::try_from(*number).is_ok(),
-            (Kind::Text, Value::Text(text)) => text.get().len() <= MAX_TEXT,
+        match (self, value.seen()) {
+            (Kind::Int, Seen::Int(number)) => i64::try_from(number).is_ok(),
+            (Kind::Text, Seen::Text(text)) => text.len() <= MAX_TEXT,
             _ => false,
         }
     }

@@ -15,6 +15,7 @@ mod number;
 mod period;
 mod rank;
 mod row_buffer;
+mod short_text;
 mod value;
 mod values;
 
@@ -26,8 +27,5 @@ pub use number::{read_bound, read_instant, read_int, read_natural};
 pub use period::{Bound, FOREVER, Instant, Period};
 pub use rank::{is_exact, rank_of};
 pub use row_buffer::RowBuffer;
-pub use value::{Text, Value};
+pub use value::{Seen, Text, Value};
 pub use values::Values;
-
-#[cfg(test)]
-mod tests;

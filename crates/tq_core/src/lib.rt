@@ -18,6 +18,3 @@ mod world;
 pub use oracle::Oracle;
 pub use step::{Reply, Step};
 pub use world::World;
-
-#[cfg(test)]
-mod tests;

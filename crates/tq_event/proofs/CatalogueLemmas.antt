@@ -16,7 +16,7 @@ use Rattle.tq_base.specs.declared.catalogue.Kind.{Kind}
 use Rattle.tq_base.specs.declared.catalogue.Kind.TheVariants as kind
 use Rattle.tq_base.specs.declared.catalogue.Schema.{Schema}
 use Rattle.tq_base.specs.declared.value.Value.{Value}
-use Rattle.tq_base.specs.declared.value.Value.TheVariants.{Int, Text}
+use Rattle.tq_base.specs.Contents.{Int, Text}
 use Rattle.tq_base.specs.Catalogues.{Fit, IsCatalogue, IsOfKind, IsTable}
 use Rattle.tq_base.specs.Names.{folded_name}
 use Rattle.tq_base.specs.Numbers.{int_of, is_numeral, natural_up_to}

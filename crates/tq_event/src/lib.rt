@@ -25,6 +25,3 @@ pub use event::Event;
 pub use fault::{LoadFault, LoadFaultKind};
 pub use file::{Loaded, TableFile, Tables};
 pub use loading::{MAX_EVENTS, MAX_TABLES, load, load_tables};
-
-#[cfg(test)]
-mod tests;

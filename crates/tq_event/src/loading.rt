@@ -40,7 +40,9 @@ fn fault_at(table: u32, number: u32, kind: LoadFaultKind) -> LoadFault
     }
 }
 
-// The columns that a table's bytes name, the entries of its records being added to those before.
+// The columns that a table's bytes name, the entries of its records being added to those before. Not
+// inlined, so that the reader's buffers leave the stack with it.
+#[inline(never)]
 fn read_table(
     alloc: Global,
     limit: u32,

@@ -11,9 +11,7 @@ use crate::records::field_at;
 use csv::ByteRecord;
 use std::alloc::{AllocError, Global};
 use std::str;
-use tq_base::{
-    Bound, Column, Instant, Kind, MAX_TEXT, Text, Value, read_bound, read_instant, read_int,
-};
+use tq_base::{Bound, Column, Instant, Kind, MAX_TEXT, Value, read_bound, read_instant, read_int};
 
 // The text that a field holds.
 fn read_text(alloc: Global, field: &[u8]) -> Result<Value, LoadFaultKind>
@@ -26,7 +24,7 @@ fn read_text(alloc: Global, field: &[u8]) -> Result<Value, LoadFaultKind>
     if field.len() > MAX_TEXT {
         return Err(LoadFaultKind::TextTooLong);
     }
-    Ok(Value::Text(Text::copy_of(alloc, text)?))
+    Ok(Value::text(alloc, text)?)
 }
 
 // The value that a field holds.
@@ -36,7 +34,7 @@ fn read_value(alloc: Global, kind: Kind, field: &[u8]) -> Result<Value, LoadFaul
 {
     match kind {
         Kind::Int => match read_int(field) {
-            Some(number) => Ok(Value::Int(i128::from(number))),
+            Some(number) => Ok(Value::int(number)),
             None => Err(LoadFaultKind::BadInt),
         },
         Kind::Text => read_text(alloc, field),

@@ -24,7 +24,7 @@ apart nodes some i j n m k e f l d d' a b a' b' =
 
 -- the node and the child beside it
 pub beside : (nodes : List NodeState) (some : IsSomeForest nodes) (level i q j x : ℕ) (n parent : NodeState) → slice_get nodes i ≡ Some n → slice_get nodes q ≡ Some parent → n.level ≡ level → n.died ≡ now → parent.level ≡ level + 1 → parent.died ≡ now
-    → parent.low ≤ x → x < parent.high → ((x ≡ n.high) ⊎ (x + 1 ≡ n.low)) → IsChild parent.entries x j → AreBeside nodes i j × IsUnder nodes j q × IsStanding level nodes j
+    → parent.low ≤ x → x < parent.high → ((x ≡ n.high) ⊎ (x + 1 ≡ n.low)) → IsChild parent.entries x j → AreBeside nodes i j × IsUnder nodes j q × IsStanding level nodes j × (x ≡ n.high → (m : NodeState) → slice_get nodes j ≡ Some m → m.low ≡ n.high)
 beside nodes some level i q j x n parent e f l d pl pd a b side child =
     let found = step_down nodes (level + 1) x q j parent some (omega arith) (record { node = parent; stands = f; at_level = pl; died = pd; low = a; high = b }) f child in
     let m = found.node in
@@ -49,13 +49,17 @@ beside nodes some level i q j x n parent e f l d pl pd a b side child =
       record { one = n; other = m; one_stands = e; other_stands = found.stands; one_wide = w1; other_wide = w2; touch = touching m found.stands same_level found.died w1 w2 c1 c2 side },
       record { child = m; above = parent; child_stands = found.stands; above_stands = f; low = omega arith; high = omega arith },
       record { node = m; stands = found.stands; at_level = omega arith; died = found.died },
+      λ at_high other stands.
+          let its : other ≡ m = cc in
+          let right : n.high ≡ m.low = right_of m found.stands same_level found.died w1 w2 c1 c2 at_high in
+          ap (λ (y : NodeState). y.low) its ∙ sym right,
     )
   where
     lows_of : (m : NodeState) → n ≡ m → (n.low ≡ m.low) × (n.high ≡ m.high)
     lows_of m s = (ap (λ (y : NodeState). y.low) s, ap (λ (y : NodeState). y.high) s)
 
-    touching : (m : NodeState) → slice_get nodes j ≡ Some m → n.level ≡ m.level → m.died ≡ now → n.low < n.high → m.low < m.high → m.low ≤ x → x < m.high → ((x ≡ n.high) ⊎ (x + 1 ≡ n.low)) → (n.high ≡ m.low) ⊎ (m.high ≡ n.low)
-    touching m g s md w1 w2 c1 c2 (inl t) = inl (split (nat_lt m.low n.high) refl)
+    right_of : (m : NodeState) → slice_get nodes j ≡ Some m → n.level ≡ m.level → m.died ≡ now → n.low < n.high → m.low < m.high → m.low ≤ x → x < m.high → x ≡ n.high → n.high ≡ m.low
+    right_of m g s md w1 w2 c1 c2 t = split (nat_lt m.low n.high) refl
       where
         split : (z : Bool) → nat_lt m.low n.high ≡ z → n.high ≡ m.low
         split false u = grind (arith, nat_tests)
@@ -64,6 +68,9 @@ beside nodes some level i q j x n parent e f l d pl pd a b side child =
             let both = lows_of m (apart nodes some i j n m (n.high - 1) e g s d md (omega arith) (omega arith) (omega arith) (omega arith)) in
             let h = both.1 in
             absurd (omega arith)
+
+    touching : (m : NodeState) → slice_get nodes j ≡ Some m → n.level ≡ m.level → m.died ≡ now → n.low < n.high → m.low < m.high → m.low ≤ x → x < m.high → ((x ≡ n.high) ⊎ (x + 1 ≡ n.low)) → (n.high ≡ m.low) ⊎ (m.high ≡ n.low)
+    touching m g s md w1 w2 c1 c2 (inl t) = inl (right_of m g s md w1 w2 c1 c2 t)
     touching m g s md w1 w2 c1 c2 (inr t) = inr (split (nat_lt n.low m.high) refl)
       where
         split : (z : Bool) → nat_lt n.low m.high ≡ z → m.high ≡ n.low

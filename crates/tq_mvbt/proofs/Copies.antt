@@ -7,6 +7,7 @@ use Rattle.std.proofs.lemmas.List.Elements.{All-head, All-tail, All-nil, All-con
 use Rattle.std.proofs.lemmas.List.Sorted.{All-permutation, sum_by-IsPermutation}
 use Rattle.std.proofs.lemmas.List.Sums.{sum_by-cons, sum_by-append}
 use Rattle.tq_mvbt.specs.declared.entry.Entry.{Entry}
+use Rattle.tq_mvbt.specs.declared.node.Link.{Link}
 use Rattle.tq_mvbt.specs.NodeState.{NodeState}
 use Rattle.tq_mvbt.specs.Points.{now, within, covers, holds, is_live}
 use Rattle.tq_mvbt.specs.Shape.{tally, listed, IsRow, IsBranch, IsPlaced, IsNode}
@@ -17,16 +18,16 @@ use Rattle.tq_mvbt.proofs.Losses.{IsMarked, covers-filter_live, covers-elsewhere
 
 -- ---- a node begins with what was copied
 
-holds_fresh : (level low high version k v : ℕ) (items : List Entry) → holds k v (fresh level low high version items) ≡ true → (within low high k ≡ true) × (version ≤ v) × (v < now)
-holds_fresh level low high version k v items h = split (within low high k) (within version now v) refl refl h
+holds_fresh : (ls : List Link) (level low high version k v : ℕ) (items : List Entry) → holds k v (fresh level low high version items ls) ≡ true → (within low high k ≡ true) × (version ≤ v) × (v < now)
+holds_fresh ls level low high version k v items h = split (within low high k) (within version now v) refl refl h
   where
     split : (a b : Bool) → within low high k ≡ a → within version now v ≡ b → (a && b) ≡ true → (within low high k ≡ true) × (version ≤ v) × (v < now)
     split true true p q r = (p, grind (arith, nat_tests), grind (arith, nat_tests))
     split true false p q r = cc
     split false b p q r = cc
 
-pub begun : (version : ℕ) (lives : ℕ → ℕ → Bool) (nodes : List NodeState) (level low high : ℕ) (items : List Entry) → version < now → IsCopy version lives nodes level low high items → IsNode version lives nodes (fresh level low high version items)
-begun version lives nodes level low high items small copy =
+pub begun : {ls : List Link} → (version : ℕ) (lives : ℕ → ℕ → Bool) (nodes : List NodeState) (level low high : ℕ) (items : List Entry) → version < now → IsCopy version lives nodes level low high items → IsNode version lives nodes (fresh level low high version items ls)
+begun {ls} version lives nodes level low high items small copy =
     record {
       wide = copy.wide;
       high = copy.in_keys;
@@ -34,12 +35,12 @@ begun version lives nodes level low high items small copy =
       born = omega arith;
       ends = omega arith;
       ended = λ h. absurd (omega arith);
-      placed = All-weaker (IsInside version low high) (IsPlaced version (fresh level low high version items))
+      placed = All-weaker (IsInside version low high) (IsPlaced version (fresh level low high version items ls))
           (λ e i. record { low = i.above; wide = i.wide; high = i.below; begins = let b = i.born in omega arith; meets = let d = i.dead in omega arith; lived = let b = i.born in let d = i.dead in omega arith; born = i.born; ends = let d = i.dead in omega arith; ended = λ h. let d = i.dead in absurd (omega arith) })
           items copy.inside;
-      rows = λ z. All-weaker (IsRow lives (fresh level low high version [])) (IsRow lives (fresh level low high version items)) (λ e r. record { one_key = r.one_key; life = r.life }) items (copy.rows z);
-      branches = λ z. All-weaker (IsBranch nodes (fresh level low high version [])) (IsBranch nodes (fresh level low high version items)) (λ e r. record { child = r.child; stands = r.stands; level = r.level; low = r.low; high = r.high; born = r.born; life = r.life }) items (copy.branches z);
-      lists = λ k v h. let p = holds_fresh level low high version k v items h in copy.lists k v p.0 p.1 p.2;
+      rows = λ z. All-weaker (IsRow lives (fresh level low high version [] [])) (IsRow lives (fresh level low high version items ls)) (λ e r. record { one_key = r.one_key; life = r.life }) items (copy.rows z);
+      branches = λ z. All-weaker (IsBranch nodes (fresh level low high version [] [])) (IsBranch nodes (fresh level low high version items ls)) (λ e r. record { child = r.child; stands = r.stands; level = r.level; low = r.low; high = r.high; born = r.born; life = r.life }) items (copy.branches z);
+      lists = λ k v h. let p = holds_fresh ls level low high version k v items h in copy.lists k v p.0 p.1 p.2;
     }
 
 -- ---- the live entries of a node that stands
@@ -57,8 +58,8 @@ copied version lives nodes n node d =
       wide = node.wide;
       in_keys = node.high;
       inside = all_both (IsPlaced version n) (λ e. is_live e ≡ true) (IsInside version n.low n.high) (live_inside version n) (filter is_live items) (All-filter is_live (IsPlaced version n) items node.placed) (filter_passes is_live items);
-      rows = λ z. All-weaker (IsRow lives n) (IsRow lives (fresh n.level n.low n.high version [])) (λ e r. record { one_key = r.one_key; life = λ v h. r.life v (omega arith) }) (filter is_live items) (All-filter is_live (IsRow lives n) items (node.rows z));
-      branches = λ z. All-weaker (IsBranch nodes n) (IsBranch nodes (fresh n.level n.low n.high version [])) (λ e r. record { child = r.child; stands = r.stands; level = r.level; low = r.low; high = r.high; born = r.born; life = λ v h. r.life v (omega arith) }) (filter is_live items) (All-filter is_live (IsBranch nodes n) items (node.branches z));
+      rows = λ z. All-weaker (IsRow lives n) (IsRow lives (fresh n.level n.low n.high version [] [])) (λ e r. record { one_key = r.one_key; life = λ v h. r.life v (omega arith) }) (filter is_live items) (All-filter is_live (IsRow lives n) items (node.rows z));
+      branches = λ z. All-weaker (IsBranch nodes n) (IsBranch nodes (fresh n.level n.low n.high version [] [])) (λ e r. record { child = r.child; stands = r.stands; level = r.level; low = r.low; high = r.high; born = r.born; life = λ v h. r.life v (omega arith) }) (filter is_live items) (All-filter is_live (IsBranch nodes n) items (node.branches z));
       lists = λ k v w h s.
           covers-filter_live k v version items (All-weaker (IsPlaced version n) (IsMarked version) (λ e p. (p.ends, p.ended)) items node.placed) h
           ∙ node.lists k v (holds_standing version k v n node.born d w h s);
@@ -80,13 +81,13 @@ wider version low high low' high' items a b all =
     All-weaker (IsInside version low high) (IsInside version low' high')
     (λ e i. record { above = let x = i.above in omega arith; wide = i.wide; below = let x = i.below in omega arith; born = i.born; dead = i.dead }) items all
 
-same_rows : (lives : ℕ → ℕ → Bool) (level low high low' high' version : ℕ) (items : List Entry) → All (IsRow lives (fresh level low high version [])) items → All (IsRow lives (fresh level low' high' version [])) items
+same_rows : (lives : ℕ → ℕ → Bool) (level low high low' high' version : ℕ) (items : List Entry) → All (IsRow lives (fresh level low high version [] [])) items → All (IsRow lives (fresh level low' high' version [] [])) items
 same_rows lives level low high low' high' version items all =
-    All-weaker (IsRow lives (fresh level low high version [])) (IsRow lives (fresh level low' high' version [])) (λ e r. record { one_key = r.one_key; life = r.life }) items all
+    All-weaker (IsRow lives (fresh level low high version [] [])) (IsRow lives (fresh level low' high' version [] [])) (λ e r. record { one_key = r.one_key; life = r.life }) items all
 
-same_branches : (nodes : List NodeState) (level low high low' high' version : ℕ) (items : List Entry) → All (IsBranch nodes (fresh level low high version [])) items → All (IsBranch nodes (fresh level low' high' version [])) items
+same_branches : (nodes : List NodeState) (level low high low' high' version : ℕ) (items : List Entry) → All (IsBranch nodes (fresh level low high version [] [])) items → All (IsBranch nodes (fresh level low' high' version [] [])) items
 same_branches nodes level low high low' high' version items all =
-    All-weaker (IsBranch nodes (fresh level low high version [])) (IsBranch nodes (fresh level low' high' version [])) (λ e r. record { child = r.child; stands = r.stands; level = r.level; low = r.low; high = r.high; born = r.born; life = r.life }) items all
+    All-weaker (IsBranch nodes (fresh level low high version [] [])) (IsBranch nodes (fresh level low' high' version [] [])) (λ e r. record { child = r.child; stands = r.stands; level = r.level; low = r.low; high = r.high; born = r.born; life = r.life }) items all
 
 pub joined : (version : ℕ) (lives : ℕ → ℕ → Bool) (nodes : List NodeState) (level low middle high : ℕ) (xs ys : List Entry) → IsCopy version lives nodes level low middle xs → IsCopy version lives nodes level middle high ys → IsCopy version lives nodes level low high (xs ++ ys)
 joined version lives nodes level low middle high xs ys a b =
@@ -95,8 +96,8 @@ joined version lives nodes level low middle high xs ys a b =
       wide = omega arith;
       in_keys = b.in_keys;
       inside = All-append (IsInside version low high) xs ys (wider version low middle low high xs (omega arith) (omega arith) a.inside) (wider version middle high low high ys (omega arith) (omega arith) b.inside);
-      rows = λ z. All-append (IsRow lives (fresh level low high version [])) xs ys (same_rows lives level low middle low high version xs (a.rows z)) (same_rows lives level middle high low high version ys (b.rows z));
-      branches = λ z. All-append (IsBranch nodes (fresh level low high version [])) xs ys (same_branches nodes level low middle low high version xs (a.branches z)) (same_branches nodes level middle high low high version ys (b.branches z));
+      rows = λ z. All-append (IsRow lives (fresh level low high version [] [])) xs ys (same_rows lives level low middle low high version xs (a.rows z)) (same_rows lives level middle high low high version ys (b.rows z));
+      branches = λ z. All-append (IsBranch nodes (fresh level low high version [] [])) xs ys (same_branches nodes level low middle low high version xs (a.branches z)) (same_branches nodes level middle high low high version ys (b.branches z));
       lists = λ k v i s h.
           count-append (covers k v) xs ys
           ∙ split k v (within low middle k) refl i (a.lists k v) (b.lists k v) (outside version low middle k v xs a.inside) (outside version middle high k v ys b.inside) s h;
@@ -124,8 +125,8 @@ reordered version lives nodes level low high xs ys p a =
       wide = a.wide;
       in_keys = a.in_keys;
       inside = All-permutation (IsInside version low high) xs ys p a.inside;
-      rows = λ z. All-permutation (IsRow lives (fresh level low high version [])) xs ys p (a.rows z);
-      branches = λ z. All-permutation (IsBranch nodes (fresh level low high version [])) xs ys p (a.branches z);
+      rows = λ z. All-permutation (IsRow lives (fresh level low high version [] [])) xs ys p (a.rows z);
+      branches = λ z. All-permutation (IsBranch nodes (fresh level low high version [] [])) xs ys p (a.branches z);
       lists = λ k v i s h. sum_by-IsPermutation (λ e. tally (covers k v e)) xs ys p ∙ a.lists k v i s h;
     }
 
@@ -205,8 +206,8 @@ parted version lives nodes level low high items lower upper middle small copy cu
         wide = omega arith;
         in_keys = omega arith;
         inside = lower_below;
-        rows = λ z. same_rows lives level low high low middle version lower (all_left (IsRow lives (fresh level low high version [])) lower upper (whole.rows z));
-        branches = λ z. same_branches nodes level low high low middle version lower (all_left (IsBranch nodes (fresh level low high version [])) lower upper (whole.branches z));
+        rows = λ z. same_rows lives level low high low middle version lower (all_left (IsRow lives (fresh level low high version [] [])) lower upper (whole.rows z));
+        branches = λ z. same_branches nodes level low high low middle version lower (all_left (IsBranch nodes (fresh level low high version [] [])) lower upper (whole.branches z));
         lists = λ k v i s h.
             let both = whole.lists k v (grind (arith, nat_tests)) s h in
             let none = outside version middle high k v upper upper_above (grind (arith, nat_tests)) in
@@ -216,8 +217,8 @@ parted version lives nodes level low high items lower upper middle small copy cu
         wide = omega arith;
         in_keys = copy.in_keys;
         inside = upper_above;
-        rows = λ z. same_rows lives level low high middle high version upper (all_right (IsRow lives (fresh level low high version [])) lower upper (whole.rows z));
-        branches = λ z. same_branches nodes level low high middle high version upper (all_right (IsBranch nodes (fresh level low high version [])) lower upper (whole.branches z));
+        rows = λ z. same_rows lives level low high middle high version upper (all_right (IsRow lives (fresh level low high version [] [])) lower upper (whole.rows z));
+        branches = λ z. same_branches nodes level low high middle high version upper (all_right (IsBranch nodes (fresh level low high version [] [])) lower upper (whole.branches z));
         lists = λ k v i s h.
             let both = whole.lists k v (grind (arith, nat_tests)) s h in
             let none = outside version low middle k v lower lower_below (grind (arith, nat_tests)) in

@@ -6,6 +6,7 @@ use Rattle.std.proofs.lemmas.List.{take-append-drop}
 use Rattle.std.proofs.lemmas.List.Elements.{All-head, All-tail}
 use Rattle.std.proofs.lemmas.List.Sums.{sum_by-cons, sum_by-append}
 use Rattle.tq_mvbt.specs.declared.entry.Entry.{Entry}
+use Rattle.tq_mvbt.specs.declared.node.Link.{Link}
 use Rattle.tq_mvbt.specs.NodeState.{NodeState}
 use Rattle.tq_mvbt.specs.Points.{now, within}
 use Rattle.tq_mvbt.specs.Shape.{top, tally, IsFilled}
@@ -24,7 +25,7 @@ copied_live version low high v (e ∷ items) a h s =
     omega (arith, one, sum_by-cons (λ f. tally (within f.born f.dead v)) e items, copied_live version low high v items (All-tail (IsInside version low high) e items a) h s)
 
 -- a node that begins with 5 to 32 entries
-pub filled_begins : (level low high version : ℕ) (items : List Entry) → All (IsInside version low high) items → 5 ≤ length items → length items ≤ 32 → IsFilled (fresh level low high version items)
+pub filled_begins : {ls : List Link} → (level low high version : ℕ) (items : List Entry) → All (IsInside version low high) items → 5 ≤ length items → length items ≤ 32 → IsFilled (fresh level low high version items ls)
 filled_begins level low high version items inside many few =
     record {
       fits = few;
@@ -34,7 +35,7 @@ filled_begins level low high version items inside many few =
     }
 
 -- a new root: up to 24 entries, and 2 above the leaves
-pub filled_root : (level version : ℕ) (items : List Entry) → All (IsInside version 0 top) items → (0 < level → 2 ≤ length items) → length items ≤ 32 → IsFilled (fresh level 0 top version items)
+pub filled_root : {ls : List Link} → (level version : ℕ) (items : List Entry) → All (IsInside version 0 top) items → (0 < level → 2 ≤ length items) → length items ≤ 32 → IsFilled (fresh level 0 top version items ls)
 filled_root level version items inside many few =
     record {
       fits = few;
@@ -44,7 +45,7 @@ filled_root level version items inside many few =
     }
 
 -- 25 to 40 entries make two nodes of 12 to 20
-pub parts_filled : (level low middle high version : ℕ) (items lower upper : List Entry) → All (IsInside version low middle) lower → All (IsInside version middle high) upper → IsDivided items lower upper middle → 25 ≤ length items → length items ≤ 40 → IsFilled (fresh level low middle version lower) × IsFilled (fresh level middle high version upper)
+pub parts_filled : {ls : List Link} → (level low middle high version : ℕ) (items lower upper : List Entry) → All (IsInside version low middle) lower → All (IsInside version middle high) upper → IsDivided items lower upper middle → 25 ≤ length items → length items ≤ 40 → IsFilled (fresh level low middle version lower ls) × IsFilled (fresh level middle high version upper ls)
 parts_filled level low middle high version items lower upper a b cut many few =
     let l = cut.lower_len in
     let u = cut.upper_len in

@@ -16,6 +16,7 @@ pub mod Counts
 pub mod Settled
 pub mod Parents
 pub mod Grown
+pub mod Linked
 pub mod Rising
 pub mod Leaves
 pub mod Roots

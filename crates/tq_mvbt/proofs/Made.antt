@@ -5,6 +5,7 @@ use Rattle.std.proofs.lemmas.Bool.Decides.{nat_tests}
 use Rattle.std.proofs.lemmas.List.Elements.{All-nil, All-cons, All-append, All-weaker}
 use Rattle.std.proofs.lemmas.List.Sums.{sum_by-cons, sum_by-append}
 use Rattle.tq_mvbt.specs.declared.entry.Entry.{Entry}
+use Rattle.tq_mvbt.specs.declared.node.Link.{Link}
 use Rattle.tq_mvbt.specs.NodeState.{NodeState}
 use Rattle.tq_mvbt.specs.Points.{now, within, covers}
 use Rattle.tq_mvbt.specs.Shape.{tally, at_point, IsNode, IsFilled}
@@ -17,9 +18,9 @@ use Rattle.tq_mvbt.proofs.Losses.{node_begins, range_cut}
 use Rattle.tq_mvbt.proofs.Copies.{begun, AreParts, parted}
 use Rattle.tq_mvbt.proofs.Replaced.{IsEntryFor, IsMade}
 
-pub made_one : (version : ℕ) (lives : ℕ → ℕ → Bool) (level low high : ℕ) (old : List NodeState) (base : ℕ) (items : List Entry) → version < now → IsCopy version lives old level low high items → IsMade version lives level low high old base (fresh level low high version items ∷ []) (entry_for base (fresh level low high version items) ∷ [])
-made_one version lives level low high old base items small copy =
-    let n = fresh level low high version items in
+pub made_one : {ls : List Link} → (version : ℕ) (lives : ℕ → ℕ → Bool) (level low high : ℕ) (old : List NodeState) (base : ℕ) (items : List Entry) → version < now → IsCopy version lives old level low high items → IsMade version lives level low high old base (fresh level low high version items ls ∷ []) (entry_for base (fresh level low high version items ls) ∷ [])
+made_one {ls} version lives level low high old base items small copy =
+    let n = fresh level low high version items ls in
     let e = entry_for base n in
     let none_left : zero + 0 ≡ 0 = refl in
     record {
@@ -71,14 +72,14 @@ made_both version lives level low middle high old base next xs ys ds es lm mh fo
         split false false true e w = absurd (omega arith)
         split false false false e w = refl
 
-pub made_two : (version : ℕ) (lives : ℕ → ℕ → Bool) (level low middle high : ℕ) (old : List NodeState) (base next : ℕ) (lower upper : List Entry) → version < now → next ≡ base + 1 → AreParts version lives old level low middle high lower upper
-    → IsMade version lives level low high old base (fresh level low middle version lower ∷ fresh level middle high version upper ∷ []) (entry_for base (fresh level low middle version lower) ∷ entry_for next (fresh level middle high version upper) ∷ [])
-made_two version lives level low middle high old base next lower upper small follows parts =
+pub made_two : {ls : List Link} → (version : ℕ) (lives : ℕ → ℕ → Bool) (level low middle high : ℕ) (old : List NodeState) (base next : ℕ) (lower upper : List Entry) → version < now → next ≡ base + 1 → AreParts version lives old level low middle high lower upper
+    → IsMade version lives level low high old base (fresh level low middle version lower ls ∷ fresh level middle high version upper ls ∷ []) (entry_for base (fresh level low middle version lower ls) ∷ entry_for next (fresh level middle high version upper ls) ∷ [])
+made_two {ls} version lives level low middle high old base next lower upper small follows parts =
     let a = parts.lower_copy in
     let b = parts.upper_copy in
     let a1 = a.wide in
     let b1 = b.wide in
-    made_both version lives level low middle high old base next (fresh level low middle version lower ∷ []) (fresh level middle high version upper ∷ []) (entry_for base (fresh level low middle version lower) ∷ []) (entry_for next (fresh level middle high version upper) ∷ [])
+    made_both version lives level low middle high old base next (fresh level low middle version lower ls ∷ []) (fresh level middle high version upper ls ∷ []) (entry_for base (fresh level low middle version lower ls) ∷ []) (entry_for next (fresh level middle high version upper ls) ∷ [])
     (omega arith) (omega arith) follows
     (made_one version lives level low middle old base lower small a)
     (made_one version lives level middle high old next upper small b)
@@ -93,32 +94,34 @@ pub record IsPut (version : ℕ) (lives : ℕ → ℕ → Bool) (level low high 
   pub few : length made ≤ 2
   pub some : 1 ≤ length added
   pub most : length added ≤ 2
-  pub one : length items < 25 → (made ≡ fresh level low high version items ∷ []) × (length added ≡ 1)
+  pub links : List Link
+  pub one : length items < 25 → (made ≡ fresh level low high version items links ∷ []) × (length added ≡ 1)
   pub two : 25 ≤ length items → length added ≡ 2
 
-pub put : (version : ℕ) (lives : ℕ → ℕ → Bool) (level low high : ℕ) (old : List NodeState) (first second : Contents NodeState) (items added : List Entry) → version < now → IsCopy version lives old level low high items → PutsNodes first second level low high version items added → IsPut version lives level low high old first second items added
-put version lives level low high old first second items added small copy puts = split (nat_lt (length items) 25) refl
+pub put : {ls : List Link} → (version : ℕ) (lives : ℕ → ℕ → Bool) (level low high : ℕ) (old : List NodeState) (first second : Contents NodeState) (items added : List Entry) → version < now → IsCopy version lives old level low high items → PutsNodes first second level low high version items added ls → IsPut version lives level low high old first second items added
+put {ls} version lives level low high old first second items added small copy puts = split (nat_lt (length items) 25) refl
   where
     split : (b : Bool) → nat_lt (length items) 25 ≡ b → IsPut version lives level low high old first second items added
     split true s =
         let one = puts.few (grind (arith, nat_tests)) in
         record {
-          made = fresh level low high version items ∷ [];
+          made = fresh level low high version items ls ∷ [];
           nodes = one.puts.nodes;
           is_made = rw (one.added_is, one.puts.entry_is) (made_one version lives level low high old (length first.nodes) items small copy);
-          filled = λ many few. All-cons IsFilled (fresh level low high version items) [] (filled_begins level low high version items copy.inside many (grind (arith, nat_tests))) (All-nil IsFilled);
+          filled = λ many few. All-cons IsFilled (fresh level low high version items ls) [] (filled_begins level low high version items copy.inside many (grind (arith, nat_tests))) (All-nil IsFilled);
           room = one.puts.room;
           few = omega arith;
           some = rw (one.added_is) (omega arith);
           most = rw (one.added_is) (omega arith);
+          links = ls;
           one = λ h. (refl, ap length one.added_is);
           two = λ h. absurd (grind (arith, nat_tests));
         }
     split false s =
         let many : 25 ≤ length items = grind (arith, nat_tests) in
         let two = puts.many many in
-        let nl = fresh level low two.middle version two.lower in
-        let nu = fresh level two.middle high version two.upper in
+        let nl = fresh level low two.middle version two.lower ls in
+        let nu = fresh level two.middle high version two.upper ls in
         let next : length two.between.nodes ≡ length first.nodes + 1 = ap length two.puts_lower.nodes ∙ length-append first.nodes (nl ∷ []) in
         record {
           made = nl ∷ nu ∷ [];
@@ -134,9 +137,10 @@ put version lives level low high old first second items added small copy puts = 
           few = omega arith;
           some = rw (two.added_is) (omega arith);
           most = rw (two.added_is) (omega arith);
+          links = ls;
           one = λ h. absurd (omega arith);
           two = λ h. ap length two.added_is;
         }
       where
-        made_two_parts : (two : PutsTwo first second level low high version items added) → AreParts version lives old level low two.middle high two.lower two.upper
+        made_two_parts : (two : PutsTwo first second level low high version items added ls) → AreParts version lives old level low two.middle high two.lower two.upper
         made_two_parts two = parted version lives old level low high items two.lower two.upper two.middle small copy two.divided (grind (arith, nat_tests, s))

@@ -4,6 +4,7 @@ use Rattle.std.specs.Prelude.{All}
 use Rattle.std.proofs.lemmas.List.{take_all}
 use Rattle.tq_arena.specs.Contents.{Contents}
 use Rattle.tq_mvbt.specs.declared.entry.Entry.{Entry}
+use Rattle.tq_mvbt.specs.declared.node.Link.{Link}
 use Rattle.tq_mvbt.specs.NodeState.{NodeState}
 use Rattle.tq_mvbt.specs.Points.{now, is_live, within}
 use Rattle.tq_mvbt.specs.Shape.{tally, IsNode, IsForest}
@@ -48,10 +49,10 @@ renewed_copy version lives height level last low high nodes items p forest loose
     let node = all_at (IsNode version lives nodes) nodes p loose.node forest.each loose.stands in
     rw (items_are, low_is, high_is, ← loose.at_level) (copied version lives nodes loose.node node loose.died)
 
-pub renewed : (version : ℕ) (lives : ℕ → ℕ → Bool) (height : ℕ → ℕ) (level last low high : ℕ) (zeroth first second third : Contents NodeState) (items added : List Entry) (p q : ℕ)
+pub renewed : {ls : List Link} → (version : ℕ) (lives : ℕ → ℕ → Bool) (height : ℕ → ℕ) (level last low high : ℕ) (zeroth first second third : Contents NodeState) (items added : List Entry) (p q : ℕ)
     → version < now → (loose : IsLoose version level last zeroth.nodes p) → IsLoose version (level + 1) 0 zeroth.nodes q → IsUnder zeroth.nodes p q
     → Changes zeroth first p (retired version last) → items ≡ filter is_live loose.node.entries → low ≡ loose.node.low → high ≡ loose.node.high
-    → PutsNodes first second level low high version items added → Changes second third q (edited low high version added)
+    → PutsNodes first second level low high version items added ls → Changes second third q (edited low high version added)
     → IsForest version lives height zeroth.nodes → IsForest version lives height third.nodes
 renewed version lives height level last low high zeroth first second third items added p q small loose above under gone items_are low_is high_is puts change forest =
     let old = zeroth.nodes in
@@ -159,10 +160,10 @@ merged_copy version lives height level last low high nodes items p s forest loos
     let copy_m : IsCopy version lives nodes level m.low m.high (filter is_live m.entries) = subst (λ x. IsCopy version lives nodes x m.low m.high (filter is_live m.entries)) beside.at_level (copied version lives nodes m its_node beside.died) in
     rw items_are (copy_of_both version lives nodes level low high n m low_is high_is (touch_of nodes p s n m touching e f) copy_n copy_m)
 
-pub merged : (version : ℕ) (lives : ℕ → ℕ → Bool) (height : ℕ → ℕ) (level last low high : ℕ) (zeroth half first second third : Contents NodeState) (items added : List Entry) (p s q : ℕ)
+pub merged : {ls : List Link} → (version : ℕ) (lives : ℕ → ℕ → Bool) (height : ℕ → ℕ) (level last low high : ℕ) (zeroth half first second third : Contents NodeState) (items added : List Entry) (p s q : ℕ)
     → version < now → (loose : IsLoose version level last zeroth.nodes p) → (beside : IsLoose version level 0 zeroth.nodes s) → IsLoose version (level + 1) 0 zeroth.nodes q → IsUnder zeroth.nodes p q → IsUnder zeroth.nodes s q → AreBeside zeroth.nodes p s
     → Changes zeroth half p (retired version last) → Changes half first s (retired version 0) → items ≡ filter is_live loose.node.entries ++ filter is_live beside.node.entries → low ≡ min loose.node.low beside.node.low → high ≡ max loose.node.high beside.node.high
-    → PutsNodes first second level low high version items added → Changes second third q (edited low high version added)
+    → PutsNodes first second level low high version items added ls → Changes second third q (edited low high version added)
     → IsForest version lives height zeroth.nodes → IsForest version lives height third.nodes
 merged version lives height level last low high zeroth half first second third items added p s q small loose beside above under its_under touching gone its_gone items_are low_is high_is puts change forest =
     let old = zeroth.nodes in
@@ -236,13 +237,13 @@ room_above version level last s t u made v p i q k loose beside above gone its_g
     record { node = parent; stands = rw more (at_left u.nodes made q parent two); room = omega arith }
 
 -- what was put in stands at the end
-pub appended : (s t : Contents NodeState) (level low high version : ℕ) (items added : List Entry) → PutsNodes s t level low high version items added → (made : List NodeState) × (t.nodes ≡ s.nodes ++ made)
-appended s t level low high version items added puts = split (nat_lt (length items) 25) refl
+pub appended : {ls : List Link} → (s t : Contents NodeState) (level low high version : ℕ) (items added : List Entry) → PutsNodes s t level low high version items added ls → (made : List NodeState) × (t.nodes ≡ s.nodes ++ made)
+appended {ls} s t level low high version items added puts = split (nat_lt (length items) 25) refl
   where
     split : (b : Bool) → nat_lt (length items) 25 ≡ b → (made : List NodeState) × (t.nodes ≡ s.nodes ++ made)
-    split true e = let one = puts.few (grind (arith, nat_tests)) in (fresh level low high version items ∷ [], one.puts.nodes)
+    split true e = let one = puts.few (grind (arith, nat_tests)) in (fresh level low high version items ls ∷ [], one.puts.nodes)
     split false e =
         let two = puts.many (grind (arith, nat_tests)) in (
-          fresh level low two.middle version two.lower ∷ fresh level two.middle high version two.upper ∷ [],
-          two.puts_upper.nodes ∙ ap (λ xs. xs ++ fresh level two.middle high version two.upper ∷ []) two.puts_lower.nodes ∙ append_assoc s.nodes (fresh level low two.middle version two.lower ∷ []) (fresh level two.middle high version two.upper ∷ []),
+          fresh level low two.middle version two.lower ls ∷ fresh level two.middle high version two.upper ls ∷ [],
+          two.puts_upper.nodes ∙ ap (λ xs. xs ++ fresh level two.middle high version two.upper ls ∷ []) two.puts_lower.nodes ∙ append_assoc s.nodes (fresh level low two.middle version two.lower ls ∷ []) (fresh level two.middle high version two.upper ls ∷ []),
         )

@@ -145,12 +145,12 @@ module _ (version : ℕ) (lives : ℕ → ℕ → Bool) (height : ℕ → ℕ) (
     (begins : IsMade version lives level 0 top old (length old) made added)
   where
     abbrev new_root : NodeState
-    new_root = fresh (level + 1) 0 top version added
+    new_root = fresh (level + 1) 0 top version added []
 
     abbrev all_more : List NodeState
     all_more = made ++ new_root ∷ []
 
-    root_branch : (e : Entry) → IsInside version 0 top e → IsEntryFor version level (length old) made e → IsBranch (mid ++ all_more) (fresh (level + 1) 0 top version []) e
+    root_branch : (e : Entry) → IsInside version 0 top e → IsEntryFor version level (length old) made e → IsBranch (mid ++ all_more) (fresh (level + 1) 0 top version [] []) e
     root_branch e i f =
         record {
           child = f.child;
@@ -169,7 +169,7 @@ module _ (version : ℕ) (lives : ℕ → ℕ → Bool) (height : ℕ → ℕ) (
           in_keys = omega arith;
           inside = begins.inside;
           rows = λ z. absurd (omega arith);
-          branches = λ z. all_both (IsInside version 0 top) (IsEntryFor version level (length old) made) (IsBranch (mid ++ all_more) (fresh (level + 1) 0 top version [])) root_branch added begins.inside begins.entries;
+          branches = λ z. all_both (IsInside version 0 top) (IsEntryFor version level (length old) made) (IsBranch (mid ++ all_more) (fresh (level + 1) 0 top version [] [])) root_branch added begins.inside begins.entries;
           lists = λ k v i s h. begins.covered k v s h ∙ (let z : nat_eq (level + 1) 0 ≡ false = grind (arith, nat_tests) in rw (i, z) refl);
         }
 

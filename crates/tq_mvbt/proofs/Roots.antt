@@ -9,6 +9,7 @@ use Rattle.std.proofs.lemmas.List.Elements.{All-append, All-nil, All-cons, All-h
 use Rattle.std.proofs.lemmas.List.Sums.{count_by-le-length, length-filter, sum_by-cons}
 use Rattle.tq_arena.specs.Contents.{Contents}
 use Rattle.tq_mvbt.specs.declared.entry.Entry.{Entry}
+use Rattle.tq_mvbt.specs.declared.node.Link.{Link}
 use Rattle.tq_mvbt.specs.declared.root.Root.{Root}
 use Rattle.tq_mvbt.specs.NodeState.{NodeState}
 use Rattle.tq_mvbt.specs.Points.{now, within, covers, is_live}
@@ -97,14 +98,14 @@ append-nil [] = refl
 append-nil (x ∷ xs) = ap (λ ys. x ∷ ys) (append-nil xs)
 
 -- which of the two cases it was
-pub few_from : (s t : Contents NodeState) (level low high version : ℕ) (items added : List Entry) → PutsNodes s t level low high version items added → length added ≡ 1 → length items < 25
+pub few_from : {ls : List Link} → (s t : Contents NodeState) (level low high version : ℕ) (items added : List Entry) → PutsNodes s t level low high version items added ls → length added ≡ 1 → length items < 25
 few_from s t level low high version items added puts one = split (nat_lt (length items) 25) refl
   where
     split : (b : Bool) → nat_lt (length items) 25 ≡ b → length items < 25
     split true e = grind (arith, nat_tests)
     split false e = let two = puts.many (grind (arith, nat_tests)) in let l = ap length two.added_is in absurd (omega arith)
 
-pub many_from : (s t : Contents NodeState) (level low high version : ℕ) (items added : List Entry) → PutsNodes s t level low high version items added → length added ≢ 1 → 25 ≤ length items
+pub many_from : {ls : List Link} → (s t : Contents NodeState) (level low high version : ℕ) (items added : List Entry) → PutsNodes s t level low high version items added ls → length added ≢ 1 → 25 ≤ length items
 many_from s t level low high version items added puts more = split (nat_lt (length items) 25) refl
   where
     split : (b : Bool) → nat_lt (length items) 25 ≡ b → 25 ≤ length items
@@ -239,7 +240,7 @@ module _ (version level last : ℕ) (zeroth first : Contents NodeState) (items :
     child_top by above x one =
         let it = copy by.lives by.height by.forest in
         let inside = All-head (IsInside version 0 top) x [] (subst (λ (xs : List Entry). All (IsInside version 0 top) xs) one it.inside) in
-        let b = All-head (IsBranch old (fresh level 0 top version [])) x [] (subst (λ (xs : List Entry). All (IsBranch old (fresh level 0 top version [])) xs) one (it.branches above)) in
+        let b = All-head (IsBranch old (fresh level 0 top version [] [])) x [] (subst (λ (xs : List Entry). All (IsBranch old (fresh level 0 top version [] [])) xs) one (it.branches above)) in
         let node = all_at (IsNode version by.lives old) old x.child b.child by.forest.each b.stands in
         let l = settling.loose.at_level in
         let bl = b.level in
@@ -279,13 +280,13 @@ module _ (version level last : ℕ) (zeroth first : Contents NodeState) (items :
 
     -- ---- one node in the root's place
 
-    is_made : (second : Contents NodeState) (added : List Entry) → PutsNodes first second level 0 top version items added → (lives : ℕ → ℕ → Bool) (height : ℕ → ℕ) → IsForest version lives height old → IsPut version lives level 0 top old first second items added
+    is_made : {ls : List Link} → (second : Contents NodeState) (added : List Entry) → PutsNodes first second level 0 top version items added ls → (lives : ℕ → ℕ → Bool) (height : ℕ → ℕ) → IsForest version lives height old → IsPut version lives level 0 top old first second items added
     is_made second added puts lives height forest = put version lives level 0 top old first second items added small (copy lives height forest) puts
 
     base : length first.nodes ≡ length old
     base = ap length here ∙ length-set old p (retired version last n)
 
-    pub same_height : (second : Contents NodeState) (added : List Entry) → PutsNodes first second level 0 top version items added → HeightChanges version (level + 1) (level + 1) old second.nodes
+    pub same_height : {ls : List Link} → (second : Contents NodeState) (added : List Entry) → PutsNodes first second level 0 top version items added ls → HeightChanges version (level + 1) (level + 1) old second.nodes
     same_height second added puts lives height highest forest =
         let it = is_made second added puts lives height forest in
         let made : IsMade version lives level 0 top old (length old) it.made added = subst (λ x. IsMade version lives level 0 top old x it.made added) base it.is_made in
@@ -293,10 +294,10 @@ module _ (version level last : ℕ) (zeroth first : Contents NodeState) (items :
         let all = one_root version lives height level old mid it.made (λ x. nat_eq p x) added small forest (ending lives height forest) highest made in
         rw second_is (raise_same version (level + 1) lives height (mid ++ it.made) highest all)
 
-    pub one_top : (second : Contents NodeState) (added : List Entry) (x : Entry) → (puts : PutsNodes first second level 0 top version items added) → length items < 25 → slice_get added 0 ≡ Some x → IsTop version second.nodes (record { from = version; node = x.child; levels = level + 1 })
-    one_top second added x puts few at =
+    pub one_top : {ls : List Link} → (second : Contents NodeState) (added : List Entry) (x : Entry) → (puts : PutsNodes first second level 0 top version items added ls) → length items < 25 → slice_get added 0 ≡ Some x → IsTop version second.nodes (record { from = version; node = x.child; levels = level + 1 })
+    one_top {ls} second added x puts few at =
         let one = puts.few few in
-        let f = fresh level 0 top version items in
+        let f = fresh level 0 top version items ls in
         let entry_is : one.entry ≡ x = (let a = one.added_is in let b : slice_get (one.entry ∷ []) 0 ≡ Some x = subst (λ xs. slice_get xs 0 ≡ Some x) a at in cc) in
         let number : x.child ≡ length first.nodes + 0 = ap (λ (e : Entry). e.child) (sym entry_is ∙ one.puts.entry_is) ∙ omega arith in
         record {
@@ -309,10 +310,10 @@ module _ (version level last : ℕ) (zeroth first : Contents NodeState) (items :
           died = refl;
         }
 
-    pub one_filled : IsForestBy version old → (second : Contents NodeState) (added : List Entry) → (puts : PutsNodes first second level 0 top version items added) → length items < 25 → (0 < level → length items ≢ 1) → All IsFilled second.nodes
-    one_filled by second added puts few many =
+    pub one_filled : {ls : List Link} → IsForestBy version old → (second : Contents NodeState) (added : List Entry) → (puts : PutsNodes first second level 0 top version items added ls) → length items < 25 → (0 < level → length items ≢ 1) → All IsFilled second.nodes
+    one_filled {ls} by second added puts few many =
         let one = puts.few few in
-        let f = fresh level 0 top version items in
+        let f = fresh level 0 top version items ls in
         let inside = (copy by.lives by.height by.forest).inside in
         let c = count_len in
         rw (one.puts.nodes)
@@ -321,23 +322,23 @@ module _ (version level last : ℕ) (zeroth first : Contents NodeState) (items :
 
     -- ---- two nodes under a new root
 
-    module _ (second third : Contents NodeState) (added : List Entry) (entry : Entry)
-        (puts : PutsNodes first second level 0 top version items added)
+    module _ {ls : List Link} (second third : Contents NodeState) (added : List Entry) (entry : Entry)
+        (puts : PutsNodes first second level 0 top version items added ls)
         (many : 25 ≤ length items)
-        (last_put : Puts second third (fresh (level + 1) 0 top version added) entry)
+        (last_put : Puts second third (fresh (level + 1) 0 top version added []) entry)
       where
         pub higher : HeightChanges version (level + 1) (level + 2) old third.nodes
         higher lives height highest forest =
             let it = is_made second added puts lives height forest in
             let made : IsMade version lives level 0 top old (length old) it.made added = subst (λ x. IsMade version lives level 0 top old x it.made added) base it.is_made in
             let second_is : second.nodes ≡ mid ++ it.made = it.nodes ∙ ap (λ xs. xs ++ it.made) here in
-            let r = fresh (level + 1) 0 top version added in
+            let r = fresh (level + 1) 0 top version added [] in
             let third_is : third.nodes ≡ mid ++ (it.made ++ r ∷ []) = last_put.nodes ∙ ap (λ xs. xs ++ r ∷ []) second_is ∙ append_assoc mid it.made (r ∷ []) in
             rw third_is (two_roots version lives height level old mid it.made (λ x. nat_eq p x) added small forest (ending lives height forest) highest made)
 
         pub two_top : IsTop version third.nodes (record { from = version; node = entry.child; levels = level + 2 })
         two_top =
-            let r = fresh (level + 1) 0 top version added in
+            let r = fresh (level + 1) 0 top version added [] in
             let number : entry.child ≡ length second.nodes + 0 = ap (λ (e : Entry). e.child) last_put.entry_is ∙ omega arith in
             record {
               node = r;
@@ -352,7 +353,7 @@ module _ (version level last : ℕ) (zeroth first : Contents NodeState) (items :
         pub two_filled : IsForestBy version old → All IsFilled third.nodes
         two_filled by =
             let it = is_made second added puts by.lives by.height by.forest in
-            let r = fresh (level + 1) 0 top version added in
+            let r = fresh (level + 1) 0 top version added [] in
             let f = items_few in
             let two = it.two many in
             rw (last_put.nodes, it.nodes)

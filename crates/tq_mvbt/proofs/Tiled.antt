@@ -274,5 +274,6 @@ module _ (version : ℕ) (nodes : List NodeState) (roots : List Root) (tree : Is
         enough = five_live;
         index = two_live;
         children = child_at;
+        linked = tree.linked;
         tiled = tiled_at;
       }

@@ -14,6 +14,7 @@ use Rattle.tq_mvbt.specs.Points.{now, within, holds, leads}
 use Rattle.tq_mvbt.specs.Steps.{fresh}
 use Rattle.tq_mvbt.specs.Shape.{top, tally, listed, with_life, raised, Tiles, at_point, IsPlaced, IsRow, IsBranch, IsNode, IsForest, IsSomeForest, IsFound, IsFilled}
 use Rattle.tq_mvbt.specs.Loose.{IsReady, Grows, HeightChanges, KeyChanges}
+use Rattle.tq_mvbt.specs.Links.{AreLinked, LinkJust, IsLinkTo}
 use Rattle.tq_mvbt.specs.Directory.{last_root, root_of, IsTop}
 use Rattle.tq_mvbt.specs.TreeState.{among, lives_of, height_of, HasLife, IsRootAt, AreRoots, AreLives, IsTree}
 use Rattle.tq_mvbt.proofs.Lists.{all_at}
@@ -242,8 +243,8 @@ module _ (before : ℕ) (nodes : List NodeState) (roots : List Root) (tree : IsT
           split false b s t = far (inl (grind (arith, nat_tests)))
           split true false s t = far (inr (grind (arith, nat_tests)))
 
-      pub tree_after : IsTree version new roots'
-      tree_after =
+      pub tree_after : AreLinked new → IsTree version new roots'
+      tree_after linked =
           record {
             small = last_small;
             forest = alike version (with_life (lives_of nodes) key version alive) (lives_of new) (height_of roots') new lives_are (all_forest next refl);
@@ -251,6 +252,7 @@ module _ (before : ℕ) (nodes : List NodeState) (roots : List Root) (tree : IsT
             lives = lives_change before version key alive (lives_of nodes) (lives_of new) later v_small tree.lives never lives_are;
             rooted = all_roots next refl;
             bounded = (let b = tree.bounded in omega arith);
+            linked = linked;
           }
 
       -- the roots of earlier versions stay
@@ -351,7 +353,7 @@ module _ (before version key : ℕ) (alive : Bool) (nodes mid new : List NodeSta
     long : length new ≤ length nodes + 21
     long = let f = few in omega arith
 
-    pub updated : IsTree version new (roots ++ option_to_list next)
+    pub updated : AreLinked new → IsTree version new (roots ++ option_to_list next)
     updated = tree_after before nodes roots tree version key alive new next later last_small kt never grown filled long none some
 
     pub updated_lives : (k v : ℕ) → k < top → v < now → lives_of new k v ≡ with_life (lives_of nodes) key version alive k v
@@ -389,7 +391,7 @@ life_ends before version key born nodes new later small kt alive are life =
 -- ---- the first tree
 
 abbrev leaf : NodeState
-leaf = fresh 0 0 top 0 []
+leaf = fresh 0 0 top 0 [] []
 
 abbrev first_root : Root
 first_root = record { from = 0; node = 0; levels = 1 }
@@ -459,8 +461,19 @@ first_roots =
       stand = λ v h. (let on : nat_le 0 v ≡ true = grind (arith, nat_tests) in subst (λ b. IsRootAt (leaf ∷ []) v (cond b first_root (record { from = 0; node = 0; levels = 0 }))) (sym on) (record { node = leaf; stands = refl; level = refl; low = refl; high = refl; born = omega arith; died = h }));
     }
 
-pub first_tree : IsTree 0 (leaf ∷ []) (first_root ∷ [])
-first_tree = record { small = omega arith; forest = first_forest; filled = first_filled; lives = first_lives; rooted = first_roots; bounded = omega arith }
+is_leaf : (i : ℕ) (n : NodeState) → slice_get (leaf ∷ []) i ≡ Some n → leaf ≡ n
+is_leaf zero n e = cc
+is_leaf (suc i) n e = cc
 
-pub first_empty : (k v : ℕ) → lives_of (fresh 0 0 top 0 [] ∷ []) k v ≡ false
+first_linked : AreLinked (leaf ∷ [])
+first_linked =
+    record {
+      leaves = λ i n e z. subst (λ (m : NodeState). LinkJust (leaf ∷ []) m.born m.links) (is_leaf i n e) (record { back = All-nil (IsLinkTo (leaf ∷ []) 0); once = λ j m f l d. let same : now ≡ m.died = ap (λ (x : NodeState). x.died) (is_leaf j m f) in absurd (omega arith) });
+      index = λ i n e z. let same : 0 ≡ n.level = ap (λ (x : NodeState). x.level) (is_leaf i n e) in absurd (omega arith);
+    }
+
+pub first_tree : IsTree 0 (leaf ∷ []) (first_root ∷ [])
+first_tree = record { small = omega arith; forest = first_forest; filled = first_filled; lives = first_lives; rooted = first_roots; bounded = omega arith; linked = first_linked }
+
+pub first_empty : (k v : ℕ) → lives_of (fresh 0 0 top 0 [] [] ∷ []) k v ≡ false
 first_empty = no_lives

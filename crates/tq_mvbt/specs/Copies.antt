@@ -19,6 +19,6 @@ pub record IsCopy (version : ℕ) (lives : ℕ → ℕ → Bool) (nodes : List N
   pub wide : low < high
   pub in_keys : high ≤ top
   pub inside : All (IsInside version low high) items
-  pub rows : level ≡ 0 → All (IsRow lives (fresh level low high version [])) items
-  pub branches : 0 < level → All (IsBranch nodes (fresh level low high version [])) items
+  pub rows : level ≡ 0 → All (IsRow lives (fresh level low high version [] [])) items
+  pub branches : 0 < level → All (IsBranch nodes (fresh level low high version [] [])) items
   pub lists : (k v : ℕ) → within low high k ≡ true → version ≤ v → v < now → count_by (covers k v) items ≡ listed lives level k v

@@ -1,5 +1,6 @@
 pub mod NodeState
 pub mod Points
+pub mod Links
 pub mod Shape
 pub mod Steps
 pub mod Copies

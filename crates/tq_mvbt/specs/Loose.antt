@@ -149,3 +149,8 @@ abbrev pub HeightChanges : ℕ → ℕ → ℕ → List NodeState → List NodeS
 HeightChanges version levels levels' old new =
     (lives : ℕ → ℕ → Bool) (height : ℕ → ℕ) → ((v : ℕ) → version ≤ v → v < now → height v ≡ levels)
     → IsForest version lives height old → IsForest version lives (raised height version levels') new
+
+-- where the node's range ends within that of the parent, the other node is the one that begins there
+abbrev pub IsRightFirst : List NodeState → ℕ → ℕ → ℕ → Type 0
+IsRightFirst nodes number parent sibling = (node above other : NodeState) → slice_get nodes number ≡ Some node → slice_get nodes parent ≡ Some above → slice_get nodes sibling ≡ Some other
+    → node.high < above.high → other.low ≡ node.high

@@ -2,6 +2,7 @@
 use Rattle.std.specs.Prelude.{◌≡◌, ℕ, ◌+◌, ◌≤◌, ◌-◌, ◌<◌, List, [], ◌∷◌, ◌++◌, map, take, length, slice_get, slice_set, Some, IsPermutation, ◌/◌, All}
 use Rattle.tq_arena.specs.Contents.{Contents}
 use Rattle.tq_mvbt.specs.declared.entry.Entry.{Entry}
+use Rattle.tq_mvbt.specs.declared.node.Link.{Link}
 use Rattle.tq_mvbt.specs.NodeState.{NodeState}
 use Rattle.tq_mvbt.specs.Points.{now, with_end}
 
@@ -14,8 +15,8 @@ abbrev pub retired : ℕ → ℕ → NodeState → NodeState
 retired version last n = record n { died = version; entries = take (length n.entries - last) n.entries }
 
 -- a node that begins at the version
-abbrev pub fresh : ℕ → ℕ → ℕ → ℕ → List Entry → NodeState
-fresh level low high version items = record { level = level; low = low; high = high; born = version; died = now; entries = items }
+abbrev pub fresh : ℕ → ℕ → ℕ → ℕ → List Entry → List Link → NodeState
+fresh level low high version items links = record { level = level; low = low; high = high; born = version; died = now; entries = items; links = links }
 
 -- the entry for the node under the number
 abbrev pub entry_for : ℕ → NodeState → Entry
@@ -53,13 +54,13 @@ pub record IsDivided (items lower upper : List Entry) (middle : ℕ) : Type 0 wh
   pub upper_len : length upper ≡ length items - length items / 2
 
 -- one node with the entries is put in
-pub record PutsOne (old new : Contents NodeState) (level low high version : ℕ) (items added : List Entry) : Type 0 where
+pub record PutsOne (old new : Contents NodeState) (level low high version : ℕ) (items added : List Entry) (links : List Link) : Type 0 where
   pub entry : Entry
-  pub puts : Puts old new (fresh level low high version items) entry
+  pub puts : Puts old new (fresh level low high version items links) entry
   pub added_is : added ≡ entry ∷ []
 
 -- two nodes are put in, between which the entries are divided
-pub record PutsTwo (old new : Contents NodeState) (level low high version : ℕ) (items added : List Entry) : Type 0 where
+pub record PutsTwo (old new : Contents NodeState) (level low high version : ℕ) (items added : List Entry) (links : List Link) : Type 0 where
   pub lower : List Entry
   pub upper : List Entry
   pub middle : ℕ
@@ -67,11 +68,11 @@ pub record PutsTwo (old new : Contents NodeState) (level low high version : ℕ)
   pub between : Contents NodeState
   pub lower_entry : Entry
   pub upper_entry : Entry
-  pub puts_lower : Puts old between (fresh level low middle version lower) lower_entry
-  pub puts_upper : Puts between new (fresh level middle high version upper) upper_entry
+  pub puts_lower : Puts old between (fresh level low middle version lower links) lower_entry
+  pub puts_upper : Puts between new (fresh level middle high version upper links) upper_entry
   pub added_is : added ≡ lower_entry ∷ upper_entry ∷ []
 
 -- one node with the entries is put in, or two where there are 25 or more
-pub record PutsNodes (old new : Contents NodeState) (level low high version : ℕ) (items added : List Entry) : Type 0 where
-  pub few : length items < 25 → PutsOne old new level low high version items added
-  pub many : 25 ≤ length items → PutsTwo old new level low high version items added
+pub record PutsNodes (old new : Contents NodeState) (level low high version : ℕ) (items added : List Entry) (links : List Link) : Type 0 where
+  pub few : length items < 25 → PutsOne old new level low high version items added links
+  pub many : 25 ≤ length items → PutsTwo old new level low high version items added links

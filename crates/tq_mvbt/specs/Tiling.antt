@@ -10,6 +10,7 @@ use Rattle.tq_mvbt.specs.Shape.{top, live_at}
 use Rattle.tq_mvbt.specs.Directory.{root_of}
 use Rattle.tq_mvbt.specs.TreeState.{lives_of, HasLife}
 use Rattle.tq_mvbt.specs.Regions.{regions_from}
+use Rattle.tq_mvbt.specs.Links.{AreLinked}
 
 -- whether the version comes before the end of a life
 abbrev pub before_end : ℕ → Option ℕ → Bool
@@ -44,7 +45,8 @@ pub record IsChildAt (nodes : List NodeState) (n : NodeState) (e : Entry) (v : �
 
 -- each point lies in one region; a leaf lists just the keys whose life meets its region, with their lives;
 -- a node that isn't the root has at least 5 live entries, an index node at least 2; the live entries of an
--- index node tell nodes that are alive then, and their ranges tile its own
+-- index node tell nodes that are alive then, and their ranges tile its own; a leaf links just the leaves whose life
+-- ended where its own began
 pub record IsTiling (nodes : List NodeState) (roots : List Root) : Type 0 where
   pub one_region : (k v : ℕ) → k < top → v < now → count_by (region_holds k v) (regions_from 0 nodes) ≡ 1
   pub lists : (i k : ℕ) (n : NodeState) → slice_get nodes i ≡ Some n → n.level ≡ 0 → Lists n k ↔ Meets nodes n k
@@ -53,4 +55,5 @@ pub record IsTiling (nodes : List NodeState) (roots : List Root) : Type 0 where
   pub enough : (i v : ℕ) (n : NodeState) → slice_get nodes i ≡ Some n → within n.born n.died v ≡ true → i ≢ (root_of roots v).node → 5 ≤ live_at v n
   pub index : (i v : ℕ) (n : NodeState) → slice_get nodes i ≡ Some n → within n.born n.died v ≡ true → 0 < n.level → 2 ≤ live_at v n
   pub children : (i j v : ℕ) (n : NodeState) (e : Entry) → slice_get nodes i ≡ Some n → 0 < n.level → within n.born n.died v ≡ true → slice_get n.entries j ≡ Some e → within e.born e.dead v ≡ true → IsChildAt nodes n e v
+  pub linked : AreLinked nodes
   pub tiled : (i k v : ℕ) (n : NodeState) → slice_get nodes i ≡ Some n → 0 < n.level → holds k v n ≡ true → count_by (covers k v) n.entries ≡ 1

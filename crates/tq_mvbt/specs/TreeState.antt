@@ -6,6 +6,7 @@ use Rattle.std.specs.Option.{IfSome}
 use Rattle.tq_mvbt.specs.declared.root.Root.{Root}
 use Rattle.tq_mvbt.specs.NodeState.{NodeState}
 use Rattle.tq_mvbt.specs.Points.{now, within, covers, holds}
+use Rattle.tq_mvbt.specs.Links.{AreLinked}
 use Rattle.tq_mvbt.specs.Shape.{top, tally, IsForest, IsFilled}
 use Rattle.tq_mvbt.specs.Directory.{root_of}
 
@@ -68,7 +69,8 @@ pub record AreLives (version : ℕ) (lives : ℕ → ℕ → Bool) : Type 0 wher
   pub few : (v : ℕ) → v < now → among (λ k. lives k v) 0 top ≤ v
 
 -- what holds of every tree: its nodes tile the keys at each version and list the lives; enough of their
--- entries live; the directory names their roots; there are at most 10 levels
+-- entries live; the directory names their roots; there are at most 10 levels; each leaf links those whose place it
+-- took
 pub record IsTree (version : ℕ) (nodes : List NodeState) (roots : List Root) : Type 0 where
   pub small : version ≤ 16777216
   pub forest : IsForest version (lives_of nodes) (height_of roots) nodes
@@ -76,3 +78,4 @@ pub record IsTree (version : ℕ) (nodes : List NodeState) (roots : List Root) :
   pub lives : AreLives version (lives_of nodes)
   pub rooted : AreRoots version nodes roots
   pub bounded : length nodes ≤ 21 * version + 1
+  pub linked : AreLinked nodes

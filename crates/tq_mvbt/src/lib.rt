@@ -24,6 +24,3 @@ pub use node::{Link, Node};
 pub use numbers::NodeNos;
 pub use region::Region;
 pub use tree::Tree;
-
-#[cfg(test)]
-mod tests;

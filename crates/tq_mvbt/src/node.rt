@@ -1,6 +1,6 @@
 //! Nodes: a range of keys, a life in versions, and entries.
 
-ghost use Rattle.std.specs.Prelude.{◌≡◌, ◌+◌, ◌<◌, ◌≤◌, ◌++◌, ◌-◌, [], length, take, filter, count_by, slice_get, Some, IsTrue, ◌↔◌, IfSome, MatchOption};
+ghost use Rattle.std.specs.Prelude.{◌≡◌, ◌+◌, ◌<◌, ◌≤◌, ◌++◌, ◌-◌, length, take, filter, count_by, slice_get, Some, IsTrue, ◌↔◌, IfSome, MatchOption};
 ghost use Rattle.arrayvec.specs.ArrayVec.{array_vec_len};
 ghost use Rattle.tq_mvbt.specs.Points.{is_live, leads, IsChild, end_of};
 
@@ -13,7 +13,7 @@ use tq_arena::NodeNo;
 pub(crate) const CAPACITY: usize = 32;
 
 /// A leaf that another leaf took the place of: its number and its range of keys.
-#[derive(Clone, Copy, PartialEq, Eq, Debug)]
+#[derive(Clone, Copy, PartialEq, Eq, Default, Debug)]
 pub struct Link {
     /// The number of the leaf.
     pub node: NodeNo,
@@ -22,6 +22,9 @@ pub struct Link {
     /// The key just above its range.
     pub high: u128,
 }
+
+/// The links of a leaf.
+pub(crate) type Links = ArrayVec<Link, 2>;
 
 /// A node of the tree. During an update it may hold two entries too many.
 #[derive(Drop)]
@@ -32,6 +35,7 @@ pub struct Node {
     born: u32,
     died: u32,
     entries: ArrayVec<Entry, 34>,
+    links: Links,
 }
 
 impl Model for Node {
@@ -39,11 +43,12 @@ impl Model for Node {
 
     ghost Value = { NodeState };
 
-    ghost view = { λ n. record { level = n.level; low = n.low; high = n.high; born = n.born; died = n.died; entries = n.entries.items } };
+    ghost view = { λ n. record { level = n.level; low = n.low; high = n.high; born = n.born; died = n.died; entries = n.entries.items; links = n.links.items } };
 }
 
 impl Node {
     ghost use Rattle.tq_mvbt.specs.Steps.{edited, retired, fresh};
+    ghost use Rattle.tq_mvbt.specs.Links.{links_to};
 
     /// Whether the node is a leaf; the others are index nodes.
     pub fn is_leaf(&self) -> bool
@@ -95,6 +100,14 @@ impl Node {
         self.entries[i as usize].low
     }
 
+    /// The key just above a leaf's entry; the key just above a child's range.
+    pub fn high_of(&self, i: u32) -> u128
+        requires { i < length self.now.entries }
+        ensures { IfSome (slice_get self.now.entries i) (λ e. result ≡ e.high) }
+    {
+        self.entries[i as usize].high
+    }
+
     /// The version at which the entry's key, or its child, began to live.
     pub fn born_of(&self, i: u32) -> u32
         requires { i < length self.now.entries }
@@ -121,17 +134,25 @@ impl Node {
         NodeNo(self.entries[i as usize].child)
     }
 
-    /// The leaves that this leaf took the place of; none are kept yet.
+    /// The leaves that this leaf took the place of, at most two: those whose life ended where its own began. An
+    /// index node has none.
     pub fn links(&self) -> &[Link]
-        ensures { result.now ≡ [] }
+        ensures { result.now ≡ self.now.links }
     {
-        &[]
+        &self.links
     }
 
     // A node that begins at the version.
-    pub(crate) fn begin(level: u32, low: u128, high: u128, version: u32, copied: &[Entry]) -> Node
+    pub(crate) fn begin(
+        level: u32,
+        low: u128,
+        high: u128,
+        version: u32,
+        copied: &[Entry],
+        links: &Links,
+    ) -> Node
         requires { length copied.now ≤ 34 }
-        ensures { result ≡ fresh level low high version copied.now }
+        ensures { result ≡ fresh level low high version copied.now links.now.items }
     {
         let mut entries = ArrayVec::new();
         append(&mut entries, copied);
@@ -142,6 +163,7 @@ impl Node {
             born: version,
             died: NOW,
             entries,
+            links: copy_links(links),
         }
     }
 
@@ -162,6 +184,21 @@ impl Node {
         let len = self.entries.len();
         self.entries.truncate(len - last);
         self.died = version;
+    }
+
+    // Puts in the link to the node under the number, if it is a leaf.
+    pub(crate) fn push_link(&self, number: u32, links: &mut Links)
+        requires { array_vec_len links.old < 2 }
+        ensures links { links.new.items ≡ links.old.items ++ links_to number self.now }
+        ensures len { array_vec_len links.new ≤ array_vec_len links.old + 1 }
+    {
+        if self.level == 0 {
+            links.push(Link {
+                node: NodeNo(number),
+                low: self.low,
+                high: self.high,
+            });
+        }
     }
 
     // How many entries live now.
@@ -200,6 +237,17 @@ fn ended(version: u32) -> Option<u32>
     ensures { result ≡ end_of version }
 {
     if version == NOW { None } else { Some(version) }
+}
+
+// The same links.
+fn copy_links(links: &Links) -> Links
+    ensures { result.items ≡ links.now.items }
+{
+    let mut copied = ArrayVec::new();
+    for link in links.as_slice() {
+        copied.push(*link);
+    }
+    copied
 }
 
 // Appends the entries.

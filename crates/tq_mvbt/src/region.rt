@@ -1,9 +1,10 @@
 //! The regions of the leaves.
 
 ghost use Rattle.std.specs.Prelude.{◌≡◌, ◌+◌, ◌<◌, ◌≤◌, length, min, All, IfOk};
+ghost use Rattle.tq_mvbt.specs.Links.{linked_numbers};
 ghost use Rattle.tq_mvbt.specs.Regions.{region_for, regions_from};
 
-use crate::node::Node;
+use crate::node::{Link, Node};
 use crate::numbers::NodeNos;
 use std::alloc::{AllocError, Global};
 use tq_arena::{Arena, Meter, NodeNo};
@@ -21,22 +22,33 @@ pub struct Region {
     pub born: u32,
     /// The first version after; none for a leaf that stands now.
     pub died: Option<u32>,
-    /// The leaves whose place it took; none are kept yet.
+    /// The leaves whose place it took, at most two.
     pub links: NodeNos,
 }
 
-// The region of a leaf.
-fn region_at(alloc: Global, number: u32, node: &Node) -> Region
-    ensures { result ≡ region_for number node.now }
+// The numbers of the leaves that are linked.
+fn linked_leaves(alloc: Global, links: &[Link]) -> Result<NodeNos, AllocError>
+    ensures { IfOk result (λ numbers. numbers ≡ linked_numbers links.now) }
 {
-    Region {
+    let mut numbers = Vec::new(alloc);
+    for link in links {
+        numbers.push(link.node)?;
+    }
+    Ok(NodeNos::of(numbers))
+}
+
+// The region of a leaf.
+fn region_at(alloc: Global, number: u32, node: &Node) -> Result<Region, AllocError>
+    ensures { IfOk result (λ region. region ≡ region_for number node.now) }
+{
+    Ok(Region {
         node: NodeNo(number),
         low: node.low(),
         high: node.high(),
         born: node.born(),
         died: node.died(),
-        links: NodeNos::of(Vec::new(alloc)),
-    }
+        links: linked_leaves(alloc, node.links())?,
+    })
 }
 
 // The regions of the leaves in the order of their numbers; each node is read once.
@@ -53,7 +65,7 @@ pub(crate) fn regions(
     for i in 0..nodes.len() {
         let node = nodes.read(NodeNo(i), meter);
         if node.is_leaf() {
-            found.push(region_at(alloc, i, node))?;
+            found.push(region_at(alloc, i, node)?)?;
         }
     }
     Ok(found)

@@ -2,7 +2,8 @@
 
 ghost use Rattle.std.specs.Prelude.{◌≡◌, ◌+◌, ◌<◌, ◌≤◌, ◌⊎◌, length};
 ghost use Rattle.tq_mvbt.specs.Shape.{IsSomeForest};
-ghost use Rattle.tq_mvbt.specs.Loose.{IsForestBy, IsSettling, NeedsChange, IsAmple, IsThin, IsPart, IsPartOf, IsUnder, IsStanding, AreBeside, Grows, StaysForest};
+ghost use Rattle.tq_mvbt.specs.Links.{KeepsLinks};
+ghost use Rattle.tq_mvbt.specs.Loose.{IsForestBy, IsSettling, NeedsChange, IsAmple, IsThin, IsPart, IsPartOf, IsUnder, IsStanding, IsRightFirst, AreBeside, Grows, StaysForest};
 
 use crate::node::Node;
 use crate::steps::{count_live, edit, push_nodes, retire};
@@ -28,12 +29,14 @@ fn renew(
     ensures forest { StaysForest version nodes.old.nodes nodes.new.nodes }
     ensures settling { IsSettling version (level + 1) result nodes.new.nodes parent }
     ensures grows { Grows version (level + 1) nodes.old.nodes nodes.new.nodes }
+    ensures links { KeepsLinks level version nodes.old.nodes nodes.new.nodes }
     ensures room { nodes.old.room ≤ nodes.new.room + 2 }
     ensures len { length nodes.new.nodes ≤ length nodes.old.nodes + 2 }
 {
     let mut copied = ArrayVec::new();
-    let (low, high) = retire(nodes, number, last, version, &mut copied);
-    let added = push_nodes(nodes, level, low, high, version, &mut copied);
+    let mut links = ArrayVec::new();
+    let (low, high) = retire(nodes, number, last, version, &mut copied, &mut links);
+    let added = push_nodes(nodes, level, low, high, version, &mut copied, &links);
     edit(nodes, parent, low, high, version, &added);
     added.len()
 }
@@ -61,15 +64,17 @@ fn merge(
     ensures forest { StaysForest version nodes.old.nodes nodes.new.nodes }
     ensures settling { IsSettling version (level + 1) result nodes.new.nodes parent }
     ensures grows { Grows version (level + 1) nodes.old.nodes nodes.new.nodes }
+    ensures links { KeepsLinks level version nodes.old.nodes nodes.new.nodes }
     ensures room { nodes.old.room ≤ nodes.new.room + 2 }
     ensures len { length nodes.new.nodes ≤ length nodes.old.nodes + 2 }
 {
     let mut copied = ArrayVec::new();
-    let (low, high) = retire(nodes, number, last, version, &mut copied);
-    let (its_low, its_high) = retire(nodes, sibling, 0, version, &mut copied);
+    let mut links = ArrayVec::new();
+    let (low, high) = retire(nodes, number, last, version, &mut copied, &mut links);
+    let (its_low, its_high) = retire(nodes, sibling, 0, version, &mut copied, &mut links);
     let low = low.min(its_low);
     let high = high.max(its_high);
-    let added = push_nodes(nodes, level, low, high, version, &mut copied);
+    let added = push_nodes(nodes, level, low, high, version, &mut copied, &links);
     edit(nodes, parent, low, high, version, &added);
     added.len()
 }
@@ -97,6 +102,7 @@ fn sibling_of(nodes: &Arena<Node>, number: u32, parent: u32, level: u32) -> u32
     ensures beside { AreBeside nodes.now.nodes number result }
     ensures under { IsUnder nodes.now.nodes result parent }
     ensures standing { IsStanding level nodes.now.nodes result }
+    ensures right { IsRightFirst nodes.now.nodes number parent result }
 {
     let mut meter = Meter::new();
     let node = nodes.read(NodeNo(number), &mut meter);
@@ -124,6 +130,7 @@ pub(crate) fn replace(
     ensures forest { StaysForest version nodes.old.nodes nodes.new.nodes }
     ensures settling { IsSettling version (level + 1) result nodes.new.nodes parent }
     ensures grows { Grows version (level + 1) nodes.old.nodes nodes.new.nodes }
+    ensures links { KeepsLinks level version nodes.old.nodes nodes.new.nodes }
     ensures room { nodes.old.room ≤ nodes.new.room + 2 }
     ensures len { length nodes.new.nodes ≤ length nodes.old.nodes + 2 }
 {

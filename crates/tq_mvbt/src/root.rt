@@ -3,6 +3,7 @@
 ghost use Rattle.std.specs.Prelude.{◌≡◌, ℕ, ◌+◌, ◌-◌, ◌<◌, ◌≤◌, length, All, slice_get, IfSome, IfNone, MatchOption};
 ghost use Rattle.std.specs.List.Sorted.{IsNonDecreasingBy};
 ghost use Rattle.tq_mvbt.specs.Shape.{IsSomeForest, IsFound, IsFilled};
+ghost use Rattle.tq_mvbt.specs.Links.{KeepsLinks};
 ghost use Rattle.tq_mvbt.specs.Loose.{IsForestBy, IsSettling, NeedsChange, Grows, HeightChanges};
 ghost use Rattle.tq_mvbt.specs.Directory.{root_of, IsTop};
 
@@ -64,11 +65,13 @@ fn replace_root(nodes: &mut Arena<Node>, root: Root, last: usize, version: u32) 
     ensures top { IsTop version nodes.new.nodes result }
     ensures filled { All IsFilled nodes.new.nodes }
     ensures grows { Grows version root.levels nodes.old.nodes nodes.new.nodes }
+    ensures links { KeepsLinks (root.levels - 1) version nodes.old.nodes nodes.new.nodes }
     ensures len { length nodes.new.nodes ≤ length nodes.old.nodes + 3 }
 {
     let level = root.levels - 1;
     let mut copied = ArrayVec::new();
-    retire(nodes, root.node, last, version, &mut copied);
+    let mut links = ArrayVec::new();
+    retire(nodes, root.node, last, version, &mut copied, &mut links);
     if level > 0 && copied.len() == 1 {
         return Root {
             from: version,
@@ -76,7 +79,7 @@ fn replace_root(nodes: &mut Arena<Node>, root: Root, last: usize, version: u32) 
             levels: level,
         };
     }
-    let added = push_nodes(nodes, level, 0, TOP, version, &mut copied);
+    let added = push_nodes(nodes, level, 0, TOP, version, &mut copied, &links);
     if added.len() == 1 {
         return Root {
             from: version,
@@ -84,7 +87,15 @@ fn replace_root(nodes: &mut Arena<Node>, root: Root, last: usize, version: u32) 
             levels: root.levels,
         };
     }
-    let top = push_node(nodes, root.levels, 0, TOP, version, &added);
+    let top = push_node(
+        nodes,
+        root.levels,
+        0,
+        TOP,
+        version,
+        &added,
+        &ArrayVec::new(),
+    );
     Root {
         from: version,
         node: top.child,
@@ -112,6 +123,7 @@ pub(crate) fn settle_root(
     ensures top { IfSome result (IsTop version nodes.new.nodes) }
     ensures filled { All IsFilled nodes.new.nodes }
     ensures grows { Grows version root.levels nodes.old.nodes nodes.new.nodes }
+    ensures links { KeepsLinks (root.levels - 1) version nodes.old.nodes nodes.new.nodes }
     ensures len { length nodes.new.nodes ≤ length nodes.old.nodes + 3 }
 {
     let least = if root.levels == 1 { 0 } else { 2 };

@@ -5,10 +5,11 @@ ghost use Rattle.std.specs.List.Sorted.{IsNonDecreasingBy};
 ghost use Rattle.arrayvec.specs.ArrayVec.{array_vec_len};
 ghost use Rattle.tq_mvbt.specs.Points.{is_live};
 ghost use Rattle.tq_mvbt.specs.Shape.{IsSomeForest, IsFound};
+ghost use Rattle.tq_mvbt.specs.Links.{links_to};
 ghost use Rattle.tq_mvbt.specs.Steps.{edited, retired, fresh, Changes, HasRoom, Puts, PutsTwo, PutsNodes};
 
 use crate::entry::{Entry, NOW};
-use crate::node::Node;
+use crate::node::{Links, Node};
 use arrayvec::ArrayVec;
 use tq_arena::{Arena, Meter, NodeNo};
 
@@ -57,23 +58,29 @@ pub(crate) fn count_live(nodes: &Arena<Node>, number: u32) -> usize
     nodes.read(NodeNo(number), &mut meter).count_live()
 }
 
-// Ends the node, takes its last entries off, and copies the live ones; gives the node's range.
+// Ends the node, takes its last entries off, copies the live ones, and links it, if it is a leaf; gives the
+// node's range.
 pub(crate) fn retire(
     nodes: &mut Arena<Node>,
     number: u32,
     last: usize,
     version: u32,
     copied: &mut ArrayVec<Entry, 40>,
+    links: &mut Links,
 ) -> (u128, u128)
     requires stands { number < length nodes.old.nodes }
     requires last { IfSome (slice_get nodes.old.nodes number) (λ n. last ≤ length n.entries) }
     requires room { IfSome (slice_get nodes.old.nodes number) (λ n. array_vec_len copied.old + count_by is_live n.entries ≤ 40) }
+    requires few_links { array_vec_len links.old < 2 }
     ensures nodes { Changes nodes.old nodes.new number (retired version last) }
     ensures copied { IfSome (slice_get nodes.old.nodes number) (λ n. copied.new.items ≡ copied.old.items ++ filter is_live n.entries) }
+    ensures links { IfSome (slice_get nodes.old.nodes number) (λ n. links.new.items ≡ links.old.items ++ links_to number n) }
+    ensures links_len { array_vec_len links.new ≤ array_vec_len links.old + 1 }
     ensures range { IfSome (slice_get nodes.old.nodes number) (λ n. (result.0 ≡ n.low) × (result.1 ≡ n.high)) }
 {
     let node = nodes.change(NodeNo(number));
     node.copy_live(copied);
+    node.push_link(number, links);
     let range = (node.low(), node.high());
     node.retire(version, last);
     range
@@ -87,12 +94,13 @@ pub(crate) fn push_node(
     high: u128,
     version: u32,
     copied: &[Entry],
+    links: &Links,
 ) -> Entry
     requires room { 0 < nodes.old.room }
     requires few { length copied.now ≤ 34 }
-    ensures { Puts nodes.old nodes.new (fresh level low high version copied.now) result }
+    ensures { Puts nodes.old nodes.new (fresh level low high version copied.now links.now.items) result }
 {
-    let number = nodes.push_reserved(Node::begin(level, low, high, version, copied));
+    let number = nodes.push_reserved(Node::begin(level, low, high, version, copied, links));
     Entry {
         low,
         high,
@@ -128,17 +136,18 @@ fn push_two(
     high: u128,
     version: u32,
     copied: &mut ArrayVec<Entry, 40>,
+    links: &Links,
 ) -> ArrayVec<Entry, 2>
     requires room { 2 ≤ nodes.old.room }
     requires many { 25 ≤ array_vec_len copied.old }
-    ensures { PutsTwo nodes.old nodes.new level low high version copied.old.items result.items }
+    ensures { PutsTwo nodes.old nodes.new level low high version copied.old.items result.items links.now.items }
 {
     sort_copied(copied);
     let (lower, upper) = copied.as_slice().split_at(copied.len() / 2);
     let middle = upper[0].low;
     let mut added = ArrayVec::new();
-    added.push(push_node(nodes, level, low, middle, version, lower));
-    added.push(push_node(nodes, level, middle, high, version, upper));
+    added.push(push_node(nodes, level, low, middle, version, lower, links));
+    added.push(push_node(nodes, level, middle, high, version, upper, links));
     added
 }
 
@@ -150,14 +159,15 @@ pub(crate) fn push_nodes(
     high: u128,
     version: u32,
     copied: &mut ArrayVec<Entry, 40>,
+    links: &Links,
 ) -> ArrayVec<Entry, 2>
     requires room { 2 ≤ nodes.old.room }
-    ensures { PutsNodes nodes.old nodes.new level low high version copied.old.items result.items }
+    ensures { PutsNodes nodes.old nodes.new level low high version copied.old.items result.items links.now.items }
 {
     if copied.len() >= 25 {
-        return push_two(nodes, level, low, high, version, copied);
+        return push_two(nodes, level, low, high, version, copied, links);
     }
     let mut added = ArrayVec::new();
-    added.push(push_node(nodes, level, low, high, version, copied));
+    added.push(push_node(nodes, level, low, high, version, copied, links));
     added
 }

@@ -11,6 +11,7 @@ use crate::node::Node;
 use crate::region::{Region, regions};
 use crate::root::{Root, TOP, find_root, leaf_of, settle_root};
 use crate::update::update;
+use arrayvec::ArrayVec;
 use std::alloc::{AllocError, Global};
 use std::marker::Model;
 use tq_arena::{Arena, Meter, NodeNo};
@@ -44,7 +45,7 @@ impl Tree {
         let mut nodes = Arena::new(alloc);
         nodes.reserve(1)?;
         let mut roots = Vec::with_capacity(alloc, 1)?;
-        let leaf = nodes.push_reserved(Node::begin(0, 0, TOP, 0, &[]));
+        let leaf = nodes.push_reserved(Node::begin(0, 0, TOP, 0, &[], &ArrayVec::new()));
         roots.push_reserved(Root {
             from: 0,
             node: leaf.0,

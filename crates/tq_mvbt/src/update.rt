@@ -3,6 +3,7 @@
 ghost use Rattle.std.specs.Prelude.{◌≡◌, ◌+◌, ◌*◌, ◌<◌, ◌≤◌, ◌∷◌, [], true, false, length};
 ghost use Rattle.tq_mvbt.specs.Shape.{IsFound};
 ghost use Rattle.tq_mvbt.specs.Steps.{HasRoom, Changes, edited};
+ghost use Rattle.tq_mvbt.specs.Links.{AreUntouched, UpdatesLinks};
 ghost use Rattle.tq_mvbt.specs.Loose.{IsForestBy, IsReady, IsSettling, Grows, KeyChanges};
 
 use crate::entry::{Entry, NOW};
@@ -20,6 +21,7 @@ fn set_life(nodes: &mut Arena<Node>, leaf: u32, key: u128, version: u32, alive: 
     ensures keyed { KeyChanges version key alive nodes.old.nodes nodes.new.nodes }
     ensures settling { IsSettling version 0 result nodes.new.nodes leaf }
     ensures grows { Grows version 0 nodes.old.nodes nodes.new.nodes }
+    ensures links { AreUntouched version nodes.old.nodes → AreUntouched version nodes.new.nodes }
     ensures room { nodes.new.room ≡ nodes.old.room }
     ensures len { length nodes.new.nodes ≡ length nodes.old.nodes }
 {
@@ -57,6 +59,7 @@ pub(crate) fn update(
     ensures forest { IsForestBy version nodes.new.nodes }
     ensures settling { IsSettling version level result nodes.new.nodes number }
     ensures grows { Grows version level nodes.old.nodes nodes.new.nodes }
+    ensures links { UpdatesLinks level version nodes.old.nodes nodes.new.nodes }
     ensures room { nodes.old.room ≤ nodes.new.room + 2 * level }
     ensures len { length nodes.new.nodes ≤ length nodes.old.nodes + 2 * level }
 {

@@ -3,7 +3,7 @@ use Rattle.std.specs.Prelude.{ℕ, pos, Bool, true, false, not, ◌&&◌, ◌||�
 use Rattle.std.specs.declared.cmp.Ordering.{Ordering}
 use Rattle.std.specs.declared.cmp.Ordering.TheVariants.{Less, Equal, Greater}
 use Rattle.tq_base.specs.declared.value.Value.{Value}
-use Rattle.tq_base.specs.declared.value.Value.TheVariants.{Int}
+use Rattle.tq_base.specs.Contents.{Int}
 use Rattle.tq_base.specs.ValueOrder.{value_cmp}
 use Rattle.tq_ops.specs.declared.condition.Operand.{Operand}
 use Rattle.tq_ops.specs.declared.condition.Operand.TheVariants.{Column, Literal}

@@ -21,6 +21,3 @@ pub use difference::except_all;
 pub use joining::{join, join_shown};
 pub use links::width_of;
 pub use selection::{project, projected, select, show};
-
-#[cfg(test)]
-mod tests;

@@ -15,6 +15,3 @@ mod query;
 
 pub use fault::PlainFault;
 pub use instant::rows_at;
-
-#[cfg(test)]
-mod tests;

@@ -1,3 +1,4 @@
+pub mod ExistLemmas
 pub mod ConditionLemmas
 pub mod ScopeLemmas
 pub mod AnswerLemmas

@@ -7,7 +7,7 @@ use Rattle.std.proofs.lemmas.List.Concat.{flat_map-cons}
 use Rattle.std.proofs.lemmas.List.Elements.{All-cons, All-tail}
 use Rattle.std.proofs.lemmas.List.Sums.{sum_by-append, sum_by-cons}
 use Rattle.tq_base.specs.declared.fragment.Fragment.{Fragment}
-use Rattle.tq_base.specs.declared.value.Value.TheVariants.{Int}
+use Rattle.tq_base.specs.Contents.{Int}
 use Rattle.tq_base.specs.Fragments.{occurrences}
 use Rattle.tq_base.specs.Periods.{holds}
 use Rattle.tq_event.specs.declared.event.Event.{Event}

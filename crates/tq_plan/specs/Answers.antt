@@ -52,6 +52,10 @@ abbrev pub AnswersAreUnique : Type 0
 AnswersAreUnique = (catalogue : Catalogue) (statement : Statement) (history : List Event) (n : ℕ) (a b : Table)
     → IsAnswer catalogue statement history n a → IsAnswer catalogue statement history n b → a ≡ b
 
+-- there is one: each plan has an answer over every history, as of every count of its events
+abbrev pub AnswersExist : Type 0
+AnswersExist = (history : List Event) (n : ℕ) (plan : Plan) → (table : Table) × IsPlanAnswer history n plan table
+
 -- an answer as of the first n events stays one while the history grows
 abbrev pub AnswersStay : Type 0
 AnswersStay = (catalogue : Catalogue) (statement : Statement) (history more : List Event) (n : ℕ) (table : Table)

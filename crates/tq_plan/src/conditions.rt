@@ -23,8 +23,8 @@ fn plan_operand(fields: &[Field<'_>], term: &Term) -> Result<(Operand, Kind), Pl
             let (place, kind) = resolve(fields, column)?;
             Ok((Operand::Column(place), kind))
         }
-        Term::Int(number) => Ok((Operand::Literal(Value::Int(i128::from(*number))), Kind::Int)),
-        Term::Text(text) => Ok((Operand::Literal(Value::Text(text.try_copy()?)), Kind::Text)),
+        Term::Int(number) => Ok((Operand::Literal(Value::int(*number)), Kind::Int)),
+        Term::Text(text) => Ok((Operand::Literal(text.to_value()?), Kind::Text)),
     }
 }
 

@@ -25,6 +25,3 @@ pub use answering::{answer_list, answer_tables};
 pub use fault::PlanFault;
 pub use planning::plan;
 pub use plans::{Output, Plan, QueryPlan};
-
-#[cfg(test)]
-mod tests;

@@ -14,8 +14,6 @@ mod claiming;
 mod pieces;
 mod placing;
 mod seat_view;
-#[cfg(test)]
-mod tests;
 mod workers;
 
 pub use claiming::{Claimant, Claims};

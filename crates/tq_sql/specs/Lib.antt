@@ -3,6 +3,7 @@ pub mod Descent
 pub mod Faults
 pub mod Grammar
 pub mod Laws
+pub mod Limits
 pub mod Reading
-pub mod Told
 pub mod Tokens
+pub mod Told

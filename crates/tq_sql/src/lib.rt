@@ -25,6 +25,3 @@ pub use fault::{SqlFault, SqlFaultKind};
 pub use reading::read;
 pub use statement::{ColumnRef, Cond, Item, Query, Sign, SourceRef, Statement, Term, What};
 pub use tokens::MAX_STATEMENT;
-
-#[cfg(test)]
-mod tests;

@@ -1,5 +1,5 @@
 -- Ranks rise with values: rows in the order of their ranks, and of their values where ranks are equal, are in the order of values.
-use Rattle.std.proofs.Common.{◌≡◌, ◌≢◌, ◌+◌, ◌^◌, ◌<◌, pos, negsuc, rules, Bool, List, [], ◌∷◌, sym, refl, ap, ◌∙◌, arith, true, false, map, get_or, length}
+use Rattle.std.proofs.Common.{◌≡◌, ◌≢◌, ◌^◌, ◌<◌, pos, negsuc, rules, Bool, List, [], ◌∷◌, sym, refl, ap, ◌∙◌, arith, true, false, map, get_or, length}
 use Rattle.std.specs.Prelude.{IsPermutation}
 use Rattle.std.specs.Ordering.{is_lt, nat_cmp, ordering_then, ordering_reverse}
 use Rattle.std.specs.List.Sorted.{IsSortedBy}
@@ -10,7 +10,7 @@ use Rattle.std.proofs.lemmas.Bool.Decides.{nat_tests}
 use Rattle.std.proofs.lemmas.List.{length-map, get_or-map}
 use Rattle.std.proofs.lemmas.List.Sorted.{All-permutation, ranks_by, sorted_far}
 use Rattle.tq_base.specs.declared.value.Value.{Value}
-use Rattle.tq_base.specs.declared.value.Value.TheVariants.{Int, Text}
+use Rattle.tq_base.specs.Contents.{Int, Text}
 use Rattle.tq_base.specs.ValueOrder.{values_cmp, values_total}
 use Rattle.tq_base.specs.declared.fragment.Fragment.{Fragment}
 use Rattle.tq_table.specs.declared.ranking.Ranked.{Ranked}
@@ -27,7 +27,7 @@ less_from_rank (x ∷ u) (y ∷ v) u_bytes v_bytes lt = ap (λ r. ordering_then 
 -- a rank that tells a value is not that of no value
 exact_above : (v : Value) → has_exact_rank v ≡ true → 0 < value_rank v
 exact_above (Int (pos n)) exact = omega arith
-exact_above (Int (negsuc n)) exact = let near : n + 1 < 2 ^ 64 = search (rules, nat_tests, exact) in omega (arith, near)
+exact_above (Int (negsuc n)) exact = let near : n < 2 ^ 63 = search (rules, nat_tests, exact) in omega (arith, near)
 exact_above (Text t) exact = omega arith
 
 -- values that one rank tells are equal

@@ -9,6 +9,7 @@
 mod coalescing;
 mod layering;
 mod ranking;
+mod sending;
 mod sink;
 mod table;
 mod text;
@@ -17,6 +18,3 @@ pub use coalescing::coalesce;
 pub use sink::{Sink, WriteFault};
 pub use table::Table;
 pub use text::{table_text, write_table};
-
-#[cfg(test)]
-mod tests;

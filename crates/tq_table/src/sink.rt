@@ -1,4 +1,5 @@
-// A writer, and how many of its calls failed.
+// A writer, and how many of its calls failed. Nothing else reaches the writer or the count: a failure is
+// counted just where a write or a flush of the writer failed, and each of these is made once.
 
 ghost use Rattle.std.specs.Prelude.{◌≡◌, ◌≤◌, ◌<◌, length, take, OnOk, OnErr, IfOk, IfErr, if◌then◌else◌};
 ghost use Rattle.std.specs.Result.{is_err};
@@ -50,6 +51,14 @@ impl<W> Sink<W> {
     {
         self.failed
     }
+
+    /// The writer, given back as it is.
+    pub fn into_inner(self) -> W
+        ensures { result ≡ self.writer }
+    {
+        let Sink { writer, .. } = self;
+        writer
+    }
 }
 
 impl<W> Sink<W> {
@@ -65,8 +74,8 @@ impl<W> Sink<W> {
 }
 
 impl<W: Write> Sink<W> {
-    // One write of the front of the bytes. One that fails, or takes nothing, is counted.
-    fn write_some(&mut self, bytes: &[u8]) -> Result<usize, WriteFault>
+    /// One write of the front of the bytes. One that fails, or takes nothing, is counted.
+    pub(crate) fn write_some(&mut self, bytes: &[u8]) -> Result<usize, WriteFault>
         requires { 0 < length bytes.now }
         ensures some { IfOk result (λ n. 0 < n) }
         ensures bound { IfOk result (λ n. n ≤ length bytes.now) }
@@ -82,8 +91,8 @@ impl<W: Write> Sink<W> {
         }
     }
 
-    // One flush. A failure is counted.
-    fn flush(&mut self) -> Result<(), WriteFault>
+    /// One flush. A failure is counted.
+    pub(crate) fn flush(&mut self) -> Result<(), WriteFault>
         ensures kept { Keeps (W.contents self.old.writer) (W.contents self.new.writer) }
         ensures fault { IfErr result (λ e. e ≡ WriteFault.Write) }
         ensures failed { self.new.failed ≡ (if is_err result then one_more self.old.failed else self.old.failed) }
@@ -93,32 +102,4 @@ impl<W: Write> Sink<W> {
             Err(_) => Err(self.count_failure()),
         }
     }
-
-    /// Writes the bytes and flushes the writer. `Write` comes where a write or the flush failed, or a
-    /// write took none of some bytes: that call is counted, no other follows it, and a prefix went out.
-    pub fn send(&mut self, bytes: &[u8]) -> Result<(), WriteFault>
-        ensures whole { OnOk result (Appends (W.contents self.old.writer) (W.contents self.new.writer) bytes.now) }
-        ensures prefix { OnErr result (AppendsPrefix (W.contents self.old.writer) (W.contents self.new.writer)
-            bytes.now) }
-        ensures fault { IfErr result (λ e. e ≡ WriteFault.Write) }
-        ensures failed { self.new.failed ≡ (if is_err result then one_more self.old.failed else self.old.failed) }
-    {
-        let mut rest = bytes;
-        'rest: while !rest.is_empty() {
-            let taken = self.write_some(rest)?;
-            rest = &rest[taken..];
-        }
-        self.flush()
-    }
-
-    /// The writer, given back as it is.
-    pub fn into_inner(self) -> W
-        ensures { result ≡ self.writer }
-    {
-        let Sink { writer, .. } = self;
-        writer
-    }
 }
-
-#[cfg(test)]
-mod tests;

@@ -14,16 +14,16 @@ use csv::{ByteRecord, Writer, WriterBuilder};
 use itoa::Buffer;
 use std::alloc::{AllocError, Global};
 use std::io::Write;
-use tq_base::{Bound, FOREVER, Fragment, Name, Value};
+use tq_base::{Bound, FOREVER, Fragment, Name, Seen, Value};
 
 fn push_value(record: &mut ByteRecord, value: &Value) -> Result<(), AllocError>
     requires { partial_of record.old ≡ [] }
     ensures fields { OnOk result (fields_of record.new ≡ fields_of record.old ++ value_field value.now ∷ []) }
     ensures partial { OnOk result (partial_of record.new ≡ []) }
 {
-    match value {
-        Value::Int(number) => record.push_field(Buffer::new().format(*number).as_bytes()),
-        Value::Text(text) => record.push_field(text.get().as_bytes()),
+    match value.seen() {
+        Seen::Int(number) => record.push_field(Buffer::new().format(number).as_bytes()),
+        Seen::Text(text) => record.push_field(text.as_bytes()),
     }
 }
 
@@ -76,7 +76,9 @@ fn write_line(writer: &mut Writer<Vec<u8>>, record: &ByteRecord) -> Result<(), A
 
 /// The text of a table: a line of the column names, `from` and `to`, and a line for each row, its
 /// values, start and end; CSV after RFC 4180, lines ended by LF, fields quoted where they have to be.
-/// `AllocError` where a growth was refused.
+/// `AllocError` where a growth was refused. Not inlined, so that the writer's buffers leave the stack
+/// with it.
+#[inline(never)]
 pub fn table_text(alloc: Global, table: &Table) -> Result<Vec<u8>, AllocError>
     ensures { IfOk result (λ text. text.items ≡ text_of table.now) }
 {

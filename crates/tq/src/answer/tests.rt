@@ -1,5 +1,8 @@
 // Answers and faults, written out.
 
+mod histories;
+mod large;
+
 use super::{AnswerFault, answer, answer_bytes};
 use std::alloc::{AllocError, Global};
 use std::fmt::Write as Format;
@@ -389,23 +392,34 @@ fn files_come_before_the_statement_and_it_before_its_plan(rt: HostRuntime) -> Re
     assert_refuses(&rt, &[(b"emp", EMP)], b"VALIDTIME SELECT age FROM b ,", sql)
 }
 
-// Takes so many bytes, and then fails. It counts its calls.
+// Takes at most so many bytes a call, and fails at one of its calls. It counts its calls.
 #[derive(Drop)]
-struct FailingWriter {
+struct PartWriter {
     taken: Vec<u8>,
-    room: usize,
+    most: usize,
+    fails_at: u32,
     calls: u32,
 }
 
-impl Write for FailingWriter {
+impl PartWriter {
+    fn new(taken: Vec<u8>, most: usize, fails_at: u32) -> PartWriter {
+        PartWriter {
+            taken,
+            most,
+            fails_at,
+            calls: 0,
+        }
+    }
+}
+
+impl Write for PartWriter {
     fn write(&mut self, buf: &[u8]) -> io::Result<usize> {
         self.calls = self.calls.saturating_add(1);
-        if self.room == 0 {
+        if self.calls == self.fails_at {
             return Err(io::Error::from(ErrorKind::Other));
         }
-        let taken = buf.len().min(self.room);
+        let taken = buf.len().min(self.most);
         self.taken.extend_from_slice(&buf[..taken])?;
-        self.room -= taken;
         Ok(taken)
     }
 
@@ -418,11 +432,7 @@ impl Write for FailingWriter {
 fn a_failed_write_leaves_a_prefix(rt: HostRuntime) -> Result<(), Fail> {
     let files = files_of(rt.alloc(), &[(b"emp", EMP)])?;
     let statement = b"VALIDTIME SELECT name FROM emp";
-    let mut writer = FailingWriter {
-        taken: Vec::new(rt.alloc()),
-        room: 5,
-        calls: 0,
-    };
+    let mut writer = PartWriter::new(Vec::new(rt.alloc()), 5, 2);
     let mut sink = Sink::over(&mut writer);
     let written = answer_bytes(rt.alloc(), &files, statement, 1, &mut sink);
     assert_eq!(rt; written, Err(AnswerFault::Write));

@@ -1,6 +1,6 @@
 -- The values in the key columns so far, then the totals so far.
 use Rattle.std.proofs.Common.{◌≡◌, ◌++◌, map, take}
-use Rattle.tq_base.specs.declared.value.Value.TheVariants.{Int}
+use Rattle.tq_base.specs.Contents.{Int}
 use Rattle.tq_ops.specs.Ordinary.{projection}
 use Rattle.tq_agg.proofs.sweeping.joined.Given as goal
 

@@ -1,8 +1,8 @@
-use Rattle.std.proofs.Common.{◌≡◌, ℕ, List, Ok, Result, true, false, length, nat_lt, refl, arith, ◌∙◌, sym, ap}
+use Rattle.std.proofs.Common.{◌≡◌, Ok, Result, true, false, length, nat_lt, refl, arith, ◌∙◌, sym, ap}
 use Rattle.std.proofs.lemmas.Str.{is_utf8-from_IsUtf8}
 use Rattle.std.proofs.lemmas.Bool.Decides.{nat_tests}
 use Rattle.tq_base.specs.declared.value.Value.{Value}
-use Rattle.tq_base.specs.declared.value.Value.TheVariants.{Text}
+use Rattle.tq_base.specs.Contents.{Text}
 use Rattle.tq_event.specs.declared.fault.LoadFaultKind.{LoadFaultKind}
 use Rattle.tq_event.proofs.FieldUtf8.{no_utf8}
 use Rattle.tq_event.proofs.reading.read_text.Goals as goal
@@ -18,4 +18,4 @@ returns-then-field-gt-MAX_TEXT-clause-fault c known =
 pub returns-clause-ok : goal.returns-clause-ok
 returns-clause-ok c =
     let short : nat_lt 1000 (length c.args.field.now) ≡ false = grind (arith, nat_tests) in
-    rw (is_utf8-from_IsUtf8 c.args.field.now c.in-Ok.ensures.cases.1, short) (ap (λ (t : List ℕ). let r : Result Value LoadFaultKind = Ok (Text t) in r) (sym (c.in_ok-copy_of.ensures ∙ c.in-Ok.ensures.cases.0)))
+    rw (is_utf8-from_IsUtf8 c.args.field.now c.in-Ok.ensures.cases.1, short) (ap (λ (v : Value). let r : Result Value LoadFaultKind = Ok v in r) (sym (c.in_ok-text.ensures.value ∙ ap Text c.in-Ok.ensures.cases.0)))

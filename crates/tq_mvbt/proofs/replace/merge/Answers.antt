@@ -7,6 +7,8 @@ use Rattle.tq_mvbt.proofs.Renewed.{merged, merged_copy, room_for_both, room_abov
 use Rattle.tq_mvbt.proofs.Made.{put}
 use Rattle.tq_mvbt.proofs.Rising.{merged_settles, parent_loose, sibling_loose, sibling_older, part_under}
 use Rattle.tq_mvbt.proofs.Grown.{grows_retired, grows_edited, grows_appended, grows_both}
+use Rattle.tq_mvbt.specs.Links.{links_to}
+use Rattle.tq_mvbt.proofs.Linked.{made_with, keeps_edited, merge_links}
 use Rattle.tq_mvbt.proofs.replace.merge.Goals as goal
 
 pub retire-its_low-requires-clause-room : goal.retire-its_low-requires-clause-room
@@ -40,7 +42,7 @@ returns-clause-forest c lives height forest =
     let its_range = rw there at c.retire-its_low.ensures.range in
     let copied = rw (settling.loose.stands, c.new-copied.ensures) at c.retire-low.ensures.copied in
     let its_copied = rw there at c.retire-its_low.ensures.copied in
-    merged c.args.version lives height c.args.level c.args.last c.min-low.result c.max-high.result
+    merged {ls = c.retire-its_low.new.links.items} c.args.version lives height c.args.level c.args.last c.min-low.result c.max-high.result
     c.args.nodes.now c.retire-low.new.nodes c.retire-its_low.new.nodes c.push_nodes-added.new.nodes c.edit.new.nodes c.retire-its_low.new.copied.items c.deref.result.now c.args.number c.args.sibling c.args.parent
     c.requires.small settling.loose beside above (part_under c.args.level nodes c.args.number c.args.parent c.requires.part) c.requires.under c.requires.beside c.retire-low.ensures.nodes c.retire-its_low.ensures.nodes
     (its_copied ∙ rw copied refl)
@@ -67,7 +69,7 @@ returns-clause-settling c =
     let high_is : c.max-high.result ≡ max settling.loose.node.high standing.node.high = c.max-high.ensures ∙ rw (range.1, its_range.1) refl in
     let copy = merged_copy c.args.version by.lives by.height c.args.level c.args.last c.min-low.result c.max-high.result nodes c.retire-its_low.new.copied.items c.args.number c.args.sibling by.forest settling.loose
     (record { node = standing.node; stands = standing.stands; at_level = standing.at_level; died = standing.died; from_before = sibling_older c.args.version c.args.level c.args.last nodes c.args.number c.args.sibling settling c.requires.beside standing }) c.requires.beside items_are low_is high_is in
-    let puts : PutsNodes c.retire-its_low.new.nodes c.push_nodes-added.new.nodes c.args.level c.min-low.result c.max-high.result c.args.version c.retire-its_low.new.copied.items c.deref.result.now = rw (c.deref.ensures.0) c.push_nodes-added.ensures in
+    let puts : PutsNodes c.retire-its_low.new.nodes c.push_nodes-added.new.nodes c.args.level c.min-low.result c.max-high.result c.args.version c.retire-its_low.new.copied.items c.deref.result.now c.retire-its_low.new.links.items = rw (c.deref.ensures.0) c.push_nodes-added.ensures in
     let is_put = put c.args.version by.lives c.args.level c.min-low.result c.max-high.result nodes c.retire-its_low.new.nodes c.push_nodes-added.new.nodes c.retire-its_low.new.copied.items c.deref.result.now c.requires.small copy puts in
     let len : length c.deref.result.now ≡ c.len.result = ap length c.deref.ensures.0 ∙ search rules in
     let a = settling.loose.stands in
@@ -98,3 +100,16 @@ returns-clause-grows c =
     grows_both v h nodes c.push_nodes-added.new.nodes.nodes c.edit.new.nodes.nodes c.requires.small
     (grows_both v h nodes c.retire-its_low.new.nodes.nodes c.push_nodes-added.new.nodes.nodes c.requires.small
     (grows_both v h nodes c.retire-low.new.nodes.nodes c.retire-its_low.new.nodes.nodes c.requires.small one two) three) four
+
+pub returns-clause-links : goal.returns-clause-links
+returns-clause-links c =
+    let loose = c.requires.settling.loose in
+    let standing = c.requires.standing in
+    let nodes = c.args.nodes.now.nodes in
+    let there = unchanged c.args.nodes.now c.retire-low.new.nodes c.args.number c.args.sibling (retired c.args.version c.args.last) standing.node c.retire-low.ensures.nodes (siblings_differ nodes c.args.number c.args.sibling c.requires.beside) standing.stands in
+    let links : c.retire-low.new.links.items ≡ links_to c.args.number loose.node = (rw (loose.stands, c.new-links.ensures) at c.retire-low.ensures.links) in
+    let its_links : c.retire-its_low.new.links.items ≡ links_to c.args.number loose.node ++ links_to c.args.sibling standing.node = (rw (there, links) at c.retire-its_low.ensures.links) in
+    let made = made_with c.args.level c.min-low.result c.max-high.result c.args.version c.retire-its_low.new.links.items c.retire-its_low.new.nodes c.push_nodes-added.new.nodes _ _ c.push_nodes-added.ensures in
+    keeps_edited c.args.level c.args.version c.min-low.result c.max-high.result c.args.version nodes c.push_nodes-added.new.nodes c.edit.new.nodes c.args.parent c.deref.result.now c.edit.ensures
+    (merge_links c.args.level c.args.version c.args.last 0 c.args.nodes.now c.retire-low.new.nodes c.retire-its_low.new.nodes c.push_nodes-added.new.nodes c.args.number c.args.sibling loose.node standing.node c.retire-its_low.new.links.items
+    c.requires.small loose.stands loose.at_level loose.died c.retire-low.ensures.nodes there standing.at_level standing.died c.retire-its_low.ensures.nodes its_links made)

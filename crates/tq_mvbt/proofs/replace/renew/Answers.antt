@@ -8,6 +8,8 @@ use Rattle.tq_mvbt.proofs.Places.{at_left}
 use Rattle.tq_mvbt.proofs.Made.{put}
 use Rattle.tq_mvbt.proofs.Rising.{renewed_settles, parent_loose, parent_older, part_under}
 use Rattle.tq_mvbt.proofs.Grown.{grows_retired, grows_edited, grows_appended, grows_both}
+use Rattle.tq_mvbt.specs.Links.{links_to}
+use Rattle.tq_mvbt.proofs.Linked.{made_with, keeps_edited, renew_links}
 use Rattle.tq_mvbt.proofs.replace.renew.Goals as goal
 
 pub edit-requires : goal.edit-requires
@@ -30,7 +32,7 @@ returns-clause-forest c lives height forest =
     let loose = settling.loose in
     let range = rw (loose.stands) at c.retire-low.ensures.range in
     let above = parent_loose c.args.version c.args.level c.args.last c.args.nodes.now.nodes c.args.number c.args.parent settling part in
-    renewed c.args.version lives height c.args.level c.args.last c.retire-low.result.0 c.retire-low.result.1
+    renewed {ls = c.retire-low.new.links.items} c.args.version lives height c.args.level c.args.last c.retire-low.result.0 c.retire-low.result.1
     c.args.nodes.now c.retire-low.new.nodes c.push_nodes-added.new.nodes c.edit.new.nodes c.retire-low.new.copied.items c.deref.result.now c.args.number c.args.parent
     c.requires.small loose above (part_under c.args.level c.args.nodes.now.nodes c.args.number c.args.parent part) c.retire-low.ensures.nodes
     (rw (loose.stands, c.new-copied.ensures) at c.retire-low.ensures.copied)
@@ -47,7 +49,7 @@ returns-clause-settling c =
     let range = rw (loose.stands) at c.retire-low.ensures.range in
     let copied : c.retire-low.new.copied.items ≡ filter is_live loose.node.entries = rw (loose.stands, c.new-copied.ensures) at c.retire-low.ensures.copied in
     let copy = renewed_copy c.args.version by.lives by.height c.args.level c.args.last c.retire-low.result.0 c.retire-low.result.1 c.args.nodes.now.nodes c.retire-low.new.copied.items c.args.number by.forest loose copied range.0 range.1 in
-    let puts : PutsNodes c.retire-low.new.nodes c.push_nodes-added.new.nodes c.args.level c.retire-low.result.0 c.retire-low.result.1 c.args.version c.retire-low.new.copied.items c.deref.result.now = rw (c.deref.ensures.0) c.push_nodes-added.ensures in
+    let puts : PutsNodes c.retire-low.new.nodes c.push_nodes-added.new.nodes c.args.level c.retire-low.result.0 c.retire-low.result.1 c.args.version c.retire-low.new.copied.items c.deref.result.now c.retire-low.new.links.items = rw (c.deref.ensures.0) c.push_nodes-added.ensures in
     let is_put = put c.args.version by.lives c.args.level c.retire-low.result.0 c.retire-low.result.1 c.args.nodes.now.nodes c.retire-low.new.nodes c.push_nodes-added.new.nodes c.retire-low.new.copied.items c.deref.result.now c.requires.small copy puts in
     let len : length c.deref.result.now ≡ c.len.result = ap length c.deref.ensures.0 ∙ search rules in
     let a = loose.stands in
@@ -71,3 +73,12 @@ returns-clause-grows c =
     let three = grows_edited v h c.retire-low.result.0 c.retire-low.result.1 v c.push_nodes-added.new.nodes c.edit.new.nodes c.args.parent c.deref.result.now c.edit.ensures in
     grows_both v h c.args.nodes.now.nodes c.push_nodes-added.new.nodes.nodes c.edit.new.nodes.nodes c.requires.small
     (grows_both v h c.args.nodes.now.nodes c.retire-low.new.nodes.nodes c.push_nodes-added.new.nodes.nodes c.requires.small one two) three
+
+pub returns-clause-links : goal.returns-clause-links
+returns-clause-links c =
+    let loose = c.requires.settling.loose in
+    let nodes = c.args.nodes.now.nodes in
+    let links : c.retire-low.new.links.items ≡ links_to c.args.number loose.node = (rw (loose.stands, c.new-links.ensures) at c.retire-low.ensures.links) in
+    let made = made_with c.args.level c.retire-low.result.0 c.retire-low.result.1 c.args.version c.retire-low.new.links.items c.retire-low.new.nodes c.push_nodes-added.new.nodes _ _ c.push_nodes-added.ensures in
+    keeps_edited c.args.level c.args.version c.retire-low.result.0 c.retire-low.result.1 c.args.version nodes c.push_nodes-added.new.nodes c.edit.new.nodes c.args.parent c.deref.result.now c.edit.ensures
+    (renew_links c.args.level c.args.version c.args.last c.args.nodes.now c.retire-low.new.nodes c.push_nodes-added.new.nodes c.args.number loose.node c.retire-low.new.links.items c.requires.small loose.stands loose.at_level loose.died c.retire-low.ensures.nodes links made)

@@ -1,4 +1,4 @@
-use Rattle.std.proofs.Common.{◌≡◌, ◌∙◌, ℕ, ◌+◌, ◌<◌, arith, Some, None, Option, ap, rules, subst}
+use Rattle.std.proofs.Common.{◌≡◌, ◌∙◌, ℕ, ◌+◌, ◌<◌, arith, Some, None, Option, ap, sym, rules, subst}
 use Rattle.std.specs.Option.{MatchOption, IsSome}
 use Rattle.std.proofs.lemmas.Bool.Decides.{nat_tests}
 use Rattle.tq_mvbt.specs.NodeState.{NodeState}
@@ -57,4 +57,13 @@ returns c =
     (ap (λ (x : NodeState). x.level) its_same ∙ part.at_level) (ap (λ (x : NodeState). x.died) its_same ∙ part.died) (ap (λ (x : NodeState). x.level) same ∙ part.above_level) (ap (λ (x : NodeState). x.died) same ∙ part.above_died)
     c.key_beside.ensures.low c.key_beside.ensures.high c.key_beside.ensures.side
     (rw (c.unwrap.ensures) at c.child_at.ensures.child) in
-    record { beside = all.0; under = all.1; standing = all.2 }
+    record {
+      beside = all.0;
+      under = all.1;
+      standing = all.2;
+      right = λ node above other is above_is other_is less.
+          let one : node ≡ n = cc in
+          let two : above ≡ m = cc in
+          let short : n.high < m.high = omega (arith, less, ap (λ (x : NodeState). x.high) one, ap (λ (x : NodeState). x.high) two) in
+          all.3 (c.key_beside.ensures.right short) other other_is ∙ ap (λ (x : NodeState). x.high) (sym one);
+    }

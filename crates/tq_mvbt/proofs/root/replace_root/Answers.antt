@@ -7,6 +7,8 @@ use Rattle.tq_mvbt.specs.Directory.{IsTop}
 use Rattle.tq_mvbt.proofs.Renewed.{appended}
 use Rattle.tq_mvbt.proofs.Roots.{few_from, many_from, single, first_there, lowered, child_top, first_filled, same_height, one_top, one_filled, higher, two_top, two_filled, root_low, root_high}
 use Rattle.tq_mvbt.proofs.Grown.{grows_retired, grows_appended, grows_both}
+use Rattle.tq_mvbt.specs.Links.{links_to}
+use Rattle.tq_mvbt.proofs.Linked.{made_with, renew_links, keeps_topped, keeps_lowered}
 use Rattle.tq_mvbt.proofs.root.replace_root.Goals as goal
 use Rattle.tq_mvbt.proofs.root.replace_root.Goals.{else-level-gt0-via-then-level-gt0+else-len-eq1, else-level-gt0-via-else-level-gt0}
 
@@ -61,7 +63,7 @@ returns-then-len-eq1-2-clause-top c =
     let copied = rw (settling.loose.stands, c.new-copied.ensures) at c.retire.ensures.copied in
     let blank : Entry = record { low = 0; high = 0; born = 0; dead = 0; child = 0 } in
     let added = c.deref-then-len-eq1-2.result.now in
-    let puts : PutsNodes c.retire.new.nodes c.push_nodes-added.new.nodes level 0 top c.args.version c.retire.new.copied.items added = rw (c.deref-then-len-eq1-2.ensures.0) c.push_nodes-added.ensures in
+    let puts : PutsNodes c.retire.new.nodes c.push_nodes-added.new.nodes level 0 top c.args.version c.retire.new.copied.items added c.retire.new.links.items = rw (c.deref-then-len-eq1-2.ensures.0) c.push_nodes-added.ensures in
     let len : length added ≡ 1 = ap length c.deref-then-len-eq1-2.ensures.0 ∙ (let v = c.len-2.ensures.value in let o = c.if-len-eq1-2.true in search rules) in
     subst (λ x. IsTop c.args.version c.push_nodes-added.new.nodes.nodes (record { from = c.args.version; node = (get_or added 0 blank).child; levels = x })) up
     (one_top c.args.version level c.args.last c.args.nodes.now c.retire.new.nodes c.retire.new.copied.items c.args.root.node c.requires.small settling (root_low _ _ _ _ _ settling c.requires.whole) (root_high _ _ _ _ _ settling c.requires.whole) c.retire.ensures.nodes copied
@@ -96,9 +98,9 @@ returns-clause-height c =
     let up' : level + 2 ≡ c.args.root.levels + 1 = omega arith in
     let copied = rw (settling.loose.stands, c.new-copied.ensures) at c.retire.ensures.copied in
     let added = c.deref-2.result.now in
-    let puts : PutsNodes c.retire.new.nodes c.push_nodes-added.new.nodes level 0 top c.args.version c.retire.new.copied.items added = rw (c.deref-2.ensures.0) c.push_nodes-added.ensures in
+    let puts : PutsNodes c.retire.new.nodes c.push_nodes-added.new.nodes level 0 top c.args.version c.retire.new.copied.items added c.retire.new.links.items = rw (c.deref-2.ensures.0) c.push_nodes-added.ensures in
     let more : length added ≢ 1 = λ one. c.if-len-eq1-2.false (let e = ap length c.deref-2.ensures.0 in let v = c.len-2.ensures.value in search rules) in
-    let last_put : Puts c.push_nodes-added.new.nodes c.push_node-top.new.nodes (fresh (level + 1) 0 top c.args.version added) c.push_node-top.result = rw up c.push_node-top.ensures in
+    let last_put : Puts c.push_nodes-added.new.nodes c.push_node-top.new.nodes (fresh (level + 1) 0 top c.args.version added []) c.push_node-top.result = rw up (rw c.new.ensures at c.push_node-top.ensures) in
     subst (λ x. HeightChanges c.args.version x (c.args.root.levels + 1) c.args.nodes.now.nodes c.push_node-top.new.nodes.nodes) up
     (subst (λ x. HeightChanges c.args.version (level + 1) x c.args.nodes.now.nodes c.push_node-top.new.nodes.nodes) up'
     (higher c.args.version level c.args.last c.args.nodes.now c.retire.new.nodes c.retire.new.copied.items c.args.root.node c.requires.small settling (root_low _ _ _ _ _ settling c.requires.whole) (root_high _ _ _ _ _ settling c.requires.whole) c.retire.ensures.nodes copied
@@ -112,9 +114,9 @@ returns-clause-top c =
     let up' : level + 2 ≡ c.args.root.levels + 1 = omega arith in
     let copied = rw (settling.loose.stands, c.new-copied.ensures) at c.retire.ensures.copied in
     let added = c.deref-2.result.now in
-    let puts : PutsNodes c.retire.new.nodes c.push_nodes-added.new.nodes level 0 top c.args.version c.retire.new.copied.items added = rw (c.deref-2.ensures.0) c.push_nodes-added.ensures in
+    let puts : PutsNodes c.retire.new.nodes c.push_nodes-added.new.nodes level 0 top c.args.version c.retire.new.copied.items added c.retire.new.links.items = rw (c.deref-2.ensures.0) c.push_nodes-added.ensures in
     let more : length added ≢ 1 = λ one. c.if-len-eq1-2.false (let e = ap length c.deref-2.ensures.0 in let v = c.len-2.ensures.value in search rules) in
-    let last_put : Puts c.push_nodes-added.new.nodes c.push_node-top.new.nodes (fresh (level + 1) 0 top c.args.version added) c.push_node-top.result = rw up c.push_node-top.ensures in
+    let last_put : Puts c.push_nodes-added.new.nodes c.push_node-top.new.nodes (fresh (level + 1) 0 top c.args.version added []) c.push_node-top.result = rw up (rw c.new.ensures at c.push_node-top.ensures) in
     subst (λ x. IsTop c.args.version c.push_node-top.new.nodes.nodes (record { from = c.args.version; node = c.push_node-top.result.child; levels = x })) up'
     (two_top c.args.version level c.args.last c.args.nodes.now c.retire.new.nodes c.retire.new.copied.items c.args.root.node c.requires.small settling (root_low _ _ _ _ _ settling c.requires.whole) (root_high _ _ _ _ _ settling c.requires.whole) c.retire.ensures.nodes copied
     c.push_nodes-added.new.nodes c.push_node-top.new.nodes added c.push_node-top.result puts (many_from _ _ _ _ _ _ _ _ puts more) last_put)
@@ -126,9 +128,9 @@ returns-clause-filled c =
     let up : level + 1 ≡ c.args.root.levels = omega arith in
     let copied = rw (settling.loose.stands, c.new-copied.ensures) at c.retire.ensures.copied in
     let added = c.deref-2.result.now in
-    let puts : PutsNodes c.retire.new.nodes c.push_nodes-added.new.nodes level 0 top c.args.version c.retire.new.copied.items added = rw (c.deref-2.ensures.0) c.push_nodes-added.ensures in
+    let puts : PutsNodes c.retire.new.nodes c.push_nodes-added.new.nodes level 0 top c.args.version c.retire.new.copied.items added c.retire.new.links.items = rw (c.deref-2.ensures.0) c.push_nodes-added.ensures in
     let more : length added ≢ 1 = λ one. c.if-len-eq1-2.false (let e = ap length c.deref-2.ensures.0 in let v = c.len-2.ensures.value in search rules) in
-    let last_put : Puts c.push_nodes-added.new.nodes c.push_node-top.new.nodes (fresh (level + 1) 0 top c.args.version added) c.push_node-top.result = rw up c.push_node-top.ensures in
+    let last_put : Puts c.push_nodes-added.new.nodes c.push_node-top.new.nodes (fresh (level + 1) 0 top c.args.version added []) c.push_node-top.result = rw up (rw c.new.ensures at c.push_node-top.ensures) in
     two_filled c.args.version level c.args.last c.args.nodes.now c.retire.new.nodes c.retire.new.copied.items c.args.root.node c.requires.small settling (root_low _ _ _ _ _ settling c.requires.whole) (root_high _ _ _ _ _ settling c.requires.whole) c.retire.ensures.nodes copied
     c.push_nodes-added.new.nodes c.push_node-top.new.nodes added c.push_node-top.result puts (many_from _ _ _ _ _ _ _ _ puts more) last_put c.requires.forest
 
@@ -144,3 +146,23 @@ returns-clause-grows c =
     let three = grows_appended v h c.push_nodes-added.new.nodes.nodes c.push_node-top.new.nodes.nodes _ c.push_node-top.ensures.nodes in
     grows_both v h c.args.nodes.now.nodes c.push_nodes-added.new.nodes.nodes c.push_node-top.new.nodes.nodes c.requires.small
     (grows_both v h c.args.nodes.now.nodes c.retire.new.nodes.nodes c.push_nodes-added.new.nodes.nodes c.requires.small one two) three
+
+pub returns-then-len-eq1-clause-links : goal.returns-then-len-eq1-clause-links
+returns-then-len-eq1-clause-links c =
+    let loose = c.requires.settling.loose in
+    keeps_lowered (c.args.root.levels - 1) c.args.version c.args.last c.args.nodes.now c.retire.new.nodes c.args.root.node loose.node loose.stands loose.at_level c.if-level-gt0.true c.retire.ensures.nodes
+
+pub returns-then-len-eq1-2-clause-links : goal.returns-then-len-eq1-2-clause-links
+returns-then-len-eq1-2-clause-links c =
+    let loose = c.requires.settling.loose in
+    let links : c.retire.new.links.items ≡ links_to c.args.root.node loose.node = (rw (loose.stands, c.new-links.ensures) at c.retire.ensures.links) in
+    let made = made_with (c.args.root.levels - 1) 0 top c.args.version c.retire.new.links.items c.retire.new.nodes c.push_nodes-added.new.nodes _ _ c.push_nodes-added.ensures in
+    renew_links (c.args.root.levels - 1) c.args.version c.args.last c.args.nodes.now c.retire.new.nodes c.push_nodes-added.new.nodes c.args.root.node loose.node c.retire.new.links.items c.requires.small loose.stands loose.at_level loose.died c.retire.ensures.nodes links made
+
+pub returns-clause-links : goal.returns-clause-links
+returns-clause-links c =
+    let loose = c.requires.settling.loose in
+    let links : c.retire.new.links.items ≡ links_to c.args.root.node loose.node = (rw (loose.stands, c.new-links.ensures) at c.retire.ensures.links) in
+    let made = made_with (c.args.root.levels - 1) 0 top c.args.version c.retire.new.links.items c.retire.new.nodes c.push_nodes-added.new.nodes _ _ c.push_nodes-added.ensures in
+    let keeps = renew_links (c.args.root.levels - 1) c.args.version c.args.last c.args.nodes.now c.retire.new.nodes c.push_nodes-added.new.nodes c.args.root.node loose.node c.retire.new.links.items c.requires.small loose.stands loose.at_level loose.died c.retire.ensures.nodes links made in
+    keeps_topped (c.args.root.levels - 1) c.args.version c.args.nodes.now.nodes c.push_nodes-added.new.nodes.nodes c.push_node-top.new.nodes.nodes (fresh c.args.root.levels 0 top c.args.version c.deref-2.result.now c.new.result.items) c.requires.small c.new.ensures (omega arith) c.push_node-top.ensures.nodes keeps

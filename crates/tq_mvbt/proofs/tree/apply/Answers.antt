@@ -6,6 +6,8 @@ use Rattle.tq_mvbt.specs.Loose.{Grows, KeyChanges}
 use Rattle.tq_mvbt.specs.Directory.{root_of, IsTop}
 use Rattle.tq_mvbt.specs.TreeState.{IsTree}
 use Rattle.tq_mvbt.proofs.Trees.{few_levels, root_found, top_grows, updated, updated_lives, updated_others, updated_roots}
+use Rattle.tq_mvbt.specs.Links.{UpdatesLinks}
+use Rattle.tq_mvbt.proofs.Linked.{tree_untouched, links_after}
 use Rattle.tq_mvbt.proofs.tree.apply.Goals as goal
 
 -- the levels of the root that was found
@@ -59,8 +61,11 @@ returns-clause-tree c =
     let grows : Grows c.args.version (r.levels - 1) nodes mid = subst (λ (ns : List NodeState). Grows c.args.version (r.levels - 1) ns mid) c.reserve.ensures.nodes c.update-last.ensures.grows in
     let len : length mid ≤ length nodes + 2 * (r.levels - 1) = subst (λ (ns : List NodeState). length mid ≤ length ns + 2 * (r.levels - 1)) c.reserve.ensures.nodes c.update-last.ensures.len in
     let s = c.settle_root-next.ensures in
+    let updates : UpdatesLinks (r.levels - 1) c.args.version nodes mid = subst (λ (ns : List NodeState). UpdatesLinks (r.levels - 1) c.args.version ns mid) c.reserve.ensures.nodes c.update-last.ensures.links in
+    let untouched = tree_untouched c.args.last_version.now c.args.version nodes c.args.roots.now.items c.requires.later (let l = c.requires.small in omega arith) c.requires.tree in
+    let linked = links_after (r.levels - 1) c.args.version nodes mid c.settle_root-next.new.nodes.nodes untouched updates s.links in
     let all = updated c.args.last_version.now c.args.version c.args.key c.args.alive nodes mid c.settle_root-next.new.nodes.nodes c.args.roots.now.items r c.settle_root-next.result
-    c.requires.tree c.requires.later c.requires.small c.requires.key c.requires.never is keyed grows len s.same s.height s.from s.top s.filled s.grows s.len in
+    c.requires.tree c.requires.later c.requires.small c.requires.key c.requires.never is keyed grows len s.same s.height s.from s.top s.filled s.grows s.len linked in
     rw (c.push_root.ensures, c.reserve-2.ensures.items) all
 
 pub returns-clause-lives : goal.returns-clause-lives

@@ -4,6 +4,7 @@ use Rattle.tq_mvbt.specs.Shape.{IsFound}
 use Rattle.tq_mvbt.specs.Loose.{IsSettling, Grows}
 use Rattle.tq_mvbt.proofs.Leaves.{settles_above, part_above, keyed_forest}
 use Rattle.tq_mvbt.proofs.Grown.{grows_more, grows_both, found_grows}
+use Rattle.tq_mvbt.proofs.Linked.{updates_up, keeps_same}
 use Rattle.tq_mvbt.proofs.update.+update.Goals as goal
 
 pub returns-then-level-eq0-clause-forest : goal.returns-then-level-eq0-clause-forest
@@ -63,3 +64,15 @@ returns-clause-grows t c =
     let one = grows_more c.args.version (c.args.level - 1) c.args.level c.args.nodes.now.nodes c.update-last.new.nodes.nodes (omega arith) c.update-last.ensures.grows in
     let two : Grows c.args.version c.args.level c.update-last.new.nodes.nodes c.replace.new.nodes.nodes = subst (λ x. Grows c.args.version x c.update-last.new.nodes.nodes c.replace.new.nodes.nodes) up c.replace.ensures.grows in
     grows_both c.args.version c.args.level c.args.nodes.now.nodes c.update-last.new.nodes.nodes c.replace.new.nodes.nodes c.requires.small one two
+
+pub returns-then-level-eq0-clause-links : goal.returns-then-level-eq0-clause-links
+returns-then-level-eq0-clause-links t c = record { leaves = λ z. c.set_life.ensures.links; index = λ h. absurd (omega arith) }
+
+pub returns-then-fits-clause-links : goal.returns-then-fits-clause-links
+returns-then-fits-clause-links t c =
+    let mid = c.update-last.new.nodes.nodes in
+    updates_up (c.args.level - 1) c.args.level c.args.version c.args.nodes.now.nodes mid mid (omega arith) c.update-last.ensures.links (keeps_same (c.args.level - 1) c.args.version mid mid refl)
+
+pub returns-clause-links : goal.returns-clause-links
+returns-clause-links t c =
+    updates_up (c.args.level - 1) c.args.level c.args.version c.args.nodes.now.nodes c.update-last.new.nodes.nodes c.replace.new.nodes.nodes (omega arith) c.update-last.ensures.links c.replace.ensures.links

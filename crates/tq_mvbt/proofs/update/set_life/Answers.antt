@@ -4,6 +4,7 @@ use Rattle.tq_mvbt.proofs.Keyed.{keyed_by, IsNewRow}
 use Rattle.tq_mvbt.proofs.Settled.{IsNewEntry}
 use Rattle.tq_mvbt.proofs.Leaves.{leaf_settles, older_found}
 use Rattle.tq_mvbt.proofs.Grown.{grows_edited}
+use Rattle.tq_mvbt.proofs.Linked.{untouched_edited}
 use Rattle.tq_mvbt.proofs.update.set_life.Goals as goal
 
 pub returns-then-not-alive-clause-keyed : goal.returns-then-not-alive-clause-keyed
@@ -41,3 +42,11 @@ returns-clause-settling c =
 pub returns-clause-grows : goal.returns-clause-grows
 returns-clause-grows c =
     grows_edited c.args.version 0 c.args.key (c.args.key + 1) c.args.version c.args.nodes.now c.edit-2.new.nodes c.args.leaf _ c.edit-2.ensures
+
+pub returns-then-not-alive-clause-links : goal.returns-then-not-alive-clause-links
+returns-then-not-alive-clause-links c u =
+    untouched_edited c.args.version c.args.key (c.args.key + 1) c.args.version c.args.nodes.now c.edit.new.nodes c.args.leaf [] c.edit.ensures u
+
+pub returns-clause-links : goal.returns-clause-links
+returns-clause-links c u =
+    untouched_edited c.args.version c.args.key (c.args.key + 1) c.args.version c.args.nodes.now c.edit-2.new.nodes c.args.leaf _ c.edit-2.ensures u

@@ -1,0 +1,17 @@
+use Rattle.std.proofs.KnownBytes.{Appends-trans}
+use Rattle.std.proofs.lemmas.Result.{on_ok_weaker}
+use Rattle.tq.proofs.report.Refusal.print.Goals as goal
+
+pub returns-in_ok-write_all-in-CannotRead-2 : goal.returns-in_ok-write_all-in-CannotRead-2
+returns-in_ok-write_all-in-CannotRead-2 g c =
+    let path = rw c.deref.ensures.value at c.in_ok-write_all-in-CannotRead-2.ensures.bytes in
+    rw c.in-CannotRead.is
+    (on_ok_weaker c.write_all-in-CannotRead-3.result
+    (λ end. Appends-trans _ _ _ _ _ c.in_ok-write_all-in-CannotRead.ensures.bytes (Appends-trans _ _ _ _ _ path end))
+    c.write_all-in-CannotRead-3.ensures.bytes)
+
+pub returns-in-WriteFailed : goal.returns-in-WriteFailed
+returns-in-WriteFailed g c = rw c.in-WriteFailed.is c.write_all-in-WriteFailed.ensures.bytes
+
+pub returns-in-OutOfMemory : goal.returns-in-OutOfMemory
+returns-in-OutOfMemory g c = rw c.in-OutOfMemory.is c.write_all-in-OutOfMemory.ensures.bytes

@@ -1,0 +1,99 @@
+//! What a part of a window has.
+
+ghost use Rattle.std.specs.Prelude.{◌≡◌, ◌+◌, ◌-◌, ◌*◌, ◌/◌, ◌≤◌, length, min, count_by, OnOk, IfOk, IsPermutation};
+ghost use Rattle.std.specs.List.Sorted.{IsNonDecreasing, IsNonDecreasingBy};
+ghost use Rattle.tq_mvbt.specs.TreeState.{height_of};
+ghost use Rattle.tq_scan.specs.Windows.{IsInside};
+ghost use Rattle.tq_scan.specs.Lists.{ListsJust, ListsOnce, IsLonger};
+ghost use Rattle.tq_scan.specs.Scans.{FoundIn, IsMetLeaf, numbers, alive_at};
+ghost use Rattle.tq_scan.specs.Reports.{keys_of};
+ghost use Rattle.tq_scan.specs.Rows.{IsRowOf};
+
+use crate::found::{Found, Keys};
+use crate::keys::push_keys;
+use crate::leaves::{last_leaves, push_linked};
+use crate::window::{Part, Window};
+use std::alloc::{AllocError, Global};
+use tq_arena::{Meter, NodeNo};
+use tq_mvbt::{NodeNos, Tree, trees_tile};
+
+// Puts keys in ascending order.
+fn sort_keys(keys: &mut Vec<u128>) -> Result<(), AllocError>
+    ensures same { IsPermutation keys.old.items keys.new.items }
+    ensures len { length keys.new.items ≡ length keys.old.items }
+    ensures sorted { OnOk result (IsNonDecreasing keys.new.items) }
+{
+    keys.sort()
+}
+
+// Puts nodes in ascending order of their numbers.
+fn sort_nodes(nodes: &mut Vec<NodeNo>) -> Result<(), AllocError>
+    ensures same { IsPermutation nodes.old.items nodes.new.items }
+    ensures len { length nodes.new.items ≡ length nodes.old.items }
+    ensures sorted { OnOk result (IsNonDecreasingBy (λ n. n.0) nodes.new.items) }
+{
+    nodes.sort_by_key(|node| node.0)?;
+    Ok(())
+}
+
+// The keys that the leaves report; the leaves that these lead to along links are appended to them. Each leaf is read
+// once.
+fn read_leaves(
+    alloc: Global,
+    tree: &Tree,
+    window: &Window,
+    part: &Part,
+    leaves: &mut Vec<NodeNo>,
+    meter: &mut Meter,
+) -> Result<Vec<u128>, AllocError>
+    requires inside { IsInside window.now part.now }
+    requires row { IsRowOf tree.now.nodes part.now 0 leaves.old.items }
+    ensures leaves { IfOk result (λ keys. ListsOnce (IsMetLeaf tree.now.nodes part.now) (numbers leaves.new.items)) }
+    ensures longer { IfOk result (λ keys. IsLonger leaves.old.items leaves.new.items) }
+    ensures keys { IfOk result (λ keys. keys.items ≡ keys_of window.now part.now tree.now.nodes leaves.new.items) }
+    ensures at_least { IfOk result (λ keys. min (meter.old + length leaves.new.items) u64.MAX ≤ meter.new) }
+    ensures at_most { IfOk result (λ keys. meter.new ≤ meter.old + length leaves.new.items) }
+{
+    trees_tile();
+    let _version = tree.version();
+    let mut keys = Vec::new(alloc);
+    let mut place = 0;
+    'leaves: while place < leaves.len() {
+        let leaf = tree.node(leaves[place], meter);
+        push_keys(&mut keys, leaf, window, part)?;
+        push_linked(leaves, leaf, part)?;
+        place += 1;
+    }
+    Ok(keys)
+}
+
+/// The keys of the tree that are found in the part, and the leaves whose region meets it. It goes down once, to the
+/// leaves at the part's last version, and from there back along links. The meter counts each of those leaves once,
+/// and on the way down at most one node a level for each leaf that it leads to. A part of a window of one version has
+/// at most two leaves more than a fifth of its keys.
+/// Out of memory: nothing is given.
+pub fn scan(
+    alloc: Global,
+    tree: &Tree,
+    window: &Window,
+    part: &Part,
+    meter: &mut Meter,
+) -> Result<Found, AllocError>
+    requires { IsInside window.now part.now }
+    ensures keys { IfOk result (λ found. ListsJust (FoundIn tree.now.nodes window.now part.now) found.keys) }
+    ensures leaves { IfOk result (λ found. ListsJust (IsMetLeaf tree.now.nodes part.now) (numbers found.leaves)) }
+    ensures at_least { IfOk result (λ found. min (meter.old + length found.leaves) u64.MAX ≤ meter.new) }
+    ensures at_most { IfOk result (λ found. meter.new ≤ meter.old + length found.leaves + (height_of tree.now.roots part.now.last - 1) * count_by (alive_at tree.now.nodes part.now.last) found.leaves) }
+    ensures one_version { IfOk result (λ found. window.now.first ≡ window.now.last → length found.leaves ≤ length found.keys / 5 + 2) }
+{
+    trees_tile();
+    let _version = tree.version();
+    let mut leaves = last_leaves(alloc, tree, part, meter)?;
+    let mut keys = read_leaves(alloc, tree, window, part, &mut leaves, meter)?;
+    sort_keys(&mut keys)?;
+    sort_nodes(&mut leaves)?;
+    Ok(Found {
+        keys: Keys::of(keys),
+        leaves: NodeNos::of(leaves),
+    })
+}

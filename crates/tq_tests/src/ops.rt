@@ -1,0 +1,99 @@
+// Calls of the operators, with their rows written out.
+
+mod conditions;
+mod operators;
+
+use sqlite_items::Boxed;
+use std::alloc::{AllocError, Global};
+use std::test::Fail;
+use tq_base::{Bound, Fragment, Instant, Period, Seen, Value, Values};
+use tq_ops::{Compare, Operand, Test};
+
+fn period(start: u64, end: u64) -> Result<Period, Fail> {
+    let start = Instant::new(start).ok_or("no instant")?;
+    let end = Bound::new(end).ok_or("no bound")?;
+    Ok(Period::new(start, end).ok_or("no period")?)
+}
+
+fn text(alloc: Global, content: &str) -> Result<Value, AllocError> {
+    Value::text(alloc, content)
+}
+
+// Rows of one number each.
+fn numbers(alloc: Global, rows: &[(i64, u64, u64)]) -> Result<Vec<Fragment>, Fail> {
+    let mut fragments = Vec::new(alloc);
+    for (number, start, end) in rows {
+        fragments.push(Fragment {
+            values: Values::of(vec![in alloc; Value::int(*number)]?),
+            period: period(*start, *end)?,
+        })?;
+    }
+    Ok(fragments)
+}
+
+// Rows of a number and a text each.
+fn pairs(alloc: Global, rows: &[(i64, &str, u64, u64)]) -> Result<Vec<Fragment>, Fail> {
+    let mut fragments = Vec::new(alloc);
+    for (number, content, start, end) in rows {
+        let content = text(alloc, content)?;
+        fragments.push(Fragment {
+            values: Values::of(vec![in alloc; Value::int(*number), content]?),
+            period: period(*start, *end)?,
+        })?;
+    }
+    Ok(fragments)
+}
+
+fn value_text(alloc: Global, value: &Value) -> Result<String, AllocError> {
+    match value.seen() {
+        Seen::Int(number) => format!(in alloc; "{number}"),
+        Seen::Text(content) => String::from_str(alloc, content),
+    }
+}
+
+// The rows in order: the values, from and to, divided by commas, each row followed by a blank.
+fn shown(alloc: Global, mut rows: Vec<Fragment>) -> Result<String, Fail> {
+    rows.sort_unstable();
+    let mut all = String::new(alloc);
+    for row in &rows {
+        for value in row.values.get() {
+            all.push_str(value_text(alloc, value)?.as_str())?;
+            all.push(',')?;
+        }
+        let start = row.period.start.number();
+        let end = row.period.end.number();
+        all.push_str(format!(in alloc; "{start},{end} ")?.as_str())?;
+    }
+    Ok(all)
+}
+
+// How many of the rows are valid at each instant from 0 on, one digit an instant.
+fn counts(alloc: Global, rows: &[Fragment], instants: u64) -> Result<String, Fail> {
+    let mut all = String::new(alloc);
+    for number in 0..instants {
+        let instant = Instant::new(number).ok_or("no instant")?;
+        let count = rows.iter().filter(|row| row.period.holds(instant)).count();
+        all.push_str(format!(in alloc; "{count}")?.as_str())?;
+    }
+    Ok(all)
+}
+
+fn compare(left: Operand, op: Compare, right: Operand) -> Test {
+    Test::Is { left, op, right }
+}
+
+fn number(value: i64) -> Operand {
+    Operand::Literal(Value::int(value))
+}
+
+fn both(alloc: Global, first: Test, last: Test) -> Result<Test, AllocError> {
+    Ok(Test::And(Boxed::new(alloc, first)?, Boxed::new(alloc, last)?))
+}
+
+fn either(alloc: Global, first: Test, last: Test) -> Result<Test, AllocError> {
+    Ok(Test::Or(Boxed::new(alloc, first)?, Boxed::new(alloc, last)?))
+}
+
+fn negated(alloc: Global, test: Test) -> Result<Test, AllocError> {
+    Ok(Test::Not(Boxed::new(alloc, test)?))
+}

@@ -1,0 +1,214 @@
+// Selection, projection, join and difference.
+
+use super::{both, compare, counts, either, number, numbers, pairs, period, shown};
+use std::test::Fail;
+use tq_base::{FOREVER, Fragment};
+use tq_ops::{Compare, Operand, except_all, join, join_shown, project, select};
+
+#[test]
+fn selects_by_either_comparison(rt: HostRuntime) -> Result<(), Fail> {
+    let least = i64::MIN;
+    let most = i64::MAX;
+    let rows = pairs(
+        rt.alloc(),
+        &[
+            (least, "low", 0, 5),
+            (1, "mid", 2, 9),
+            (most, "high", 3, FOREVER),
+        ],
+    )?;
+    let test = either(
+        rt.alloc(),
+        compare(Operand::Column(0), Compare::Ge, number(most)),
+        compare(Operand::Column(0), Compare::Eq, number(least)),
+    )?;
+    let out = select(rt.alloc(), &rows, &period(0, FOREVER)?, Some(&test))?;
+    let names = project(rt.alloc(), &out, &[1])?;
+    assert_eq!(rt;
+        shown(rt.alloc(), names)?.as_str(),
+        "high,3,1000000000000 low,0,5 "
+    );
+    Ok(())
+}
+
+#[test]
+fn selects_inside_the_window(rt: HostRuntime) -> Result<(), Fail> {
+    let mut rows = Vec::new(rt.alloc());
+    for place in 0..200u64 {
+        let mut one = numbers(rt.alloc(), &[(place as i64, place, place + 100)])?;
+        rows.append(&mut one)?;
+    }
+    let test = compare(Operand::Column(0), Compare::Lt, number(53));
+    let out = select(rt.alloc(), &rows, &period(150, 151)?, Some(&test))?;
+    assert_eq!(rt; shown(rt.alloc(), out)?.as_str(), "51,150,151 52,150,151 ");
+    let out = select(rt.alloc(), &rows, &period(0, 1)?, None)?;
+    assert_eq!(rt; shown(rt.alloc(), out)?.as_str(), "0,0,1 ");
+    Ok(())
+}
+
+#[test]
+fn projects_columns_in_their_order(rt: HostRuntime) -> Result<(), Fail> {
+    let rows = pairs(rt.alloc(), &[(1, "x", 0, 10), (1, "y", 2, 8)])?;
+    let out = project(rt.alloc(), &rows, &[1, 0, 1])?;
+    assert_eq!(rt; shown(rt.alloc(), out)?.as_str(), "x,1,x,0,10 y,1,y,2,8 ");
+    let out = project(rt.alloc(), &rows, &[])?;
+    assert_eq!(rt; shown(rt.alloc(), out)?.as_str(), "0,10 2,8 ");
+    Ok(())
+}
+
+#[test]
+fn joins_no_meeting_rows(rt: HostRuntime) -> Result<(), Fail> {
+    let left = numbers(rt.alloc(), &[(1, 1, 5)])?;
+    let right = numbers(rt.alloc(), &[(1, 5, 9)])?;
+    let test = compare(Operand::Column(0), Compare::Eq, Operand::Column(1));
+    let all = period(0, FOREVER)?;
+    assert!(rt; join(rt.alloc(), &left, &right, &all, Some(&test))?.is_empty());
+    assert!(rt; join(rt.alloc(), &right, &left, &all, None)?.is_empty());
+    Ok(())
+}
+
+// The names and departments of three people.
+fn staff(rt: &HostRuntime) -> Result<Vec<Fragment>, Fail> {
+    let mut rows = Vec::new(rt.alloc());
+    for (key, name, dept, start, end) in [
+        (1, "ann", "toys", 10, 20),
+        (1, "ann", "toys", 20, 30),
+        (2, "bob", "toys", 15, 25),
+        (3, "cat", "food", 5, FOREVER),
+    ] {
+        let dept = super::text(rt.alloc(), dept)?;
+        let name = super::text(rt.alloc(), name)?;
+        let key = tq_base::Value::int(key);
+        rows.push(Fragment {
+            values: tq_base::Values::of(vec![in rt.alloc(); key, name, dept]?),
+            period: period(start, end)?,
+        })?;
+    }
+    Ok(rows)
+}
+
+#[test]
+fn joins_a_list_with_itself(rt: HostRuntime) -> Result<(), Fail> {
+    let rows = staff(&rt)?;
+    let test = both(
+        rt.alloc(),
+        compare(Operand::Column(2), Compare::Eq, Operand::Column(5)),
+        compare(Operand::Column(1), Compare::Lt, Operand::Column(4)),
+    )?;
+    let all = period(0, FOREVER)?;
+    let out = join(rt.alloc(), &rows, &rows, &all, Some(&test))?;
+    let names = project(rt.alloc(), &out, &[1, 4])?;
+    assert_eq!(rt;
+        shown(rt.alloc(), names)?.as_str(),
+        "ann,bob,15,20 ann,bob,20,25 "
+    );
+    let out = join(rt.alloc(), &rows, &rows, &period(18, 22)?, Some(&test))?;
+    let names = project(rt.alloc(), &out, &[1, 4])?;
+    assert_eq!(rt;
+        shown(rt.alloc(), names)?.as_str(),
+        "ann,bob,18,20 ann,bob,20,22 "
+    );
+    Ok(())
+}
+
+#[test]
+fn joins_each_copy_with_each(rt: HostRuntime) -> Result<(), Fail> {
+    let left = numbers(rt.alloc(), &[(1, 0, 6), (1, 0, 6), (2, 0, 6)])?;
+    let right = numbers(rt.alloc(), &[(1, 4, 9), (1, 4, 9), (1, 2, 3), (3, 0, 9)])?;
+    let test = compare(Operand::Column(1), Compare::Eq, Operand::Column(0));
+    let out = join(rt.alloc(), &left, &right, &period(0, FOREVER)?, Some(&test))?;
+    assert_eq!(rt; counts(rt.alloc(), &out, 10)?.as_str(), "0020440000");
+    let out = join(rt.alloc(), &left, &right, &period(0, FOREVER)?, None)?;
+    assert_eq!(rt; counts(rt.alloc(), &out, 10)?.as_str(), "3363990000");
+    Ok(())
+}
+
+#[test]
+fn joins_rows_of_several_widths(rt: HostRuntime) -> Result<(), Fail> {
+    let mut left = numbers(rt.alloc(), &[(7, 0, 4)])?;
+    let mut wider = pairs(rt.alloc(), &[(7, "x", 0, 4)])?;
+    left.append(&mut wider)?;
+    let right = numbers(rt.alloc(), &[(7, 1, 9)])?;
+    let test = compare(Operand::Column(0), Compare::Eq, Operand::Column(1));
+    let out = join(rt.alloc(), &left, &right, &period(0, FOREVER)?, Some(&test))?;
+    assert_eq!(rt; shown(rt.alloc(), out)?.as_str(), "7,7,1,4 ");
+    Ok(())
+}
+
+#[test]
+fn takes_away_as_many_copies(rt: HostRuntime) -> Result<(), Fail> {
+    let left = pairs(
+        rt.alloc(),
+        &[(1, "x", 0, 10), (2, "x", 2, 8), (3, "x", 4, 6)],
+    )?;
+    let right = pairs(rt.alloc(), &[(1, "x", 3, 9), (2, "x", 8, 9)])?;
+    let left = project(rt.alloc(), &left, &[1])?;
+    let right = project(rt.alloc(), &right, &[1])?;
+    let out = except_all(rt.alloc(), &left, &right, &period(0, FOREVER)?)?;
+    assert_eq!(rt; counts(rt.alloc(), &out, 12)?.as_str(), "112122110100");
+    let out = except_all(rt.alloc(), &left, &right, &period(2, 5)?)?;
+    assert_eq!(rt; counts(rt.alloc(), &out, 12)?.as_str(), "002120000000");
+    Ok(())
+}
+
+#[test]
+fn takes_away_equal_rows_alone(rt: HostRuntime) -> Result<(), Fail> {
+    let left = numbers(rt.alloc(), &[(2, 0, 4), (1, 0, 4), (2, 0, 4)])?;
+    let right = numbers(rt.alloc(), &[(2, 1, 3), (3, 0, 9), (2, 5, 9)])?;
+    let out = except_all(rt.alloc(), &left, &right, &period(0, FOREVER)?)?;
+    assert_eq!(rt; counts(rt.alloc(), &out, 10)?.as_str(), "3223000000");
+    assert!(rt; except_all(rt.alloc(), &[], &left, &period(0, FOREVER)?)?.is_empty());
+    Ok(())
+}
+
+#[test]
+fn joins_rows_that_agree_in_all_links(rt: HostRuntime) -> Result<(), Fail> {
+    let left = pairs(
+        rt.alloc(),
+        &[(0, "x", 0, 4), (0, "y", 0, 4), (5, "x", 0, 4)],
+    )?;
+    let right = pairs(
+        rt.alloc(),
+        &[(0, "y", 1, 9), (5, "y", 1, 9), (5, "x", 2, 9)],
+    )?;
+    let test = both(
+        rt.alloc(),
+        compare(Operand::Column(0), Compare::Eq, Operand::Column(2)),
+        compare(Operand::Column(1), Compare::Eq, Operand::Column(3)),
+    )?;
+    let out = join(rt.alloc(), &left, &right, &period(0, FOREVER)?, Some(&test))?;
+    assert_eq!(rt;
+        shown(rt.alloc(), out)?.as_str(),
+        "0,y,0,y,1,4 5,x,5,x,2,4 "
+    );
+    Ok(())
+}
+
+#[test]
+fn takes_no_text_for_a_number(rt: HostRuntime) -> Result<(), Fail> {
+    let zero = numbers(rt.alloc(), &[(0, 0, 4)])?;
+    let texts = pairs(rt.alloc(), &[(0, "", 0, 4), (0, "0", 0, 4)])?;
+    let texts = project(rt.alloc(), &texts, &[1])?;
+    let out = except_all(rt.alloc(), &texts, &zero, &period(0, FOREVER)?)?;
+    assert_eq!(rt; shown(rt.alloc(), out)?.as_str(), ",0,4 0,0,4 ");
+    let test = compare(Operand::Column(0), Compare::Eq, Operand::Column(1));
+    assert!(rt; join(rt.alloc(), &zero, &texts, &period(0, FOREVER)?, Some(&test))?.is_empty());
+    Ok(())
+}
+
+#[test]
+fn shows_columns_of_joined_rows(rt: HostRuntime) -> Result<(), Fail> {
+    let rows = staff(&rt)?;
+    let test = both(
+        rt.alloc(),
+        compare(Operand::Column(2), Compare::Eq, Operand::Column(5)),
+        compare(Operand::Column(1), Compare::Lt, Operand::Column(4)),
+    )?;
+    let all = period(0, FOREVER)?;
+    let out = join_shown(rt.alloc(), &rows, &rows, &all, Some(&test), &[4, 1, 3, 6])?;
+    assert_eq!(rt;
+        shown(rt.alloc(), out)?.as_str(),
+        "bob,ann,2,0,15,20 bob,ann,2,0,20,25 "
+    );
+    Ok(())
+}

@@ -1,0 +1,159 @@
+// Answers over tables of rows, written out.
+
+ghost use Rattle.std.specs.Prelude.{All, IfOk};
+ghost use Rattle.tq_base.specs.declared.fragment.Fragment.{Fragment};
+ghost use Rattle.tq_plan.specs.Running.{AreNumbers};
+ghost use Rattle.tq_plan.specs.TableAnswers.{AreAllNumbers};
+
+use super::planned;
+use std::alloc::Global;
+use std::process::Abort;
+use std::test::Fail;
+use tq_base::{Bound, FOREVER, Fragment, Instant, Items, Period, Value, Values};
+use tq_plan::answer_tables;
+use tq_table::table_text;
+
+// A number and a text, from when until when.
+type Told<'a> = (i64, &'a str, u64, u64);
+
+const STAFF: &[u8] = b"id:int,name:text,from,to
+";
+
+const PAY: &[u8] = b"amount:int,who:text,from,to
+";
+
+fn period(start: u64, end: u64) -> Result<Period, Fail> {
+    let start = Instant::new(start).ok_or("no instant")?;
+    let end = Bound::new(end).ok_or("no bound")?;
+    Ok(Period::new(start, end).ok_or("no period")?)
+}
+
+fn pair(alloc: Global, number: i64, content: &str, start: u64, end: u64) -> Result<Fragment, Fail>
+    ensures { IfOk result (λ row. AreNumbers row.values) }
+{
+    let number = Value::int(number);
+    let text = Value::text(alloc, content)?;
+    Ok(Fragment {
+        values: Values::of(vec![in alloc; number, text]?),
+        period: period(start, end)?,
+    })
+}
+
+fn pairs(alloc: Global, rows: &[Told<'_>]) -> Result<Items<Fragment>, Fail>
+    ensures { IfOk result (λ rows. All (λ (row : Fragment). AreNumbers row.values) rows) }
+{
+    let mut fragments = Vec::new(alloc);
+    'rows: for (number, content, start, end) in rows {
+        fragments.push(pair(alloc, *number, content, *start, *end)?)?;
+    }
+    Ok(Items::of(fragments))
+}
+
+fn tables(alloc: Global, told: &[&[Told<'_>]]) -> Result<Vec<Items<Fragment>>, Fail>
+    ensures { IfOk result (λ tables. AreAllNumbers tables.items) }
+{
+    let mut tables = Vec::new(alloc);
+    'tables: for rows in told {
+        tables.push(pairs(alloc, rows)?)?;
+    }
+    Ok(tables)
+}
+
+// Sees that each statement over the tables `staff` and `pay` has its answer.
+fn assert_answered(
+    rt: &(impl Abort + AllocGlobal),
+    answers: &[(&[u8], &[u8])],
+) -> Result<(), Fail> {
+    let tables = tables(
+        rt.alloc(),
+        &[
+            &[(2, "bob", 15, 25), (1, "ann", 20, 30), (1, "ann", 10, 20)],
+            &[(7, "ann", 12, FOREVER)],
+        ],
+    )?;
+    for (statement, wanted) in answers {
+        let plan = planned(rt.alloc(), &[(b"staff", STAFF), (b"pay", PAY)], statement)?;
+        let table = answer_tables(rt.alloc(), &tables, &plan)?;
+        assert_eq!(rt;
+            table_text(rt.alloc(), &table)?.as_slice(),
+            *wanted,
+            "{statement:?}"
+        );
+    }
+    Ok(())
+}
+
+#[test]
+fn statements_are_answered_over_tables_of_rows(rt: HostRuntime) -> Result<(), Fail> {
+    assert_answered(
+        &rt,
+        &[
+            (
+                b"VALIDTIME PERIOD '[0 - 22)' SELECT name FROM staff",
+                b"name,from,to\nann,10,22\nbob,15,22\n",
+            ),
+            (
+                b"VALIDTIME SELECT amount, name FROM staff, pay WHERE name = who",
+                b"amount,name,from,to\n7,ann,12,30\n",
+            ),
+            (
+                b"VALIDTIME SELECT COUNT(*), SUM(id) FROM staff WHERE id > 1 GROUP BY name",
+                b"count,sum,from,to\n1,2,15,25\n",
+            ),
+            (
+                b"VALIDTIME SELECT name FROM staff EXCEPT ALL SELECT who FROM pay",
+                b"name,from,to\nann,10,12\nbob,15,25\n",
+            ),
+        ],
+    )
+}
+
+#[test]
+fn items_of_groups_stand_in_any_order(rt: HostRuntime) -> Result<(), Fail> {
+    assert_answered(
+        &rt,
+        &[
+            (
+                b"VALIDTIME SELECT name, COUNT(*), SUM(id) FROM staff GROUP BY name",
+                b"name,count,sum,from,to\nann,1,1,10,30\nbob,1,2,15,25\n",
+            ),
+            (
+                b"VALIDTIME PERIOD '[12 - 28)' SELECT COUNT(*) FROM staff",
+                b"count,from,to\n1,12,15\n1,25,28\n2,15,25\n",
+            ),
+            (
+                b"VALIDTIME SELECT name FROM staff GROUP BY name",
+                b"name,from,to\nann,10,30\nbob,15,25\n",
+            ),
+            (
+                b"VALIDTIME SELECT COUNT(*), name, SUM(id), name AS again FROM staff GROUP BY name",
+                b"count,name,sum,again,from,to\n1,ann,1,ann,10,30\n1,bob,2,bob,15,25\n",
+            ),
+        ],
+    )
+}
+
+#[test]
+fn a_window_cuts_what_is_grouped_and_counted(rt: HostRuntime) -> Result<(), Fail> {
+    assert_answered(
+        &rt,
+        &[
+            (
+                b"VALIDTIME PERIOD '[12 - 22)' SELECT name, COUNT(*), SUM(id) FROM staff GROUP BY name",
+                b"name,count,sum,from,to\nann,1,1,12,22\nbob,1,2,15,22\n",
+            ),
+            (
+                b"VALIDTIME PERIOD '[26 - 40)' SELECT name FROM staff GROUP BY name",
+                b"name,from,to\nann,26,30\n",
+            ),
+            (
+                b"VALIDTIME PERIOD '[26 - 40)' SELECT COUNT(*) FROM staff",
+                b"count,from,to\n0,30,40\n1,26,30\n",
+            ),
+            (
+                b"VALIDTIME PERIOD '[12 - 28)' SELECT COUNT(*) FROM staff WHERE id > 1",
+                b"count,from,to\n0,12,15\n0,25,28\n1,15,25\n",
+            ),
+        ],
+    )
+}

@@ -1,0 +1,226 @@
+"""The cases that program.py puts to the program: words, files, and what it must write and end with.
+
+What is expected follows from docs/formats.md and docs/semantics.md, or from how a table is made, and
+never from what the program wrote.
+"""
+
+from dataclasses import dataclass, field
+
+# Standard outputs that take nothing: a full device, a pipe that nobody reads, none at all.
+FULL, UNREAD, CLOSED = "full", "unread", "closed"
+
+
+@dataclass
+class Case:
+    """Words, where ROOM stands for the folder of the files; a file is its bytes, or a length of zeros."""
+
+    name: str
+    words: list
+    out: bytes | None = b""  # None: what `holds` names, and more
+    err: bytes = b""
+    status: int = 0
+    files: dict = field(default_factory=dict)
+    to: str | None = None  # FULL, UNREAD, CLOSED
+    memory: int | None = None
+    holds: list = field(default_factory=list)
+
+
+EMP = b"""emp:int,name:text,dept:text,from,to
+1,ann,toys,10,20
+1,ann,toys,20,30
+2,bob,toys,15,25
+3,cat,food,5,forever
+"""
+NAMES = b"name,from,to\nann,10,30\nbob,15,25\ncat,5,forever\n"
+ALL_NAMES = "VALIDTIME SELECT name FROM emp"
+SMALL = b"k:int,v:text,from,to\n"
+
+
+def ask(name, tables, statement, more=(), **wanted):
+    """A question over tables of these names and bytes."""
+    files = {f"{place}.csv": content for place, (_, content) in enumerate(tables)}
+    options = [word for place, (table, _) in enumerate(tables) for word in ("--table", f"{table}=ROOM/{place}.csv")]
+    return Case(name, ["ask", *options, *more, statement], files=files, **wanted)
+
+
+def refused(name, tables, statement, line):
+    return ask(name, tables, statement, err=b"tq: " + line.encode() + b"\n", status=1)
+
+
+def numbered(count):
+    """Tables t0, t1, .. of a row each: its key is the table's number."""
+    return [(f"t{n}", b"k:int,from,to\n%d,%d,%d\n" % (n, n, n + 1)) for n in range(count)]
+
+
+def spoiled(kind, record):
+    """A twelfth table whose thirteenth record is at fault."""
+    content = SMALL + 11 * b"1,x,0,1\n" + record + b"\n1,x,0,1\n"
+    name = f"{kind} at {record[:40]!r}"
+    return refused(name, [*numbered(11), ("bad", content)], ALL_NAMES, f"load {kind} table 11 record 13")
+
+
+def of_header(kind, content, name="bad", record=1):
+    """A twelfth table whose name or header is at fault."""
+    title = f"{kind} of {name[:20]} {content[:40]!r}"
+    return refused(title, [*numbered(11), (name, content)], ALL_NAMES, f"load {kind} table 11 record {record}")
+
+
+def files_at_fault():
+    yield from (spoiled("FieldCount", it) for it in (b"1,x,0", b"1,x,0,1,2", b"1"))
+    yield from (spoiled("BadInt", it) for it in (b"x,x,0,1", b",x,0,1", b"+1,x,0,1", b"9223372036854775808,x,0,1", b" 1,x,9,9"))
+    yield from (spoiled("NotUtf8", it) for it in (b"1,\xff,0,1", b"1,\xc3\x28,9,9"))
+    yield from (spoiled("TextTooLong", it) for it in (b"1," + 1001 * b"x" + b",0,1", b"1," + 501 * "é".encode() + b",9,9"))
+    for period in (b"5,5", b"5,4", b"forever,forever", b"1000000000000,forever", b"0,1000000000001", b"0, 1", b"-1,1", b","):
+        yield spoiled("BadPeriod", b"1,x," + period)
+    for header in (b"", b"k:int,to\n", b"k:int,from\n", b"k:int,to,from\n", b"k,from,to\n", b"k:float,from,to\n"):
+        yield of_header("BadHeader", header)
+    for header in (b"k:text,from,to\n", b"9k:int,from,to\n", b"sum:int,from,to\n", 2 * b"\xef\xbb\xbf" + SMALL):
+        yield of_header("BadHeader", header)
+    yield of_header("BadHeader", b"k:int," + 65 * b"n" + b":int,from,to\n")
+    yield of_header("DuplicateName", b"k:int,v:text,V:int,from,to\n")
+    yield of_header("DuplicateName", b"k:int,k:int,b:foo,from,to\n")
+    yield of_header("TooManyColumns", b"".join(b"c%d:int," % n for n in range(17)) + b"from,to\n")
+    yield of_header("BadHeader", SMALL, "select", 0)
+    yield of_header("BadHeader", SMALL, 1000 * "n", 0)
+    yield of_header("DuplicateName", SMALL, "T10", 0)
+    yield refused("seventeen tables", numbered(17), ALL_NAMES, "load TooManyTables table 16 record 0")
+    yield refused("the first fault of several", [("a", SMALL + b"1,x,0,1\n1,x,1,1\n"), ("a", b"")], "#", "load BadPeriod table 0 record 3")
+
+
+# Statements at fault, over EMP.
+STATEMENT_FAULTS = [
+    (65537 * " ", "TooLong", 65536),
+    ("VALIDTIME SELECT na#me FROM emp", "BadByte", 19),
+    ("SELECT name FROM emp #", "BadByte", 21),
+    ("VALIDTIME SELECT name FROM emp WHERE name != 'ann'", "BadByte", 42),
+    (b"VALIDTIME SELECT name FROM emp WHERE name = 'a\xff'", "BadByte", 46),
+    ("VALIDTIME SELECT name FROM emp WHERE emp = 9223372036854775808", "NumberTooLarge", 43),
+    ("VALIDTIME SELECT name FROM emp WHERE name = 'ann", "UnclosedText", 44),
+    ("SELECT name FROM emp", "UnexpectedToken", 0),
+    ("", "UnexpectedToken", 0),
+    ("VALIDTIME SELECT name FROM", "UnexpectedToken", 26),
+    ("VALIDTIME SELECT a.k FROM a, b, c", "UnexpectedToken", 30),
+    ("VALIDTIME SELECT name FROM emp WHERE " + 33 * "(", "TooDeep", 69),
+    ("VALIDTIME SELECT name FROM emp WHERE " + 33 * "NOT ", "TooDeep", 165),
+]
+
+# What a plan is refused for, over EMP: the statement without VALIDTIME.
+PLAN_FAULTS = [
+    ("SELECT name FROM boss", "UnknownTable"),
+    ("SELECT age FROM emp", "UnknownColumn"),
+    ("SELECT x.name FROM emp", "UnknownColumn"),
+    ("SELECT name FROM emp x, emp y", "AmbiguousColumn"),
+    ("SELECT emp.name FROM emp, emp", "DuplicateAlias"),
+    ("SELECT name FROM emp WHERE name = 3", "TypeMismatch"),
+    ("SELECT age FROM emp WHERE name = 3", "TypeMismatch"),
+    ("SELECT name, COUNT(*) FROM emp", "NotGrouped"),
+    ("SELECT SUM(emp) FROM emp", "SumNeedsGroup"),
+    ("SELECT SUM(age) FROM emp", "SumNeedsGroup"),
+    ("SELECT dept, SUM(name) FROM emp GROUP BY dept", "SumOfText"),
+    ("SELECT name FROM emp EXCEPT ALL SELECT emp FROM emp", "UnequalColumns"),
+    ("PERIOD '[20 - 20)' SELECT name FROM emp", "BadWindow"),
+    ("PERIOD '[20 - 30]' SELECT age FROM boss", "BadWindow"),
+]
+
+
+def statements_at_fault():
+    emp = [("emp", EMP)]
+    for statement, kind, at in STATEMENT_FAULTS:
+        yield refused(f"{kind}: {statement[:60]}", emp, statement, f"statement {kind} at {at}")
+    for statement, kind in PLAN_FAULTS:
+        yield refused(f"{kind}: {statement}", emp, f"VALIDTIME {statement}", f"plan {kind}")
+    yield Case(
+        "a statement that begins with a sign",
+        ["ask", "--table", "emp=examples/emp.csv", "--", "-S"],
+        err=b"tq: statement BadByte at 0\n",
+        status=1,
+    )
+
+
+def command_lines():
+    emp = ["--table", "emp=examples/emp.csv"]
+    for words in (
+        [],
+        ["session"],
+        ["ask"],
+        ["ask", ALL_NAMES],
+        ["ask", *emp],
+        ["ask", "--table", "emp", ALL_NAMES],
+        ["ask", *emp, ALL_NAMES, ALL_NAMES],
+        ["ask", *emp, "--unknown", ALL_NAMES],
+        ["ask", *emp, "--workers", ALL_NAMES],
+        *(["ask", *emp, f"--workers={number}", ALL_NAMES] for number in ("0", "17", "-1", "x", "", "4294967297")),
+        ["ask", *emp, "--workers", "1", "--workers", "2", ALL_NAMES],
+    ):
+        yield Case(f"refused: {words}", words, err=b"tq: BadCommandLine\n", status=2)
+    for workers in ("1", "5", "16"):
+        yield Case(f"{workers} workers", ["ask", *emp, "--workers", workers, ALL_NAMES], out=NAMES)
+    yield Case("options after the statement", ["ask", ALL_NAMES, *emp], out=NAMES)
+    for words in (["--help"], ["-h"], ["help"], ["ask", "--help"], ["help", "ask"]):
+        yield Case(f"help: {words}", words, out=None, holds=[b"VALIDTIME SELECT", b"emp:int,name:text,dept:text,from,to"])
+
+
+def words_of_all_lengths():
+    emp = [("emp", EMP)]
+    for length in (255, 256, 257, 511, 512, 513, 1000, 4096, 65536):
+        yield ask(f"a statement of {length} bytes", emp, ALL_NAMES.ljust(length), out=NAMES)
+    for count in (3, 16):
+        for place in sorted({0, 1, count // 2, count - 1}):
+            answer = b"k,from,to\n%d,%d,%d\n" % (place, place, place + 1)
+            yield ask(f"table {place} of {count}", numbered(count), f"VALIDTIME SELECT k FROM t{place}", out=answer)
+    long = 1000 * b"y"
+    table = SMALL + b"1," + long + b",0,9\n2," + long[1:] + b",0,9\n3," + long[1:] + b"z,0,9\n"
+    statement = f"VALIDTIME SELECT k FROM t WHERE v = '{long.decode()}'"
+    yield ask("a literal of 1,000 bytes", [("t", table)], statement, out=b"k,from,to\n1,0,9\n")
+    yield ask("a text of 1,000 bytes", [("t", table)], "VALIDTIME SELECT v FROM t WHERE k = 1", out=b"v,from,to\n" + long + b",0,9\n")
+    sixteen = b",".join(b"c%d:int" % n for n in range(16)) + b",from,to\n" + b",".join(b"%d" % n for n in range(16)) + b",3,7\n"
+    yield ask("the last of sixteen columns", [("t", sixteen)], "VALIDTIME SELECT c15, c9 FROM t", out=b"c15,c9,from,to\n15,9,3,7\n")
+
+
+def paths():
+    for path in ("emp.csv ", "emp.csv  ", " emp.csv", "a=b.csv", "é.csv", f"{200 * 'a'}/{200 * 'b'}/{200 * 'c'}/{200 * 'd'}/{190 * 'e'}"):
+        words = ["ask", "--table", f"emp=ROOM/{path}", ALL_NAMES]
+        yield Case(f"a file called {path[:20]!r}", words, out=NAMES, files={path: EMP, "emp.csv": b"", "a": b""} if len(path) < 20 else {path: EMP})
+    for path in ("ROOM/none.csv", "ROOM", "", "ROOM/emp.csv ", "ROOM/emp.csv/", b"no\xff.csv"):
+        shown = path if isinstance(path, bytes) else path.encode()
+        word = b"emp=" + shown if isinstance(path, bytes) else f"emp={path}"
+        words = ["ask", "--table", word, "#"]
+        yield Case(f"no file: {path!r}", words, err=b"tq: cannot read " + shown + b"\n", status=1, files={"emp.csv": EMP})
+    bad = ["--table", "bad=ROOM/bad.csv", "--table", "emp=ROOM/none.csv"]
+    yield Case("files are read before any is loaded", ["ask", *bad, "#"], err=b"tq: cannot read ROOM/none.csv\n", status=1, files={"bad.csv": b""})
+
+
+def large():
+    """Row i is valid from i to i + 10, so that ten rows are valid from 9 on, until the last ones end."""
+    count = 200_000
+    rows = b"".join(b"%d,%d,%d\n" % (i, i, i + 10) for i in range(count))
+    table = [("t", b"k:int,from,to\n" + rows)]
+    yield ask("a file and an answer of megabytes", table, "VALIDTIME SELECT k FROM t", out=b"k,from,to\n" + rows)
+    counts = [(0, count + 9, "forever"), (10, 9, count)]
+    counts += [(n, n - 1, n) for n in range(1, 10)] + [(n, count + 9 - n, count + 10 - n) for n in range(1, 10)]
+    said = "count,from,to\n" + "".join(f"{n},{start},{end}\n" for n, start, end in sorted(counts, key=lambda it: it[:2]))
+    yield ask("counts over a file of megabytes", table, "VALIDTIME SELECT COUNT(*) FROM t", out=said.encode())
+    full = b"k:int,from,to\n" + 2**23 * b"1,0,1\n"
+    yield refused("2^24 starts and ends, and one more", [("a", full), ("b", SMALL + b"1,x,0,forever\n")], ALL_NAMES, "load TooManyEvents table 1 record 2")
+    yield Case(
+        "memory that holds no file",
+        ["ask", "--table", "t=ROOM/zeros", ALL_NAMES],
+        err=b"tq: OutOfMemory\n",
+        status=1,
+        files={"zeros": 200_000_000},
+        memory=100_000_000,
+    )
+
+
+def outputs_that_fail():
+    emp = ["ask", "--table", "emp=examples/emp.csv", ALL_NAMES]
+    for to in (FULL, UNREAD, CLOSED):
+        for words in (emp, ["--help"]):
+            yield Case(f"an output that is {to}: {words[0]}", words, err=b"tq: write failed\n", status=1, to=to)
+    yield Case("a refusal needs no output", [*emp[:-1], "#"], err=b"tq: statement BadByte at 0\n", status=1, to=FULL)
+
+
+def table():
+    """All cases."""
+    makers = (files_at_fault, statements_at_fault, command_lines, words_of_all_lengths, paths, large, outputs_that_fail)
+    return [case for maker in makers for case in maker()]

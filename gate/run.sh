@@ -1,0 +1,32 @@
+#!/usr/bin/env bash
+# The gate: `rt ci`, which proves every crate and its tests from nothing, tries the must-fail edits and runs
+# tests and programs; then the cases of gate/cases.py, put to the program that it built. The last line sums both.
+set -uo pipefail
+cd "$(dirname "$0")/.."
+
+said=$(mktemp)
+trap 'rm -f "$said"' EXIT
+passed=0
+failed=0
+
+# Runs a part of the gate, shows what it says, and adds the numbers of its last line.
+part() {
+    "$@" 2>&1 | tee "$said"
+    local status=${PIPESTATUS[0]}
+    if [[ $(tail -n 1 "$said") =~ ^([0-9]+)\ passed,\ ([0-9]+)\ failed$ ]]; then
+        passed=$((passed + BASH_REMATCH[1]))
+        failed=$((failed + BASH_REMATCH[2]))
+        if ((status != 0 && BASH_REMATCH[2] == 0)); then
+            echo "FAILED: $1 ended with status $status"
+            failed=$((failed + 1))
+        fi
+    else
+        echo "FAILED: $1 has no last line 'N passed, M failed'"
+        failed=$((failed + 1))
+    fi
+}
+
+part rt ci
+part gate/program.py crates/tq/out/tq
+echo "$passed passed, $failed failed"
+((failed == 0))
