@@ -2,7 +2,7 @@
 use Rattle.std.specs.Prelude.{All}
 use Rattle.tq_base.specs.declared.fragment.Fragment.{Fragment}
 use Rattle.tq_plan.specs.Running.{AreNumbers}
-use Rattle.tq_tests.proofs.plan.answers.pairs.Given as goal
+use Rattle.tq_tests_plans.proofs.plan.answers.pairs.Given as goal
 
 abbrev pub invariant-rows : goal.invariant-rows
 invariant-rows l = All (λ (row : Fragment). AreNumbers row.values) l.fragments.items

@@ -1,6 +1,6 @@
 -- The numbers of the tables so far are of 64 signed bits.
 use Rattle.tq_plan.specs.TableAnswers.{AreAllNumbers}
-use Rattle.tq_tests.proofs.plan.answers.tables.Given as goal
+use Rattle.tq_tests_plans.proofs.plan.answers.tables.Given as goal
 
 abbrev pub invariant-tables : goal.invariant-tables
 invariant-tables l = AreAllNumbers l.tables.items

@@ -5,7 +5,7 @@ use Rattle.std.specs.Int.{w64}
 use Rattle.tq_base.specs.declared.fragment.Fragment.{Fragment}
 use Rattle.tq_ops.specs.Conditions.{value_at}
 use Rattle.tq_agg.specs.Grouping.{number_of}
-use Rattle.tq_tests.proofs.agg.pairs.Given as goal
+use Rattle.tq_tests_rows.proofs.agg.pairs.Given as goal
 
 abbrev pub invariant-rows : goal.invariant-rows
 invariant-rows l = All (λ (row : Fragment). (place : ℕ) → FitsSigned w64 (number_of (value_at row.values place))) l.fragments.items
