@@ -1,6 +1,4 @@
-pub mod Answers
 pub mod CommandLine
 pub mod FaultNames
 pub mod Report
-pub mod Source
 pub mod Words

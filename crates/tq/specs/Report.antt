@@ -1,12 +1,12 @@
 -- Which refusal each fault is, the lines that tell them, and the statuses that the program ends with.
 use Rattle.std.specs.Prelude.{ℕ, Vec, List, ◌++◌, codes, decimal}
 use Rattle.std.specs.declared.alloc.Global.{Global}
-use Rattle.tq.specs.declared.answer.AnswerFault.{AnswerFault}
-use Rattle.tq.specs.declared.answer.AnswerFault.TheVariants as answer
+use Rattle.tq_engine.specs.declared.answering.AnswerFault.{AnswerFault}
+use Rattle.tq_engine.specs.declared.answering.AnswerFault.TheVariants as answer
 use Rattle.tq.specs.declared.command_line.CommandLineFault.{CommandLineFault}
 use Rattle.tq.specs.declared.command_line.CommandLineFault.TheVariants as command_line
-use Rattle.tq.specs.declared.source.FileFault.{FileFault}
-use Rattle.tq.specs.declared.source.FileFault.TheVariants as source
+use Rattle.tq_engine.specs.declared.source.FileFault.{FileFault}
+use Rattle.tq_engine.specs.declared.source.FileFault.TheVariants as source
 use Rattle.tq.specs.FaultNames.{load_name, plan_name, sql_name}
 use Rattle.tq.specs.declared.report.Refusal.{Refusal}
 use Rattle.tq.specs.declared.report.Refusal.TheVariants.{BadCommandLine, CannotRead, Load, Statement, Plan, WriteFailed, OutOfMemory}

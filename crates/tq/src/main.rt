@@ -1,26 +1,22 @@
 //! The program `tq`: `tq ask --table NAME=PATH [--workers N] STATEMENT` answers a sequenced query over
-//! a valid-time table in a CSV file. It reads the command line and the files, has the statement
-//! answered on standard output, and tells on standard error why there is no answer.
+//! a valid-time table in a CSV file.
+//!
+//! The words of the command line (`words`) are read as a request (`command_line`), the files that it names
+//! are read to their bytes, and the engine (`tq_engine`) answers the statement over them on standard
+//! output. Where there is no answer, one line on standard error says why (`report`, `fault_names`).
 #![tactic(auto)]
 
 ghost use Rattle.std.specs.Prelude.{◌≡◌, ◌≢◌, IfErr, IfOk, map};
 ghost use Rattle.tq.specs.declared.command_line.TableOption.{TableOption as AnyOption};
 ghost use Rattle.tq_event.specs.declared.file.TableFile.{TableFile as AnyFile};
 
-mod answer;
 mod command_line;
 mod fault_names;
-mod file;
-mod laws;
 mod report;
-mod source;
 mod words;
 
-use answer::answer_bytes;
 use command_line::{AskRequest, Request, TableOption, read_command_line};
-use file::read_file;
 use report::Refusal;
-use source::{FileFault, Source};
 use std::alloc::AllocError;
 use std::env::Env;
 use std::io::ErrorKind;
@@ -28,6 +24,7 @@ use std::process::ExitCode;
 use std::rt::Files;
 use std::{fs, io, str};
 use tq_base::Items;
+use tq_engine::{FileFault, Source, answer_bytes, read_file};
 use tq_event::TableFile;
 use tq_table::Sink;
 use words::read_words;

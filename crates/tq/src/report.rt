@@ -5,13 +5,12 @@ ghost use Rattle.std.specs.Io.KnownBytes.{Appends};
 ghost use Rattle.std.specs.Process.{exit_status};
 ghost use Rattle.tq.specs.Report.{line_of, refused_answer, refused_command_line, refused_file, status_of};
 
-use crate::answer::AnswerFault;
 use crate::command_line::CommandLineFault;
 use crate::fault_names::{load_name, plan_name, sql_name};
-use crate::source::FileFault;
 use std::alloc::AllocError;
 use std::io::{self, Write};
 use std::process::ExitCode;
+use tq_engine::{AnswerFault, FileFault};
 use tq_event::LoadFault;
 use tq_plan::PlanFault;
 use tq_sql::SqlFault;

@@ -1,8 +1,8 @@
 // The printed lines, written out.
 
 use super::Refusal;
-use crate::answer::AnswerFault;
 use std::test::Fail;
+use tq_engine::AnswerFault;
 use tq_event::{LoadFault, LoadFaultKind};
 use tq_plan::PlanFault;
 use tq_sql::{SqlFault, SqlFaultKind};

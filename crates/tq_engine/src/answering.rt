@@ -1,0 +1,149 @@
+// From the bytes of files and of a statement to the bytes of the answer.
+
+ghost use Rattle.std.specs.Prelude.{◌≡◌, ◌≢◌, ◌≤◌, ℕ, Err, IfErr, IfOk, List, OnOk, length};
+ghost use Rattle.std.specs.Io.KnownBytes.{Appends};
+ghost use Rattle.tq_event.specs.declared.event.Event.{Event as AnyEvent};
+ghost use Rattle.tq_event.specs.Tables.{HoldsRows};
+ghost use Rattle.tq_table.specs.Sink.{AppendsPrefix, one_more};
+ghost use Rattle.tq_table.specs.Text.{text_of};
+ghost use Rattle.tq_table.specs.declared.table.Table.{Table as AnyTable};
+ghost use Rattle.tq_engine.specs.Answers.{HasAnswer, IsFault, IsStatementFault};
+ghost use Rattle.tq_plan.specs.Answers.{IsAnswer};
+ghost use Rattle.tq_plan.specs.TableAnswers.{AreAllNumbers};
+
+use std::alloc::{AllocError, Global};
+use std::io::Write;
+use thiserror::Error;
+use tq_event::laws::{loaded_is_history, tables_are_loaded};
+use tq_event::{LoadFault, LoadFaultKind, MAX_EVENTS, TableFile, Tables, load_tables};
+use tq_plan::laws::{numbers_are_held, tables_answer};
+use tq_plan::{PlanFault, answer_tables, plan};
+use tq_sql::{SqlFault, SqlFaultKind, Statement, read};
+use tq_table::{Sink, Table, WriteFault, write_table};
+
+/// Why there is no answer: the first fault of the files, of the statement's text, or of its plan; or
+/// the sink failed; or a growth was refused.
+#[derive(Clone, Copy, Debug, PartialEq, Eq, Error)]
+pub enum AnswerFault {
+    #[error(transparent)]
+    Load(LoadFault),
+    #[error(transparent)]
+    Sql(SqlFault),
+    #[error(transparent)]
+    Plan(PlanFault),
+    #[error("write failed")]
+    Write,
+    #[error("out of memory")]
+    OutOfMemory,
+}
+
+impl From<LoadFault> for AnswerFault {
+    ghost use Rattle.tq_event.specs.declared.fault.LoadFaultKind.TheVariants as kind;
+    ghost use Rattle.tq_engine.specs.declared.answering.AnswerFault.TheVariants.{Load, OutOfMemory};
+
+    ghost from_gives = { λ fault given. (fault.kind ≡ kind.OutOfMemory → given ≡ OutOfMemory) × (fault.kind ≢ kind.OutOfMemory → given ≡ Load fault) };
+
+    fn from(fault: LoadFault) -> AnswerFault {
+        if matches!(fault.kind, LoadFaultKind::OutOfMemory) {
+            AnswerFault::OutOfMemory
+        } else {
+            AnswerFault::Load(fault)
+        }
+    }
+}
+
+impl From<SqlFault> for AnswerFault {
+    ghost use Rattle.tq_sql.specs.declared.fault.SqlFaultKind.TheVariants as kind;
+    ghost use Rattle.tq_engine.specs.declared.answering.AnswerFault.TheVariants.{Sql, OutOfMemory};
+
+    ghost from_gives = { λ fault given. (fault.kind ≡ kind.OutOfMemory → given ≡ OutOfMemory) × (fault.kind ≢ kind.OutOfMemory → given ≡ Sql fault) };
+
+    fn from(fault: SqlFault) -> AnswerFault {
+        if matches!(fault.kind, SqlFaultKind::OutOfMemory) {
+            AnswerFault::OutOfMemory
+        } else {
+            AnswerFault::Sql(fault)
+        }
+    }
+}
+
+impl From<PlanFault> for AnswerFault {
+    ghost use Rattle.tq_plan.specs.declared.fault.PlanFault.TheVariants as kind;
+    ghost use Rattle.tq_engine.specs.declared.answering.AnswerFault.TheVariants.{Plan, OutOfMemory};
+
+    ghost from_gives = { λ fault given. (fault ≡ kind.OutOfMemory → given ≡ OutOfMemory) × (fault ≢ kind.OutOfMemory → given ≡ Plan fault) };
+
+    fn from(fault: PlanFault) -> AnswerFault {
+        if matches!(fault, PlanFault::OutOfMemory) {
+            AnswerFault::OutOfMemory
+        } else {
+            AnswerFault::Plan(fault)
+        }
+    }
+}
+
+impl From<AllocError> for AnswerFault {
+    ghost use Rattle.tq_engine.specs.declared.answering.AnswerFault.TheVariants.{OutOfMemory};
+
+    ghost from_gives = { λ _ given. given ≡ OutOfMemory };
+
+    fn from(_error: AllocError) -> AnswerFault {
+        AnswerFault::OutOfMemory
+    }
+}
+
+// The answer of a statement over tables: that over any history of which they hold all.
+fn answer_statement(
+    alloc: Global,
+    tables: &Tables,
+    statement: &Statement,
+) -> Result<Table, AnswerFault>
+    requires numbers { AreAllNumbers tables.now.rows }
+    ensures answer { (history : List AnyEvent) → ((table : ℕ) → HoldsRows tables.now.rows history (length history) table)
+        → IfOk result (IsAnswer tables.now.catalogue statement.now history (length history)) }
+    ensures fault { IfErr result (IsStatementFault tables.now.catalogue statement.now) }
+{
+    let plan = plan(alloc, &tables.catalogue, statement)?;
+    let table = answer_tables(alloc, tables.rows.get(), &plan)?;
+    tables_answer();
+    Ok(table)
+}
+
+/// The answer of the statement that the bytes make, over the tables of the files.
+pub fn answer(alloc: Global, files: &[TableFile], bytes: &[u8]) -> Result<Table, AnswerFault>
+    ensures answer { IfOk result (HasAnswer files.now bytes.now) }
+    ensures fault { IfErr result (IsFault files.now bytes.now) }
+{
+    let tables = load_tables(alloc, files, MAX_EVENTS)?;
+    tables_are_loaded();
+    loaded_is_history();
+    numbers_are_held();
+    let statement = read(alloc, bytes)?;
+    answer_statement(alloc, &tables, &statement)
+}
+
+/// Writes the text of the answer of the statement that the bytes make, over the tables of the files.
+/// The first fault is answered: of the files, of the statement, of its plan. Nothing is written before
+/// the answer is whole; after `Write` a prefix of it went out. All workers, 1 to 16, are one.
+pub fn answer_bytes<W: Write>(
+    alloc: Global,
+    files: &[TableFile],
+    bytes: &[u8],
+    workers: u32,
+    sink: &mut Sink<W>,
+) -> Result<(), AnswerFault>
+    requires some { 1 ≤ workers }
+    requires few { workers ≤ 16 }
+    ensures answer { OnOk result ((table : AnyTable) × HasAnswer files.now bytes.now table × Appends (W.contents sink.old.writer) (W.contents sink.new.writer) (text_of table)) }
+    ensures unfailed { OnOk result (sink.new.failed ≡ sink.old.failed) }
+    ensures write { result ≡ Err AnswerFault.Write → (table : AnyTable) × HasAnswer files.now bytes.now table × AppendsPrefix (W.contents sink.old.writer) (W.contents sink.new.writer) (text_of table) }
+    ensures failed { result ≡ Err AnswerFault.Write → sink.new.failed ≡ one_more sink.old.failed }
+    ensures fault { IfErr result (λ fault. fault ≢ AnswerFault.Write → IsFault files.now bytes.now fault × (sink.new ≡ sink.old)) }
+{
+    let table = answer(alloc, files, bytes)?;
+    match write_table(alloc, &table, sink) {
+        Ok(()) => Ok(()),
+        Err(WriteFault::Write) => Err(AnswerFault::Write),
+        Err(WriteFault::OutOfMemory) => Err(AnswerFault::OutOfMemory),
+    }
+}
