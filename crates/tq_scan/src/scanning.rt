@@ -1,12 +1,13 @@
 //! What a part of a window has.
 
-ghost use Rattle.std.specs.Prelude.{◌≡◌, ◌+◌, ◌-◌, ◌*◌, ◌/◌, ◌≤◌, length, min, count_by, OnOk, IfOk, IsPermutation};
+ghost use Rattle.std.specs.Prelude.{◌≡◌, ◌+◌, ◌-◌, ◌*◌, ◌/◌, ◌<◌, ◌≤◌, ◌++◌, slice_get, length, min, count_by, OnOk, IfOk, IsPermutation};
 ghost use Rattle.std.specs.List.Sorted.{IsNonDecreasing, IsNonDecreasingBy};
 ghost use Rattle.tq_mvbt.specs.TreeState.{height_of};
 ghost use Rattle.tq_scan.specs.Windows.{IsInside};
 ghost use Rattle.tq_scan.specs.Lists.{ListsJust, ListsOnce, IsLonger};
 ghost use Rattle.tq_scan.specs.Scans.{FoundIn, IsMetLeaf, numbers, alive_at};
-ghost use Rattle.tq_scan.specs.Reports.{keys_of};
+ghost use Rattle.tq_scan.specs.Reports.{keys_at, keys_of};
+ghost use Rattle.tq_scan.specs.Follows.{followed_at};
 ghost use Rattle.tq_scan.specs.Rows.{IsRowOf};
 
 use crate::found::{Found, Keys};
@@ -36,6 +37,26 @@ fn sort_nodes(nodes: &mut Vec<NodeNo>) -> Result<(), AllocError>
     Ok(())
 }
 
+// Reads the leaf, and appends the keys that it reports and the leaves that it leads to.
+fn read_leaf(
+    tree: &Tree,
+    number: NodeNo,
+    window: &Window,
+    part: &Part,
+    keys: &mut Vec<u128>,
+    leaves: &mut Vec<NodeNo>,
+    meter: &mut Meter,
+) -> Result<(), AllocError>
+    requires { number.0 < length tree.now.nodes }
+    ensures keys { OnOk result (keys.new.items ≡ keys.old.items ++ keys_at window.now part.now (slice_get tree.now.nodes number.0)) }
+    ensures leaves { OnOk result (leaves.new.items ≡ leaves.old.items ++ followed_at part.now (slice_get tree.now.nodes number.0)) }
+    ensures counted { meter.new ≡ min (meter.old + 1) u64.MAX }
+{
+    let leaf = tree.node(number, meter);
+    push_keys(keys, leaf, window, part)?;
+    push_linked(leaves, leaf, part)
+}
+
 // The keys that the leaves report; the leaves that these lead to along links are appended to them. Each leaf is read
 // once.
 fn read_leaves(
@@ -59,9 +80,8 @@ fn read_leaves(
     let mut keys = Vec::new(alloc);
     let mut place = 0;
     'leaves: while place < leaves.len() {
-        let leaf = tree.node(leaves[place], meter);
-        push_keys(&mut keys, leaf, window, part)?;
-        push_linked(leaves, leaf, part)?;
+        let number = leaves[place];
+        read_leaf(tree, number, window, part, &mut keys, leaves, meter)?;
         place += 1;
     }
     Ok(keys)
