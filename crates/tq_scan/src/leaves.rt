@@ -48,7 +48,7 @@ fn next_row(
     requires index { 0 < level }
     requires each { All (IsMetNode tree.now.nodes part.now level) row.now }
     ensures children { IfOk result (λ next. next.items ≡ children_of part.now tree.now.nodes row.now) }
-    ensures at_least { IfOk result (λ next. min meter.old u64.MAX ≤ meter.new) }
+    ensures at_least { IfOk result (λ next. min (meter.old + length row.now) u64.MAX ≤ meter.new) }
     ensures at_most { IfOk result (λ next. meter.new ≤ meter.old + length row.now) }
 {
     let mut next = Vec::new(alloc);
@@ -67,7 +67,7 @@ pub(crate) fn last_leaves(
 ) -> Result<Vec<NodeNo>, AllocError>
     requires { IsSmall part.now }
     ensures leaves { IfOk result (λ leaves. IsRowOf tree.now.nodes part.now 0 leaves.items) }
-    ensures at_least { IfOk result (λ leaves. min meter.old u64.MAX ≤ meter.new) }
+    ensures at_least { IfOk result (λ leaves. min (meter.old + (height_of tree.now.roots part.now.last - 1)) u64.MAX ≤ meter.new) }
     ensures at_most { IfOk result (λ leaves. meter.new ≤ meter.old + (height_of tree.now.roots part.now.last - 1) * length leaves.items) }
 {
     let _version = tree.version();

@@ -89,8 +89,8 @@ fn read_leaves(
 
 /// The keys of the tree that are found in the part, and the leaves whose region meets it. It goes down once, to the
 /// leaves at the part's last version, and from there back along links. The meter counts each of those leaves once,
-/// and on the way down at most one node a level for each leaf that it leads to. A part of a window of one version has
-/// at most two leaves more than a fifth of its keys.
+/// and on the way down one node a level at least, and at most one for each leaf that it leads to. A part of a window of
+/// one version has at most two leaves more than a fifth of its keys.
 /// Out of memory: nothing is given.
 pub fn scan(
     alloc: Global,
@@ -102,7 +102,7 @@ pub fn scan(
     requires { IsInside window.now part.now }
     ensures keys { IfOk result (λ found. ListsJust (FoundIn tree.now.nodes window.now part.now) found.keys) }
     ensures leaves { IfOk result (λ found. ListsJust (IsMetLeaf tree.now.nodes part.now) (numbers found.leaves)) }
-    ensures at_least { IfOk result (λ found. min (meter.old + length found.leaves) u64.MAX ≤ meter.new) }
+    ensures at_least { IfOk result (λ found. min (meter.old + length found.leaves + (height_of tree.now.roots part.now.last - 1)) u64.MAX ≤ meter.new) }
     ensures at_most { IfOk result (λ found. meter.new ≤ meter.old + length found.leaves + (height_of tree.now.roots part.now.last - 1) * count_by (alive_at tree.now.nodes part.now.last) found.leaves) }
     ensures one_version { IfOk result (λ found. window.now.first ≡ window.now.last → length found.leaves ≤ length found.keys / 5 + 2) }
 {
