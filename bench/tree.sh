@@ -52,7 +52,7 @@ for mode, questions, what in (("scan", 100000, "250 neighbouring keys"), ("all",
     micros, found = question(mode, questions)
     keys, leaves, reads = (found[word] / questions for word in ("keys found", "leaves met", "nodes read"))
     bound = leaves + (found["levels"] - 1) * leaves
-    print(f"{what}: {micros:.1f} microseconds a question, {reads:.1f} reads for {leaves:.1f} leaves (bound {bound:.1f}), {keys:.0f} keys (bound on leaves {keys // 5 + 2:.0f})")
+    print(f"{what}: {micros:.1f} microseconds a question, {reads:.1f} reads for {leaves:.1f} leaves (bound {bound:.1f}), {keys:.0f} keys (bound on leaves {round(keys) // 5 + 2})")
     if mode == "scan":
         print(f"the map's range of 250 keys: {plain:.1f} microseconds; the tree over the map: {micros / plain:.1f}")
 PY

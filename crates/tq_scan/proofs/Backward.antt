@@ -22,7 +22,7 @@ use Rattle.tq_scan.specs.Windows.{IsInside}
 use Rattle.tq_scan.specs.Scans.{IsMetLeaf, numbers}
 use Rattle.tq_scan.specs.Lists.{ListsOnce}
 use Rattle.tq_scan.specs.Rows.{is_held, held_at, IsMetNode, IsRowOf}
-use Rattle.tq_scan.specs.Follows.{is_followed, followed_at, followed_from}
+use Rattle.tq_scan.specs.Follows.{is_met_link, is_followed, followed_at, followed_from}
 use Rattle.tq_scan.proofs.Lists.{tally, count-cons, all_at, all_from_places, count_alike, count_none, count_map_filter, count_both, all_map_filter, times, times_numbers, few_different, Passes, some_passes}
 use Rattle.tq_scan.proofs.KeysOnce.{and_first, and_second, and_both, both_ways, Held, held_of, holds_from, each, one_leaf, unique, at_leaf, small, keys_small}
 use Rattle.tq_scan.proofs.MetLeaves.{Meeting, met_from, meeting_from}
@@ -55,22 +55,22 @@ pub record Follows (p : Part) (n : NodeState) (l : Link) : Type 0 where
 
 follows_of : (p : Part) (n : NodeState) (l : Link) → is_followed p n l ≡ true → Follows p n l
 follows_of p n l h =
-    let a = and_first (nat_lt p.first n.born) (nat_lt l.low p.high && (nat_lt p.low l.high && (nat_le n.low (max l.low p.low) && nat_lt (max l.low p.low) n.high))) h in
-    let h1 = and_second (nat_lt p.first n.born) (nat_lt l.low p.high && (nat_lt p.low l.high && (nat_le n.low (max l.low p.low) && nat_lt (max l.low p.low) n.high))) h in
-    let b = and_first (nat_lt l.low p.high) (nat_lt p.low l.high && (nat_le n.low (max l.low p.low) && nat_lt (max l.low p.low) n.high)) h1 in
-    let h2 = and_second (nat_lt l.low p.high) (nat_lt p.low l.high && (nat_le n.low (max l.low p.low) && nat_lt (max l.low p.low) n.high)) h1 in
-    let c = and_first (nat_lt p.low l.high) (nat_le n.low (max l.low p.low) && nat_lt (max l.low p.low) n.high) h2 in
-    let h3 = and_second (nat_lt p.low l.high) (nat_le n.low (max l.low p.low) && nat_lt (max l.low p.low) n.high) h2 in
-    let d = and_first (nat_le n.low (max l.low p.low)) (nat_lt (max l.low p.low) n.high) h3 in
-    let e = and_second (nat_le n.low (max l.low p.low)) (nat_lt (max l.low p.low) n.high) h3 in
+    let h1 = and_first (is_met_link p n l) (nat_le n.low (max l.low p.low) && nat_lt (max l.low p.low) n.high) h in
+    let h2 = and_second (is_met_link p n l) (nat_le n.low (max l.low p.low) && nat_lt (max l.low p.low) n.high) h in
+    let a = and_first (nat_lt p.first n.born) (nat_lt l.low p.high && nat_lt p.low l.high) h1 in
+    let h3 = and_second (nat_lt p.first n.born) (nat_lt l.low p.high && nat_lt p.low l.high) h1 in
+    let b = and_first (nat_lt l.low p.high) (nat_lt p.low l.high) h3 in
+    let c = and_second (nat_lt l.low p.high) (nat_lt p.low l.high) h3 in
+    let d = and_first (nat_le n.low (max l.low p.low)) (nat_lt (max l.low p.low) n.high) h2 in
+    let e = and_second (nat_le n.low (max l.low p.low)) (nat_lt (max l.low p.low) n.high) h2 in
     record { born = less p.first n.born a; low = less l.low p.high b; high = less p.low l.high c; above = at_most n.low (max l.low p.low) d; below = less (max l.low p.low) n.high e }
 
 follows_from : (p : Part) (n : NodeState) (l : Link) → Follows p n l → is_followed p n l ≡ true
 follows_from p n l f =
-    and_both (nat_lt p.first n.born) (nat_lt l.low p.high && (nat_lt p.low l.high && (nat_le n.low (max l.low p.low) && nat_lt (max l.low p.low) n.high))) (is_less p.first n.born f.born)
-    (and_both (nat_lt l.low p.high) (nat_lt p.low l.high && (nat_le n.low (max l.low p.low) && nat_lt (max l.low p.low) n.high)) (is_less l.low p.high f.low)
-    (and_both (nat_lt p.low l.high) (nat_le n.low (max l.low p.low) && nat_lt (max l.low p.low) n.high) (is_less p.low l.high f.high)
-    (and_both (nat_le n.low (max l.low p.low)) (nat_lt (max l.low p.low) n.high) (is_at_most n.low (max l.low p.low) f.above) (is_less (max l.low p.low) n.high f.below))))
+    and_both (is_met_link p n l) (nat_le n.low (max l.low p.low) && nat_lt (max l.low p.low) n.high)
+    (and_both (nat_lt p.first n.born) (nat_lt l.low p.high && nat_lt p.low l.high) (is_less p.first n.born f.born)
+    (and_both (nat_lt l.low p.high) (nat_lt p.low l.high) (is_less l.low p.high f.low) (is_less p.low l.high f.high)))
+    (and_both (nat_le n.low (max l.low p.low)) (nat_lt (max l.low p.low) n.high) (is_at_most n.low (max l.low p.low) f.above) (is_less (max l.low p.low) n.high f.below))
 
 one_node : (nodes : List NodeState) (i j : ℕ) (a b : NodeState) → i ≡ j → slice_get nodes i ≡ Some a → slice_get nodes j ≡ Some b → a ≡ b
 one_node nodes i j a b same e f =

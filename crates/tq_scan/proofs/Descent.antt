@@ -196,6 +196,10 @@ module _ (version : ℕ) (nodes : List NodeState) (roots : List Root) (tree : Is
     pub row_below : (row : List NodeNo) → IsRowOf nodes p (level + 1) row → IsRowOf nodes p level (children_of p nodes row)
     row_below row r = record { each = all_children row r.each; tiles = λ k kl kh. all_counted row r.each k kl kh ∙ r.tiles k kl kh }
 
+-- some node of a level is come to
+pub some_in_row : (nodes : List NodeState) (p : Part) (level : ℕ) (row : List NodeNo) → p.low < p.high → IsRowOf nodes p level row → 1 ≤ length row
+some_in_row nodes p level row wide r = omega (arith, r.tiles p.low (omega arith) wide, count_by-le-length (held_at nodes p.low p.last) row)
+
 -- reads on the way down
 pub reads_more : (m r r' passed row row' : ℕ) → 1 ≤ passed → r ≤ m + (passed - 1) * row → r' ≤ r + row → row ≤ row' → r' ≤ m + (passed + 1 - 1) * row'
 reads_more m r r' (suc q) row row' h a b le =

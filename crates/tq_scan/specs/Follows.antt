@@ -26,10 +26,15 @@ children_at p (Some n) = met_children p n
 abbrev pub children_of : Part → List NodeState → List NodeNo → List NodeNo
 children_of p nodes row = flat_map (λ a. children_at p (slice_get nodes a.0)) row
 
--- whether the leaf's link is followed: the leaf was born after the part's first version, the linked leaf has keys of
--- the part, and the greater of its low key and that of the part lies in the leaf's range
+-- whether the leaf that a leaf links has a point in the part: the leaf was born after the part's first version, and the
+-- linked leaf has keys of the part
+abbrev pub is_met_link : Part → NodeState → Link → Bool
+is_met_link p n l = nat_lt p.first n.born && (nat_lt l.low p.high && nat_lt p.low l.high)
+
+-- whether the leaf's link is followed: the linked leaf has a point in the part, and the greater of its low key and that
+-- of the part lies in the leaf's range
 abbrev pub is_followed : Part → NodeState → Link → Bool
-is_followed p n l = nat_lt p.first n.born && (nat_lt l.low p.high && (nat_lt p.low l.high && (nat_le n.low (max l.low p.low) && nat_lt (max l.low p.low) n.high)))
+is_followed p n l = is_met_link p n l && (nat_le n.low (max l.low p.low) && nat_lt (max l.low p.low) n.high)
 
 -- the leaves that a leaf leads to
 abbrev pub followed : Part → NodeState → List NodeNo

@@ -3,7 +3,7 @@
 ghost use Rattle.std.specs.Prelude.{◌≡◌, ◌+◌, ◌-◌, ◌*◌, ◌<◌, ◌≤◌, ◌++◌, length, min, All, IfOk, OnOk, IfSome, slice_get};
 ghost use Rattle.tq_mvbt.specs.TreeState.{height_of};
 ghost use Rattle.tq_scan.specs.Windows.{IsSmall};
-ghost use Rattle.tq_scan.specs.Follows.{is_met_child, met_children, children_of, is_followed, followed};
+ghost use Rattle.tq_scan.specs.Follows.{is_met_child, met_children, children_of, is_met_link, is_followed, followed};
 ghost use Rattle.tq_scan.specs.Rows.{IsMetNode, IsRowOf};
 
 use crate::keys::is_before;
@@ -48,7 +48,7 @@ fn next_row(
     requires index { 0 < level }
     requires each { All (IsMetNode tree.now.nodes part.now level) row.now }
     ensures children { IfOk result (λ next. next.items ≡ children_of part.now tree.now.nodes row.now) }
-    ensures at_least { IfOk result (λ next. min meter.old u64.MAX ≤ meter.new) }
+    ensures at_least { IfOk result (λ next. min (meter.old + length row.now) u64.MAX ≤ meter.new) }
     ensures at_most { IfOk result (λ next. meter.new ≤ meter.old + length row.now) }
 {
     let mut next = Vec::new(alloc);
@@ -67,7 +67,7 @@ pub(crate) fn last_leaves(
 ) -> Result<Vec<NodeNo>, AllocError>
     requires { IsSmall part.now }
     ensures leaves { IfOk result (λ leaves. IsRowOf tree.now.nodes part.now 0 leaves.items) }
-    ensures at_least { IfOk result (λ leaves. min meter.old u64.MAX ≤ meter.new) }
+    ensures at_least { IfOk result (λ leaves. min (meter.old + (height_of tree.now.roots part.now.last - 1)) u64.MAX ≤ meter.new) }
     ensures at_most { IfOk result (λ leaves. meter.new ≤ meter.old + (height_of tree.now.roots part.now.last - 1) * length leaves.items) }
 {
     let _version = tree.version();
@@ -80,17 +80,21 @@ pub(crate) fn last_leaves(
     Ok(row)
 }
 
-// Whether the link is followed: the leaf was born after the part's first version, the linked leaf has keys of the
-// part, and the greater of its low key and that of the part lies in the leaf's range.
-fn follows(leaf: &Node, link: &Link, part: &Part) -> bool
+// Whether the linked leaf has a point in the part: the leaf was born after the part's first version, and the linked
+// leaf has keys of the part.
+pub(crate) fn meets(leaf: &Node, link: &Link, part: &Part) -> bool
+    ensures { result ≡ is_met_link part.now leaf.now link.now }
+{
+    part.first < leaf.born() && link.low < part.high && part.low < link.high
+}
+
+// Whether the link is followed: the linked leaf has a point in the part, and the greater of its low key and that of
+// the part lies in the leaf's range.
+pub(crate) fn follows(leaf: &Node, link: &Link, part: &Part) -> bool
     ensures { result ≡ is_followed part.now leaf.now link.now }
 {
     let low = link.low.max(part.low);
-    part.first < leaf.born()
-        && link.low < part.high
-        && part.low < link.high
-        && leaf.low() <= low
-        && low < leaf.high()
+    meets(leaf, link, part) && leaf.low() <= low && low < leaf.high()
 }
 
 // Appends the leaves that the leaf leads to.

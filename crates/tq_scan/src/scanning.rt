@@ -1,12 +1,13 @@
 //! What a part of a window has.
 
-ghost use Rattle.std.specs.Prelude.{◌≡◌, ◌+◌, ◌-◌, ◌*◌, ◌/◌, ◌≤◌, length, min, count_by, OnOk, IfOk, IsPermutation};
+ghost use Rattle.std.specs.Prelude.{◌≡◌, ◌+◌, ◌-◌, ◌*◌, ◌/◌, ◌<◌, ◌≤◌, ◌++◌, slice_get, length, min, count_by, OnOk, IfOk, IsPermutation};
 ghost use Rattle.std.specs.List.Sorted.{IsNonDecreasing, IsNonDecreasingBy};
 ghost use Rattle.tq_mvbt.specs.TreeState.{height_of};
 ghost use Rattle.tq_scan.specs.Windows.{IsInside};
 ghost use Rattle.tq_scan.specs.Lists.{ListsJust, ListsOnce, IsLonger};
 ghost use Rattle.tq_scan.specs.Scans.{FoundIn, IsMetLeaf, numbers, alive_at};
-ghost use Rattle.tq_scan.specs.Reports.{keys_of};
+ghost use Rattle.tq_scan.specs.Reports.{keys_at, keys_of};
+ghost use Rattle.tq_scan.specs.Follows.{followed_at};
 ghost use Rattle.tq_scan.specs.Rows.{IsRowOf};
 
 use crate::found::{Found, Keys};
@@ -36,6 +37,26 @@ fn sort_nodes(nodes: &mut Vec<NodeNo>) -> Result<(), AllocError>
     Ok(())
 }
 
+// Reads the leaf, and appends the keys that it reports and the leaves that it leads to.
+fn read_leaf(
+    tree: &Tree,
+    number: NodeNo,
+    window: &Window,
+    part: &Part,
+    keys: &mut Vec<u128>,
+    leaves: &mut Vec<NodeNo>,
+    meter: &mut Meter,
+) -> Result<(), AllocError>
+    requires { number.0 < length tree.now.nodes }
+    ensures keys { OnOk result (keys.new.items ≡ keys.old.items ++ keys_at window.now part.now (slice_get tree.now.nodes number.0)) }
+    ensures leaves { OnOk result (leaves.new.items ≡ leaves.old.items ++ followed_at part.now (slice_get tree.now.nodes number.0)) }
+    ensures counted { meter.new ≡ min (meter.old + 1) u64.MAX }
+{
+    let leaf = tree.node(number, meter);
+    push_keys(keys, leaf, window, part)?;
+    push_linked(leaves, leaf, part)
+}
+
 // The keys that the leaves report; the leaves that these lead to along links are appended to them. Each leaf is read
 // once.
 fn read_leaves(
@@ -59,9 +80,8 @@ fn read_leaves(
     let mut keys = Vec::new(alloc);
     let mut place = 0;
     'leaves: while place < leaves.len() {
-        let leaf = tree.node(leaves[place], meter);
-        push_keys(&mut keys, leaf, window, part)?;
-        push_linked(leaves, leaf, part)?;
+        let number = leaves[place];
+        read_leaf(tree, number, window, part, &mut keys, leaves, meter)?;
         place += 1;
     }
     Ok(keys)
@@ -69,8 +89,8 @@ fn read_leaves(
 
 /// The keys of the tree that are found in the part, and the leaves whose region meets it. It goes down once, to the
 /// leaves at the part's last version, and from there back along links. The meter counts each of those leaves once,
-/// and on the way down at most one node a level for each leaf that it leads to. A part of a window of one version has
-/// at most two leaves more than a fifth of its keys.
+/// and on the way down one node a level at least, and at most one for each leaf that it leads to. A part of a window of
+/// one version has at most two leaves more than a fifth of its keys.
 /// Out of memory: nothing is given.
 pub fn scan(
     alloc: Global,
@@ -82,7 +102,7 @@ pub fn scan(
     requires { IsInside window.now part.now }
     ensures keys { IfOk result (λ found. ListsJust (FoundIn tree.now.nodes window.now part.now) found.keys) }
     ensures leaves { IfOk result (λ found. ListsJust (IsMetLeaf tree.now.nodes part.now) (numbers found.leaves)) }
-    ensures at_least { IfOk result (λ found. min (meter.old + length found.leaves) u64.MAX ≤ meter.new) }
+    ensures at_least { IfOk result (λ found. min (meter.old + length found.leaves + (height_of tree.now.roots part.now.last - 1)) u64.MAX ≤ meter.new) }
     ensures at_most { IfOk result (λ found. meter.new ≤ meter.old + length found.leaves + (height_of tree.now.roots part.now.last - 1) * count_by (alive_at tree.now.nodes part.now.last) found.leaves) }
     ensures one_version { IfOk result (λ found. window.now.first ≡ window.now.last → length found.leaves ≤ length found.keys / 5 + 2) }
 {

@@ -5,6 +5,8 @@
 #[cfg(test)]
 mod arena;
 #[cfg(test)]
+mod memory;
+#[cfg(test)]
 mod mvbt;
 #[cfg(test)]
 mod scan;

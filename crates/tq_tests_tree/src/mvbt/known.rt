@@ -1,8 +1,10 @@
 //! 33 keys come one after the other, and then 29 of them go.
 
 use super::grower::Grower;
+use std::process::Abort;
 use std::test::Fail;
 use tq_arena::{Meter, NodeNo};
+use tq_mvbt::{Link, Node};
 
 const FRONT: u64 = 9223372036854775815;
 
@@ -11,6 +13,23 @@ const TOP: u128 = 79228162514264337593543950336;
 // The key of a row.
 fn key(row: u32) -> u128 {
     FRONT as u128 * 4294967296 + row as u128
+}
+
+// Node 0 links no leaf, the two leaves after it link node 0, and node 4 links these two.
+fn check_links<R: Abort>(rt: &R, leaf: &Node, middle: u128) {
+    let link = |node, low, high| Link {
+        node: NodeNo(node),
+        low,
+        high,
+    };
+    let root = [link(0, 0, TOP)];
+    let both = [link(1, 0, middle), link(2, middle, TOP)];
+    let expected: &[Link] = match leaf.born() {
+        0 => &[],
+        33 => &root,
+        _ => &both,
+    };
+    assert_eq!(rt; leaf.links(), expected);
 }
 
 #[test]
@@ -50,6 +69,9 @@ fn tree_of_33_keys(rt: HostRuntime) -> Result<(), Fail> {
         assert_eq!(rt; region.died, died);
         assert_eq!(rt; region.links.get(), links);
     }
+    for region in &regions {
+        check_links(&rt, tree.node(region.node, &mut meter), middle);
+    }
     assert_eq!(rt; tree.root_at(32), NodeNo(0));
     assert_eq!(rt; tree.root_at(33), NodeNo(3));
     assert_eq!(rt; tree.root_at(45), NodeNo(4));
@@ -82,7 +104,8 @@ fn the_index_node_names_its_children(rt: HostRuntime) -> Result<(), Fail> {
     assert_eq!(rt; root.len(), 2);
     assert_eq!(rt; root.child(0), NodeNo(1));
     assert_eq!(rt; root.child(1), NodeNo(2));
-    assert_eq!(rt; root.key(1), key(16));
+    assert_eq!(rt; (root.key(0), root.high_of(0)), (0, key(16)));
+    assert_eq!(rt; (root.key(1), root.high_of(1)), (key(16), TOP));
     assert_eq!(rt; root.born_of(1), 33);
     assert_eq!(rt; root.dead_of(1), None);
     Ok(())

@@ -1,7 +1,7 @@
 use Rattle.std.proofs.Common.{◌≡◌, ◌∙◌, ◌+◌, ◌-◌, ◌≤◌, length, arith, ap, subst}
 use Rattle.tq_scan.specs.Rows.{IsRowOf}
 use Rattle.tq_scan.specs.Follows.{children_of}
-use Rattle.tq_scan.proofs.Descent.{row_below, more_children, reads_more}
+use Rattle.tq_scan.proofs.Descent.{some_in_row, row_below, more_children, reads_more}
 use Rattle.tq_scan.proofs.leaves.last_leaves.Goals as goal
 
 pub loop-passed-preserved : goal.loop-passed-preserved
@@ -19,7 +19,7 @@ loop-passed-preserved c =
     record {
       some = omega arith;
       row = rw items (row_below _ nodes _ tree p c.requires level c.loop-passed.row.items row);
-      at_least = (let a = c.loop-passed.invariant.at_least in let b = c.in_ok-row.ensures.at_least in omega arith);
+      at_least = (let a = c.loop-passed.invariant.at_least in let b = c.in_ok-row.ensures.at_least in let l = ap length c.deref.ensures.value in let n = some_in_row nodes p (c.levels-levels.result - c.loop-passed.passed) c.loop-passed.row.items c.requires.wide c.loop-passed.invariant.row in omega arith);
       at_most = reads_more c.args.meter.now c.loop-passed.meter c.next_row.new.meter c.loop-passed.passed (length c.loop-passed.row.items) (length c.in_ok-row.row.items) some c.loop-passed.invariant.at_most
           (let b = c.in_ok-row.ensures.at_most in let l = ap length c.deref.ensures.value in omega arith) more;
     }

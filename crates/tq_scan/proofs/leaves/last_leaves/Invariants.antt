@@ -6,6 +6,6 @@ abbrev pub invariant-loop-passed : goal.invariant-loop-passed
 invariant-loop-passed l = record {
   some : 1 ≤ l.passed;
   row : IsRowOf l.tree.nodes l.part (l.levels - l.passed) l.row.items;
-  at_least : min l.initial.meter 18446744073709551615 ≤ l.meter;
+  at_least : min (l.initial.meter + (l.passed - 1)) 18446744073709551615 ≤ l.meter;
   at_most : l.meter ≤ l.initial.meter + (l.passed - 1) * length l.row.items;
 }

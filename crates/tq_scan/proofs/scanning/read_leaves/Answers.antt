@@ -1,12 +1,12 @@
-use Rattle.std.proofs.Common.{◌≡◌, ◌∙◌, ◌+◌, ◌<◌, ◌++◌, length, take, arith, ap, sym, subst, slice_get, Some, append_assoc, length-append}
+use Rattle.std.proofs.Common.{List, ◌≡◌, ◌∙◌, ◌+◌, ◌<◌, ◌++◌, length, take, arith, ap, sym, slice_get, Some, append_assoc, length-append}
 use Rattle.std.specs.Prelude.{All}
 use Rattle.std.proofs.lemmas.Option.{slice_get-get_or, slice_get_within}
 use Rattle.std.proofs.lemmas.List.{take_all}
 use Rattle.std.proofs.lemmas.List.Elements.{All-append}
 use Rattle.tq_arena.specs.declared.arena.NodeNo.{NodeNo}
 use Rattle.tq_scan.specs.Scans.{IsMetLeaf}
-use Rattle.tq_scan.specs.Reports.{keys_of, keys_at, reported_keys}
-use Rattle.tq_scan.specs.Follows.{followed, followed_at, followed_from}
+use Rattle.tq_scan.specs.Reports.{keys_of, keys_at}
+use Rattle.tq_scan.specs.Follows.{followed_at, followed_from}
 use Rattle.tq_scan.proofs.Lists.{all_at, append-nil, flat_step}
 use Rattle.tq_scan.proofs.Backward.{first_met, all_followed_at, few_leaves, leaves_once}
 use Rattle.tq_scan.proofs.scanning.read_leaves.Goals as goal
@@ -24,12 +24,12 @@ leaves-init c =
       at_most = omega arith;
     }
 
-pub node-leaf-requires : goal.node-leaf-requires
-node-leaf-requires c =
+pub read_leaf-requires : goal.read_leaf-requires
+read_leaf-requires c =
     let leaves = c.leaves.leaves.items in
-    let at : slice_get leaves c.leaves.place ≡ Some c.index.result.now = slice_get-get_or leaves c.leaves.place c.index.result.now (let t = c.leaves-test.true in let l = c.len.ensures in omega arith) ∙ ap Some (sym c.index.ensures) in
-    let met = all_at (λ (a : NodeNo). IsMetLeaf c.args.tree.now.nodes c.args.part.now a.0) leaves c.leaves.place c.index.result.now c.leaves.invariant.met at in
-    slice_get_within c.args.tree.now.nodes c.index.result.now.0 met.node met.stands
+    let at : slice_get leaves c.leaves.place ≡ Some c.index-number.result.now = slice_get-get_or leaves c.leaves.place c.index-number.result.now (let t = c.leaves-test.true in let l = c.len.ensures in omega arith) ∙ ap Some (sym c.index-number.ensures) in
+    let met = all_at (λ (a : NodeNo). IsMetLeaf c.args.tree.now.nodes c.args.part.now a.0) leaves c.leaves.place c.index-number.result.now c.leaves.invariant.met at in
+    slice_get_within c.args.tree.now.nodes c.index-number.result.now.0 met.node met.stands
 
 pub leaves-smaller : goal.leaves-smaller
 leaves-smaller c =
@@ -49,30 +49,28 @@ leaves-preserved c =
     let w = c.args.window.now in
     let leaves = c.leaves.leaves.items in
     let place = c.leaves.place in
-    let x = c.index.result.now in
-    let n = c.node-leaf.result.now in
+    let x = c.index-number.result.now in
+    let led : List NodeNo = followed_at p (slice_get nodes x.0) in
     let inv = c.leaves.invariant in
     let inside : place < length leaves = (let t = c.leaves-test.true in let l = c.len.ensures in omega arith) in
-    let at : slice_get leaves place ≡ Some x = slice_get-get_or leaves place x inside ∙ ap Some (sym c.index.ensures) in
+    let at : slice_get leaves place ≡ Some x = slice_get-get_or leaves place x inside ∙ ap Some (sym c.index-number.ensures) in
     let met = all_at (λ (a : NodeNo). IsMetLeaf nodes p a.0) leaves place x inv.met at in
-    let stands = c.node-leaf.ensures.node in
-    let its : All (λ (a : NodeNo). IsMetLeaf nodes p a.0) (followed p n) = subst (λ o. All (λ (a : NodeNo). IsMetLeaf nodes p a.0) (followed_at p o)) stands (all_followed_at _ nodes _ tree tiling w p c.requires.inside x met) in
-    let after : c.push_linked.new.leaves.items ≡ leaves ++ followed p n = c.in_ok-push_linked.ensures in
+    let its : All (λ (a : NodeNo). IsMetLeaf nodes p a.0) led = all_followed_at _ nodes _ tree tiling w p c.requires.inside x met in
+    let after : c.read_leaf.new.leaves.items ≡ leaves ++ led = c.in_ok-read_leaf.ensures.leaves in
     let long = ap length after in
     record {
-      within = (let l = length-append leaves (followed p n) in omega arith);
-      met = rw after (All-append (λ (a : NodeNo). IsMetLeaf nodes p a.0) leaves (followed p n) inv.met its);
+      within = (let l = length-append leaves led in omega arith);
+      met = rw after (All-append (λ (a : NodeNo). IsMetLeaf nodes p a.0) leaves led inv.met its);
       grown = after
-          ∙ ap (λ xs. xs ++ followed p n) inv.grown
-          ∙ append_assoc c.args.leaves.now.items (followed_from p nodes (take place leaves)) (followed p n)
-          ∙ ap (λ xs. c.args.leaves.now.items ++ xs) (ap (λ o. followed_from p nodes (take place leaves) ++ followed_at p o) (sym stands) ∙ sym (flat_step (λ (a : NodeNo). followed_at p (slice_get nodes a.0)) leaves (followed p n) place x at) ∙ ap (λ xs. followed_from p nodes (take (place + 1) xs)) (sym after));
-      keys = c.in_ok-push_keys.ensures
-          ∙ ap (λ xs. xs ++ reported_keys w p n) inv.keys
-          ∙ ap (λ o. keys_of w p nodes (take place leaves) ++ keys_at w p o) (sym stands)
-          ∙ sym (flat_step (λ (a : NodeNo). keys_at w p (slice_get nodes a.0)) leaves (followed p n) place x at)
+          ∙ ap (λ xs. xs ++ led) inv.grown
+          ∙ append_assoc c.args.leaves.now.items (followed_from p nodes (take place leaves)) led
+          ∙ ap (λ xs. c.args.leaves.now.items ++ xs) (sym (flat_step (λ (a : NodeNo). followed_at p (slice_get nodes a.0)) leaves led place x at) ∙ ap (λ xs. followed_from p nodes (take (place + 1) xs)) (sym after));
+      keys = c.in_ok-read_leaf.ensures.keys
+          ∙ ap (λ xs. xs ++ keys_at w p (slice_get nodes x.0)) inv.keys
+          ∙ sym (flat_step (λ (a : NodeNo). keys_at w p (slice_get nodes a.0)) leaves led place x at)
           ∙ ap (λ xs. keys_of w p nodes (take (place + 1) xs)) (sym after);
-      at_least = (let a = inv.at_least in let b = c.node-leaf.ensures.counted in omega arith);
-      at_most = (let a = inv.at_most in let b = c.node-leaf.ensures.counted in omega arith);
+      at_least = (let a = inv.at_least in let b = c.read_leaf.ensures.counted in omega arith);
+      at_most = (let a = inv.at_most in let b = c.read_leaf.ensures.counted in omega arith);
     }
 
 pub returns-clause-leaves : goal.returns-clause-leaves
