@@ -21,8 +21,8 @@ def read_options(sizes):
     return parser.parse_args()
 
 
-def run(command, output):
-    """Runs a command into a file: its seconds and its peak memory in bytes."""
+def run_watched(command, output):
+    """Runs a command into a file: its seconds, its user and system seconds, and its peak memory in bytes."""
     with open(output, "wb") as sink:
         begin = time.perf_counter()
         child = subprocess.Popen(command, stdout=sink)
@@ -31,7 +31,13 @@ def run(command, output):
     child.returncode = os.waitstatus_to_exitcode(status)
     if child.returncode != 0:
         sys.exit(f"{' '.join(command)}: status {child.returncode}")
-    return seconds, usage.ru_maxrss * 1024
+    return seconds, usage.ru_utime + usage.ru_stime, usage.ru_maxrss * 1024
+
+
+def run(command, output):
+    """The same without the user and system seconds."""
+    seconds, _, peak = run_watched(command, output)
+    return seconds, peak
 
 
 def ask(tq, name, table, columns, output):

@@ -4,11 +4,14 @@
     --rows N ..    the sizes of each table (10000 100000 1000000)
 
 The bytes have to be equal; how many times as long SQL takes, tq's seconds and how its time grows are
-printed and asserted nowhere.
+printed and asserted nowhere. Where R with data.table is installed, hand-written sweeps of the counts and the
+sums are timed as well.
 """
 
 import filecmp
 import os
+import shutil
+import subprocess
 import sys
 import tempfile
 
@@ -20,6 +23,26 @@ QUESTIONS = {
     "counts": "VALIDTIME SELECT dept, COUNT(*) FROM emp GROUP BY dept",
     "sums": "VALIDTIME SELECT dept, SUM(amount) FROM emp, sal WHERE emp.emp = sal.emp GROUP BY dept",
 }
+
+# What is swept with data.table too, where that is installed.
+SWEPT_BY_HAND = ["counts", "sums"]
+
+
+def has_data_table():
+    """Whether R with data.table is here."""
+    if shutil.which("Rscript") is None:
+        return False
+    asked = subprocess.run(["Rscript", "-e", "library(data.table)"], capture_output=True, check=False)
+    return asked.returncode == 0
+
+
+def by_data_table(emp, sal, question, answer, other):
+    """The least seconds of the question's sweep with data.table, whose bytes have to be equal."""
+    script = os.path.join(HERE, "sweep_data_table.R")
+    seconds = min(run(["Rscript", script, emp, sal, question], other)[0] for _ in range(TRIES))
+    if not filecmp.cmp(answer, other, shallow=False):
+        sys.exit(f"sweep_data_table.R gives other bytes for the {question}")
+    return seconds
 
 
 def measure(tq, folder, rows, question):
@@ -34,6 +57,9 @@ def measure(tq, folder, rows, question):
     if not filecmp.cmp(answer, other, shallow=False):
         sys.exit(f"questions_sql.py gives other bytes for the {question} of {rows} rows")
     print(f"{rows:>9,}  {question:<12} {sql / seconds:>7.1f}x {seconds:>8.2f} s {peak / rows:>10,.0f}", flush=True)
+    if question in SWEPT_BY_HAND and has_data_table():
+        times = by_data_table(emp, sal, question, answer, other) / seconds
+        print(f"{'':<11}data.table {times:>8.1f}x", flush=True)
     return seconds
 
 

@@ -81,7 +81,7 @@ fn ask<R: Files + AllocGlobal + Print>(rt: &R, request: AskRequest) -> Result<()
     } = request;
     let tables = read_tables(rt, options)?;
     let mut sink = Sink::over(io::writer(rt));
-    answer_bytes(rt.alloc(), &tables, &statement, workers, &mut sink)?;
+    answer_bytes(rt.alloc(), tables, &statement, workers, &mut sink)?;
     Ok(())
 }
 

@@ -1,27 +1,9 @@
--- The changes that a row makes.
-use Rattle.std.proofs.Common.{Bor, ◌≡◌, ℕ, ◌<◌, ℤ, pos, neg_ℤ, ◌+ℤ◌, ◌-ℤ◌, Bool, true, false, ◌&&◌, cond, nat_le, nat_lt, List, [], ◌∷◌, ◌++◌, refl, ap, arith}
+-- What a row adds while it lasts.
+use Rattle.std.proofs.Common.{◌≡◌, ℕ, ◌<◌, ℤ, pos, ◌-ℤ◌, Bool, true, false, ◌&&◌, cond, nat_le, nat_lt, refl, arith}
 use Rattle.std.proofs.lemmas.Bool.Decides.{nat_tests}
 use Rattle.std.proofs.lemmas.Int.{ints}
 use Rattle.tq_base.specs.declared.period.Period.{Period}
-use Rattle.tq_base.specs.declared.fragment.Fragment.{Fragment}
-use Rattle.tq_base.specs.Periods.{holds, IsOverlap, Overlap}
-use Rattle.tq_agg.specs.declared.summands.Summand.{Summand}
-use Rattle.tq_agg.specs.declared.changes.Change.{Change}
-use Rattle.tq_agg.specs.Totals.{change_weight, held_weight, total_upto, weight_of}
-use Rattle.tq_agg.proofs.Adding.{added-append}
-use Rattle.tq_agg.proofs.Cutting.{holds-overlap}
-
--- what a period adds while it lasts is what its start adds and its end takes away
-while_it_lasts : (p : Period) (t : ℕ) (w : ℤ) → cond (nat_le p.start t) w (pos 0) +ℤ cond (nat_le p.end t) (neg_ℤ w) (pos 0) ≡ cond (holds p t) w (pos 0)
-while_it_lasts p t w = let ordered : p.start < p.end = p.ordered in cases (nat_le p.start t) (nat_le p.end t) (nat_lt t p.end) refl refl refl
-  where
-    cases : (a b h : Bool) → nat_le p.start t ≡ a → nat_le p.end t ≡ b → nat_lt t p.end ≡ h → cond a w (pos 0) +ℤ cond b (neg_ℤ w) (pos 0) ≡ cond (a && h) w (pos 0)
-    cases true true true x y z = absurd (let ordered : p.start < p.end = p.ordered in grind (arith, nat_tests))
-    cases true true false x y z = omega (arith, ints)
-    cases true false true x y z = omega (arith, ints)
-    cases true false false x y z = absurd (let ordered : p.start < p.end = p.ordered in grind (arith, nat_tests))
-    cases false true h x y z = absurd (let ordered : p.start < p.end = p.ordered in grind (arith, nat_tests))
-    cases false false h x y z = refl
+use Rattle.tq_base.specs.Periods.{holds, Overlap}
 
 -- what counts for 1 while it lasts has begun and not ended
 pub one_while_it_lasts : (p : Period) (t : ℕ) → pos (cond (nat_le p.start t) 1 0) -ℤ pos (cond (nat_le p.end t) 1 0) ≡ cond (holds p t) (pos 1) (pos 0)
@@ -48,20 +30,3 @@ apart_adds_none p q t w apart = cases (nat_le p.start t) (nat_lt t p.end) (nat_l
     cases true true false d is_a is_b is_c is_d = refl
     cases true false c d is_a is_b is_c is_d = refl
     cases false b c d is_a is_b is_c is_d = refl
-
-module _ (window : Period) (row : Bor Fragment) (s : Summand) where
-  -- a row that overlaps the window
-  pub adds_on : (p : Period) (starts ends : Change) (old new : List Change) → IsOverlap row.now.period window p
-      → starts ≡ record { at = p.start; rises = true; row = row } → ends ≡ record { at = p.end; rises = false; row = row } → new ≡ old ++ starts ∷ ends ∷ []
-      → (t : ℕ) → total_upto s new t ≡ total_upto s old t +ℤ held_weight s window t row.now
-  adds_on p starts ends old new both at_start at_end more t =
-      omega (
-        arith,
-        ints,
-        ap (λ l. total_upto s l t) more,
-        added-append (λ (c : Change). cond (nat_le c.at t) (change_weight s c) (pos 0)) old (starts ∷ ends ∷ []),
-        ap (λ (c : Change). cond (nat_le c.at t) (change_weight s c) (pos 0)) at_start,
-        ap (λ (c : Change). cond (nat_le c.at t) (change_weight s c) (pos 0)) at_end,
-        while_it_lasts p t (weight_of s row.now.values),
-        ap (λ h. cond h (weight_of s row.now.values) (pos 0)) (holds-overlap row.now.period window p both t),
-      )

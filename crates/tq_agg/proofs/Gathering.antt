@@ -1,5 +1,5 @@
 -- What the gathered rows add at an instant of the window is what the rows then valid add.
-use Rattle.std.proofs.Common.{◌≡◌, ℕ, ℤ, pos, Bool, true, false, ◌&&◌, cond, nat_le, nat_lt, List, [], ◌∷◌, length, map, filter, refl, sym, ap, ◌∙◌, arith}
+use Rattle.std.proofs.Common.{◌≡◌, ℕ, ℤ, pos, Bool, true, false, ◌&&◌, cond, nat_le, nat_lt, List, [], ◌∷◌, length, filter, refl, sym, ap, ◌∙◌, arith}
 use Rattle.std.proofs.lemmas.Bool.Decides.{nat_tests}
 use Rattle.std.proofs.lemmas.Int.{ints}
 use Rattle.tq_base.specs.declared.value.Value.{Value}
@@ -7,8 +7,7 @@ use Rattle.tq_base.specs.declared.period.Period.{Period}
 use Rattle.tq_base.specs.declared.fragment.Fragment.{Fragment}
 use Rattle.tq_base.specs.Periods.{holds}
 use Rattle.tq_base.specs.Fragments.{at}
-use Rattle.tq_ops.specs.Sides.{is_overlap, overlapping}
-use Rattle.tq_agg.specs.declared.rows.Ranked.{Ranked}
+use Rattle.tq_base.specs.Keys.{is_overlap, overlapping}
 use Rattle.tq_agg.specs.Totals.{added}
 use Rattle.tq_agg.proofs.Adding.{added-filter, added-map, added-same}
 
@@ -43,12 +42,10 @@ module _ (window : Period) (t : ℕ) (inside : holds window t ≡ true) (w : Lis
   pub all_add : (fragments : List Fragment) → added cut_weight fragments ≡ added w (at fragments t)
   all_add fragments = added-same cut_weight whole_weight cut_is_whole fragments ∙ sym (added-at fragments)
 
-  pub gathered_add : (fragments : List Fragment) (rows : List Ranked) → map (λ (r : Ranked). r.fragment.now) rows ≡ overlapping window fragments
-      → added (λ (r : Ranked). cond (holds r.fragment.now.period t && holds window t) (w r.fragment.now.values) (pos 0)) rows ≡ added w (at fragments t)
-  gathered_add fragments rows are =
-      sym (added-map cut_weight (λ (r : Ranked). r.fragment.now) rows)
-      ∙ ap (added cut_weight) are
-      ∙ added-filter (λ f. is_overlap f.period window) cut_weight fragments
+  -- those that overlap the window add what all rows do
+  pub gathered_add : (fragments : List Fragment) → added cut_weight (overlapping window fragments) ≡ added w (at fragments t)
+  gathered_add fragments =
+      added-filter (λ f. is_overlap f.period window) cut_weight fragments
       ∙ added-same (λ f. cond (is_overlap f.period window) (cut_weight f) (pos 0)) whole_weight overlaps fragments
       ∙ sym (added-at fragments)
 

@@ -1,5 +1,4 @@
 pub mod Adding
-pub mod Batches
 pub mod Changing
 pub mod Cutting
 pub mod Gathering
@@ -7,6 +6,9 @@ pub mod GroupRows
 pub mod Grouping
 pub mod Instants
 pub mod Maps
+pub mod Runs
 pub mod Summable
 pub mod Totals
 pub mod Starts
+pub mod Moving
+pub mod Shown

@@ -4,7 +4,6 @@ use Rattle.std.specs.Prelude.{All}
 use Rattle.std.proofs.Math.Seq.{take-add}
 use Rattle.std.proofs.lemmas.Bool.{cases_lt}
 use Rattle.std.proofs.lemmas.Bool.Decides.{nat_tests}
-use Rattle.std.proofs.lemmas.Int.{ints}
 use Rattle.std.proofs.lemmas.List.{take-append-drop, get_or-drop}
 use Rattle.std.proofs.lemmas.List.Sums.{sum_by-append}
 use Rattle.std.proofs.lemmas.List.Elements.{All-nil, All-head, All-tail, All-append, All-weaker}
@@ -15,9 +14,19 @@ use Rattle.tq_base.specs.declared.fragment.Fragment.{Fragment}
 use Rattle.tq_base.specs.Periods.{holds}
 use Rattle.tq_base.specs.Fragments.{copies}
 use Rattle.tq_base.specs.Sweep.{upto, upto-cons, upto_none, all_after, Rises}
-use Rattle.tq_agg.specs.Edges.{count_upto, AreEdges, IsAtFront}
+use Rattle.tq_agg.specs.Edges.{AreEdges, IsAtFront}
 use Rattle.tq_agg.specs.Totals.{row_copies}
-use Rattle.tq_agg.proofs.Batches.{extended}
+
+-- the rows up to a bound, and those of the totals from there to a later one
+pub extended : (from since to t x y : ℕ) → from ≤ since → since ≤ to → (since ≤ t → t < to → x ≡ y)
+    → cond (nat_le from t && nat_lt t since) x 0 + cond (nat_le since t && nat_lt t to) y 0 ≡ cond (nat_le from t && nat_lt t to) x 0
+extended from since to t x y low high same = elim (cases_lt t since) [
+  | inl before ↦ grind (arith, nat_tests)
+  | inr past ↦ elim (cases_lt t to) [
+    | inl inside ↦ let is = same past inside in grind (arith, nat_tests)
+    | inr late ↦ grind (arith, nat_tests)
+  ]
+]
 
 -- ---- one list of bounds in order, gone through up to a place
 
@@ -43,11 +52,18 @@ reached_upto bounds last place r t past later =
     let front = upto_all (take place bounds) t (All-weaker (λ b. b ≤ last) (λ b. b ≤ t) (λ b le. omega (arith, le, past)) (take place bounds) r.by) in
     omega (arith, whole, parts, front, upto_none (drop place bounds) t later, length-take place bounds, r.within)
 
-module _ (window : Period) (bounds : List ℕ) (edges : AreEdges window bounds) where
+-- bounds of the window that rise
+abbrev pub AreInOrder : Period → List ℕ → Type 0
+AreInOrder window bounds = Rises bounds × All (λ b. (window.start ≤ b) × (b ≤ window.end)) bounds
+
+pub sorted_rise : (window : Period) (bounds : List ℕ) → AreEdges window bounds → AreInOrder window bounds
+sorted_rise window bounds edges = (λ i j d lt below. IsNonDecreasingBy-from_sort (λ (b : ℕ). b) bounds edges.0 i j d (omega (arith, lt)) below, edges.1)
+
+module _ (window : Period) (bounds : List ℕ) (edges : AreInOrder window bounds) where
   rest_rises : (place : ℕ) → Rises (drop place bounds)
   rest_rises place i j d lt below =
       let there : place + j < length bounds = omega (arith, length-drop place bounds, below) in
-      let order = IsNonDecreasingBy-from_sort (λ (b : ℕ). b) bounds edges.0 (place + i) (place + j) d (omega (arith, lt)) there in
+      let order = edges.0 (place + i) (place + j) d (omega (arith, lt)) there in
       omega (arith, order, get_or-drop place bounds i d, get_or-drop place bounds j d)
 
   -- all left are later, where the first of them is
@@ -79,35 +95,41 @@ module _ (window : Period) (bounds : List ℕ) (edges : AreEdges window bounds) 
       ahead = All-weaker (λ b. at < b) (λ b. at ≤ b) (λ b lt. omega (arith, lt)) (drop (place + len) bounds) then_later;
     }
 
+-- of a count, how many have begun and not ended
+abbrev pub counts_shown : ℕ → ℕ → List Value → ℕ
+counts_shown begun ended v = row_copies [] ((pos begun -ℤ pos ended) ∷ []) v
+
 -- ---- both lists
 
--- up to `since` the rows stand in the list, and from there on as many are valid as are left of those that began
-pub record Counting (starts ends : List ℕ) (window : Period) (old : List Fragment) (begun ended since : ℕ) (out : List Fragment) : Type 0 where
+-- what is shown where so many have begun and so many have ended: up to `since` that stands in the list, and from there on it stays
+-- what is shown after those that were gone through
+pub record Counting (shown : ℕ → ℕ → List Value → ℕ) (starts ends : List ℕ) (window : Period) (old : List Fragment) (begun ended since : ℕ) (out : List Fragment) : Type 0 where
   pub last : ℕ
-  pub counted : (t : ℕ) (v : List Value) → copies out v t ≡ copies old v t + cond (nat_le window.start t && nat_lt t since) (row_copies [] (count_upto starts ends t ∷ []) v) 0
-  pub settled : (t : ℕ) → since ≤ t → All (λ b. t < b) (drop begun starts) → All (λ b. t < b) (drop ended ends) → count_upto starts ends t ≡ pos begun -ℤ pos ended
+  pub counted : (t : ℕ) (v : List Value) → copies out v t ≡ copies old v t + cond (nat_le window.start t && nat_lt t since) (shown (upto starts t) (upto ends t) v) 0
+  pub settled : (t : ℕ) (v : List Value) → since ≤ t → All (λ b. t < b) (drop begun starts) → All (λ b. t < b) (drop ended ends) → shown (upto starts t) (upto ends t) v ≡ shown begun ended v
   pub starts_reached : Reached starts last begun
   pub ends_reached : Reached ends last ended
   pub from : window.start ≤ since
   pub behind : since ≤ last
   pub until : since ≤ window.end
 
-module _ (starts ends : List ℕ) (window : Period) (old : List Fragment) (start_edges : AreEdges window starts) (end_edges : AreEdges window ends) where
+module _ (shown : ℕ → ℕ → List Value → ℕ) (starts ends : List ℕ) (window : Period) (old : List Fragment) (start_edges : AreInOrder window starts) (end_edges : AreInOrder window ends) where
   -- nothing is gone through yet
-  nothing_reached : (bounds : List ℕ) → AreEdges window bounds → Reached bounds window.start 0
+  nothing_reached : (bounds : List ℕ) → AreInOrder window bounds → Reached bounds window.start 0
   nothing_reached bounds edges = record {
     within = omega arith;
     by = All-nil (λ b. b ≤ window.start);
     ahead = All-weaker (λ (b : ℕ). (window.start ≤ b) × (b ≤ window.end)) (λ b. window.start ≤ b) (λ b is. is.0) bounds edges.1;
   }
 
-  pub begins : Counting starts ends window old 0 0 window.start old
+  pub begins : Counting shown starts ends window old 0 0 window.start old
   begins =
       let ordered : window.start < window.end = window.ordered in
       record {
         last = window.start;
-        counted = λ t v. nothing (row_copies [] (count_upto starts ends t ∷ []) v) t (copies old v t);
-        settled = λ t past starts_later ends_later. omega (arith, ints, upto_none starts t starts_later, upto_none ends t ends_later);
+        counted = λ t v. nothing (shown (upto starts t) (upto ends t) v) t (copies old v t);
+        settled = λ t v past starts_later ends_later.
+            ap (λ n. shown n (upto ends t) v) (upto_none starts t starts_later) ∙ ap (λ n. shown 0 n v) (upto_none ends t ends_later);
         starts_reached = nothing_reached starts start_edges;
         ends_reached = nothing_reached ends end_edges;
         from = omega arith;
@@ -118,7 +140,7 @@ module _ (starts ends : List ℕ) (window : Period) (old : List Fragment) (start
       nothing : (x t n : ℕ) → n ≡ n + cond (nat_le window.start t && nat_lt t window.start) x 0
       nothing x t n = grind (arith, nat_tests)
 
-  module _ (begun ended since at : ℕ) (out : List Fragment) (w : Counting starts ends window old begun ended since out) (front : IsAtFront at (drop begun starts) (drop ended ends)) where
+  module _ (begun ended since at : ℕ) (out : List Fragment) (w : Counting shown starts ends window old begun ended since out) (front : IsAtFront at (drop begun starts) (drop ended ends)) where
     -- the bound at the front is one that is left
     from_last : (bounds : List ℕ) (place : ℕ) → Reached bounds w.last place → ((d : ℕ) → (0 < length (drop place bounds)) × (get_or (drop place bounds) 0 d ≤ at)) → w.last ≤ at
     from_last bounds place r there = let is = there 0 in let ahead = r.ahead 0 0 is.0 in omega (arith, is.1, ahead)
@@ -126,7 +148,7 @@ module _ (starts ends : List ℕ) (window : Period) (old : List Fragment) (start
     goes_on : w.last ≤ at
     goes_on = elim front.2 [ inl there ↦ from_last starts begun w.starts_reached there | inr there ↦ from_last ends ended w.ends_reached there ]
 
-    by_end : (bounds : List ℕ) (place : ℕ) → AreEdges window bounds → ((d : ℕ) → 0 < length (drop place bounds) → at ≤ get_or (drop place bounds) 0 d) → 0 < length (drop place bounds) → at ≤ window.end
+    by_end : (bounds : List ℕ) (place : ℕ) → AreInOrder window bounds → ((d : ℕ) → 0 < length (drop place bounds) → at ≤ get_or (drop place bounds) 0 d) → 0 < length (drop place bounds) → at ≤ window.end
     by_end bounds place edges low some =
         let inside = edges.1 place 0 (omega (arith, length-drop place bounds, some)) in
         omega (arith, low 0 some, inside.1, get_or-drop place bounds 0 0, ap (λ i. get_or bounds i 0) there)
@@ -138,9 +160,9 @@ module _ (starts ends : List ℕ) (window : Period) (old : List Fragment) (start
     in_window = elim front.2 [ inl there ↦ by_end starts begun start_edges front.0 (there 0).0 | inr there ↦ by_end ends ended end_edges front.1 (there 0).0 ]
 
     -- up to it nothing changes
-    before : (t : ℕ) → since ≤ t → t < at → count_upto starts ends t ≡ pos begun -ℤ pos ended
-    before t past lt =
-        w.settled t past
+    before : (t : ℕ) (v : List Value) → since ≤ t → t < at → shown (upto starts t) (upto ends t) v ≡ shown begun ended v
+    before t v past lt =
+        w.settled t v past
         (later window starts start_edges begun t (λ d some. let low = front.0 d some in omega (arith, low, lt)))
         (later window ends end_edges ended t (λ d some. let low = front.1 d some in omega (arith, low, lt)))
 
@@ -153,19 +175,20 @@ module _ (starts ends : List ℕ) (window : Period) (old : List Fragment) (start
       ends_on : Reached ends at (ended + n)
       ends_on = reaches window ends end_edges w.last ended at n w.ends_reached goes_on within_ends ends_by ends_then
 
-      -- from it on so many are left
-      after : (t : ℕ) → at ≤ t → All (λ b. t < b) (drop (begun + m) starts) → All (λ b. t < b) (drop (ended + n) ends) → count_upto starts ends t ≡ pos (begun + m) -ℤ pos (ended + n)
-      after t past starts_later ends_later =
-          omega (arith, ints, reached_upto starts at (begun + m) starts_on t past starts_later, reached_upto ends at (ended + n) ends_on t past ends_later)
+      -- from it on so many have begun, and so many have ended
+      after : (t : ℕ) (v : List Value) → at ≤ t → All (λ b. t < b) (drop (begun + m) starts) → All (λ b. t < b) (drop (ended + n) ends) → shown (upto starts t) (upto ends t) v ≡ shown (begun + m) (ended + n) v
+      after t v past starts_later ends_later =
+          ap (λ i. shown i (upto ends t) v) (reached_upto starts at (begun + m) starts_on t past starts_later)
+          ∙ ap (λ i. shown (begun + m) i v) (reached_upto ends at (ended + n) ends_on t past ends_later)
 
-      -- as many begin there as end
-      pub passes : m ≡ n → Counting starts ends window old (begun + m) (ended + n) since out
+      -- the same is shown after them
+      pub passes : ((v : List Value) → shown (begun + m) (ended + n) v ≡ shown begun ended v) → Counting shown starts ends window old (begun + m) (ended + n) since out
       passes same = record {
         last = at;
         counted = w.counted;
-        settled = λ t past starts_later ends_later. elim (cases_lt t at) [
-          | inl lt ↦ before t past lt ∙ omega (arith, ints, same)
-          | inr late ↦ after t late starts_later ends_later
+        settled = λ t v past starts_later ends_later. elim (cases_lt t at) [
+          | inl lt ↦ before t v past lt ∙ sym (same v)
+          | inr late ↦ after t v late starts_later ends_later
         ];
         starts_reached = starts_on;
         ends_reached = ends_on;
@@ -174,16 +197,16 @@ module _ (starts ends : List ℕ) (window : Period) (old : List Fragment) (start
         until = w.until;
       }
 
-      -- others are left, and a row of those before goes to the end of the list
-      pub turns : (new : List Fragment) → ((t : ℕ) (v : List Value) → copies new v t ≡ copies out v t + cond (nat_le since t && nat_lt t at) (row_copies [] ((pos begun -ℤ pos ended) ∷ []) v) 0)
-          → Counting starts ends window old (begun + m) (ended + n) at new
+      -- something else is shown after them, and what was shown before goes to the end of the list
+      pub turns : (new : List Fragment) → ((t : ℕ) (v : List Value) → copies new v t ≡ copies out v t + cond (nat_le since t && nat_lt t at) (shown begun ended v) 0)
+          → Counting shown starts ends window old (begun + m) (ended + n) at new
       turns new more = record {
         last = at;
         counted = λ t v.
-            let step = extended window.start since at t (row_copies [] (count_upto starts ends t ∷ []) v) (row_copies [] ((pos begun -ℤ pos ended) ∷ []) v) w.from (omega (arith, w.behind, goes_on))
-            (λ past lt. ap (λ n. row_copies [] (n ∷ []) v) (before t past lt)) in
+            let step = extended window.start since at t (shown (upto starts t) (upto ends t) v) (shown begun ended v) w.from (omega (arith, w.behind, goes_on))
+            (λ past lt. before t v past lt) in
             omega (arith, more t v, w.counted t v, step);
-        settled = λ t past starts_later ends_later. after t past starts_later ends_later;
+        settled = λ t v past starts_later ends_later. after t v past starts_later ends_later;
         starts_reached = starts_on;
         ends_reached = ends_on;
         from = omega (arith, w.from, w.behind, goes_on);
@@ -207,11 +230,11 @@ module _ (starts ends : List ℕ) (window : Period) (old : List Fragment) (start
                 absurd (omega (arith, is.1, then 0 (omega (arith, is.0, zero')), ap (λ i. get_or (drop place bounds) i 0) zero'))
           ]
 
-  -- after all bounds, a row of what is left goes to the end of the list
-  pub ends_with : (begun ended since : ℕ) (out new : List Fragment) → Counting starts ends window old begun ended since out → drop begun starts ≡ [] → drop ended ends ≡ []
-      → ((t : ℕ) (v : List Value) → copies new v t ≡ copies out v t + cond (nat_le since t && nat_lt t window.end) (row_copies [] ((pos begun -ℤ pos ended) ∷ []) v) 0)
-      → (t : ℕ) (v : List Value) → copies new v t ≡ copies old v t + cond (holds window t) (row_copies [] (count_upto starts ends t ∷ []) v) 0
+  -- after all bounds, what is shown goes to the end of the list
+  pub ends_with : (begun ended since : ℕ) (out new : List Fragment) → Counting shown starts ends window old begun ended since out → drop begun starts ≡ [] → drop ended ends ≡ []
+      → ((t : ℕ) (v : List Value) → copies new v t ≡ copies out v t + cond (nat_le since t && nat_lt t window.end) (shown begun ended v) 0)
+      → (t : ℕ) (v : List Value) → copies new v t ≡ copies old v t + cond (holds window t) (shown (upto starts t) (upto ends t) v) 0
   ends_with begun ended since out new w no_starts no_ends more t v =
-      let step = extended window.start since window.end t (row_copies [] (count_upto starts ends t ∷ []) v) (row_copies [] ((pos begun -ℤ pos ended) ∷ []) v) w.from w.until
-      (λ past lt. ap (λ n. row_copies [] (n ∷ []) v) (w.settled t past (subst (All (λ b. t < b)) (sym no_starts) (All-nil (λ b. t < b))) (subst (All (λ b. t < b)) (sym no_ends) (All-nil (λ b. t < b))))) in
+      let step = extended window.start since window.end t (shown (upto starts t) (upto ends t) v) (shown begun ended v) w.from w.until
+      (λ past lt. w.settled t v past (subst (All (λ b. t < b)) (sym no_starts) (All-nil (λ b. t < b))) (subst (All (λ b. t < b)) (sym no_ends) (All-nil (λ b. t < b)))) in
       omega (arith, more t v, w.counted t v, step)

@@ -1,57 +1,67 @@
--- Totals of changes: one more change, and that they fit 128 bits.
-use Rattle.std.proofs.Common.{◌≡◌, ℕ, ◌+◌, ◌^◌, ◌<◌, ◌≤◌, ℤ, pos, neg_ℤ, ◌+ℤ◌, ◌-ℤ◌, ◌≤ℤ◌, FitsSigned, Bool, true, false, cond, List, [], ◌∷◌, ◌++◌, ◌-◌, length, take, drop, get_or, sym, ap, ◌∙◌, arith, length-take}
+-- Totals of rows that have begun and not ended: that they fit 128 bits, and those at a later place.
+use Rattle.std.proofs.Common.{◌≡◌, ℕ, ◌+◌, ◌*◌, ◌^◌, ◌<◌, ◌≤◌, ℤ, pos, neg_ℤ, ◌+ℤ◌, ◌-ℤ◌, ◌≤ℤ◌, FitsSigned, List, [], ◌∷◌, ◌++◌, ◌-◌, length, take, drop, get_or, sym, ap, ◌∙◌, arith, length-take}
+use Rattle.std.specs.Prelude.{All}
 use Rattle.std.specs.Int.{w64, w128}
 use Rattle.std.proofs.lemmas.Int.{ints}
 use Rattle.std.proofs.Math.Seq.{take-add}
 use Rattle.std.proofs.lemmas.List.{get_or-map, map_more}
 use Rattle.std.proofs.lemmas.List.Elements.{All-take, All-weaker}
+use Rattle.tq_base.specs.declared.sides.Key.{Key}
+use Rattle.tq_base.specs.Keys.{key_row, SidesState}
+use Rattle.tq_agg.specs.declared.bounds.End.{End}
 use Rattle.tq_agg.specs.declared.summands.Summand.{Summand}
-use Rattle.tq_agg.specs.declared.changes.Change.{Change}
-use Rattle.tq_agg.specs.Totals.{change_weight, total_of, totals_of, weight_of, AreSmall}
+use Rattle.tq_agg.specs.Totals.{added, end_key, key_weight, total_of, totals_of, AreSmallEnds, AreSmallKeys, IsSmall}
 use Rattle.tq_agg.proofs.Adding.{added-append, added-bounds, added-step}
 
--- a number of 64 signed bits, or that taken away
-either_way : (b : Bool) (w : ℤ) → FitsSigned w64 w → (neg_ℤ (pos (2 ^ 63)) ≤ℤ cond b w (neg_ℤ w)) × (cond b w (neg_ℤ w) ≤ℤ pos (2 ^ 63))
-either_way true w fits = (omega (arith, ints), omega (arith, ints))
-either_way false w fits = (omega (arith, ints), omega (arith, ints))
+-- a sum of numbers of 64 signed bits
+weights_fit : {X : Type 0} (w : X → ℤ) (xs : List X) → All (λ x. FitsSigned w64 (w x)) xs
+    → (neg_ℤ (pos (length xs * 2 ^ 63)) ≤ℤ added w xs) × (added w xs ≤ℤ pos (length xs * 2 ^ 63))
+weights_fit w xs fit =
+    added-bounds w xs (All-weaker (λ x. FitsSigned w64 (w x)) (λ x. (neg_ℤ (pos (2 ^ 63)) ≤ℤ w x) × (w x ≤ℤ pos (2 ^ 63))) (λ x fits. (omega (arith, ints), omega (arith, ints))) xs fit)
 
-pub total_fits : (s : Summand) (changes : List Change) → AreSmall s changes → length changes < 2 ^ 64 → FitsSigned w128 (total_of s changes)
-total_fits s changes small short =
-    let bounds = added-bounds (change_weight s) changes (All-weaker (λ (c : Change). FitsSigned w64 (weight_of s c.row.now.values)) (λ c. (neg_ℤ (pos (2 ^ 63)) ≤ℤ change_weight s c) × (change_weight s c ≤ℤ pos (2 ^ 63)))
-    (λ c fits. either_way c.rises (weight_of s c.row.now.values) fits) changes small) in
-    omega (arith, ints, bounds.0, bounds.1)
+-- with one element more it fits
+pub more_fits : {X : Type 0} (w : X → ℤ) (xs : List X) (i : ℕ) (x : X) → All (λ x. FitsSigned w64 (w x)) xs → i < length xs → length xs < 2 ^ 64 → x ≡ get_or xs i x
+    → FitsSigned w128 (added w (take i xs) +ℤ w x)
+more_fits w xs i x fit lt short is =
+    let bounds = weights_fit w (take (i + 1) xs) (All-take (λ x. FitsSigned w64 (w x)) (i + 1) xs fit) in
+    let step = added-step w xs i x lt is in
+    omega (arith, ints, bounds.0, bounds.1, step, length-take (i + 1) xs)
 
--- the totals so far fit
-pub part_fits : (s : Summand) (changes : List Change) (n : ℕ) → AreSmall s changes → n ≤ length changes → length changes < 2 ^ 64 → FitsSigned w128 (total_of s (take n changes))
-part_fits s changes n small within short =
-    let long = length-take n changes in
-    total_fits s (take n changes) (All-take (λ (c : Change). FitsSigned w64 (weight_of s c.row.now.values)) n changes small) (omega (arith, long))
+module _ (sides : SidesState) (s : Summand) (keys : List Key) (ends : List End) (small : AreSmallKeys sides s keys) (ends_small : AreSmallEnds sides s ends)
+    (short : length keys < 2 ^ 63) (ends_short : length ends < 2 ^ 63) where
+  -- the total at each place fits
+  pub total_fits : (m n : ℕ) → FitsSigned w128 (total_of sides s (take m keys) (take n ends))
+  total_fits m n =
+      let begun = weights_fit (key_weight sides s) (take m keys) (All-take (λ (k : Key). IsSmall s (key_row sides k).values) m keys small) in
+      let ended = weights_fit (λ e. key_weight sides s (end_key e)) (take n ends) (All-take (λ (e : End). IsSmall s (key_row sides (end_key e)).values) n ends ends_small) in
+      omega (arith, ints, begun.0, begun.1, ended.0, ended.1, length-take m keys, length-take n ends)
 
--- one change more
-module _ (s : Summand) (changes : List Change) (i : ℕ) (c : Change) (lt : i < length changes) (is : c ≡ get_or changes i c) where
-  step : total_of s (take (i + 1) changes) ≡ total_of s (take i changes) +ℤ change_weight s c
-  step = added-step (change_weight s) changes i c lt is
+-- two sums of few numbers each, one without the other
+pub difference_fits : (sides : SidesState) (s : Summand) (keys : List Key) (ends : List End) → AreSmallKeys sides s keys → AreSmallEnds sides s ends → length keys < 2 ^ 63 → length ends < 2 ^ 63
+    → FitsSigned w128 (added (key_weight sides s) keys -ℤ added (λ e. key_weight sides s (end_key e)) ends)
+difference_fits sides s keys ends small ends_small short ends_short =
+    let begun = weights_fit (key_weight sides s) keys small in
+    let ended = weights_fit (λ e. key_weight sides s (end_key e)) ends ends_small in
+    omega (arith, ints, begun.0, begun.1, ended.0, ended.1)
 
-  pub rises_to : c.rises ≡ true → total_of s (take (i + 1) changes) ≡ total_of s (take i changes) +ℤ weight_of s c.row.now.values
-  rises_to is' = step ∙ ap (λ b. total_of s (take i changes) +ℤ cond b (weight_of s c.row.now.values) (neg_ℤ (weight_of s c.row.now.values))) is'
+part_added : {X : Type 0} (w : X → ℤ) (xs : List X) (i j : ℕ) → i ≤ j → added w (take j xs) ≡ added w (take i xs) +ℤ added w (take (j - i) (drop i xs))
+part_added w xs i j order =
+    let split : take j xs ≡ take i xs ++ take (j - i) (drop i xs) = ap (λ n. take n xs) (let same : j ≡ i + (j - i) = omega (arith, order) in same) ∙ take-add i (j - i) xs in
+    ap (added w) split ∙ added-append w (take i xs) (take (j - i) (drop i xs))
 
-  pub falls_to : c.rises ≡ false → total_of s (take (i + 1) changes) ≡ total_of s (take i changes) -ℤ weight_of s c.row.now.values
-  falls_to is' =
-      step ∙ ap (λ b. total_of s (take i changes) +ℤ cond b (weight_of s c.row.now.values) (neg_ℤ (weight_of s c.row.now.values))) is' ∙ omega (arith, ints)
-
--- the totals after the changes before `start`, and after those before `end`
-module _ (summands : List Summand) (changes : List Change) (start end : ℕ) (order : start ≤ end) (totals : List ℤ) (are : totals ≡ totals_of summands (take start changes))
-    (place : ℕ) (lt : place < length summands) (d : Summand) where
-  pub sum_to : total_of (get_or summands place d) (take end changes) ≡ get_or totals place (pos 0) +ℤ total_of (get_or summands place d) (take (end - start) (drop start changes))
+-- the totals at a place, and at a later one
+module _ (sides : SidesState) (summands : List Summand) (keys : List Key) (ends : List End) (b e b' e' : ℕ) (begun : b ≤ b') (ended : e ≤ e')
+    (totals : List ℤ) (are : totals ≡ totals_of sides summands (take b keys) (take e ends)) (place : ℕ) (lt : place < length summands) (d : Summand) where
+  pub sum_to : total_of sides (get_or summands place d) (take b' keys) (take e' ends)
+      ≡ get_or totals place (pos 0) +ℤ (added (key_weight sides (get_or summands place d)) (take (b' - b) (drop b keys)) -ℤ added (λ x. key_weight sides (get_or summands place d) (end_key x)) (take (e' - e) (drop e ends)))
   sum_to =
-      let split : take end changes ≡ take start changes ++ take (end - start) (drop start changes) = ap (λ n. take n changes) (omega arith) ∙ take-add start (end - start) changes in
-      let before : get_or totals place (pos 0) ≡ total_of (get_or summands place d) (take start changes) =
-      ap (λ l. get_or l place (pos 0)) are ∙ get_or-map (λ s. total_of s (take start changes)) summands place d (pos 0) lt in
-      ap (total_of (get_or summands place d)) split ∙ added-append (change_weight (get_or summands place d)) (take start changes) (take (end - start) (drop start changes))
-      ∙ ap (λ n. n +ℤ total_of (get_or summands place d) (take (end - start) (drop start changes))) (sym before)
+      let s = get_or summands place d in
+      let before : get_or totals place (pos 0) ≡ total_of sides s (take b keys) (take e ends) =
+      ap (λ l. get_or l place (pos 0)) are ∙ get_or-map (λ s. total_of sides s (take b keys) (take e ends)) summands place d (pos 0) lt in
+      omega (arith, ints, before, part_added (key_weight sides s) keys b b' begun, part_added (λ x. key_weight sides s (end_key x)) ends e e' ended)
 
-  pub totals_more : (next new : List ℤ) (total : ℤ) → next ≡ totals_of (take place summands) (take end changes) → total ≡ total_of (get_or summands place d) (take end changes)
-      → new ≡ next ++ total ∷ [] → new ≡ totals_of (take (place + 1) summands) (take end changes)
+  pub totals_more : (next new : List ℤ) (total : ℤ) → next ≡ totals_of sides (take place summands) (take b' keys) (take e' ends) → total ≡ total_of sides (get_or summands place d) (take b' keys) (take e' ends)
+      → new ≡ next ++ total ∷ [] → new ≡ totals_of sides (take (place + 1) summands) (take b' keys) (take e' ends)
   totals_more next new total are_next is more =
-      more ∙ ap (λ l. l ++ total ∷ []) are_next ∙ ap (λ n. totals_of (take place summands) (take end changes) ++ n ∷ []) is
-      ∙ sym (map_more (λ s. total_of s (take end changes)) summands place d lt)
+      more ∙ ap (λ l. l ++ total ∷ []) are_next ∙ ap (λ n. totals_of sides (take place summands) (take b' keys) (take e' ends) ++ n ∷ []) is
+      ∙ sym (map_more (λ s. total_of sides s (take b' keys) (take e' ends)) summands place d lt)

@@ -1,5 +1,5 @@
--- Totals over a group of rows: what each row adds, and what the changes up to an instant add.
-use Rattle.std.specs.Prelude.{ℕ, ℤ, pos, neg_ℤ, ◌+ℤ◌, ◌≤◌, nat_le, FitsSigned, Bool, false, not, cond, ◌&&◌, List, [], ◌∷◌, ◌++◌, map, All}
+-- Totals over a group of rows: what each row adds, and what those add that have begun and not ended.
+use Rattle.std.specs.Prelude.{ℕ, ℤ, pos, ◌+ℤ◌, ◌-ℤ◌, FitsSigned, Bool, false, not, cond, ◌&&◌, List, [], ◌∷◌, ◌++◌, map, take, All}
 use Rattle.std.specs.Int.{w64}
 use Rattle.std.specs.Ordering.{eq_by_cmp, int_eq}
 use Rattle.tq_base.specs.declared.value.Value.{Value}
@@ -8,11 +8,14 @@ use Rattle.tq_base.specs.declared.period.Period.{Period}
 use Rattle.tq_base.specs.declared.fragment.Fragment.{Fragment}
 use Rattle.tq_base.specs.ValueOrder.{values_cmp}
 use Rattle.tq_base.specs.Periods.{holds}
+use Rattle.tq_base.specs.declared.sides.Key.{Key}
+use Rattle.tq_base.specs.Keys.{key_row, SidesState}
+use Rattle.tq_base.specs.Sweep.{upto}
 use Rattle.tq_ops.specs.Conditions.{value_at}
 use Rattle.tq_agg.specs.declared.summands.Summand.{Summand}
 use Rattle.tq_agg.specs.declared.summands.Summand.TheVariants.{Column, One}
-use Rattle.tq_agg.specs.declared.changes.Change.{Change}
-use Rattle.tq_agg.specs.declared.rows.Ranked.{Ranked}
+use Rattle.tq_agg.specs.declared.bounds.End.{End}
+use Rattle.tq_agg.specs.Bounds.{start_in}
 use Rattle.tq_agg.specs.Grouping.{number_of}
 
 -- what a row adds: 1, or the number at the place
@@ -25,50 +28,52 @@ abbrev pub added : {X : Type 0} → (X → ℤ) → List X → ℤ
 added weight [] = pos 0
 added weight (x ∷ xs) = weight x +ℤ added weight xs
 
--- what a change adds: what its row does, or that taken away
-abbrev pub change_weight : Summand → Change → ℤ
-change_weight s c = cond c.rises (weight_of s c.row.now.values) (neg_ℤ (weight_of s c.row.now.values))
+-- what the row of a key adds
+abbrev pub key_weight : SidesState → Summand → Key → ℤ
+key_weight sides s k = weight_of s (key_row sides k).values
 
--- what the changes add in all
-abbrev pub total_of : Summand → List Change → ℤ
-total_of s changes = added (change_weight s) changes
+-- the key of the row that ends
+abbrev pub end_key : End → Key
+end_key e = record { rank = 0; start = 0; row = e.row; side = e.side }
 
-abbrev pub totals_of : List Summand → List Change → List ℤ
-totals_of summands changes = map (λ s. total_of s changes) summands
+-- what the rows of the keys add, without those of the ends
+abbrev pub total_of : SidesState → Summand → List Key → List End → ℤ
+total_of sides s keys ends = added (key_weight sides s) keys -ℤ added (λ e. key_weight sides s (end_key e)) ends
 
--- what the changes up to the instant add
-abbrev pub total_upto : Summand → List Change → ℕ → ℤ
-total_upto s changes t = added (λ c. cond (nat_le c.at t) (change_weight s c) (pos 0)) changes
+abbrev pub totals_of : SidesState → List Summand → List Key → List End → List ℤ
+totals_of sides summands keys ends = map (λ s. total_of sides s keys ends) summands
 
-abbrev pub totals_upto : List Summand → List Change → ℕ → List ℤ
-totals_upto summands changes t = map (λ s. total_upto s changes t) summands
+-- what the rows that have begun by the instant add, without those that have ended
+abbrev pub totals_upto : SidesState → Period → List Summand → List Key → List End → ℕ → List ℤ
+totals_upto sides window summands keys ends t =
+    totals_of sides summands (take (upto (map (start_in window) keys) t) keys) (take (upto (map (λ e. e.at) ends) t) ends)
 
 -- what the row adds where it is valid at the instant, inside the window, else 0
 abbrev pub held_weight : Summand → Period → ℕ → Fragment → ℤ
 held_weight s window t row = cond (holds row.period t && holds window t) (weight_of s row.values) (pos 0)
 
 -- what the rows valid at the instant, inside the window, add
-abbrev pub total_held : Summand → Period → List Ranked → ℕ → ℤ
-total_held s window rows t = added (λ r. held_weight s window t r.fragment.now) rows
+abbrev pub total_held : Summand → Period → List Fragment → ℕ → ℤ
+total_held s window rows t = added (held_weight s window t) rows
 
-abbrev pub totals_held : List Summand → Period → List Ranked → ℕ → List ℤ
+abbrev pub totals_held : List Summand → Period → List Fragment → ℕ → List ℤ
 totals_held summands window rows t = map (λ s. total_held s window rows t) summands
 
 -- the row adds a number of 64 signed bits
-abbrev pub IsSmall : Summand → Fragment → Type 0
-IsSmall s row = FitsSigned w64 (weight_of s row.values)
+abbrev pub IsSmall : Summand → List Value → Type 0
+IsSmall s row = FitsSigned w64 (weight_of s row)
 
 -- each row adds one
-abbrev pub HaveSmall : Summand → List Ranked → Type 0
-HaveSmall s rows = All (λ r. IsSmall s r.fragment.now) rows
+abbrev pub HaveSmall : Summand → List Fragment → Type 0
+HaveSmall s rows = All (λ r. IsSmall s r.values) rows
 
--- the row of each change adds one
-abbrev pub AreSmall : Summand → List Change → Type 0
-AreSmall s changes = All (λ c. IsSmall s c.row.now) changes
+-- the row of each key adds one
+abbrev pub AreSmallKeys : SidesState → Summand → List Key → Type 0
+AreSmallKeys sides s keys = All (λ k. IsSmall s (key_row sides k).values) keys
 
--- no change comes before the window's start or after its end
-abbrev pub AreWithin : Period → List Change → Type 0
-AreWithin window changes = All (λ c. (window.start ≤ c.at) × (c.at ≤ window.end)) changes
+-- the row of each end adds one
+abbrev pub AreSmallEnds : SidesState → Summand → List End → Type 0
+AreSmallEnds sides s ends = All (λ e. IsSmall s (key_row sides (end_key e)).values) ends
 
 -- whether the first of the totals, the count of rows, is not 0
 abbrev pub has_rows : List ℤ → Bool

@@ -1,48 +1,78 @@
 //! Counts and sums: the rows of each group are counted up and down along the time line.
 
-ghost use Rattle.std.specs.Prelude.{◌≡◌, ◌+◌, ℕ, false, if◌then◌else◌, All, IfOk, List, OnOk};
+ghost use Rattle.std.specs.List.Sorted.{IsNonDecreasingBy};
+ghost use Rattle.std.specs.Prelude.{◌≡◌, ◌+◌, ◌<◌, ◌≤◌, ◌^◌, ℕ, [], if◌then◌else◌, length, map, All, IfOk, List, OnOk};
 ghost use Rattle.tq_base.specs.declared.fragment.Fragment.{Fragment};
 ghost use Rattle.tq_base.specs.declared.value.Value.{Value};
 ghost use Rattle.tq_base.specs.Fragments.{at, copies, occurrences};
+ghost use Rattle.tq_base.specs.declared.sides.Key.{Key};
+ghost use Rattle.tq_base.specs.Keys.{key_row, IsKey};
+ghost use Rattle.tq_base.specs.KeySides.{state_of};
 ghost use Rattle.tq_base.specs.Periods.{holds};
 ghost use Rattle.tq_ops.specs.Ordinary.{HasInside, IsEmptyOutside};
 ghost use Rattle.tq_agg.specs.Grouping.{AreSummable, count_rows, grouped_rows};
-ghost use Rattle.tq_agg.specs.Keys.{AreOfKey};
+ghost use Rattle.tq_agg.specs.GroupKeys.{AreOfKey};
 ghost use Rattle.tq_agg.specs.Totals.{shown_copies, totals_held, HaveSmall};
 
-use crate::changes::{Change, changes_of};
+use crate::bounds::{End, fill_ends};
 use crate::edges::{Edges, edges_of, sweep_edges};
-use crate::groups::{compare_rows, gathered, group_len};
-use crate::rows::Ranked;
 use crate::summands::{Summand, summands_of};
-use crate::sweeping::{Head, sweep};
+use crate::sweeping::{Group, Head, SweepRoom, sweep, sweep_room};
 use std::alloc::{AllocError, Global};
-use tq_base::{Fragment, Period};
+use tq_base::{Key, Period, Rows, Side, Sides};
 
-// The rows that the group makes go to the end of the list. The room is handed back to be used again.
-fn add_group<'a>(
-    alloc: Global,
-    group: &[Ranked<'a>],
-    window: &Period,
-    keys: &[u32],
-    summands: &[Summand],
-    room: Vec<Change<'a>>,
-    out: &mut Vec<Fragment>,
-) -> Result<Vec<Change<'a>>, AllocError>
-    requires { All (λ s. HaveSmall s group.now) summands.now }
-    ensures { OnOk result ((k : List Value) → AreOfKey keys.now k group.now → (t : ℕ) (v : List Value) → copies out.new.items v t
-        ≡ copies out.old.items v t + (if holds window.now t then shown_copies k (totals_held summands.now window.now group.now t) v else 0)) }
+// What one group after another is gone through in: where its rows end, and what it is swept in.
+#[derive(Drop)]
+struct Room {
+    ends: Vec<End>,
+    swept: SweepRoom,
+}
+
+// Room with no values.
+fn empty_room(alloc: Global) -> Room
+    ensures { result.swept.values.items ≡ [] }
 {
-    let Some(first) = group.first() else {
-        return Ok(room);
+    Room {
+        ends: Vec::new(alloc),
+        swept: sweep_room(alloc),
+    }
+}
+
+// The rows that the group makes go to the end of the list. The room is empty of values before and after.
+fn add_group(
+    alloc: Global,
+    sides: &Sides<'_>,
+    keys: &[Key],
+    window: &Period,
+    summands: &[Summand],
+    room: &mut Room,
+    out: &mut Rows,
+) -> Result<(), AllocError>
+    requires empty { room.old.swept.values.items ≡ [] }
+    requires keys { All (IsKey (state_of sides.now)) keys.now }
+    requires starts { IsNonDecreasingBy (λ (k : Key). k.start) keys.now }
+    requires short { length keys.now < 2 ^ 63 }
+    requires small { All (λ s. HaveSmall s (map (key_row (state_of sides.now)) keys.now)) summands.now }
+    requires width { out.old.width ≡ length sides.now.left_columns.now + length summands.now }
+    ensures emptied { OnOk result (room.new.swept.values.items ≡ []) }
+    ensures width { out.new.width ≡ out.old.width }
+    ensures rows { OnOk result ((k : List Value) → AreOfKey sides.now.left_columns.now k (map (key_row (state_of sides.now)) keys.now) → (t : ℕ) (v : List Value) → copies out.new.items v t
+        ≡ copies out.old.items v t + (if holds window.now t then shown_copies k (totals_held summands.now window.now (map (key_row (state_of sides.now)) keys.now) t) v else 0)) }
+{
+    let Some(first) = keys.first() else {
+        return Ok(());
     };
-    let changes = changes_of(room, group, window)?;
+    fill_ends(sides, keys, window, &mut room.ends)?;
     let head = Head {
-        row: first.fragment.values.get(),
-        keys,
+        row: sides.values(first),
+        keys: sides.left_columns,
     };
-    sweep(alloc, &head, summands, &changes, window, out)?;
-    Ok(changes)
+    let group = Group {
+        sides,
+        keys,
+        ends: &room.ends,
+    };
+    sweep(alloc, &head, summands, &group, window, &mut room.swept, out)
 }
 
 /// For each group of rows of equal values in the key columns, while it has any: these values, how many
@@ -51,26 +81,34 @@ fn add_group<'a>(
 /// summed numbers owe 64 signed bits. `AllocError` where a growth was refused.
 pub fn group_count_sum(
     alloc: Global,
-    rows: &[Fragment],
+    rows: &Rows,
     window: &Period,
     keys: &[u32],
     sums: &[u32],
-) -> Result<Vec<Fragment>, AllocError>
-    requires summable { All (λ (row : Fragment). AreSummable sums.now row.values) rows.now }
+) -> Result<Rows, AllocError>
+    requires summable { All (λ (row : Fragment). AreSummable sums.now row.values) rows.now.items }
+    ensures width { IfOk result (λ out. out.width ≡ length keys.now + 1 + length sums.now) }
     ensures inside { IfOk result (λ out. HasInside window.now out.items
-        (λ t v. occurrences (grouped_rows keys.now sums.now (at rows.now t)) v)) }
+        (λ t v. occurrences (grouped_rows keys.now sums.now (at rows.now.items t)) v)) }
     ensures outside { IfOk result (λ out. IsEmptyOutside window.now out.items) }
 {
     let summands = summands_of(alloc, sums)?;
-    let mut ranked = gathered(alloc, rows, window, keys)?;
-    ranked.sort_unstable_by(|one, other| compare_rows(keys, one, other));
-    let mut room = Vec::new(alloc);
-    let mut out = Vec::new(alloc);
+    let sides = Sides {
+        left: rows,
+        right: rows,
+        left_columns: keys,
+        right_columns: keys,
+    };
+    let mut sorted = Vec::new(alloc);
+    sides.add_keys(Side::Left, Some(window), &mut sorted)?;
+    sides.sort(&mut sorted)?;
+    let mut room = empty_room(alloc);
+    let mut out = Rows::new(alloc, keys.len() + summands.len());
     let mut start = 0;
-    'groups: while start < ranked.len() {
-        let end = start + group_len(keys, &ranked[start..]);
-        let group = &ranked[start..end];
-        room = add_group(alloc, group, window, keys, &summands, room, &mut out)?;
+    'groups: while start < sorted.len() {
+        let end = start + sides.run_len(&sorted[start..]);
+        let group = &sorted[start..end];
+        add_group(alloc, &sides, group, window, &summands, &mut room, &mut out)?;
         start = end;
     }
     Ok(out)
@@ -78,16 +116,13 @@ pub fn group_count_sum(
 
 /// How many rows are valid, as it changes over the window: one row at each instant of it, with the
 /// number 0 where none is valid. `AllocError` where a growth was refused.
-pub fn count_all(
-    alloc: Global,
-    rows: &[Fragment],
-    window: &Period,
-) -> Result<Vec<Fragment>, AllocError>
-    ensures inside { IfOk result (λ out. HasInside window.now out.items (λ t v. occurrences (count_rows (at rows.now t)) v)) }
+pub fn count_all(alloc: Global, rows: &Rows, window: &Period) -> Result<Rows, AllocError>
+    ensures width { IfOk result (λ out. out.width ≡ 1) }
+    ensures inside { IfOk result (λ out. HasInside window.now out.items (λ t v. occurrences (count_rows (at rows.now.items t)) v)) }
     ensures outside { IfOk result (λ out. IsEmptyOutside window.now out.items) }
 {
     let Edges { starts, ends } = edges_of(alloc, rows, window)?;
-    let mut out = Vec::new(alloc);
+    let mut out = Rows::new(alloc, 1);
     sweep_edges(alloc, &starts, &ends, window, &mut out)?;
     Ok(out)
 }

@@ -8,10 +8,10 @@ ghost use Rattle.tq_agg.specs.declared.summands.Summand.TheVariants.{One};
 ghost use Rattle.tq_agg.specs.Edges.{count_upto, AreEdges, IsAtFront};
 ghost use Rattle.tq_agg.specs.Totals.{added, held_weight, row_copies};
 
-use crate::changes::bound_at;
+use crate::bounds::bound_at;
 use crate::sweeping::{Head, add_row};
 use std::alloc::{AllocError, Global};
-use tq_base::{Bound, Fragment, Period};
+use tq_base::{Bound, Period, Rows, Value};
 
 // The bounds at which rows begin, and those at which they end.
 #[derive(Drop)]
@@ -21,19 +21,15 @@ pub(crate) struct Edges {
 }
 
 // Where the rows, cut to the window, begin and end, in order.
-pub(crate) fn edges_of(
-    alloc: Global,
-    rows: &[Fragment],
-    window: &Period,
-) -> Result<Edges, AllocError>
-    ensures counts { IfOk result (λ edges. (t : ℕ) → count_upto edges.starts.items edges.ends.items t ≡ added (held_weight One window.now t) rows.now) }
+pub(crate) fn edges_of(alloc: Global, rows: &Rows, window: &Period) -> Result<Edges, AllocError>
+    ensures counts { IfOk result (λ edges. (t : ℕ) → count_upto edges.starts.items edges.ends.items t ≡ added (held_weight One window.now t) rows.now.items) }
     ensures starts { IfOk result (λ edges. AreEdges window.now edges.starts.items) }
     ensures ends { IfOk result (λ edges. AreEdges window.now edges.ends.items) }
 {
     let mut starts = Vec::new(alloc);
     let mut ends = Vec::new(alloc);
-    'rows: for row in rows {
-        let Some(period) = row.period.overlap(window) else {
+    'rows: for row in 0..rows.len() {
+        let Some(period) = rows.period(row).overlap(window) else {
             continue;
         };
         starts.push(bound_at(period.start))?;
@@ -87,16 +83,21 @@ fn add_count(
     ended: usize,
     since: Bound,
     until: Bound,
-    out: &mut Vec<Fragment>,
+    room: &mut Vec<Value>,
+    out: &mut Rows,
 ) -> Result<(), AllocError>
-    ensures { OnOk result ((t : ℕ) (v : List Value) → copies out.new.items v t ≡ copies out.old.items v t
+    requires empty { room.old.items ≡ [] }
+    requires width { out.old.width ≡ 1 }
+    ensures emptied { OnOk result (room.new.items ≡ []) }
+    ensures width { out.new.width ≡ 1 }
+    ensures rows { OnOk result ((t : ℕ) (v : List Value) → copies out.new.items v t ≡ copies out.old.items v t
         + (if nat_le since t && nat_lt t until then row_copies [] ((pos begun -ℤ pos ended) ∷ []) v else 0)) }
 {
     let head = Head {
         row: &[],
         keys: &[],
     };
-    add_row(alloc, &head, &[left(begun, ended)], since, until, out)
+    add_row(alloc, &head, &[left(begun, ended)], since, until, room, out)
 }
 
 // How many rows are valid at each instant of the window, as rows of one number, goes to the end of the list.
@@ -105,13 +106,16 @@ pub(crate) fn sweep_edges(
     starts: &[Bound],
     ends: &[Bound],
     window: &Period,
-    out: &mut Vec<Fragment>,
+    out: &mut Rows,
 ) -> Result<(), AllocError>
     requires starts { AreEdges window.now starts.now }
     requires ends { AreEdges window.now ends.now }
-    ensures { OnOk result ((t : ℕ) (v : List Value) → copies out.new.items v t ≡ copies out.old.items v t
+    requires width { out.old.width ≡ 1 }
+    ensures width { out.new.width ≡ 1 }
+    ensures rows { OnOk result ((t : ℕ) (v : List Value) → copies out.new.items v t ≡ copies out.old.items v t
         + (if holds window.now t then row_copies [] (count_upto starts.now ends.now t ∷ []) v else 0)) }
 {
+    let mut room = Vec::new(alloc);
     let mut since = bound_at(window.start);
     let mut begun = 0;
     let mut ended = 0;
@@ -119,11 +123,11 @@ pub(crate) fn sweep_edges(
         let begin = len_by(&starts[begun..], at);
         let end = len_by(&ends[ended..], at);
         if begin != end {
-            add_count(alloc, begun, ended, since, at, out)?;
+            add_count(alloc, begun, ended, since, at, &mut room, out)?;
             since = at;
         }
         begun += begin;
         ended += end;
     }
-    add_count(alloc, begun, ended, since, window.end, out)
+    add_count(alloc, begun, ended, since, window.end, &mut room, out)
 }

@@ -6,7 +6,7 @@ ghost use Rattle.tq_agg.specs.Grouping.{number_of};
 ghost use Rattle.tq_agg.specs.Totals.{weight_of};
 
 use std::alloc::{AllocError, Global};
-use tq_base::{Fragment, Seen, Value};
+use tq_base::{Seen, Value};
 
 // What each row adds to a total: 1, or the number in the column, which is 0 for a text and where the row
 // has no such column.
@@ -26,14 +26,14 @@ fn number_of(value: &Value) -> i128
 }
 
 // What the row adds. Where it is counted alone its values are not looked at.
-pub(crate) fn weight(summand: Summand, row: &Fragment) -> i128
-    ensures { result ≡ weight_of summand row.now.values }
+pub(crate) fn weight(summand: Summand, row: &[Value]) -> i128
+    ensures { result ≡ weight_of summand row.now }
 {
     let column = match summand {
         Summand::One => return 1,
         Summand::Column(column) => column,
     };
-    match row.values.get().get(column as usize) {
+    match row.get(column as usize) {
         Some(value) => number_of(value),
         None => 0,
     }

@@ -1,21 +1,25 @@
-//! The sweep over the changes of a group: running totals, and a row wherever they change.
+//! The sweep over the starts and ends of a group: running totals, and a row wherever they change.
 
-ghost use Rattle.std.specs.Prelude.{◌≡◌, ◌++◌, ◌+◌, ◌<◌, ◌≤◌, ◌&&◌, ℕ, [], if◌then◌else◌, nat_le, nat_lt, length, map, take, All, IfOk, IsSortedByKey, List, OnOk};
+ghost use Rattle.std.specs.List.Sorted.{IsNonDecreasingBy};
+ghost use Rattle.std.specs.Prelude.{◌≡◌, ◌++◌, ◌+◌, ◌<◌, ◌≤◌, ◌^◌, ◌&&◌, ℕ, pos, [], if◌then◌else◌, nat_le, nat_lt, length, map, take, All, IfOk, IsSortedByKey, List, OnOk};
 ghost use Rattle.std.specs.Ordering.{nat_cmp};
 ghost use Rattle.tq_base.specs.declared.value.Value.{Value};
+ghost use Rattle.tq_base.specs.declared.sides.Key.{Key};
 ghost use Rattle.tq_base.specs.Contents.{Int};
 ghost use Rattle.tq_base.specs.Fragments.{copies};
+ghost use Rattle.tq_base.specs.Keys.{key_row};
+ghost use Rattle.tq_base.specs.KeySides.{state_of};
 ghost use Rattle.tq_base.specs.Periods.{holds};
 ghost use Rattle.tq_ops.specs.Conditions.{value_at};
 ghost use Rattle.tq_ops.specs.Ordinary.{projection};
-ghost use Rattle.tq_agg.specs.declared.changes.Change.{Change};
-ghost use Rattle.tq_agg.specs.Totals.{has_rows, row_copies, shown_copies, total_of, totals_of, totals_upto, AreSmall, AreWithin};
+ghost use Rattle.tq_agg.specs.declared.bounds.End.{End};
+ghost use Rattle.tq_agg.specs.Totals.{added, end_key, has_rows, key_weight, row_copies, shown_copies, totals_of, totals_upto, AreSmallEnds, AreSmallKeys};
 
-use crate::changes::{Change, batch_len, bound_at};
+use crate::bounds::{End, bound_at, ends_by, first_bound, starts_by};
 use crate::summands::{Summand, weight};
 use std::alloc::{AllocError, Global};
 use std::mem;
-use tq_base::{Bound, Fragment, Instant, Period, Value, Values};
+use tq_base::{Bound, Instant, Key, Period, Rows, Sides, Value};
 
 // What stands before the totals in the rows of a group: the values of one of its rows in the key
 // columns.
@@ -25,48 +29,109 @@ pub(crate) struct Head<'a> {
     pub(crate) keys: &'a [u32],
 }
 
-// What the changes add in all.
-fn net(summand: Summand, changes: &[Change<'_>]) -> i128
-    requires { AreSmall summand changes.now }
-    ensures { result ≡ total_of summand changes.now }
+// What a group is swept in: its totals, the next ones, and the values of a row that is made. All are used
+// again for the next group.
+#[derive(Drop)]
+pub(crate) struct SweepRoom {
+    pub(crate) totals: Vec<i128>,
+    pub(crate) next: Vec<i128>,
+    pub(crate) values: Vec<Value>,
+}
+
+// Room with no values.
+pub(crate) fn sweep_room(alloc: Global) -> SweepRoom
+    ensures { result.values.items ≡ [] }
+{
+    SweepRoom {
+        totals: Vec::new(alloc),
+        next: Vec::new(alloc),
+        values: Vec::new(alloc),
+    }
+}
+
+// A group of rows: their keys in the order of their starts, and where they end, in order.
+#[derive(Clone, Copy)]
+pub(crate) struct Group<'a> {
+    pub(crate) sides: &'a Sides<'a>,
+    pub(crate) keys: &'a [Key],
+    pub(crate) ends: &'a [End],
+}
+
+// How many rows of a group have begun, and how many have ended.
+#[derive(Clone, Copy)]
+struct Place {
+    begun: usize,
+    ended: usize,
+}
+
+// What the rows of the keys add.
+fn added_keys(summand: Summand, sides: &Sides<'_>, keys: &[Key]) -> i128
+    requires { AreSmallKeys (state_of sides.now) summand keys.now }
+    ensures { result ≡ added (key_weight (state_of sides.now) summand) keys.now }
 {
     let mut total: i128 = 0;
-    'changes: for change in changes {
-        let number = weight(summand, change.row);
-        if change.rises {
-            total += number;
-        } else {
-            total -= number;
-        }
+    'keys: for key in keys {
+        total += weight(summand, sides.values(key));
     }
     total
 }
 
-// The totals before any change.
-fn no_totals(alloc: Global, summands: &[Summand]) -> Result<Vec<i128>, AllocError>
-    ensures { IfOk result (λ totals. totals.items ≡ totals_of summands.now []) }
+// What the rows that end add.
+fn added_ends(summand: Summand, sides: &Sides<'_>, ends: &[End]) -> i128
+    requires { AreSmallEnds (state_of sides.now) summand ends.now }
+    ensures { result ≡ added (λ (e : End). key_weight (state_of sides.now) summand (end_key e)) ends.now }
 {
-    summands.iter().map(|_| 0).collect(alloc)
+    let mut total: i128 = 0;
+    'ends: for end in ends {
+        let key = Key {
+            rank: 0,
+            start: 0,
+            row: end.row,
+            side: end.side,
+        };
+        total += weight(summand, sides.values(&key));
+    }
+    total
 }
 
-// The next totals, after the changes before `end`, from the totals after those before `start`.
+// The totals before any row begins take the place of those in the list.
+fn clear_totals(summands: &[Summand], totals: &mut Vec<i128>) -> Result<(), AllocError>
+    ensures { OnOk result (totals.new.items ≡ map (λ s. pos 0) summands.now) }
+{
+    totals.clear();
+    'summands: for _summand in summands {
+        totals.push(0)?;
+    }
+    Ok(())
+}
+
+// The next totals, from those at a place before.
 fn fill_totals(
     summands: &[Summand],
-    changes: &[Change<'_>],
-    start: usize,
-    end: usize,
+    group: &Group<'_>,
+    from: Place,
+    to: Place,
     totals: &[i128],
     next: &mut Vec<i128>,
 ) -> Result<(), AllocError>
-    requires order { start ≤ end }
-    requires within { end ≤ length changes.now }
-    requires small { All (λ s. AreSmall s changes.now) summands.now }
-    requires totals { totals.now ≡ totals_of summands.now (take start changes.now) }
-    ensures { OnOk result (next.new.items ≡ totals_of summands.now (take end changes.now)) }
+    requires begun { from.begun ≤ to.begun }
+    requires ended { from.ended ≤ to.ended }
+    requires within { to.begun ≤ length group.now.keys.now }
+    requires ends_within { to.ended ≤ length group.now.ends.now }
+    requires short { length group.now.keys.now < 2 ^ 63 }
+    requires ends_short { length group.now.ends.now < 2 ^ 63 }
+    requires small { All (λ s. AreSmallKeys (state_of group.now.sides.now) s group.now.keys.now) summands.now }
+    requires ends_small { All (λ s. AreSmallEnds (state_of group.now.sides.now) s group.now.ends.now) summands.now }
+    requires totals { totals.now ≡ totals_of (state_of group.now.sides.now) summands.now (take from.begun group.now.keys.now) (take from.ended group.now.ends.now) }
+    ensures { OnOk result (next.new.items ≡ totals_of (state_of group.now.sides.now) summands.now (take to.begun group.now.keys.now) (take to.ended group.now.ends.now)) }
 {
+    let keys = &group.keys[from.begun..to.begun];
+    let ends = &group.ends[from.ended..to.ended];
     next.clear();
     'summands: for (place, summand) in summands.iter().enumerate() {
-        next.push(totals[place] + net(*summand, &changes[start..end]))?;
+        let begun = added_keys(*summand, group.sides, keys);
+        let ended = added_ends(*summand, group.sides, ends);
+        next.push(totals[place] + (begun - ended))?;
     }
     Ok(())
 }
@@ -81,18 +146,22 @@ fn copied_at(row: &[Value], column: u32) -> Result<Value, AllocError>
     }
 }
 
-// The values of the key, then the totals.
-fn joined(alloc: Global, head: &Head<'_>, totals: &[i128]) -> Result<Values, AllocError>
-    ensures { IfOk result (λ values. values ≡ projection head.now.keys.now head.now.row.now ++ map Int totals.now) }
+// The values of the key, then the totals, go to the end of the list.
+fn join_row(
+    alloc: Global,
+    head: &Head<'_>,
+    totals: &[i128],
+    values: &mut Vec<Value>,
+) -> Result<(), AllocError>
+    ensures { OnOk result (values.new.items ≡ values.old.items ++ projection head.now.keys.now head.now.row.now ++ map Int totals.now) }
 {
-    let mut values = Vec::with_capacity(alloc, head.keys.len() + totals.len())?;
     'keys: for key in head.keys {
         values.push(copied_at(head.row, *key)?)?;
     }
     'totals: for total in totals {
         values.push(Value::number(alloc, *total)?)?;
     }
-    Ok(Values::of(values))
+    Ok(())
 }
 
 // Whether the first of the totals, the count of rows, is not 0.
@@ -106,16 +175,21 @@ fn has_rows(totals: &[i128]) -> bool
 }
 
 // A row of the totals from the one bound to the other, if there are instants between, goes to the end of
-// the list.
+// the list. The room is empty before and after.
 pub(crate) fn add_row(
     alloc: Global,
     head: &Head<'_>,
     totals: &[i128],
     since: Bound,
     until: Bound,
-    out: &mut Vec<Fragment>,
+    room: &mut Vec<Value>,
+    out: &mut Rows,
 ) -> Result<(), AllocError>
-    ensures { OnOk result ((t : ℕ) (v : List Value) → copies out.new.items v t ≡ copies out.old.items v t
+    requires empty { room.old.items ≡ [] }
+    requires width { out.old.width ≡ length head.now.keys.now + length totals.now }
+    ensures emptied { OnOk result (room.new.items ≡ []) }
+    ensures width { out.new.width ≡ out.old.width }
+    ensures rows { OnOk result ((t : ℕ) (v : List Value) → copies out.new.items v t ≡ copies out.old.items v t
         + (if nat_le since t && nat_lt t until then row_copies (projection head.now.keys.now head.now.row.now) totals.now v else 0)) }
 {
     let Some(start) = Instant::new(since.number()) else {
@@ -124,9 +198,8 @@ pub(crate) fn add_row(
     let Some(period) = Period::new(start, until) else {
         return Ok(());
     };
-    let values = joined(alloc, head, totals)?;
-    out.push(Fragment { values, period })?;
-    Ok(())
+    join_row(alloc, head, totals, room)?;
+    out.push(room, period)
 }
 
 // The same where the totals count any row.
@@ -136,47 +209,74 @@ fn add_shown(
     totals: &[i128],
     since: Bound,
     until: Bound,
-    out: &mut Vec<Fragment>,
+    room: &mut Vec<Value>,
+    out: &mut Rows,
 ) -> Result<(), AllocError>
-    ensures { OnOk result ((t : ℕ) (v : List Value) → copies out.new.items v t ≡ copies out.old.items v t
+    requires empty { room.old.items ≡ [] }
+    requires width { out.old.width ≡ length head.now.keys.now + length totals.now }
+    ensures emptied { OnOk result (room.new.items ≡ []) }
+    ensures width { out.new.width ≡ out.old.width }
+    ensures rows { OnOk result ((t : ℕ) (v : List Value) → copies out.new.items v t ≡ copies out.old.items v t
         + (if nat_le since t && nat_lt t until then shown_copies (projection head.now.keys.now head.now.row.now) totals.now v else 0)) }
 {
     if has_rows(totals) {
-        add_row(alloc, head, totals, since, until, out)
+        add_row(alloc, head, totals, since, until, room, out)
     } else {
         Ok(())
     }
 }
 
-// The rows of the totals after the changes up to each instant of the window go to the end of the list.
+// The rows of the totals at each instant of the window go to the end of the list.
 pub(crate) fn sweep(
     alloc: Global,
     head: &Head<'_>,
     summands: &[Summand],
-    changes: &[Change<'_>],
+    group: &Group<'_>,
     window: &Period,
-    out: &mut Vec<Fragment>,
+    room: &mut SweepRoom,
+    out: &mut Rows,
 ) -> Result<(), AllocError>
-    requires sorted { IsSortedByKey (λ (c : Change). c.at) nat_cmp changes.now }
-    requires within { AreWithin window.now changes.now }
-    requires small { All (λ s. AreSmall s changes.now) summands.now }
-    ensures { OnOk result ((t : ℕ) (v : List Value) → copies out.new.items v t ≡ copies out.old.items v t
-        + (if holds window.now t then shown_copies (projection head.now.keys.now head.now.row.now) (totals_upto summands.now changes.now t) v else 0)) }
+    requires starts { IsNonDecreasingBy (λ (k : Key). k.start) group.now.keys.now }
+    requires ends { IsSortedByKey (λ (e : End). e.at) nat_cmp group.now.ends.now }
+    requires within { All (λ (e : End). (window.now.start ≤ e.at) × (e.at ≤ window.now.end)) group.now.ends.now }
+    requires short { length group.now.keys.now < 2 ^ 63 }
+    requires ends_short { length group.now.ends.now < 2 ^ 63 }
+    requires small { All (λ s. AreSmallKeys (state_of group.now.sides.now) s group.now.keys.now) summands.now }
+    requires ends_small { All (λ s. AreSmallEnds (state_of group.now.sides.now) s group.now.ends.now) summands.now }
+    requires empty { room.old.values.items ≡ [] }
+    requires width { out.old.width ≡ length head.now.keys.now + length summands.now }
+    ensures emptied { OnOk result (room.new.values.items ≡ []) }
+    ensures width { out.new.width ≡ out.old.width }
+    ensures rows { OnOk result ((t : ℕ) (v : List Value) → copies out.new.items v t ≡ copies out.old.items v t
+        + (if holds window.now t then shown_copies (projection head.now.keys.now head.now.row.now) (totals_upto (state_of group.now.sides.now) window.now summands.now group.now.keys.now group.now.ends.now t) v else 0)) }
 {
-    let mut totals = no_totals(alloc, summands)?;
-    let mut next = Vec::new(alloc);
+    clear_totals(summands, &mut room.totals)?;
     let mut since = bound_at(window.start);
-    let mut start = 0;
-    'batches: while start < changes.len() {
-        let at = changes[start].at;
-        let end = start + batch_len(&changes[start..]);
-        fill_totals(summands, changes, start, end, &totals, &mut next)?;
-        if next != totals {
-            add_shown(alloc, head, &totals, since, at, out)?;
-            mem::swap(&mut totals, &mut next);
+    let mut place = Place { begun: 0, ended: 0 };
+    'bounds: while let Some(at) = first_bound(
+        &group.keys[place.begun..],
+        &group.ends[place.ended..],
+        window,
+    ) {
+        let next = Place {
+            begun: place.begun + starts_by(&group.keys[place.begun..], at, window),
+            ended: place.ended + ends_by(&group.ends[place.ended..], at),
+        };
+        fill_totals(summands, group, place, next, &room.totals, &mut room.next)?;
+        if room.next != room.totals {
+            add_shown(alloc, head, &room.totals, since, at, &mut room.values, out)?;
+            mem::swap(&mut room.totals, &mut room.next);
             since = at;
         }
-        start = end;
+        place = next;
     }
-    add_shown(alloc, head, &totals, since, window.end, out)
+    add_shown(
+        alloc,
+        head,
+        &room.totals,
+        since,
+        window.end,
+        &mut room.values,
+        out,
+    )
 }

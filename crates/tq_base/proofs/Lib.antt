@@ -1,7 +1,9 @@
 pub mod Converse
 pub mod Existence
+pub mod KeyLemmas
 pub mod NameLemmas
 pub mod NumberLemmas
-pub mod RowLemmas
+pub mod RowListLemmas
 pub mod Runs
 pub mod Unique
+pub mod UntoldLemmas

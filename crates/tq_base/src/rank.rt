@@ -1,12 +1,15 @@
 //! Ranks: numbers that rise with values, so that most values are told apart by numbers alone, which lie
 //! beside each other in memory.
 
-ghost use Rattle.std.specs.Prelude.{◌≡◌, ◌≤◌, length};
+ghost use Rattle.std.specs.Prelude.{◌≡◌, drop};
 ghost use Rattle.tq_base.specs.Contents.{Int, Text};
-ghost use Rattle.tq_base.specs.Ranks.{has_exact_rank, value_rank, HasBytes};
+ghost use Rattle.tq_base.specs.Ranks.{value_rank, HasBytes};
+ghost use Rattle.tq_base.specs.Untold.{text_of, value_after};
+ghost use Rattle.tq_base.specs.ValueOrder.{value_cmp};
 
 use crate::short_text::{head_of, text_rank};
-use crate::value::{Kept, Value};
+use crate::value::{Kept, Seen, Value};
+use std::cmp::Ordering;
 
 // How far the numbers of 64 signed bits go beyond 0: 2^63.
 const SPAN: i128 = 0x8000_0000_0000_0000;
@@ -18,13 +21,12 @@ fn int_rank(number: i128) -> u128
     (number.clamp(-SPAN - 1, SPAN) + SPAN + 1) as u128
 }
 
-// (More bytes than 14 count as 15.)
-fn long_rank(text: &str) -> u128
-    requires { 15 ≤ length text.now }
-    ensures rank { result ≡ value_rank (Text text.now) }
-    ensures bytes { HasBytes (Text text.now) }
+// The rank of a text of these bytes. (More bytes than 14 count as 15.)
+fn bytes_rank(bytes: &[u8]) -> u128
+    ensures rank { result ≡ value_rank (Text bytes.now) }
+    ensures bytes { HasBytes (Text bytes.now) }
 {
-    text_rank(&head_of(text.as_bytes()), 15)
+    text_rank(&head_of(bytes), bytes.len().min(15) as u8)
 }
 
 /// A number that rises with the value: it is never above that of a higher value.
@@ -35,15 +37,47 @@ pub fn rank_of(value: &Value) -> u128
     match &value.kept {
         Kept::Int(number) => int_rank(i128::from(*number)),
         Kept::Short(text) => text.rank(),
-        Kept::Long(text) => long_rank(text.as_ref().get()),
+        Kept::Long(text) => bytes_rank(text.as_ref().get().as_bytes()),
         Kept::Wide(number) => int_rank(*number.as_ref()),
     }
 }
 
-/// Whether the rank tells the value wholly, so that no other value that is told wholly has it: a number
-/// of 64 signed bits, or a text of at most 14 bytes.
-pub fn is_exact(value: &Value) -> bool
-    ensures { result ≡ has_exact_rank value.now }
+// The bytes from the offset on, none where there are no more.
+fn bytes_after(bytes: &[u8], offset: usize) -> &[u8]
+    ensures { result.now ≡ drop offset bytes.now }
 {
-    matches!(value.kept, Kept::Int(_) | Kept::Short(_))
+    &bytes[offset.min(bytes.len())..]
+}
+
+/// The bytes of a text from the offset on, none of a number.
+pub(crate) fn text_after(value: &Value, offset: usize) -> &[u8]
+    ensures { result.now ≡ text_of (value_after offset value.now) }
+{
+    match value.seen() {
+        Seen::Int(_) => &[],
+        Seen::Text(text) => bytes_after(text.as_bytes(), offset),
+    }
+}
+
+/// The rank of a number, or of a text from the offset on.
+pub(crate) fn rank_after(value: &Value, offset: usize) -> u128
+    ensures rank { result ≡ value_rank (value_after offset value.now) }
+    ensures bytes { HasBytes (value_after offset value.now) }
+{
+    match value.seen() {
+        Seen::Int(number) => int_rank(number),
+        Seen::Text(text) => bytes_rank(bytes_after(text.as_bytes(), offset)),
+    }
+}
+
+/// Texts by their bytes from the offset on, other values as ever.
+pub(crate) fn compare_after(one: &Value, other: &Value, offset: usize) -> Ordering
+    ensures { result ≡ value_cmp (value_after offset one.now) (value_after offset other.now) }
+{
+    match (one.seen(), other.seen()) {
+        (Seen::Text(left), Seen::Text(right)) => {
+            bytes_after(left.as_bytes(), offset).cmp(bytes_after(right.as_bytes(), offset))
+        }
+        _ => one.compare(other),
+    }
 }

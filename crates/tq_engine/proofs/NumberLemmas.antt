@@ -17,7 +17,7 @@ use Rattle.tq_event.specs.declared.event.Event.{Event}
 use Rattle.tq_event.specs.declared.event.Event.TheVariants.{Start, End}
 use Rattle.tq_event.specs.History.{CanHappen, IsHistory}
 use Rattle.tq_agg.specs.Grouping.{number_of}
-use Rattle.tq_plan.specs.Running.{HasNumbers}
+use Rattle.tq_eval.specs.Running.{Fits, HasNumbers}
 
 abbrev IsNumber : Value → Type 0
 IsNumber value = FitsSigned w64 (number_of value)
@@ -48,3 +48,11 @@ parts events k d less = split_at events k d less
 pub numbers_of_history : (catalogue : Catalogue) (events : List Event) → IsHistory catalogue events → All HasNumbers events
 numbers_of_history catalogue events history k d less =
     happened catalogue (take k events) (get_or events k d) (history (take k events) (get_or events k d) (drop (suc k) events) (parts events k d less)).1
+
+fits_table : (catalogue : Catalogue) (before : List Event) (event : Event) → CanHappen catalogue before event → Fits catalogue event
+fits_table catalogue before (Start t v when) can = can
+fits_table catalogue before (End t r when) can = tt
+
+pub events_fit : (catalogue : Catalogue) (events : List Event) → IsHistory catalogue events → All (Fits catalogue) events
+events_fit catalogue events history k d less =
+    fits_table catalogue (take k events) (get_or events k d) (history (take k events) (get_or events k d) (drop (suc k) events) (parts events k d less)).1

@@ -4,7 +4,7 @@ use Rattle.tq_base.specs.declared.catalogue.Catalogue.{Catalogue}
 use Rattle.tq_event.specs.declared.file.Loaded.{Loaded}
 use Rattle.tq_event.specs.declared.file.TableFile.{TableFile}
 use Rattle.tq_event.specs.Loading.{IsLoaded, contents_of}
-use Rattle.tq_plan.specs.Answers.{IsAnswer}
+use Rattle.tq_eval.specs.Answers.{IsAnswer}
 use Rattle.tq_plan.specs.Plans.{plan_of}
 use Rattle.tq_sql.specs.declared.fault.SqlFault.{SqlFault}
 use Rattle.tq_sql.specs.declared.statement.Statement.{Statement}

@@ -3,21 +3,22 @@
 ghost use Rattle.std.specs.Prelude.{◌≡◌, ◌≢◌, ◌≤◌, ℕ, Err, IfErr, IfOk, List, OnOk, length};
 ghost use Rattle.std.specs.Io.KnownBytes.{Appends};
 ghost use Rattle.tq_event.specs.declared.event.Event.{Event as AnyEvent};
-ghost use Rattle.tq_event.specs.Tables.{HoldsRows};
+ghost use Rattle.tq_event.specs.Tables.{HoldsRows, lists_of};
 ghost use Rattle.tq_table.specs.Sink.{AppendsPrefix, one_more};
 ghost use Rattle.tq_table.specs.Text.{text_of};
 ghost use Rattle.tq_table.specs.declared.table.Table.{Table as AnyTable};
 ghost use Rattle.tq_engine.specs.Answers.{HasAnswer, IsFault, IsStatementFault};
-ghost use Rattle.tq_plan.specs.Answers.{IsAnswer};
-ghost use Rattle.tq_plan.specs.TableAnswers.{AreAllNumbers};
+ghost use Rattle.tq_eval.specs.Answers.{IsAnswer};
+ghost use Rattle.tq_eval.specs.TableAnswers.{AreAllNumbers};
 
 use std::alloc::{AllocError, Global};
 use std::io::Write;
 use thiserror::Error;
+use tq_eval::answer_tables;
+use tq_eval::laws::{numbers_are_held, tables_answer};
 use tq_event::laws::{loaded_is_history, tables_are_loaded};
 use tq_event::{LoadFault, LoadFaultKind, MAX_EVENTS, TableFile, Tables, load_tables};
-use tq_plan::laws::{numbers_are_held, tables_answer};
-use tq_plan::{PlanFault, answer_tables, plan};
+use tq_plan::{PlanFault, plan};
 use tq_sql::{SqlFault, SqlFaultKind, Statement, read};
 use tq_table::{Sink, Table, WriteFault, write_table};
 
@@ -98,8 +99,8 @@ fn answer_statement(
     tables: &Tables,
     statement: &Statement,
 ) -> Result<Table, AnswerFault>
-    requires numbers { AreAllNumbers tables.now.rows }
-    ensures answer { (history : List AnyEvent) → ((table : ℕ) → HoldsRows tables.now.rows history (length history) table)
+    requires numbers { AreAllNumbers (lists_of tables.now.rows) }
+    ensures answer { (history : List AnyEvent) → ((table : ℕ) → HoldsRows (lists_of tables.now.rows) history (length history) table)
         → IfOk result (IsAnswer tables.now.catalogue statement.now history (length history)) }
     ensures fault { IfErr result (IsStatementFault tables.now.catalogue statement.now) }
 {
@@ -109,10 +110,11 @@ fn answer_statement(
     Ok(table)
 }
 
-/// The answer of the statement that the bytes make, over the tables of the files.
-pub fn answer(alloc: Global, files: &[TableFile], bytes: &[u8]) -> Result<Table, AnswerFault>
-    ensures answer { IfOk result (HasAnswer files.now bytes.now) }
-    ensures fault { IfErr result (IsFault files.now bytes.now) }
+/// The answer of the statement that the bytes make, over the tables of the files. A file's bytes are let go
+/// once its table is loaded.
+pub fn answer(alloc: Global, files: Vec<TableFile>, bytes: &[u8]) -> Result<Table, AnswerFault>
+    ensures answer { IfOk result (HasAnswer files.items bytes.now) }
+    ensures fault { IfErr result (IsFault files.items bytes.now) }
 {
     let tables = load_tables(alloc, files, MAX_EVENTS)?;
     tables_are_loaded();
@@ -127,18 +129,18 @@ pub fn answer(alloc: Global, files: &[TableFile], bytes: &[u8]) -> Result<Table,
 /// the answer is whole; after `Write` a prefix of it went out. All workers, 1 to 16, are one.
 pub fn answer_bytes<W: Write>(
     alloc: Global,
-    files: &[TableFile],
+    files: Vec<TableFile>,
     bytes: &[u8],
     workers: u32,
     sink: &mut Sink<W>,
 ) -> Result<(), AnswerFault>
     requires some { 1 ≤ workers }
     requires few { workers ≤ 16 }
-    ensures answer { OnOk result ((table : AnyTable) × HasAnswer files.now bytes.now table × Appends (W.contents sink.old.writer) (W.contents sink.new.writer) (text_of table)) }
+    ensures answer { OnOk result ((table : AnyTable) × HasAnswer files.items bytes.now table × Appends (W.contents sink.old.writer) (W.contents sink.new.writer) (text_of table)) }
     ensures unfailed { OnOk result (sink.new.failed ≡ sink.old.failed) }
-    ensures write { result ≡ Err AnswerFault.Write → (table : AnyTable) × HasAnswer files.now bytes.now table × AppendsPrefix (W.contents sink.old.writer) (W.contents sink.new.writer) (text_of table) }
+    ensures write { result ≡ Err AnswerFault.Write → (table : AnyTable) × HasAnswer files.items bytes.now table × AppendsPrefix (W.contents sink.old.writer) (W.contents sink.new.writer) (text_of table) }
     ensures failed { result ≡ Err AnswerFault.Write → sink.new.failed ≡ one_more sink.old.failed }
-    ensures fault { IfErr result (λ fault. fault ≢ AnswerFault.Write → IsFault files.now bytes.now fault × (sink.new ≡ sink.old)) }
+    ensures fault { IfErr result (λ fault. fault ≢ AnswerFault.Write → IsFault files.items bytes.now fault × (sink.new ≡ sink.old)) }
 {
     let table = answer(alloc, files, bytes)?;
     match write_table(alloc, &table, sink) {

@@ -1,7 +1,7 @@
 //! Laws of answers.
 
 ghost use Rattle.tq_engine.specs.Answers.{AnswersAreUnique};
-ghost use Rattle.tq_engine.specs.Numbers.{HistoriesHaveNumbers};
+ghost use Rattle.tq_engine.specs.Histories.{HistoriesFit};
 
 use tq_event::laws::loaded_is_unique;
 use tq_sql::laws::statements_are_unique;
@@ -12,10 +12,11 @@ pub fn answers_are_unique()
 {
     loaded_is_unique();
     statements_are_unique();
-    tq_plan::laws::answers_are_unique();
+    tq_eval::laws::answers_are_unique();
 }
 
-/// The numbers of a history are of 64 signed bits, as `tq_plan::answer_list` is owed.
-pub fn histories_have_numbers()
-    ensures { HistoriesHaveNumbers }
+/// The values of the rows that a history starts fit the tables of its catalogue, as
+/// `tq_eval::answer_list` is owed.
+pub fn histories_fit()
+    ensures { HistoriesFit }
 {}

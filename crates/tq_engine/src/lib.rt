@@ -3,7 +3,7 @@
 //!
 //! The bytes of a file come through a `Source`, which counts its reads and those that failed, and which
 //! `read_file` reads to its end. `answer` loads the tables of all files (`tq_event`), reads the statement
-//! (`tq_sql`), plans it and evaluates its plan (`tq_plan`); `answer_bytes` has the text of that answer
+//! (`tq_sql`), plans it (`tq_plan`) and evaluates its plan (`tq_eval`); `answer_bytes` has the text of that answer
 //! sent through a `Sink` (`tq_table`). Its contract is the first promise: what `Ok` appends is the text of
 //! an answer, as `HasAnswer` says, and files and a statement have one at most (`laws`).
 #![tactic(auto)]

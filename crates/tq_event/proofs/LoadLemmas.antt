@@ -1,11 +1,14 @@
 -- One step of loading a table.
-use Rattle.std.proofs.Common.{◌≡◌, ◌≢◌, ℕ, ◌+◌, true, false, List, [], ◌∷◌, Ok, Err, drop, refl, ap}
+use Rattle.std.proofs.Common.{◌≡◌, ◌≢◌, ◌≤◌, ◌<◌, ◌==◌, ℕ, ◌+◌, Bool, if◌then◌else◌, true, false, List, [], ◌∷◌, ◌++◌, Ok, Err, drop, nat_lt, sum_by, refl, ap, ◌∙◌, arith}
+use Rattle.std.proofs.lemmas.Bool.Decides.{nat_tests}
+use Rattle.std.proofs.lemmas.List.Sums.{sum_by-append}
 use Rattle.tq_base.specs.declared.catalogue.Column.{Column}
+use Rattle.tq_base.specs.declared.period.TheConstants.{FOREVER}
 use Rattle.tq_event.specs.Entries.{Entry}
 use Rattle.tq_event.specs.declared.fault.LoadFault.{LoadFault}
 use Rattle.tq_event.specs.declared.fault.LoadFaultKind.{LoadFaultKind}
-use Rattle.tq_event.specs.declared.fault.LoadFaultKind.TheVariants.{BadHeader, OutOfMemory}
-use Rattle.tq_event.specs.Loading.{columns_of, csv_records, entries_after, entry_of, header_of, is_marked_twice, next_entries, out_of_memory, table_contents}
+use Rattle.tq_event.specs.declared.fault.LoadFaultKind.TheVariants.{BadHeader, OutOfMemory, TooManyEvents}
+use Rattle.tq_event.specs.Loading.{columns_of, csv_records, entries_after, entry_of, event_count, header_of, is_marked_twice, next_entries, out_of_memory, table_contents}
 
 abbrev pub named : ℕ → ℕ → LoadFaultKind → LoadFault
 named table number kind = record { kind = kind; table = table; number = number }
@@ -46,3 +49,23 @@ module _ (limit table : ℕ) (columns : List Column) (number : ℕ) (entries : L
   pub add_ok : (entry : Entry) (new : List Entry) → entry_of table columns fields ≡ Ok entry → next_entries limit entries entry ≡ Ok new
       → entries_after limit table columns number entries left ≡ entries_after limit table columns (number + 1) new more
   add_ok entry new e f = rw (split, e) (rw f refl)
+
+-- an entry whose events stay within the limit, or pass it
+module _ (limit : ℕ) (entries : List Entry) (entry : Entry) (n : ℕ) (count : sum_by event_count entries + event_count entry ≡ n) where
+  pub next_ok : n ≤ limit → next_entries limit entries entry ≡ Ok (entries ++ entry ∷ [])
+  next_ok within = let few : nat_lt limit n ≡ false = grind (arith, nat_tests) in rw (count, few) refl
+
+  pub next_many : limit < n → next_entries limit entries entry ≡ Err TooManyEvents
+  next_many past = let many : nat_lt limit n ≡ true = grind (arith, nat_tests) in rw (count, many) refl
+
+-- the entries of a table come after as many events as were counted
+pub told_count : (before told : List Entry) (old now : ℕ) → sum_by event_count before ≡ old → now ≡ old + sum_by event_count told → sum_by event_count (before ++ told) ≡ now
+told_count before told old now first all = sum_by-append event_count before told ∙ omega (arith, first, all)
+
+-- an entry makes an event at least
+pub makes_events : (entry : Entry) → 1 ≤ event_count entry
+makes_events entry = by (entry.to == FOREVER)
+  where
+    by : (b : Bool) → 1 ≤ (if b then 1 else 2)
+    by true = omega arith
+    by false = omega arith

@@ -1,63 +1,81 @@
--- Rows put into the lists of their tables one by one.
-use Rattle.std.proofs.Common.{◌≡◌, ◌≢◌, ℕ, ◌<◌, ◌≤◌, Bool, true, false, ◌==◌, List, [], ◌∷◌, ◌++◌, Some, None, length, get_or, set, map, refl, sym, ap, subst, ◌∙◌, arith, inl, inr, ◌⊎◌, append-nil, length-append}
-use Rattle.std.specs.Global.{Vec}
-use Rattle.std.specs.Prelude.{All, filter, slice_get}
-use Rattle.std.proofs.Math.Seq.{get_or-append_seam}
-use Rattle.std.proofs.lemmas.Bool.{eqb-true, eq-eqb, false≢true}
-use Rattle.std.proofs.lemmas.List.{get_or-map, get_or-set_same, get_or-set_other, get_or_past, length-map, map-append}
+-- What the records of tables tell, table by table.
+use Rattle.std.proofs.Common.{◌≡◌, ◌≢◌, ℕ, zero, suc, ◌+◌, ◌<◌, ◌≤◌, Bool, true, false, ◌==◌, List, [], ◌∷◌, ◌++◌, length, map, refl, sym, ap, subst, ◌∙◌, arith, append_assoc, append-nil, sum_by}
+use Rattle.std.specs.Prelude.{filter}
+use Rattle.std.proofs.lemmas.Bool.{eqb-true, eq-eqb}
+use Rattle.std.proofs.lemmas.List.{length-map}
 use Rattle.std.proofs.lemmas.List.Elements.{filter-append}
-use Rattle.std.proofs.lemmas.Option.{slice_get_cases, unwrap_or-slice_get}
 use Rattle.tq_base.specs.declared.fragment.Fragment.{Fragment}
+use Rattle.tq_base.specs.declared.catalogue.Schema.{Schema}
+use Rattle.tq_base.specs.RowLists.{RowList}
 use Rattle.tq_event.specs.Entries.{Entry}
-use Rattle.tq_event.specs.Tables.{AreRowsOf, rows_in, told_by}
+use Rattle.tq_event.specs.Tables.{AreRead, AreRowsOf, entries_from, lists_of, rows_in, told_by}
 
--- the lists of the tables, seen as their rows
-abbrev pub lists_of : List (Vec Fragment) → List (List Fragment)
-lists_of tables = map (λ (rows : Vec Fragment). rows.items) tables
+-- the rows of a further table are told last
+pub entries_from-push : (table : ℕ) (tables : List RowList) (rows : RowList) → entries_from table (tables ++ rows ∷ []) ≡ entries_from table tables ++ map (told_by (table + length tables)) rows.items
+unfolding entries_from
+entries_from-push table [] rows =
+    let here : table + zero ≡ table = omega arith in
+    rw here (append-nil (map (told_by table) rows.items))
+entries_from-push table (first ∷ tables) rows =
+    let others : entries_from (table + 1) (tables ++ rows ∷ []) ≡ entries_from (table + 1) tables ++ map (told_by (table + 1 + length tables)) rows.items = entries_from-push (table + 1) tables rows in
+    let number : table + suc (length tables) ≡ table + 1 + length tables = omega arith in
+    rw (number, others) (sym (append_assoc (map (told_by table) first.items) (entries_from (table + 1) tables) (map (told_by (table + 1 + length tables)) rows.items)))
 
--- lists with no rows hold what no entries tell
-pub no_rows_told : (tables : List (Vec Fragment)) → All (λ (rows : Vec Fragment). rows.items ≡ []) tables → AreRowsOf [] (lists_of tables)
-no_rows_told tables none table = ap (map (told_by table)) (unwrap_or-slice_get (lists_of tables) table [] ∙ by (slice_get_cases tables table).1)
+-- whether the entry is of the table
+abbrev of_table : ℕ → Entry → Bool
+of_table table e = e.table == table
+
+all_told : (table t : ℕ) (items : List Fragment) → (table == t) ≡ true → filter (of_table t) (map (told_by table) items) ≡ map (told_by table) items
+all_told table t [] is = refl
+all_told table t (row ∷ items) is = rw is (ap (λ es. told_by table row ∷ es) (all_told table t items is))
+
+none_told : (table t : ℕ) (items : List Fragment) → (table == t) ≡ false → filter (of_table t) (map (told_by table) items) ≡ []
+none_told table t [] is = refl
+none_told table t (row ∷ items) is = rw is (none_told table t items is)
+
+apart : (a b : ℕ) → a ≢ b → (a == b) ≡ false
+apart a b differ = by (a == b) refl
   where
-    by : ((x : Vec Fragment) × (table < length tables) × (slice_get tables table ≡ Some x) × (get_or tables table x ≡ x)) ⊎ ((length tables ≤ table) × (slice_get tables table ≡ None)) → get_or (lists_of tables) table [] ≡ []
-    by (inl (x, below, is, same)) = get_or-map (λ (rows : Vec Fragment). rows.items) tables table x [] below ∙ none table x below
-    by (inr (past, is)) = get_or_past (lists_of tables) table [] (omega (arith, past, length-map tables (λ (rows : Vec Fragment). rows.items)))
+    by : (t : Bool) → (a == b) ≡ t → t ≡ false
+    by true is = absurd (differ (eqb-true a b is))
+    by false is = refl
 
--- a row is put last in the list of its table
-module _ (entries : List Entry) (tables : List (List Fragment)) (e : Entry) (row : Fragment) (here : e.table < length tables) (told : told_by e.table row ≡ e) (are : AreRowsOf entries tables) where
-  abbrev put : List (List Fragment)
-  put = set tables e.table (get_or tables e.table [] ++ row ∷ [])
+-- no later table tells rows of an earlier one
+later_told : (table t : ℕ) (tables : List RowList) → t < table → filter (of_table t) (entries_from table tables) ≡ []
+unfolding entries_from
+later_told table t [] less = refl
+later_told table t (rows ∷ tables) less =
+    filter-append (of_table t) (map (told_by table) rows.items) (entries_from (table + 1) tables)
+    ∙ ap (λ es. es ++ filter (of_table t) (entries_from (table + 1) tables)) (none_told table t rows.items (apart table t (λ e. omega (arith, e, less))))
+    ∙ later_told (table + 1) t tables (omega arith)
 
-  same : map (told_by e.table) (rows_in put e.table) ≡ filter (λ (x : Entry). x.table == e.table) (entries ++ e ∷ [])
-  same =
-      let one : filter (λ (x : Entry). x.table == e.table) (e ∷ []) ≡ e ∷ [] = rw (eq-eqb e.table e.table refl) refl in
-      let before : rows_in tables e.table ≡ get_or tables e.table [] = unwrap_or-slice_get tables e.table [] in
-      let after : rows_in put e.table ≡ get_or tables e.table [] ++ row ∷ [] = unwrap_or-slice_get put e.table [] ∙ get_or-set_same tables e.table (get_or tables e.table [] ++ row ∷ []) [] here in
-      ap (map (told_by e.table)) (after ∙ ap (λ l. l ++ row ∷ []) (sym before)) ∙ map-append (told_by e.table) (rows_in tables e.table) (row ∷ [])
-      ∙ ap (λ x. map (told_by e.table) (rows_in tables e.table) ++ x ∷ []) told
-      ∙ ap (λ l. l ++ e ∷ []) (are e.table)
-      ∙ sym (filter-append (λ (x : Entry). x.table == e.table) entries (e ∷ []) ∙ ap (λ l. filter (λ (x : Entry). x.table == e.table) entries ++ l) one)
+rows_told : (table k : ℕ) (tables : List RowList) → map (told_by (table + k)) (rows_in (lists_of tables) k) ≡ filter (of_table (table + k)) (entries_from table tables)
+unfolding entries_from
+rows_told table zero [] = refl
+rows_told table (suc k) [] = refl
+rows_told table zero (rows ∷ tables) =
+    let here : table + zero ≡ table = omega arith in
+    rw here (sym (filter-append (of_table table) (map (told_by table) rows.items) (entries_from (table + 1) tables)
+    ∙ ap (λ es. es ++ filter (of_table table) (entries_from (table + 1) tables)) (all_told table table rows.items (eq-eqb table table refl))
+    ∙ ap (λ es. map (told_by table) rows.items ++ es) (later_told (table + 1) table tables (omega arith))
+    ∙ append-nil (map (told_by table) rows.items)))
+rows_told table (suc k) (rows ∷ tables) =
+    let number : table + suc k ≡ table + 1 + k = omega arith in
+    rw number (rows_told (table + 1) k tables
+    ∙ ap (λ es. es ++ filter (of_table (table + 1 + k)) (entries_from (table + 1) tables)) (sym (none_told table (table + 1 + k) rows.items (apart table (table + 1 + k) (λ e. omega (arith, e)))))
+    ∙ sym (filter-append (of_table (table + 1 + k)) (map (told_by table) rows.items) (entries_from (table + 1) tables)))
 
-  other : (table : ℕ) → (e.table == table) ≡ false → map (told_by table) (rows_in put table) ≡ filter (λ (x : Entry). x.table == table) (entries ++ e ∷ [])
-  other table apart =
-      let differ : table ≢ e.table = λ eq. absurd (false≢true (sym apart ∙ eq-eqb e.table table (sym eq))) in
-      let none : filter (λ (x : Entry). x.table == table) (e ∷ []) ≡ [] = rw apart refl in
-      let stays : rows_in put table ≡ rows_in tables table =
-      unwrap_or-slice_get put table [] ∙ get_or-set_other tables e.table table (get_or tables e.table [] ++ row ∷ []) [] differ ∙ sym (unwrap_or-slice_get tables table []) in
-      ap (map (told_by table)) stays ∙ are table
-      ∙ sym (filter-append (λ (x : Entry). x.table == table) entries (e ∷ []) ∙ ap (λ l. filter (λ (x : Entry). x.table == table) entries ++ l) none ∙ append-nil (filter (λ (x : Entry). x.table == table) entries))
+-- each table's rows are those that its records tell
+pub rows_are_told : (tables : List RowList) → AreRowsOf (entries_from 0 tables) (lists_of tables)
+rows_are_told tables table = let number : 0 + table ≡ table = omega arith in subst (λ n. map (told_by n) (rows_in (lists_of tables) table) ≡ filter (of_table n) (entries_from 0 tables)) number (rows_told 0 table tables)
 
-  pub row_put : AreRowsOf (entries ++ e ∷ []) put
-  row_put table = by (e.table == table) refl
-    where
-      by : (b : Bool) → (e.table == table) ≡ b → map (told_by table) (rows_in put table) ≡ filter (λ (x : Entry). x.table == table) (entries ++ e ∷ [])
-      by true is = subst (λ (t : ℕ). map (told_by t) (rows_in put t) ≡ filter (λ (x : Entry). x.table == t) (entries ++ e ∷ [])) (eqb-true e.table table is) same
-      by false is = other table is
+-- there are rows of each table
+pub as_many_read : (schemas : List Schema) (tables : List RowList) → AreRead schemas tables → length tables ≡ length schemas
+as_many_read schemas tables read =
+    sym (length-map tables (λ (rows : RowList). rows.width)) ∙ ap length read ∙ length-map schemas (λ (s : Schema). length s.columns)
 
--- what holds of all that is seen of the items holds of the next one
-pub holds_of_next : {A B : Type 0} (f : A → B) (P : B → Type 0) (done : List A) (x : A) (rest all : List A) → done ++ x ∷ rest ≡ all → All P (map f all) → P (f x)
-holds_of_next f P done x rest all is holds =
-    let long = length-append done (x ∷ rest) in
-    let here : length done < length (done ++ x ∷ rest) = omega (arith, long) in
-    let seen : get_or (map f (done ++ x ∷ rest)) (length done) (f x) ≡ f x = get_or-map f (done ++ x ∷ rest) (length done) x (f x) here ∙ ap f (get_or-append_seam done x rest x) in
-    subst P seen (rw (sym is) at holds (length done) (f x) (omega (arith, here, length-map (done ++ x ∷ rest) f)))
+-- what all records tell, once rows of a further table are put behind the others
+pub entries_put : (tables new : List RowList) (rows : RowList) (number : ℕ) → new ≡ tables ++ rows ∷ [] → length tables ≡ number → entries_from 0 new ≡ entries_from 0 tables ++ map (told_by number) rows.items
+entries_put tables new rows number put many =
+    let place : 0 + length tables ≡ number = omega (arith, many) in
+    ap (entries_from 0) put ∙ entries_from-push 0 tables rows ∙ ap (λ n. entries_from 0 tables ++ map (told_by n) rows.items) place

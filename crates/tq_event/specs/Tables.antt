@@ -1,9 +1,11 @@
 -- Tables of rows, each row with the period at which it is valid: what files tell of them, and when they hold
 -- what a history holds.
-use Rattle.std.specs.Prelude.{◌≡◌, ℕ, ◌==◌, List, [], Ok, filter, length, map, slice_get, unwrap_or}
+use Rattle.std.specs.Prelude.{◌≡◌, ℕ, ◌+◌, ◌==◌, List, [], ◌∷◌, ◌++◌, Ok, filter, length, map, slice_get, unwrap_or}
 use Rattle.tq_base.specs.declared.fragment.Fragment.{Fragment}
 use Rattle.tq_base.specs.declared.value.Value.{Value}
+use Rattle.tq_base.specs.declared.catalogue.Schema.{Schema}
 use Rattle.tq_base.specs.Fragments.{at, occurrences}
+use Rattle.tq_base.specs.RowLists.{RowList}
 use Rattle.tq_event.specs.declared.event.Event.{Event}
 use Rattle.tq_event.specs.declared.file.TableFile.{TableFile}
 use Rattle.tq_event.specs.declared.file.Loaded.{Loaded}
@@ -20,6 +22,19 @@ rows_in tables table = unwrap_or (slice_get tables table) []
 abbrev pub told_by : ℕ → Fragment → Entry
 told_by table row = record { table = table; values = row.values; from = row.period.start; to = row.period.end }
 
+-- what the records of the tables tell, the first of them being of this number
+unfoldable pub entries_from : ℕ → List RowList → List Entry
+entries_from table [] = []
+entries_from table (rows ∷ tables) = map (told_by table) rows.items ++ entries_from (table + 1) tables
+
+-- the rows of each table, their widths aside
+abbrev pub lists_of : List RowList → List (List Fragment)
+lists_of tables = map (λ (rows : RowList). rows.items) tables
+
+-- there are rows of each table, with a value for each of its columns
+abbrev pub AreRead : List Schema → List RowList → Type 0
+AreRead schemas tables = map (λ (rows : RowList). rows.width) tables ≡ map (λ (s : Schema). length s.columns) schemas
+
 -- each table's rows are those that its records tell, in their order
 abbrev pub AreRowsOf : List Entry → List (List Fragment) → Type 0
 AreRowsOf entries tables = (table : ℕ) → map (told_by table) (rows_in tables table) ≡ filter (λ (e : Entry). e.table == table) entries
@@ -29,8 +44,8 @@ pub record AreTables (files : List TableFile) (limit : ℕ) (tables : Tables) : 
   pub contents : Contents
   pub is_contents : contents_of files limit ≡ Ok contents
   pub catalogue : tables.catalogue.tables ≡ contents.tables
-  pub as_many : length tables.rows ≡ length contents.tables
-  pub rows : AreRowsOf contents.entries tables.rows
+  pub read : AreRead contents.tables tables.rows
+  pub rows : AreRowsOf contents.entries (lists_of tables.rows)
 
 -- at each instant, each row is valid as often in the table as it is by the first n events
 abbrev pub HoldsRows : List (List Fragment) → List Event → ℕ → ℕ → Type 0
@@ -41,7 +56,7 @@ pub record AreLoaded (files : List TableFile) (limit : ℕ) (tables : Tables) : 
   pub loaded : Loaded
   pub is_loaded : IsLoaded files limit loaded
   pub catalogue : loaded.catalogue ≡ tables.catalogue
-  pub hold : (table : ℕ) → HoldsRows tables.rows loaded.events (length loaded.events) table
+  pub hold : (table : ℕ) → HoldsRows (lists_of tables.rows) loaded.events (length loaded.events) table
 
 -- the tables of files are those of the history that the files hold
 abbrev pub TablesAreLoaded : Type 0

@@ -1,6 +1,11 @@
 // A row as a record of a file tells it.
 
-use tq_base::{Bound, Instant, Values};
+ghost use Rattle.std.specs.Prelude.{◌≡◌, ◌≤◌, ◌++◌, IfOk, OnOk, length, map};
+ghost use Rattle.tq_event.specs.Entries.{entry_in};
+ghost use Rattle.tq_event.specs.Tables.{entries_from, told_by};
+
+use std::alloc::{AllocError, Global};
+use tq_base::{Bound, Instant, Rows, Value, Values};
 
 /// What stands beside the values of an entry: its table's number, and from when until when it is valid.
 #[derive(Clone, Copy, Debug)]
@@ -12,3 +17,43 @@ pub struct Validity {
 
 /// A row as a record of a file tells it: its values, and what stands beside them.
 pub type Entry = (Values, Validity);
+
+// A copy of the values.
+fn copied(alloc: Global, values: &[Value]) -> Result<Values, AllocError>
+    ensures { IfOk result (λ copy. copy ≡ values.now) }
+{
+    let mut copies = Vec::with_capacity(alloc, values.len())?;
+    'values: for value in values {
+        copies.push(value.try_copy()?)?;
+    }
+    Ok(Values::of(copies))
+}
+
+// Copies of the rows of a table go to the end of the list.
+fn add_entries(
+    alloc: Global,
+    table: u32,
+    rows: &Rows,
+    entries: &mut Vec<Entry>,
+) -> Result<(), AllocError>
+    ensures { OnOk result (map entry_in entries.new.items ≡ map entry_in entries.old.items ++ map (told_by table) rows.now.items) }
+{
+    'rows: for (number, period) in rows.periods().iter().enumerate() {
+        let values = copied(alloc, rows.values(number))?;
+        let (from, to) = (period.start, period.end);
+        entries.push((values, Validity { table, from, to }))?;
+    }
+    Ok(())
+}
+
+/// The rows of tables as the records of their files told them, in the order of tables and records.
+pub fn entries_of(alloc: Global, tables: &[Rows]) -> Result<Vec<Entry>, AllocError>
+    requires { length tables.now ≤ 16 }
+    ensures { IfOk result (λ entries. map entry_in entries.items ≡ entries_from 0 tables.now) }
+{
+    let mut entries = Vec::new(alloc);
+    'tables: for (table, rows) in tables.iter().enumerate() {
+        add_entries(alloc, table as u32, rows, &mut entries)?;
+    }
+    Ok(entries)
+}

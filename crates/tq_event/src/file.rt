@@ -1,7 +1,7 @@
 // What goes into a load and what comes out.
 
 use crate::event::Event;
-use tq_base::{Catalogue, Fragment, Items};
+use tq_base::{Catalogue, Items, Rows};
 
 /// A table's name and the bytes of its file.
 #[derive(Drop, Debug)]
@@ -21,5 +21,5 @@ pub struct Loaded {
 #[derive(Drop, Debug)]
 pub struct Tables {
     pub catalogue: Catalogue,
-    pub rows: Items<Items<Fragment>>,
+    pub rows: Items<Rows>,
 }

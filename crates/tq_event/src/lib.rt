@@ -7,7 +7,6 @@
 //! values valid at an instant, stands in `specs/`.
 #![tactic(auto)]
 
-mod entries;
 mod entry;
 mod event;
 mod fault;
@@ -19,7 +18,6 @@ mod mark;
 mod order;
 mod reading;
 mod records;
-mod tables;
 
 pub use event::Event;
 pub use fault::{LoadFault, LoadFaultKind};

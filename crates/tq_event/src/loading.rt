@@ -1,22 +1,22 @@
 // Loading files.
 
-ghost use Rattle.std.specs.Prelude.{◌≡◌, ◌≢◌, ◌<◌, ◌≤◌, ◌++◌, ◌∷◌, Err, IfErr, IfOk, OnOk, Ok, length, map, sum_by};
-ghost use Rattle.tq_event.specs.Entries.{entry_in};
+ghost use Rattle.std.specs.Prelude.{◌≡◌, ◌≢◌, ◌+◌, ◌<◌, ◌≤◌, ◌++◌, ◌∷◌, ◌==◌, [], Err, IfErr, IfOk, List, OnOk, Ok, if◌then◌else◌, length, map, sum_by};
+ghost use Rattle.tq_event.specs.Entries.{Entry};
 ghost use Rattle.tq_event.specs.Loading.{IsLoaded, contents_of, event_count, has_table, next_contents, next_name, out_of_memory, table_contents};
-ghost use Rattle.tq_event.specs.Tables.{AreTables};
+ghost use Rattle.tq_event.specs.Tables.{AreRead, AreTables, entries_from, told_by};
 
-use crate::entries::Entries;
-use crate::entry::Entry;
+use crate::entry::entries_of;
 use crate::fault::{LoadFault, LoadFaultKind};
 use crate::file::{Loaded, TableFile, Tables};
 use crate::header::read_header;
 use crate::order::order_events;
 use crate::reading::read_entry;
 use crate::records::{is_marked_twice, next_record, record_reader};
-use crate::tables::rows_by_table;
 use csv::ByteRecord;
 use std::alloc::{AllocError, Global};
-use tq_base::{Catalogue, Column, Items, Name, Schema, fold_name};
+use tq_base::{
+    Bound, Catalogue, Column, FOREVER, Items, Name, Period, Rows, Schema, Value, fold_name,
+};
 
 /// The most events that a load may be asked for.
 pub const MAX_EVENTS: u32 = 16_777_216;
@@ -40,22 +40,60 @@ fn fault_at(table: u32, number: u32, kind: LoadFaultKind) -> LoadFault
     }
 }
 
-// The columns that a table's bytes name, the entries of its records being added to those before. Not
-// inlined, so that the reader's buffers leave the stack with it.
+// How many events a row makes that is valid until then.
+fn event_count(to: Bound) -> u32
+    ensures { result ≡ (if to == FOREVER then 1 else 2) }
+{
+    if to.number() == FOREVER { 1 } else { 2 }
+}
+
+// Adds a row, whose values are moved out of their list, to those of a table, where no more than so many
+// events are made.
+fn add_row(
+    limit: u32,
+    events: &mut u32,
+    rows: &mut Rows,
+    values: &mut Vec<Value>,
+    period: Period,
+) -> Result<(), LoadFaultKind>
+    requires limit { limit ≤ MAX_EVENTS }
+    requires within { events.old ≤ limit }
+    requires width { length values.old.items ≡ rows.old.width }
+    ensures width { rows.new.width ≡ rows.old.width }
+    ensures rows { OnOk result (rows.new.items ≡ rows.old.items ++ record { values = values.old.items; period = period } ∷ []) }
+    ensures events { OnOk result (events.new ≡ events.old + (if period.end == FOREVER then 1 else 2)) }
+    ensures within { OnOk result (events.new ≤ limit) }
+    ensures kind { IfErr result (λ fault. fault ≢ LoadFaultKind.OutOfMemory → fault ≡ LoadFaultKind.TooManyEvents) }
+    ensures many { IfErr result (λ fault. fault ≢ LoadFaultKind.OutOfMemory → limit < events.old + (if period.end == FOREVER then 1 else 2)) }
+{
+    let more = *events + event_count(period.end);
+    if more > limit {
+        return Err(LoadFaultKind::TooManyEvents);
+    }
+    rows.push(values, period)?;
+    *events = more;
+    Ok(())
+}
+
+// The columns that a table's bytes name, and the rows of its records, whose events are added to those
+// before. Not inlined, so that the reader's buffers leave the stack with it.
 #[inline(never)]
 fn read_table(
     alloc: Global,
     limit: u32,
     table: u32,
-    entries: &mut Entries,
+    events: &mut u32,
     bytes: &[u8],
-) -> Result<Vec<Column>, LoadFault>
+) -> Result<(Vec<Column>, Rows), LoadFault>
     requires limit { limit ≤ MAX_EVENTS }
-    requires within { sum_by event_count entries.old ≤ limit }
-    ensures ok { IfOk result (λ columns. table_contents limit table entries.old bytes.now ≡ Ok (columns.items, entries.new)) }
-    ensures within { OnOk result (sum_by event_count entries.new ≤ limit) }
-    ensures fault { IfErr result (λ fault. fault.kind ≢ LoadFaultKind.OutOfMemory
-        → table_contents limit table entries.old bytes.now ≡ Err fault) }
+    requires within { events.old ≤ limit }
+    ensures ok { (before : List Entry) → sum_by event_count before ≡ events.old → IfOk result (λ read.
+        table_contents limit table before bytes.now ≡ Ok (read.0.items, before ++ map (told_by table) read.1.items)) }
+    ensures width { IfOk result (λ read. read.1.width ≡ length read.0.items) }
+    ensures counted { IfOk result (λ read. events.new ≡ events.old + sum_by event_count (map (told_by table) read.1.items)) }
+    ensures within { OnOk result (events.new ≤ limit) }
+    ensures fault { (before : List Entry) → sum_by event_count before ≡ events.old → IfErr result (λ fault. fault.kind ≢ LoadFaultKind.OutOfMemory
+        → table_contents limit table before bytes.now ≡ Err fault) }
     ensures out_of_memory { IfErr result (λ fault. fault.kind ≡ LoadFaultKind.OutOfMemory → fault ≡ out_of_memory) }
 {
     if is_marked_twice(bytes) {
@@ -71,15 +109,16 @@ fn read_table(
         Err(kind) => return Err(fault_at(table, 1, kind)),
     };
     let mut values = Vec::new(alloc);
+    let mut rows = Rows::new(alloc, columns.len());
     'records: for number in 2..u32::MAX {
         if !next_record(&mut reader, &mut record)? {
-            return Ok(columns);
+            return Ok((columns, rows));
         }
-        let validity = match read_entry(alloc, table, &columns, &record, &mut values) {
-            Ok(validity) => validity,
+        let period = match read_entry(alloc, &columns, &record, &mut values) {
+            Ok(period) => period,
             Err(kind) => return Err(fault_at(table, number, kind)),
         };
-        if let Err(kind) = entries.add(limit, &mut values, validity) {
+        if let Err(kind) = add_row(limit, events, &mut rows, &mut values, period) {
             return Err(fault_at(table, number, kind));
         }
     }
@@ -111,23 +150,28 @@ fn read_name(alloc: Global, tables: &[Schema], name: &[u8]) -> Result<Name, Load
     Ok(name)
 }
 
-// Adds the table of a file, and its entries, to those before.
+// Adds the table of a file, and its rows, to those before.
 fn load_file(
     alloc: Global,
     limit: u32,
     tables: &mut Vec<Schema>,
-    entries: &mut Entries,
+    rows: &mut Vec<Rows>,
+    events: &mut u32,
     file: &TableFile,
 ) -> Result<(), LoadFault>
     requires limit { limit ≤ MAX_EVENTS }
     requires few { length tables.old.items ≤ 16 }
-    requires within { sum_by event_count entries.old ≤ limit }
-    ensures ok { OnOk result (next_contents limit (record { tables = tables.old.items; entries = entries.old }) file.now
-        ≡ Ok (record { tables = tables.new.items; entries = entries.new })) }
+    requires read { AreRead tables.old.items rows.old.items }
+    requires counted { events.old ≡ sum_by event_count (entries_from 0 rows.old.items) }
+    requires within { events.old ≤ limit }
+    ensures ok { OnOk result (next_contents limit (record { tables = tables.old.items; entries = entries_from 0 rows.old.items }) file.now
+        ≡ Ok (record { tables = tables.new.items; entries = entries_from 0 rows.new.items })) }
     ensures few { OnOk result (length tables.new.items ≤ 16) }
-    ensures within { OnOk result (sum_by event_count entries.new ≤ limit) }
+    ensures read { OnOk result (AreRead tables.new.items rows.new.items) }
+    ensures counted { OnOk result (events.new ≡ sum_by event_count (entries_from 0 rows.new.items)) }
+    ensures within { OnOk result (events.new ≤ limit) }
     ensures fault { IfErr result (λ fault. fault.kind ≢ LoadFaultKind.OutOfMemory
-        → next_contents limit (record { tables = tables.old.items; entries = entries.old }) file.now ≡ Err fault) }
+        → next_contents limit (record { tables = tables.old.items; entries = entries_from 0 rows.old.items }) file.now ≡ Err fault) }
     ensures out_of_memory { IfErr result (λ fault. fault.kind ≡ LoadFaultKind.OutOfMemory → fault ≡ out_of_memory) }
 {
     let number = tables.len() as u32;
@@ -135,48 +179,51 @@ fn load_file(
         Ok(name) => name,
         Err(kind) => return Err(fault_at(number, 0, kind)),
     };
-    let columns = read_table(alloc, limit, number, entries, file.bytes.get())?;
+    let (columns, read) = read_table(alloc, limit, number, events, file.bytes.get())?;
     let columns = Items::of(columns);
     tables
         .push(Schema { name, columns })
         .map_err(AllocError::from)?;
+    rows.push(read).map_err(AllocError::from)?;
     Ok(())
 }
 
-// The tables of files, and the entries of their records.
+// The tables of files, and the rows of their records. A file's bytes are let go once its rows are read.
 fn read_files(
     alloc: Global,
-    files: &[TableFile],
+    files: Vec<TableFile>,
     limit: u32,
-) -> Result<(Vec<Schema>, Vec<Entry>), LoadFault>
+) -> Result<(Vec<Schema>, Vec<Rows>), LoadFault>
     requires { limit ≤ MAX_EVENTS }
-    ensures ok { IfOk result (λ read. contents_of files.now limit
-        ≡ Ok (record { tables = read.0.items; entries = map entry_in read.1.items })) }
+    ensures ok { IfOk result (λ read. contents_of files.items limit
+        ≡ Ok (record { tables = read.0.items; entries = entries_from 0 read.1.items })) }
     ensures few { IfOk result (λ read. length read.0.items ≤ 16) }
-    ensures within { IfOk result (λ read. sum_by event_count (map entry_in read.1.items) ≤ limit) }
-    ensures fault { IfErr result (λ fault. fault.kind ≢ LoadFaultKind.OutOfMemory → contents_of files.now limit ≡ Err fault) }
+    ensures read { IfOk result (λ read. AreRead read.0.items read.1.items) }
+    ensures within { IfOk result (λ read. sum_by event_count (entries_from 0 read.1.items) ≤ limit) }
+    ensures fault { IfErr result (λ fault. fault.kind ≢ LoadFaultKind.OutOfMemory → contents_of files.items limit ≡ Err fault) }
     ensures out_of_memory { IfErr result (λ fault. fault.kind ≡ LoadFaultKind.OutOfMemory → fault ≡ out_of_memory) }
 {
     let mut tables = Vec::new(alloc);
-    let mut entries = Entries::new(alloc);
+    let mut rows = Vec::new(alloc);
+    let mut events = 0;
     'files: for file in files {
-        load_file(alloc, limit, &mut tables, &mut entries, file)?;
+        load_file(alloc, limit, &mut tables, &mut rows, &mut events, &file)?;
     }
-    let entries = entries.finish()?;
-    Ok((tables, entries))
+    Ok((tables, rows))
 }
 
 /// Loads files into a catalogue and one list of at most `limit` events: for each data record a start
 /// and, unless `to` is `forever`, an end, ordered by time, ends before starts, table, record. The first
 /// fault is answered, in the order of tables, records and checks; `OutOfMemory` where a growth was
 /// refused.
-pub fn load(alloc: Global, files: &[TableFile], limit: u32) -> Result<Loaded, LoadFault>
+pub fn load(alloc: Global, files: Vec<TableFile>, limit: u32) -> Result<Loaded, LoadFault>
     requires { limit ≤ MAX_EVENTS }
-    ensures loaded { IfOk result (IsLoaded files.now limit) }
-    ensures fault { IfErr result (λ fault. fault.kind ≢ LoadFaultKind.OutOfMemory → contents_of files.now limit ≡ Err fault) }
+    ensures loaded { IfOk result (IsLoaded files.items limit) }
+    ensures fault { IfErr result (λ fault. fault.kind ≢ LoadFaultKind.OutOfMemory → contents_of files.items limit ≡ Err fault) }
     ensures out_of_memory { IfErr result (λ fault. fault.kind ≡ LoadFaultKind.OutOfMemory → fault ≡ out_of_memory) }
 {
-    let (tables, entries) = read_files(alloc, files, limit)?;
+    let (tables, rows) = read_files(alloc, files, limit)?;
+    let entries = entries_of(alloc, &rows)?;
     let events = order_events(alloc, tables.len(), entries)?;
     Ok(Loaded {
         catalogue: Catalogue {
@@ -188,14 +235,13 @@ pub fn load(alloc: Global, files: &[TableFile], limit: u32) -> Result<Loaded, Lo
 
 /// Loads files into their tables, each with the rows that its records tell, in their order. The files
 /// are refused just as `load` refuses them.
-pub fn load_tables(alloc: Global, files: &[TableFile], limit: u32) -> Result<Tables, LoadFault>
+pub fn load_tables(alloc: Global, files: Vec<TableFile>, limit: u32) -> Result<Tables, LoadFault>
     requires { limit ≤ MAX_EVENTS }
-    ensures tables { IfOk result (AreTables files.now limit) }
-    ensures fault { IfErr result (λ fault. fault.kind ≢ LoadFaultKind.OutOfMemory → contents_of files.now limit ≡ Err fault) }
+    ensures tables { IfOk result (AreTables files.items limit) }
+    ensures fault { IfErr result (λ fault. fault.kind ≢ LoadFaultKind.OutOfMemory → contents_of files.items limit ≡ Err fault) }
     ensures out_of_memory { IfErr result (λ fault. fault.kind ≡ LoadFaultKind.OutOfMemory → fault ≡ out_of_memory) }
 {
-    let (schemas, entries) = read_files(alloc, files, limit)?;
-    let rows = rows_by_table(alloc, schemas.len(), entries)?;
+    let (schemas, rows) = read_files(alloc, files, limit)?;
     Ok(Tables {
         catalogue: Catalogue {
             tables: Items::of(schemas),

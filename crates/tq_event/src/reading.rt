@@ -1,17 +1,18 @@
 // What a data record of a file holds.
 
-ghost use Rattle.std.specs.Prelude.{◌≡◌, ◌≢◌, ◌+◌, ◌≤◌, [], Err, IfErr, IfOk, OnOk, Ok, length};
+ghost use Rattle.std.specs.Prelude.{◌≡◌, ◌≢◌, ℕ, ◌+◌, ◌≤◌, [], Err, IfErr, IfOk, OnOk, Ok, length};
 ghost use Rattle.csv.specs.Records.{fields_of};
-ghost use Rattle.tq_event.specs.Entries.{entry_in};
+ghost use Rattle.tq_event.specs.Tables.{told_by};
 ghost use Rattle.tq_event.specs.Loading.{entry_of, make_period, period_fields, period_of, value_fields, value_of, values_after};
 
-use crate::entry::Validity;
 use crate::fault::LoadFaultKind;
 use crate::records::field_at;
 use csv::ByteRecord;
 use std::alloc::{AllocError, Global};
 use std::str;
-use tq_base::{Bound, Column, Instant, Kind, MAX_TEXT, Value, read_bound, read_instant, read_int};
+use tq_base::{
+    Bound, Column, Instant, Kind, MAX_TEXT, Period, Value, read_bound, read_instant, read_int,
+};
 
 // The text that a field holds.
 fn read_text(alloc: Global, field: &[u8]) -> Result<Value, LoadFaultKind>
@@ -50,6 +51,7 @@ fn read_values(
 ) -> Result<(), LoadFaultKind>
     requires { length (fields_of record.now) ≡ length columns.now + 2 }
     ensures ok { OnOk result (values_after [] columns.now (value_fields (fields_of record.now)) ≡ Ok values.new.items) }
+    ensures width { OnOk result (length values.new.items ≡ length columns.now) }
     ensures fault { IfErr result (λ fault. fault ≢ LoadFaultKind.OutOfMemory
         → values_after [] columns.now (value_fields (fields_of record.now)) ≡ Err fault) }
 {
@@ -61,27 +63,26 @@ fn read_values(
     Ok(())
 }
 
-// The instant and the bound above it.
-fn make_period(from: Option<Instant>, to: Option<Bound>) -> Result<(Instant, Bound), LoadFaultKind>
-    ensures { result ≡ make_period from to }
+// The period from the instant to the bound above it.
+fn make_period(from: Option<Instant>, to: Option<Bound>) -> Result<Period, LoadFaultKind>
+    ensures ok { IfOk result (λ period. make_period from to ≡ Ok (period.start, period.end)) }
+    ensures fault { IfErr result (λ fault. make_period from to ≡ Err fault) }
 {
     match (from, to) {
-        (Some(from), Some(to)) => {
-            if from.number() < to.number() {
-                Ok((from, to))
-            } else {
-                Err(LoadFaultKind::BadPeriod)
-            }
-        }
+        (Some(from), Some(to)) => match Period::new(from, to) {
+            Some(period) => Ok(period),
+            None => Err(LoadFaultKind::BadPeriod),
+        },
         (Some(_), None) => Err(LoadFaultKind::BadPeriod),
         (None, _) => Err(LoadFaultKind::BadPeriod),
     }
 }
 
 // The period that the last two fields tell.
-fn read_period(record: &ByteRecord) -> Result<(Instant, Bound), LoadFaultKind>
+fn read_period(record: &ByteRecord) -> Result<Period, LoadFaultKind>
     requires { 2 ≤ length (fields_of record.now) }
-    ensures { result ≡ period_of (period_fields (fields_of record.now)) }
+    ensures ok { IfOk result (λ period. period_of (period_fields (fields_of record.now)) ≡ Ok (period.start, period.end)) }
+    ensures fault { IfErr result (λ fault. period_of (period_fields (fields_of record.now)) ≡ Err fault) }
 {
     let width = record.len();
     let from = field_at(record, width - 2);
@@ -89,18 +90,17 @@ fn read_period(record: &ByteRecord) -> Result<(Instant, Bound), LoadFaultKind>
     make_period(read_instant(from), read_bound(to))
 }
 
-/// The row that a record tells, of the table of this number and these columns: its values come to stand
-/// in the list.
+/// The row that a record of a table of these columns tells: its period; its values come to stand in the list.
 pub fn read_entry(
     alloc: Global,
-    table: u32,
     columns: &[Column],
     record: &ByteRecord,
     values: &mut Vec<Value>,
-) -> Result<Validity, LoadFaultKind>
-    ensures ok { IfOk result (λ validity. entry_of table columns.now (fields_of record.now)
-        ≡ Ok (entry_in (values.new.items, validity))) }
-    ensures fault { IfErr result (λ fault. fault ≢ LoadFaultKind.OutOfMemory
+) -> Result<Period, LoadFaultKind>
+    ensures ok { (table : ℕ) → IfOk result (λ period. entry_of table columns.now (fields_of record.now)
+        ≡ Ok (told_by table (record { values = values.new.items; period = period }))) }
+    ensures width { OnOk result (length values.new.items ≡ length columns.now) }
+    ensures fault { (table : ℕ) → IfErr result (λ fault. fault ≢ LoadFaultKind.OutOfMemory
         → entry_of table columns.now (fields_of record.now) ≡ Err fault) }
 {
     let width = record.len();
@@ -108,6 +108,5 @@ pub fn read_entry(
         return Err(LoadFaultKind::FieldCount);
     }
     read_values(alloc, columns, record, values)?;
-    let (from, to) = read_period(record)?;
-    Ok(Validity { table, from, to })
+    read_period(record)
 }

@@ -7,8 +7,7 @@ use Rattle.tq_base.specs.declared.period.Period.{Period}
 use Rattle.tq_base.specs.declared.fragment.Fragment.{Fragment}
 use Rattle.tq_base.specs.Periods.{holds, Overlap, IsOverlap}
 use Rattle.tq_base.specs.Fragments.{at, copies}
-use Rattle.tq_ops.specs.declared.sides.Row.{Row}
-use Rattle.tq_ops.specs.Sides.{lives}
+use Rattle.tq_base.specs.Keys.{is_overlap}
 use Rattle.tq_ops.specs.Ordinary.{HasInside, IsEmptyOutside}
 use Rattle.tq_ops.proofs.Counting.{none_there}
 
@@ -18,19 +17,11 @@ holds_both a b c d t = grind (arith, nat_tests)
 pub holds-overlap : (p q both : Period) → IsOverlap p q both → (t : ℕ) → holds both t ≡ (holds p t && holds q t)
 holds-overlap p q both is t = ap (λ s. nat_le s t && nat_lt t both.end) is.0 ∙ ap (λ e. nat_le (max p.start q.start) t && nat_lt t e) is.1 ∙ holds_both p.start p.end q.start q.end t
 
--- the instants of the window at which the row is valid
-pub holds-within : (r : Row) (window both : Period) → both.start ≡ max r.start window.start → both.end ≡ min r.end window.end → (t : ℕ) → holds both t ≡ (lives r t && holds window t)
-holds-within r window both starts ends t = ap (λ s. nat_le s t && nat_lt t both.end) starts ∙ ap (λ e. nat_le (max r.start window.start) t && nat_lt t e) ends ∙ holds_both r.start r.end window.start window.end t
+apart_at : (a b c d t : ℕ) → (nat_lt a d && nat_lt c b) ≡ false → ((nat_le a t && nat_lt t b) && (nat_le c t && nat_lt t d)) ≡ false
+apart_at a b c d t apart = grind (arith, nat_tests)
 
-never_both : (a b c d t : ℕ) → (max a c < min b d → ⊥) → (b' : Bool) → ((nat_le a t && nat_lt t b) && (nat_le c t && nat_lt t d)) ≡ b' → b' ≡ false
-never_both a b c d t apart true is = absurd (apart (some_both a b c d t is))
-  where
-    some_both : (a b c d t : ℕ) → ((nat_le a t && nat_lt t b) && (nat_le c t && nat_lt t d)) ≡ true → max a c < min b d
-    some_both a b c d t is = grind (arith, nat_tests)
-never_both a b c d t apart false is = refl
-
-pub never_within : (r : Row) (window : Period) → (max r.start window.start < min r.end window.end → ⊥) → (t : ℕ) → (lives r t && holds window t) ≡ false
-never_within r window apart t = never_both r.start r.end window.start window.end t apart (lives r t && holds window t) refl
+pub holds_not_both : (p q : Period) (t : ℕ) → is_overlap p q ≡ false → (holds p t && holds q t) ≡ false
+holds_not_both p q t apart = apart_at p.start p.end q.start q.end t apart
 
 starts_before : (a b c d t : ℕ) → ((nat_le a t && nat_lt t b) && (nat_le c t && nat_lt t d)) ≡ true → a < d
 starts_before a b c d t both = grind (arith, nat_tests)

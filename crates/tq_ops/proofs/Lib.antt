@@ -6,9 +6,10 @@ pub mod Selecting
 pub mod Sweeping
 pub mod Changing
 pub mod Grouping
-pub mod Gathering
 pub mod Linking
 pub mod Meeting
+pub mod Pairing
 pub mod Products
-pub mod Ranking
 pub mod Knowing
+pub mod Turns
+pub mod Widths

@@ -2,6 +2,6 @@ pub mod Conditions
 pub mod Differences
 pub mod Joins
 pub mod Known
+pub mod Links
 pub mod Ordinary
-pub mod Sides
 pub mod Steps

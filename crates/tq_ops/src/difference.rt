@@ -1,26 +1,23 @@
 //! Difference: the rows of each list of values are counted up and down along the time line.
 
-ghost use Rattle.std.specs.Prelude.{◌≡◌, ◌≢◌, ℕ, ◌+◌, ◌-◌, ◌<◌, ◌≤◌, ◌↔◌, length, drop, take, slice_index_or, IfOk, IfSome, IsSome, List, OnOk, Some, IsSortedByKey};
+ghost use Rattle.std.specs.Prelude.{◌≡◌, ℕ, ◌+◌, ◌-◌, ◌<◌, ◌↔◌, [], if◌then◌else◌, length, map, All, IfOk, IfSome, IsSome, IsTrue, true, List, OnOk, IsSortedByKey};
 ghost use Rattle.std.specs.Ordering.{nat_cmp};
 ghost use Rattle.tq_base.specs.declared.value.Value.{Value};
-ghost use Rattle.tq_base.specs.ValueOrder.{values_cmp};
+ghost use Rattle.tq_base.specs.declared.fragment.Fragment.{Fragment};
+ghost use Rattle.tq_base.specs.declared.sides.Side.TheVariants.{Left, Right};
 ghost use Rattle.tq_base.specs.Fragments.{copies};
+ghost use Rattle.tq_base.specs.Keys.{held as held_key, is_same_side, key_row, key_values};
+ghost use Rattle.tq_base.specs.KeySides.{state_of};
 ghost use Rattle.tq_base.specs.Layering.{held};
-ghost use Rattle.tq_ops.specs.declared.sides.Row.{Row};
-ghost use Rattle.tq_ops.specs.declared.sides.Side.TheVariants.{Left, Right};
+ghost use Rattle.tq_base.specs.Periods.{holds};
 ghost use Rattle.tq_ops.specs.declared.difference.Change.{Change};
-ghost use Rattle.tq_ops.specs.Differences.{by_rank_cmp, falls_upto, rises_upto, side_held, AddsDifference, AreOfValues, IsEven};
-ghost use Rattle.tq_ops.specs.Sides.{is_same_side, Know};
+ghost use Rattle.tq_ops.specs.Differences.{falls_upto, rises_upto, side_held, AddsDifference, AreKeysOfBoth, AreOfValues, IsEven};
 ghost use Rattle.tq_ops.specs.Ordinary.{HasInside, IsEmptyOutside};
 
-use crate::links::Link;
-use crate::sides::{Row, Side, gathered};
+use crate::gathering::gathered;
+use crate::selection::select;
 use std::alloc::{AllocError, Global};
-use std::cmp::Ordering;
-use tq_base::{Bound, Fragment, Instant, Period};
-
-// Rows are ranked by their first values.
-const FIRST: Link = Link { left: 0, right: 0 };
+use tq_base::{Bound, Instant, Key, Period, Rows, Side, Sides, all_columns};
 
 // From the bound on there is one row more, or one row less, that is not taken away.
 #[derive(Clone, Copy)]
@@ -50,19 +47,24 @@ fn bound_at(instant: Instant) -> Bound
 }
 
 // The changes that the starts and ends of the rows, cut to the window, make, in order.
-fn changes_of(alloc: Global, rows: &[Row<'_>], window: &Period) -> Result<Vec<Change>, AllocError>
+fn changes_of(
+    alloc: Global,
+    sides: &Sides<'_>,
+    group: &[Key],
+    window: &Period,
+) -> Result<Vec<Change>, AllocError>
     ensures counted { IfOk result (λ changes. (t : ℕ) →
-        rises_upto changes.items t + side_held window.now Right rows.now t
-        ≡ falls_upto changes.items t + side_held window.now Left rows.now t) }
+        rises_upto changes.items t + side_held window.now Right (map (held_key (state_of sides.now)) group.now) t
+        ≡ falls_upto changes.items t + side_held window.now Left (map (held_key (state_of sides.now)) group.now) t) }
     ensures even { IfOk result (λ changes. IsEven changes.items) }
     ensures sorted { IfOk result (λ changes. IsSortedByKey (λ (c : Change). c.at) nat_cmp changes.items) }
 {
     let mut changes = Vec::new(alloc);
-    'rows: for row in rows {
-        let Some(period) = row.within(window) else {
+    'rows: for key in group {
+        let Some(period) = sides.period(key).overlap(window) else {
             continue;
         };
-        let rises = is_left(row.side);
+        let rises = is_left(key.side);
         changes.push(Change {
             at: bound_at(period.start),
             rises,
@@ -112,81 +114,127 @@ fn swept(alloc: Global, changes: &[Change]) -> Result<Vec<Period>, AllocError>
     Ok(made)
 }
 
-// How many rows at the front have the values of the first.
-fn group_len(rows: &[Row<'_>]) -> usize
-    requires know { Know (Some (record { left = 0; right = 0 })) rows.now }
-    ensures within { result ≤ length rows.now }
-    ensures alike { (d : Row) → AreOfValues (slice_index_or rows.now 0 d).fragment.now.values (take result rows.now) }
-    ensures ends { (d : Row) → result < length rows.now
-        → (slice_index_or rows.now result d).fragment.now.values ≢ (slice_index_or rows.now 0 d).fragment.now.values }
+// Whether all rows of the group are of the left, or all of the right.
+fn are_alone(group: &[Key], left: bool) -> bool
+    ensures { IsTrue result → All (λ k. is_same_side Left k.side ≡ left) group.now }
 {
-    let Some(first) = rows.first() else {
-        return 0;
-    };
-    let mut len = 0;
-    'rows: for row in rows {
-        if compare_rows(row, first).is_ne() {
-            return len;
+    'keys: for key in group {
+        if is_left(key.side) != left {
+            return false;
         }
-        len += 1;
     }
-    len
+    true
 }
 
-// The difference of a group of rows of equal values goes to the end of the list.
-fn add_difference(
-    alloc: Global,
-    group: &[Row<'_>],
+// The rows of a group of the left, cut to the window, go to the end of the list.
+fn add_cut(
+    sides: &Sides<'_>,
+    group: &[Key],
     window: &Period,
-    out: &mut Vec<Fragment>,
+    out: &mut Rows,
 ) -> Result<(), AllocError>
-    ensures { OnOk result ((v : List Value) → AreOfValues v group.now → AddsDifference window.now group.now v out.old.items out.new.items) }
+    requires left { All (λ k. is_same_side Left k.side ≡ true) group.now }
+    requires fit { All (λ k. length (key_row (state_of sides.now) k).values ≡ out.old.width) group.now }
+    ensures width { out.new.width ≡ out.old.width }
+    ensures rows { OnOk result ((v : List Value) → AreOfValues v (map (held_key (state_of sides.now)) group.now) → AddsDifference window.now (map (held_key (state_of sides.now)) group.now) v out.old.items out.new.items) }
 {
-    let Some(first) = group.first() else {
-        return Ok(());
-    };
-    let changes = changes_of(alloc, group, window)?;
-    let periods = swept(alloc, &changes)?;
-    'periods: for period in &periods {
-        let values = first.fragment.values.try_copy()?;
-        out.push(Fragment {
-            values,
-            period: *period,
-        })?;
+    'rows: for key in group {
+        let Some(period) = sides.period(key).overlap(window) else {
+            continue;
+        };
+        out.push_copy(sides.values(key), period)?;
     }
     Ok(())
 }
 
-// By the rank, then by the values where it does not tell them.
-fn compare_rows(one: &Row<'_>, other: &Row<'_>) -> Ordering
-    ensures { result ≡ by_rank_cmp one.now other.now }
+// The difference of a group of rows of equal values goes to the end of the list. Where one side alone has
+// such rows, no count has to be kept.
+fn add_difference(
+    alloc: Global,
+    sides: &Sides<'_>,
+    group: &[Key],
+    window: &Period,
+    out: &mut Rows,
+) -> Result<(), AllocError>
+    requires fit { All (λ k. length (key_row (state_of sides.now) k).values ≡ out.old.width) group.now }
+    ensures width { out.new.width ≡ out.old.width }
+    ensures rows { OnOk result ((v : List Value) → AreOfValues v (map (held_key (state_of sides.now)) group.now) → AddsDifference window.now (map (held_key (state_of sides.now)) group.now) v out.old.items out.new.items) }
 {
-    let told = one.rank.cmp(&other.rank).then(one.whole.cmp(&other.whole));
-    if told.is_ne() || one.whole {
-        return told;
+    let Some(first) = group.first() else {
+        return Ok(());
+    };
+    if are_alone(group, false) {
+        return Ok(());
     }
-    one.fragment.values.compare(&other.fragment.values)
+    if are_alone(group, true) {
+        return add_cut(sides, group, window, out);
+    }
+    let changes = changes_of(alloc, sides, group, window)?;
+    let periods = swept(alloc, &changes)?;
+    'periods: for period in &periods {
+        out.push_copy(sides.values(first), *period)?;
+    }
+    Ok(())
+}
+
+// The rows of both sides that overlap the window, in the order of their values.
+fn sorted_keys(alloc: Global, sides: &Sides<'_>, window: &Period) -> Result<Vec<Key>, AllocError>
+    ensures { IfOk result (λ keys. AreKeysOfBoth (state_of sides.now) window.now keys.items) }
+{
+    let mut keys = gathered(alloc, sides, window)?;
+    sides.sort(&mut keys)?;
+    Ok(keys)
+}
+
+// The differences of all groups go to the end of the list, which is empty.
+fn add_differences(
+    alloc: Global,
+    sides: &Sides<'_>,
+    keys: &[Key],
+    window: &Period,
+    out: &mut Rows,
+) -> Result<(), AllocError>
+    requires keys { AreKeysOfBoth (state_of sides.now) window.now keys.now }
+    requires whole { All (λ k. key_values (state_of sides.now) k ≡ (key_row (state_of sides.now) k).values) keys.now }
+    requires fit { All (λ k. length (key_row (state_of sides.now) k).values ≡ out.old.width) keys.now }
+    requires empty { out.old.items ≡ [] }
+    ensures width { out.new.width ≡ out.old.width }
+    ensures counted { OnOk result ((t : ℕ) (v : List Value) → copies out.new.items v t
+        ≡ (if holds window.now t then copies sides.now.left.now.items v t - copies sides.now.right.now.items v t else 0)) }
+{
+    let mut start = 0;
+    'groups: while start < keys.len() {
+        let end = start + sides.run_len(&keys[start..]);
+        add_difference(alloc, sides, &keys[start..end], window, out)?;
+        start = end;
+    }
+    Ok(())
 }
 
 /// Each row of the left as often as it stands there more often than on the right, at each instant of
 /// the window. `AllocError` where a growth was refused.
 pub fn except_all(
     alloc: Global,
-    left: &[Fragment],
-    right: &[Fragment],
+    left: &Rows,
+    right: &Rows,
     window: &Period,
-) -> Result<Vec<Fragment>, AllocError>
-    ensures inside { IfOk result (λ out. HasInside window.now out.items (λ t v. copies left.now v t - copies right.now v t)) }
+) -> Result<Rows, AllocError>
+    ensures width { IfOk result (λ out. out.width ≡ left.now.width) }
+    ensures inside { IfOk result (λ out. HasInside window.now out.items (λ t v. copies left.now.items v t - copies right.now.items v t)) }
     ensures outside { IfOk result (λ out. IsEmptyOutside window.now out.items) }
 {
-    let mut rows = gathered(alloc, left, right, window, Some(FIRST))?;
-    rows.sort_unstable_by(|one, other| compare_rows(one, other));
-    let mut out = Vec::new(alloc);
-    let mut start = 0;
-    'groups: while start < rows.len() {
-        let len = group_len(&rows[start..]);
-        add_difference(alloc, &rows[start..start + len], window, &mut out)?;
-        start += len;
+    if left.width() != right.width() {
+        return select(alloc, left, window, None);
     }
+    let columns = all_columns(alloc, left.width())?;
+    let sides = Sides {
+        left,
+        right,
+        left_columns: &columns,
+        right_columns: &columns,
+    };
+    let keys = sorted_keys(alloc, &sides, window)?;
+    let mut out = Rows::new(alloc, left.width());
+    add_differences(alloc, &sides, &keys, window, &mut out)?;
     Ok(out)
 }

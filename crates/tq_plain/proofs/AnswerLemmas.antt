@@ -6,23 +6,23 @@ use Rattle.tq_event.specs.declared.event.Event.{Event}
 use Rattle.tq_agg.specs.Grouping.{Row}
 use Rattle.tq_plan.specs.declared.plans.Plan.{Plan}
 use Rattle.tq_plan.specs.declared.plans.QueryPlan.{QueryPlan}
-use Rattle.tq_plan.specs.Answers.{lists_at, times_at, times_in, times_in_right}
-use Rattle.tq_plan.specs.Ordinary.{ordinary}
+use Rattle.tq_eval.specs.Answers.{as_of, lists_at, times_at, times_in, times_in_right}
+use Rattle.tq_eval.specs.Ordinary.{ordinary}
 
-times_inside : (history : List Event) (n : ℕ) (plan : Plan) (v : Row) (t : ℕ) → holds plan.window t ≡ true → times_at history n plan v t ≡ times_in history n plan.left v t - times_in_right history n plan.right v t
+times_inside : (history : List Event) (n : ℕ) (plan : Plan) (v : Row) (t : ℕ) → holds plan.window t ≡ true → times_at (as_of history n) plan v t ≡ times_in (as_of history n) plan.left v t - times_in_right (as_of history n) plan.right v t
 times_inside history n plan v t inside = rw inside refl
 
 -- where there is no right query
 pub times_alone : (history : List Event) (n : ℕ) (plan : Plan) (v : Row) (t : ℕ) (rows : List Row)
-    → holds plan.window t ≡ true → plan.right ≡ None → rows ≡ ordinary plan.left (lists_at history n t plan.left.tables)
-    → occurrences rows v ≡ times_at history n plan v t
+    → holds plan.window t ≡ true → plan.right ≡ None → rows ≡ ordinary plan.left (lists_at (as_of history n) t plan.left.tables)
+    → occurrences rows v ≡ times_at (as_of history n) plan v t
 times_alone history n plan v t rows inside none left =
-    omega (arith, ap (λ l. occurrences l v) left, times_inside history n plan v t inside, ap (λ right. times_in_right history n right v t) none)
+    omega (arith, ap (λ l. occurrences l v) left, times_inside history n plan v t inside, ap (λ right. times_in_right (as_of history n) right v t) none)
 
 -- where there is one
 pub times_less : (history : List Event) (n : ℕ) (plan : Plan) (v : Row) (t : ℕ) (right : QueryPlan) (rows first last : List Row)
     → holds plan.window t ≡ true → plan.right ≡ Some right
-    → first ≡ ordinary plan.left (lists_at history n t plan.left.tables) → last ≡ ordinary right (lists_at history n t right.tables)
-    → occurrences rows v ≡ occurrences first v - occurrences last v → occurrences rows v ≡ times_at history n plan v t
+    → first ≡ ordinary plan.left (lists_at (as_of history n) t plan.left.tables) → last ≡ ordinary right (lists_at (as_of history n) t right.tables)
+    → occurrences rows v ≡ occurrences first v - occurrences last v → occurrences rows v ≡ times_at (as_of history n) plan v t
 times_less history n plan v t right rows first last inside some left others less =
-    omega (arith, less, ap (λ l. occurrences l v) left, ap (λ l. occurrences l v) others, times_inside history n plan v t inside, ap (λ r. times_in_right history n r v t) some)
+    omega (arith, less, ap (λ l. occurrences l v) left, ap (λ l. occurrences l v) others, times_inside history n plan v t inside, ap (λ r. times_in_right (as_of history n) r v t) some)

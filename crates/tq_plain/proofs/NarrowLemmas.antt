@@ -12,10 +12,11 @@ use Rattle.tq_event.specs.History.{Row as AnyRow, end_of, rows_from, rows_of, va
 use Rattle.tq_ops.specs.Conditions.{value_at}
 use Rattle.tq_ops.specs.Ordinary.{product, projection}
 use Rattle.tq_agg.specs.Grouping.{Row, each_once, number_of, same_row}
-use Rattle.tq_plan.specs.Answers.{lists_at}
-use Rattle.tq_plan.specs.Ordinary.{alone_or_together, groups, is_aggregate, product_of}
+use Rattle.tq_eval.specs.Answers.{as_of, lists_at}
+use Rattle.tq_eval.specs.Ordinary.{alone_or_together, groups, product_of}
+use Rattle.tq_plan.specs.Standing.{is_aggregate}
 use Rattle.tq_plan.specs.declared.plans.Output.{Output}
-use Rattle.tq_plan.specs.Running.{AreNumbers, HasNumbers}
+use Rattle.tq_eval.specs.Running.{AreNumbers, HasNumbers}
 
 abbrev IsNarrowValue : Value → Type 0
 IsNarrowValue value = FitsSigned w64 (number_of value)
@@ -80,10 +81,10 @@ started_narrow table next (Start t values at ∷ events) all =
     by_table false numbered others = others
 started_narrow table next (End t r at ∷ events) all = started_narrow table next events (All-tail HasNumbers (End t r at) events all)
 
-pub lists_narrow : (history : List Event) (n t : ℕ) (tables : List ℕ) → All HasNumbers history → All (All AreNumbers) (lists_at history n t tables)
+pub lists_narrow : (history : List Event) (n t : ℕ) (tables : List ℕ) → All HasNumbers history → All (All AreNumbers) (lists_at (as_of history n) t tables)
 lists_narrow history n t [] all = All-nil (All AreNumbers)
 lists_narrow history n t (table ∷ tables) all =
-    All-cons (All AreNumbers) (valid_at history n table t) (lists_at history n t tables)
+    All-cons (All AreNumbers) (valid_at history n table t) (lists_at (as_of history n) t tables)
     (All-map AreNumbers (λ (row : AnyRow). row.values) _ (All-filter _ (λ (row : AnyRow). AreNumbers row.values) (rows_of history n table)
     (started_narrow table 0 (take n history) (All-take HasNumbers n history all))))
     (lists_narrow history n t tables all)

@@ -2,7 +2,7 @@
 
 ghost use Rattle.std.specs.Prelude.{◌≡◌, IfOk};
 ghost use Rattle.tq_event.specs.History.{end_of, valid_at};
-ghost use Rattle.tq_plan.specs.Answers.{lists_at};
+ghost use Rattle.tq_eval.specs.Answers.{as_of, lists_at};
 
 use crate::bags::push;
 use std::alloc::{AllocError, Global};
@@ -68,7 +68,7 @@ pub fn lists_at(
     tables: &[u32],
     instant: u64,
 ) -> Result<Vec<Items<Values>>, AllocError>
-    ensures { IfOk result (λ lists. lists.items ≡ lists_at events.now n instant tables.now) }
+    ensures { IfOk result (λ lists. lists.items ≡ lists_at (as_of events.now n) instant tables.now) }
 {
     let mut lists = Vec::new(alloc);
     'tables: for table in tables {

@@ -4,9 +4,9 @@ ghost use Rattle.std.specs.Prelude.{◌≡◌, ◌≢◌, All, Err, ◌∷◌, �
 ghost use Rattle.tq_base.specs.Fragments.{occurrences};
 ghost use Rattle.tq_base.specs.Periods.{holds};
 ghost use Rattle.tq_agg.specs.Grouping.{Row};
-ghost use Rattle.tq_plan.specs.Answers.{lists_at, times_at};
-ghost use Rattle.tq_plan.specs.Ordinary.{ordinary};
-ghost use Rattle.tq_plan.specs.Running.{HasNumbers};
+ghost use Rattle.tq_eval.specs.Answers.{as_of, lists_at, times_at};
+ghost use Rattle.tq_eval.specs.Ordinary.{ordinary};
+ghost use Rattle.tq_eval.specs.Running.{HasNumbers};
 
 use crate::fault::PlainFault;
 use crate::history::lists_at;
@@ -51,7 +51,7 @@ fn query_rows(
     query: &QueryPlan,
     instant: u64,
 ) -> Result<Vec<Values>, PlainFault>
-    ensures rows { IfOk result (λ rows. rows.items ≡ ordinary query.now (lists_at events.now n instant query.now.tables)) }
+    ensures rows { IfOk result (λ rows. rows.items ≡ ordinary query.now (lists_at (as_of events.now n) instant query.now.tables)) }
     ensures too_large { All HasNumbers events.now → result ≢ Err PlainFault.TooLarge }
 {
     let lists = lists_at(alloc, events, n, query.tables.get(), instant)?;
@@ -69,7 +69,7 @@ pub fn rows_at(
     plan: &Plan,
     instant: u64,
 ) -> Result<Vec<Values>, PlainFault>
-    ensures rows { (v : Row) → IfOk result (λ rows. occurrences rows.items v ≡ times_at events.now n plan.now v instant) }
+    ensures rows { (v : Row) → IfOk result (λ rows. occurrences rows.items v ≡ times_at (as_of events.now n) plan.now v instant) }
     ensures too_large { All HasNumbers events.now → result ≢ Err PlainFault.TooLarge }
 {
     if !holds(&plan.window, instant) {

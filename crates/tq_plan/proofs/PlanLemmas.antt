@@ -21,12 +21,12 @@ use Rattle.tq_plan.specs.declared.plans.Output.{Output}
 use Rattle.tq_plan.specs.declared.plans.Output.TheVariants as output
 use Rattle.tq_plan.specs.declared.plans.Plan.{Plan}
 use Rattle.tq_plan.specs.declared.plans.QueryPlan.{QueryPlan}
-use Rattle.tq_plan.specs.Ordinary as ordinary
+use Rattle.tq_plan.specs.Standing as standing
 use Rattle.tq_plan.specs.Plans.{column_output, group_after, grouped_sum, has_aggregate, is_aggregate, is_groupable, output_of, outputs_after, query_of, right_of, same_kinds, sum_output, with_kinds, column_names}
 use Rattle.tq_plan.specs.Conditions.{where_of}
 use Rattle.tq_plan.specs.Scope.{Field, no_sources, resolved, sources_after}
 use Rattle.tq_plan.specs.Windows.{window_plan}
-use Rattle.tq_plan.specs.Running.{IsPlan, items_stand, may_stand}
+use Rattle.tq_plan.specs.Standing.{IsPlan, items_stand, may_stand}
 
 -- what a call in two steps gives is given by both
 record Both {A B E : Type 0} (first : Result A E) (next : A → Result B E) (b : B) : Type 0 where
@@ -48,7 +48,7 @@ ok_is a b is = ap (λ r. result_unwrap_or r b) is
 
 record Stands (counted : Bool) (group : List ℕ) (aggregate : Bool) (one : Pair) : Type 0 where
   may : may_stand counted group one.0 ≡ true
-  kept : ordinary.is_aggregate one.0 ≡ aggregate
+  kept : standing.is_aggregate one.0 ≡ aggregate
 
 as_made : (counted : Bool) (group : List ℕ) (aggregate : Bool) (made one : Pair) → (let left : Result Pair PlanFault = Ok made in left) ≡ Ok one → Stands counted group aggregate made → Stands counted group aggregate one
 as_made counted group aggregate made one is = subst (Stands counted group aggregate) (ok_is made one is)
@@ -84,7 +84,7 @@ outputs_of = map (λ (one : Pair). one.0)
 
 record AllStand (counted : Bool) (group : List ℕ) (aggregate : Bool) (outputs : List Pair) : Type 0 where
   may : list_all (may_stand counted group) (outputs_of outputs) ≡ true
-  kept : list_any ordinary.is_aggregate (outputs_of outputs) ≡ aggregate
+  kept : list_any standing.is_aggregate (outputs_of outputs) ≡ aggregate
 
 one_more : (counted : Bool) (group : List ℕ) (before this : Bool) (done : List Pair) (one : Pair) → AllStand counted group before done → Stands counted group this one → AllStand counted group (before || this) (done ++ one ∷ [])
 one_more counted group before this done one all stands = record {
@@ -93,8 +93,8 @@ one_more counted group before this done one all stands = record {
       ∙ list_all-append (may_stand counted group) (outputs_of done) (one.0 ∷ [])
       ∙ (λ i. all.may i && (stands.may i && true));
   kept =
-      ap (list_any ordinary.is_aggregate) (map-append (λ (p : Pair). p.0) done (one ∷ []))
-      ∙ list_any-append ordinary.is_aggregate (outputs_of done) (one.0 ∷ [])
+      ap (list_any standing.is_aggregate) (map-append (λ (p : Pair). p.0) done (one ∷ []))
+      ∙ list_any-append standing.is_aggregate (outputs_of done) (one.0 ∷ [])
       ∙ (λ i. all.kept i || (stands.kept i || false))
       ∙ ap (λ b. before || b) (or-false this);
 }

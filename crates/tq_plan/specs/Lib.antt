@@ -4,8 +4,4 @@ pub mod Steps
 pub mod Seen
 pub mod Windows
 pub mod Plans
-pub mod Ordinary
-pub mod Answers
-pub mod Rows
-pub mod Running
-pub mod TableAnswers
+pub mod Standing

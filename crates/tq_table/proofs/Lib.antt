@@ -1,3 +1,2 @@
 pub mod Apart
-pub mod RankOrder
-pub mod Seams
+pub mod KeyGroups

@@ -1,5 +1,5 @@
 pub mod Apart
-pub mod Ranks
+pub mod Lines
 pub mod Sink
 pub mod Text
 pub mod Writing

@@ -1,101 +1,116 @@
 // Coalescing: the periods of each group of equal values are layered by themselves.
 
-ghost use Rattle.std.specs.Prelude.{◌≡◌, ◌≢◌, [], All, IfOk, List, OnOk, map};
-ghost use Rattle.std.specs.Bool.{OnTrue, OnFalse};
+ghost use Rattle.std.specs.Prelude.{◌≡◌, All, IfOk, IsPermutation, List, OnOk, map};
+ghost use Rattle.std.specs.Bool.{OnTrue};
 ghost use Rattle.tq_base.specs.declared.value.Value.{Value};
 ghost use Rattle.tq_base.specs.Fragments.{copies};
+ghost use Rattle.tq_base.specs.Keys.{key_row, IsKey, Rises};
+ghost use Rattle.tq_base.specs.KeySides.{state_of};
 ghost use Rattle.tq_base.specs.Layers.{IsLayers};
 ghost use Rattle.tq_base.specs.Layering.{AddsLayers};
 ghost use Rattle.tq_table.specs.Apart.{AreApart};
-ghost use Rattle.tq_table.specs.Ranks.{IsRankOf};
+ghost use Rattle.tq_table.specs.Lines.{line_of};
 
 use crate::layering::layered;
-use crate::ranking::{Ranked, RankedRows, in_order};
+use crate::lines::{Line, Lines};
 use std::alloc::{AllocError, Global};
-use tq_base::{Fragment, Period};
+use tq_base::{Key, Period, Rows, Side, Sides, all_columns};
 
 // The periods of the rows.
-fn periods_of(alloc: Global, rows: &[Fragment]) -> Result<Vec<Period>, AllocError>
-    ensures { IfOk result (λ v. v.items ≡ map (λ f. f.period) rows.now) }
+fn periods_of(alloc: Global, sides: &Sides<'_>, group: &[Key]) -> Result<Vec<Period>, AllocError>
+    ensures { IfOk result (λ v. v.items ≡ map (λ k. (key_row (state_of sides.now) k).period) group.now) }
 {
-    rows.iter().map(|row| row.period).collect(alloc)
-}
-
-// Whether the row has other values than the rows of the group, which are alike and of the rank.
-fn begins_group(group: &[Fragment], rank: u128, told: bool, next: &Ranked) -> bool
-    requires { IsRankOf told next.now.rank next.now.row.values }
-    ensures yes { OnTrue result ((v : List Value) → All (λ f. f.values ≡ v) group.now → IsRankOf told rank v
-        → next.now.row.values ≢ v) }
-    ensures no { OnFalse result ((v : List Value) → All (λ f. f.values ≡ v) group.now → IsRankOf told rank v
-        → All (λ f. f.values ≡ next.now.row.values) group.now) }
-{
-    if next.rank != rank {
-        return true;
+    let mut periods = Vec::with_capacity(alloc, group.len())?;
+    'keys: for key in group {
+        periods.push(sides.period(key))?;
     }
-    if told {
-        return false;
-    }
-    match group.first() {
-        Some(first) => first.values != next.row.values,
-        None => false,
-    }
+    Ok(periods)
 }
 
 // Whether each row ends before the next one begins: then they are their own layers.
-fn stand_apart(rows: &[Fragment]) -> bool
-    ensures { OnTrue result (AreApart rows.now) }
+fn stand_apart(sides: &Sides<'_>, group: &[Key]) -> bool
+    ensures { OnTrue result (AreApart (map (key_row (state_of sides.now)) group.now)) }
 {
-    rows.is_sorted_by(|one, next| one.period.end.number() < next.period.start.number())
+    group.is_sorted_by(|one, next| sides.period(one).end.number()
+        < sides.period(next).start.number())
 }
 
-// Moves a group of rows that are alike into the table, as its layers.
+// The layers of a group of rows that are alike go to the end of the table.
 fn add_layers(
     alloc: Global,
-    group: &mut Vec<Fragment>,
-    table: &mut Vec<Fragment>,
+    sides: &Sides<'_>,
+    group: &[Key],
+    table: &mut Vec<Line>,
 ) -> Result<(), AllocError>
-    ensures added { OnOk result ((v : List Value) → All (λ f. f.values ≡ v) group.old.items
-        → AddsLayers v group.old.items table.old.items table.new.items) }
-    ensures emptied { OnOk result (group.new.items ≡ []) }
+    requires { All (λ k. k.side ≡ Side.Left) group.now }
+    ensures { OnOk result ((v : List Value) → All (λ k. (key_row (state_of sides.now) k).values ≡ v) group.now
+        → AddsLayers v (map (key_row (state_of sides.now)) group.now) (map (line_of sides.now.left.now.items) table.old.items) (map (line_of sides.now.left.now.items) table.new.items)) }
 {
-    if stand_apart(group) {
-        return table.append(group);
+    if stand_apart(sides, group) {
+        'apart: for key in group {
+            table.push(Line {
+                row: key.row,
+                period: sides.period(key),
+            })?;
+        }
+        return Ok(());
     }
-    let periods = periods_of(alloc, group)?;
+    let Some(first) = group.first() else {
+        return Ok(());
+    };
+    let periods = periods_of(alloc, sides, group)?;
     let layering = layered(alloc, &periods)?;
-    for period in &layering {
-        // The layering has no more periods than the group has rows.
-        let Some(row) = group.pop() else {
-            unreachable!()
-        };
-        let Fragment { values, .. } = row;
-        table.push(Fragment {
-            values,
+    'layers: for period in &layering {
+        table.push(Line {
+            row: first.row,
             period: *period,
         })?;
     }
-    group.clear();
     Ok(())
+}
+
+// The keys of the left rows, in the order of their values.
+fn sorted_keys(alloc: Global, sides: &Sides<'_>) -> Result<Vec<Key>, AllocError>
+    ensures rows { IfOk result (λ keys. IsPermutation sides.now.left.now.items (map (key_row (state_of sides.now)) keys.items)) }
+    ensures left { IfOk result (λ keys. All (λ k. k.side ≡ Side.Left) keys.items) }
+    ensures keys { IfOk result (λ keys. All (IsKey (state_of sides.now)) keys.items) }
+    ensures rises { IfOk result (λ keys. Rises (state_of sides.now) keys.items) }
+{
+    let mut keys = Vec::new(alloc);
+    sides.add_keys(Side::Left, None, &mut keys)?;
+    sides.sort(&mut keys)?;
+    Ok(keys)
+}
+
+// The lines of the layers of the rows.
+fn lines_of(alloc: Global, rows: &Rows) -> Result<Vec<Line>, AllocError>
+    ensures { IfOk result (λ lines. IsLayers (copies rows.now.items) (map (line_of rows.now.items) lines.items)) }
+{
+    let columns = all_columns(alloc, rows.width())?;
+    let sides = Sides {
+        left: rows,
+        right: rows,
+        left_columns: &columns,
+        right_columns: &columns,
+    };
+    let keys = sorted_keys(alloc, &sides)?;
+    let mut table = Vec::with_capacity(alloc, keys.len())?;
+    let mut start = 0;
+    'groups: while start < keys.len() {
+        let end = start + sides.run_len(&keys[start..]);
+        add_layers(alloc, &sides, &keys[start..end], &mut table)?;
+        start = end;
+    }
+    Ok(table)
 }
 
 /// The layers of the copies that go in: for each row of values and each count from 1 on, one row for
 /// each maximal run of instants at which at least so many copies are valid, in order of the values,
-/// then of the start, then of the end. Rows are moved, not copied. `AllocError` where a growth was
+/// then of the start, then of the end. No value is moved or copied. `AllocError` where a growth was
 /// refused.
-pub fn coalesce(alloc: Global, rows: Vec<Fragment>) -> Result<Vec<Fragment>, AllocError>
-    ensures { IfOk result (λ table. IsLayers (copies rows.items) table.items) }
+pub fn coalesce(alloc: Global, rows: Rows) -> Result<Lines, AllocError>
+    ensures { IfOk result (IsLayers (copies rows.items)) }
 {
-    let RankedRows { told, rows } = in_order(alloc, rows)?;
-    let mut table = Vec::new(alloc);
-    let mut group = Vec::new(alloc);
-    let mut rank = 0;
-    'rows: for next in rows {
-        if begins_group(&group, rank, told, &next) {
-            add_layers(alloc, &mut group, &mut table)?;
-        }
-        rank = next.rank;
-        group.push(next.row)?;
-    }
-    add_layers(alloc, &mut group, &mut table)?;
-    Ok(table)
+    let lines = lines_of(alloc, &rows)?;
+    Ok(Lines::of(rows, lines))
 }

@@ -1,10 +1,11 @@
 // A table: the names of its columns, and its rows.
 
-use tq_base::{Fragment, Items, Name};
+use crate::lines::Lines;
+use tq_base::{Items, Name};
 
 /// A table: the names of its columns, and its rows, each with as many values.
 #[derive(Drop, Debug)]
 pub struct Table {
     pub columns: Items<Name>,
-    pub rows: Items<Fragment>,
+    pub rows: Lines,
 }

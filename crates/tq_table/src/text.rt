@@ -14,7 +14,7 @@ use csv::{ByteRecord, Writer, WriterBuilder};
 use itoa::Buffer;
 use std::alloc::{AllocError, Global};
 use std::io::Write;
-use tq_base::{Bound, FOREVER, Fragment, Name, Seen, Value};
+use tq_base::{Bound, FOREVER, Name, Period, Seen, Value};
 
 fn push_value(record: &mut ByteRecord, value: &Value) -> Result<(), AllocError>
     requires { partial_of record.old ≡ [] }
@@ -51,16 +51,16 @@ fn fill_header(record: &mut ByteRecord, columns: &[Name]) -> Result<(), AllocErr
 }
 
 // Makes the record that of a row.
-fn fill_row(record: &mut ByteRecord, row: &Fragment) -> Result<(), AllocError>
-    ensures { OnOk result (fields_of record.new ≡ row_fields row.now) }
+fn fill_row(record: &mut ByteRecord, values: &[Value], period: Period) -> Result<(), AllocError>
+    ensures { OnOk result (fields_of record.new ≡ row_fields (record { values = values.now; period = period })) }
 {
     record.clear();
-    for value in row.values.get() {
+    for value in values {
         push_value(record, value)?;
     }
-    let start = row.period.start.number();
+    let start = period.start.number();
     record.push_field(Buffer::new().format(start).as_bytes())?;
-    push_bound(record, row.period.end)
+    push_bound(record, period.end)
 }
 
 // Writes the record. Over a vector only memory can fail.
@@ -88,8 +88,8 @@ pub fn table_text(alloc: Global, table: &Table) -> Result<Vec<u8>, AllocError>
     let mut record = ByteRecord::new(alloc);
     fill_header(&mut record, table.columns.get())?;
     write_line(&mut writer, &record)?;
-    for row in table.rows.get() {
-        fill_row(&mut record, row)?;
+    'rows: for row in 0..table.rows.len() {
+        fill_row(&mut record, table.rows.values(row), table.rows.period(row))?;
         write_line(&mut writer, &record)?;
     }
     match writer.into_inner() {

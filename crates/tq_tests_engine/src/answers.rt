@@ -44,7 +44,7 @@ fn assert_answers(
     let files = files_of(rt.alloc(), tables)?;
     let mut sink = Sink::over(Vec::new(rt.alloc()));
     assert_eq!(rt;
-        answer_bytes(rt.alloc(), &files, statement, 16, &mut sink),
+        answer_bytes(rt.alloc(), files, statement, 16, &mut sink),
         Ok(())
     );
     assert_eq!(rt; sink.failed(), 0);
@@ -62,7 +62,7 @@ fn assert_refuses(
     let files = files_of(rt.alloc(), tables)?;
     let mut sink = Sink::over(Vec::new(rt.alloc()));
     assert_eq!(rt;
-        answer_bytes(rt.alloc(), &files, statement, 1, &mut sink),
+        answer_bytes(rt.alloc(), files, statement, 1, &mut sink),
         Err(fault)
     );
     assert_eq!(rt; sink.failed(), 0);
@@ -434,7 +434,7 @@ fn a_failed_write_leaves_a_prefix(rt: HostRuntime) -> Result<(), Fail> {
     let statement = b"VALIDTIME SELECT name FROM emp";
     let mut writer = PartWriter::new(Vec::new(rt.alloc()), 5, 2);
     let mut sink = Sink::over(&mut writer);
-    let written = answer_bytes(rt.alloc(), &files, statement, 1, &mut sink);
+    let written = answer_bytes(rt.alloc(), files, statement, 1, &mut sink);
     assert_eq!(rt; written, Err(AnswerFault::Write));
     assert_eq!(rt; sink.failed(), 1);
     assert_eq!(rt; writer.taken.as_slice(), b"name,".as_slice());
@@ -445,11 +445,11 @@ fn a_failed_write_leaves_a_prefix(rt: HostRuntime) -> Result<(), Fail> {
 #[test]
 fn an_answer_is_a_table(rt: HostRuntime) -> Result<(), Fail> {
     let files = files_of(rt.alloc(), &[(b"emp", EMP)])?;
-    match answer(rt.alloc(), &files, b"VALIDTIME SELECT name, emp FROM emp") {
+    match answer(rt.alloc(), files, b"VALIDTIME SELECT name, emp FROM emp") {
         Ok(table) => {
             assert_eq!(rt; table.columns.get().len(), 2);
             assert_eq!(rt; table.columns.get()[1].bytes(), b"emp".as_slice());
-            assert_eq!(rt; table.rows.get().len(), 3);
+            assert_eq!(rt; table.rows.len(), 3);
         }
         Err(fault) => assert!(rt; false, "{fault:?}"),
     }

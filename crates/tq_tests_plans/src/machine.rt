@@ -67,7 +67,9 @@ fn world(alloc: Global, readers: u32) -> Result<World, LoadFault>
         name: Items::of(Vec::from_slice(alloc, b"emp")?),
         bytes: Items::of(Vec::from_slice(alloc, EMP)?),
     };
-    let loaded = load(alloc, &[file], 1000)?;
+    let mut files = Vec::new(alloc);
+    files.push(file).map_err(AllocError::from)?;
+    let loaded = load(alloc, files, 1000)?;
     laws::loaded_is_catalogue();
     Ok(World::new(alloc, loaded.catalogue, readers)?)
 }

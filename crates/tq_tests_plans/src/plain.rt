@@ -43,7 +43,7 @@ fn files_of(alloc: Global, tables: &[(&[u8], &[u8])]) -> Result<Vec<TableFile>, 
 }
 
 fn asked(alloc: Global, tables: &[(&[u8], &[u8])], statement: &str) -> Result<Question, Fail> {
-    let loaded = load(alloc, &files_of(alloc, tables)?, MAX_EVENTS)?;
+    let loaded = load(alloc, files_of(alloc, tables)?, MAX_EVENTS)?;
     let statement = read(alloc, statement.as_bytes())?;
     let plan = plan(alloc, &loaded.catalogue, &statement)?;
     Ok(Question { loaded, plan })

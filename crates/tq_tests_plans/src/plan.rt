@@ -1,7 +1,7 @@
 // Statements over small catalogues, written out.
 
 ghost use Rattle.std.specs.Prelude.{IfOk};
-ghost use Rattle.tq_plan.specs.Running.{IsPlan};
+ghost use Rattle.tq_plan.specs.Standing.{IsPlan};
 
 mod answers;
 mod faults;
@@ -37,7 +37,7 @@ fn files_of(alloc: Global, tables: &[(&[u8], &[u8])]) -> Result<Vec<TableFile>, 
 
 // The catalogue of these tables.
 fn catalogue_of(alloc: Global, tables: &[(&[u8], &[u8])]) -> Result<Catalogue, LoadFault> {
-    Ok(load(alloc, &files_of(alloc, tables)?, 1000)?.catalogue)
+    Ok(load(alloc, files_of(alloc, tables)?, 1000)?.catalogue)
 }
 
 // The plan of a statement over these tables.

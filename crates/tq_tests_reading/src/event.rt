@@ -7,7 +7,7 @@ mod tables;
 use std::alloc::{AllocError, Global};
 use std::fmt::Write;
 use std::test::Fail;
-use tq_base::{Fragment, Items, Seen, Value};
+use tq_base::{Items, Rows, Seen, Value};
 use tq_event::{Event, LoadFault, Loaded, TableFile, load};
 
 const EMP: &[u8] = b"emp:int,name:text,dept:text,from,to
@@ -24,9 +24,20 @@ fn file(alloc: Global, name: &[u8], bytes: &[u8]) -> Result<TableFile, AllocErro
     })
 }
 
+// The same as all the files that there are.
+fn one_file(alloc: Global, name: &[u8], bytes: &[u8]) -> Result<Vec<TableFile>, AllocError> {
+    Ok(Vec::from_array(alloc, [file(alloc, name, bytes)?])?)
+}
+
+// The table `emp` and another one.
+fn two_files(alloc: Global, name: &[u8], bytes: &[u8]) -> Result<Vec<TableFile>, AllocError> {
+    let files = [file(alloc, b"emp", EMP)?, file(alloc, name, bytes)?];
+    Ok(Vec::from_array(alloc, files)?)
+}
+
 // What one table of this name loads as, with room for many events.
 fn load_one(alloc: Global, name: &[u8], bytes: &[u8]) -> Result<Loaded, LoadFault> {
-    load(alloc, &[file(alloc, name, bytes)?], 1000)
+    load(alloc, one_file(alloc, name, bytes)?, 1000)
 }
 
 // The values, with a space before each.
@@ -41,13 +52,14 @@ fn tell_values(line: &mut String, values: &[Value]) -> Result<(), Fail> {
 }
 
 // A line for each row.
-fn told_rows(alloc: Global, rows: &[Fragment]) -> Result<String, Fail> {
+fn told_rows(alloc: Global, rows: &Rows) -> Result<String, Fail> {
     let mut lines = String::new(alloc);
-    for row in rows {
+    for row in 0..rows.len() {
         write!(lines, "row:")?;
-        tell_values(&mut lines, row.values.get())?;
-        let start = row.period.start.number();
-        let end = row.period.end.number();
+        tell_values(&mut lines, rows.values(row))?;
+        let period = rows.periods()[row];
+        let start = period.start.number();
+        let end = period.end.number();
         writeln!(lines, " from {start} to {end}")?;
     }
     Ok(lines)

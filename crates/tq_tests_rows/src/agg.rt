@@ -1,15 +1,16 @@
 // Counts, sums and groups, with their rows written out.
 
-ghost use Rattle.std.specs.Prelude.{ℕ, All, FitsSigned, IfOk};
+ghost use Rattle.std.specs.Prelude.{◌≡◌, ℕ, All, FitsSigned, IfOk, OnOk};
 ghost use Rattle.std.specs.Int.{w64};
 ghost use Rattle.tq_base.specs.declared.fragment.Fragment.{Fragment};
 ghost use Rattle.tq_ops.specs.Conditions.{value_at};
 ghost use Rattle.tq_agg.specs.Grouping.{number_of};
 
+use crate::adding::add_row;
 use std::alloc::{AllocError, Global};
 use std::test::Fail;
 use tq_agg::{count_all, group_count_sum};
-use tq_base::{Bound, FOREVER, Fragment, Instant, Period, Seen, Value, Values};
+use tq_base::{Bound, FOREVER, Fragment, Instant, Period, Rows, Seen, Value, Values};
 
 fn period(start: u64, end: u64) -> Result<Period, Fail> {
     let start = Instant::new(start).ok_or("no instant")?;
@@ -17,25 +18,46 @@ fn period(start: u64, end: u64) -> Result<Period, Fail> {
     Ok(Period::new(start, end).ok_or("no period")?)
 }
 
-// A row of a text and a number.
-fn pair(alloc: Global, content: &str, number: i64, start: u64, end: u64) -> Result<Fragment, Fail>
-    ensures { IfOk result (λ row. (place : ℕ) → FitsSigned w64 (number_of (value_at row.values place))) }
+// A row of a text and a number goes to the end of the list.
+fn add_pair(
+    alloc: Global,
+    content: &str,
+    number: i64,
+    period: Period,
+    rows: &mut Rows,
+) -> Result<(), Fail>
+    ensures small { OnOk result (All (λ (row : Fragment). (place : ℕ) → FitsSigned w64 (number_of (value_at row.values place))) rows.old.items
+        → All (λ (row : Fragment). (place : ℕ) → FitsSigned w64 (number_of (value_at row.values place))) rows.new.items) }
 {
     let text = Value::text(alloc, content)?;
-    let number = Value::int(number);
-    Ok(Fragment {
-        values: Values::of(vec![in alloc; text, number]?),
-        period: period(start, end)?,
-    })
+    add_row(rows, &[text, Value::int(number)], period)
 }
 
 // Rows of a text and a number each.
-fn pairs(alloc: Global, rows: &[(&str, i64, u64, u64)]) -> Result<Vec<Fragment>, Fail>
+fn pairs(alloc: Global, told: &[(&str, i64, u64, u64)]) -> Result<Rows, Fail>
     ensures { IfOk result (λ rows. All (λ (row : Fragment). (place : ℕ) → FitsSigned w64 (number_of (value_at row.values place))) rows.items) }
 {
+    let mut rows = Rows::new(alloc, 2);
+    'rows: for (content, number, start, end) in told {
+        add_pair(alloc, content, *number, period(*start, *end)?, &mut rows)?;
+    }
+    Ok(rows)
+}
+
+// The rows, one by one.
+fn listed(alloc: Global, rows: &Rows) -> Result<Vec<Fragment>, Fail> {
     let mut fragments = Vec::new(alloc);
-    'rows: for (content, number, start, end) in rows {
-        fragments.push(pair(alloc, content, *number, *start, *end)?)?;
+    for (number, period) in rows.periods().iter().enumerate() {
+        if number < rows.len() {
+            let mut values = Vec::new(alloc);
+            for value in rows.values(number) {
+                values.push(value.try_copy()?)?;
+            }
+            fragments.push(Fragment {
+                values: Values::of(values),
+                period: *period,
+            })?;
+        }
     }
     Ok(fragments)
 }
@@ -48,7 +70,8 @@ fn value_text(alloc: Global, value: &Value) -> Result<String, AllocError> {
 }
 
 // The rows in order: the values, from and to, divided by commas, each row followed by a blank.
-fn shown(alloc: Global, mut rows: Vec<Fragment>) -> Result<String, Fail> {
+fn shown(alloc: Global, rows: &Rows) -> Result<String, Fail> {
+    let mut rows = listed(alloc, rows)?;
     rows.sort_unstable();
     let mut all = String::new(alloc);
     for row in &rows {
@@ -77,7 +100,7 @@ fn counts_each_department(rt: HostRuntime) -> Result<(), Fail> {
     )?;
     let out = group_count_sum(rt.alloc(), &rows, &period(0, FOREVER)?, &[0], &[])?;
     assert_eq!(rt;
-        shown(rt.alloc(), out)?.as_str(),
+        shown(rt.alloc(), &out)?.as_str(),
         "food,1,5,1000000000000 toys,1,10,12 toys,1,20,30 toys,2,12,20 "
     );
     Ok(())
@@ -89,7 +112,7 @@ fn sums_pass_64_bits(rt: HostRuntime) -> Result<(), Fail> {
     let rows = pairs(rt.alloc(), &[("a", most, 0, 9), ("b", most, 4, 6)])?;
     let out = group_count_sum(rt.alloc(), &rows, &period(0, FOREVER)?, &[], &[1, 0])?;
     assert_eq!(rt;
-        shown(rt.alloc(), out)?.as_str(),
+        shown(rt.alloc(), &out)?.as_str(),
         "1,9223372036854775807,0,0,4 1,9223372036854775807,0,6,9 2,18446744073709551614,0,4,6 "
     );
     Ok(())
@@ -97,15 +120,17 @@ fn sums_pass_64_bits(rt: HostRuntime) -> Result<(), Fail> {
 
 #[test]
 fn no_rows_make_no_group(rt: HostRuntime) -> Result<(), Fail> {
-    let out = group_count_sum(rt.alloc(), &[], &period(0, FOREVER)?, &[], &[])?;
-    assert!(rt; out.is_empty());
+    let none = Rows::new(rt.alloc(), 2);
+    let out = group_count_sum(rt.alloc(), &none, &period(0, FOREVER)?, &[], &[])?;
+    assert!(rt; out.len() == 0);
     Ok(())
 }
 
 #[test]
 fn no_rows_are_counted_as_0(rt: HostRuntime) -> Result<(), Fail> {
-    let out = count_all(rt.alloc(), &[], &period(3, 8)?)?;
-    assert_eq!(rt; shown(rt.alloc(), out)?.as_str(), "0,3,8 ");
+    let none = Rows::new(rt.alloc(), 2);
+    let out = count_all(rt.alloc(), &none, &period(3, 8)?)?;
+    assert_eq!(rt; shown(rt.alloc(), &out)?.as_str(), "0,3,8 ");
     Ok(())
 }
 
@@ -121,9 +146,12 @@ fn rows_are_counted_inside_the_window(rt: HostRuntime) -> Result<(), Fail> {
         ],
     )?;
     let out = count_all(rt.alloc(), &rows, &period(5, 35)?)?;
-    assert_eq!(rt; shown(rt.alloc(), out)?.as_str(), "0,20,30 1,5,20 1,30,35 ");
+    assert_eq!(rt;
+        shown(rt.alloc(), &out)?.as_str(),
+        "0,20,30 1,5,20 1,30,35 "
+    );
     let out = group_count_sum(rt.alloc(), &rows, &period(40, 50)?, &[0], &[1])?;
-    assert!(rt; out.is_empty());
+    assert!(rt; out.len() == 0);
     Ok(())
 }
 
@@ -134,7 +162,10 @@ fn rows_that_meet_leave_no_cut(rt: HostRuntime) -> Result<(), Fail> {
         &[("a", 7, 0, 10), ("a", 7, 10, 20), ("a", 8, 20, 30)],
     )?;
     let out = group_count_sum(rt.alloc(), &rows, &period(0, FOREVER)?, &[0], &[1])?;
-    assert_eq!(rt; shown(rt.alloc(), out)?.as_str(), "a,1,7,0,20 a,1,8,20,30 ");
+    assert_eq!(rt;
+        shown(rt.alloc(), &out)?.as_str(),
+        "a,1,7,0,20 a,1,8,20,30 "
+    );
     Ok(())
 }
 
@@ -145,10 +176,10 @@ fn keys_of_one_prefix_are_two_groups(rt: HostRuntime) -> Result<(), Fail> {
         &[("ab", 1, 0, 9), ("a", 1, 0, 9), ("ab", 2, 0, 9)],
     )?;
     let out = group_count_sum(rt.alloc(), &rows, &period(0, FOREVER)?, &[0], &[])?;
-    assert_eq!(rt; shown(rt.alloc(), out)?.as_str(), "a,1,0,9 ab,2,0,9 ");
+    assert_eq!(rt; shown(rt.alloc(), &out)?.as_str(), "a,1,0,9 ab,2,0,9 ");
     let out = group_count_sum(rt.alloc(), &rows, &period(0, FOREVER)?, &[0, 1], &[])?;
     assert_eq!(rt;
-        shown(rt.alloc(), out)?.as_str(),
+        shown(rt.alloc(), &out)?.as_str(),
         "a,1,1,0,9 ab,1,1,0,9 ab,2,1,0,9 "
     );
     Ok(())
@@ -169,7 +200,7 @@ fn keys_that_begin_alike_are_groups_of_their_own(rt: HostRuntime) -> Result<(), 
     )?;
     let out = group_count_sum(rt.alloc(), &rows, &period(0, FOREVER)?, &[0], &[])?;
     assert_eq!(rt;
-        shown(rt.alloc(), out)?.as_str(),
+        shown(rt.alloc(), &out)?.as_str(),
         "sixteen bytes ..,1,0,9 sixteen bytes ..\0,1,0,9 sixteen bytes ..a,1,0,9 sixteen bytes ..b,1,0,4 sixteen bytes ..b,2,4,9 "
     );
     Ok(())

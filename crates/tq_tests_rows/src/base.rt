@@ -1,5 +1,6 @@
 // Values of the public calls, written out.
 
+mod keys;
 mod orders;
 mod ranks;
 mod readers;

@@ -1,12 +1,14 @@
 // Calls of the operators, with their rows written out.
 
 mod conditions;
+mod links;
 mod operators;
 
+use crate::adding::add_row;
 use sqlite_items::Boxed;
 use std::alloc::{AllocError, Global};
 use std::test::Fail;
-use tq_base::{Bound, Fragment, Instant, Period, Seen, Value, Values};
+use tq_base::{Bound, Fragment, Instant, Period, Rows, Seen, Value, Values};
 use tq_ops::{Compare, Operand, Test};
 
 fn period(start: u64, end: u64) -> Result<Period, Fail> {
@@ -20,26 +22,42 @@ fn text(alloc: Global, content: &str) -> Result<Value, AllocError> {
 }
 
 // Rows of one number each.
-fn numbers(alloc: Global, rows: &[(i64, u64, u64)]) -> Result<Vec<Fragment>, Fail> {
-    let mut fragments = Vec::new(alloc);
-    for (number, start, end) in rows {
-        fragments.push(Fragment {
-            values: Values::of(vec![in alloc; Value::int(*number)]?),
-            period: period(*start, *end)?,
-        })?;
+fn numbers(alloc: Global, told: &[(i64, u64, u64)]) -> Result<Rows, Fail> {
+    let mut rows = Rows::new(alloc, 1);
+    'rows: for (number, start, end) in told {
+        add_row(&mut rows, &[Value::int(*number)], period(*start, *end)?)?;
     }
-    Ok(fragments)
+    Ok(rows)
 }
 
 // Rows of a number and a text each.
-fn pairs(alloc: Global, rows: &[(i64, &str, u64, u64)]) -> Result<Vec<Fragment>, Fail> {
-    let mut fragments = Vec::new(alloc);
-    for (number, content, start, end) in rows {
+fn pairs(alloc: Global, told: &[(i64, &str, u64, u64)]) -> Result<Rows, Fail> {
+    let mut rows = Rows::new(alloc, 2);
+    'rows: for (number, content, start, end) in told {
         let content = text(alloc, content)?;
-        fragments.push(Fragment {
-            values: Values::of(vec![in alloc; Value::int(*number), content]?),
-            period: period(*start, *end)?,
-        })?;
+        add_row(
+            &mut rows,
+            &[Value::int(*number), content],
+            period(*start, *end)?,
+        )?;
+    }
+    Ok(rows)
+}
+
+// The rows, one by one.
+fn listed(alloc: Global, rows: &Rows) -> Result<Vec<Fragment>, Fail> {
+    let mut fragments = Vec::new(alloc);
+    for (number, period) in rows.periods().iter().enumerate() {
+        if number < rows.len() {
+            let mut values = Vec::new(alloc);
+            for value in rows.values(number) {
+                values.push(value.try_copy()?)?;
+            }
+            fragments.push(Fragment {
+                values: Values::of(values),
+                period: *period,
+            })?;
+        }
     }
     Ok(fragments)
 }
@@ -52,7 +70,8 @@ fn value_text(alloc: Global, value: &Value) -> Result<String, AllocError> {
 }
 
 // The rows in order: the values, from and to, divided by commas, each row followed by a blank.
-fn shown(alloc: Global, mut rows: Vec<Fragment>) -> Result<String, Fail> {
+fn shown(alloc: Global, rows: &Rows) -> Result<String, Fail> {
+    let mut rows = listed(alloc, rows)?;
     rows.sort_unstable();
     let mut all = String::new(alloc);
     for row in &rows {
@@ -68,11 +87,15 @@ fn shown(alloc: Global, mut rows: Vec<Fragment>) -> Result<String, Fail> {
 }
 
 // How many of the rows are valid at each instant from 0 on, one digit an instant.
-fn counts(alloc: Global, rows: &[Fragment], instants: u64) -> Result<String, Fail> {
+fn counts(alloc: Global, rows: &Rows, instants: u64) -> Result<String, Fail> {
     let mut all = String::new(alloc);
     for number in 0..instants {
         let instant = Instant::new(number).ok_or("no instant")?;
-        let count = rows.iter().filter(|row| row.period.holds(instant)).count();
+        let count = rows
+            .periods()
+            .iter()
+            .filter(|period| period.holds(instant))
+            .count();
         all.push_str(format!(in alloc; "{count}")?.as_str())?;
     }
     Ok(all)

@@ -1,43 +1,56 @@
-// Fragments in, bytes out, written out.
+// Rows in, bytes out, written out.
 
 mod coalescing;
 mod sending;
 mod text;
 
+use crate::adding::add_row;
 use std::alloc::{AllocError, Global};
 use std::test::Fail;
-use tq_base::{Bound, Fragment, Instant, Items, Period, Value, Values, fold_name};
-use tq_table::{Table, table_text};
+use tq_base::{Bound, Instant, Items, Period, Rows, Value, fold_name};
+use tq_table::{Line, Lines, Table, table_text};
 
 fn text_value(alloc: Global, content: &str) -> Result<Value, AllocError> {
     Value::text(alloc, content)
 }
 
-// A row of one value.
-fn row(alloc: Global, value: Value, start: u64, end: u64) -> Result<Fragment, Fail> {
+fn period(start: u64, end: u64) -> Result<Period, Fail> {
     let start = Instant::new(start).ok_or("no instant")?;
     let end = Bound::new(end).ok_or("no bound")?;
-    Ok(Fragment {
-        values: Values::of(vec![in alloc; value]?),
-        period: Period::new(start, end).ok_or("no period")?,
-    })
+    Ok(Period::new(start, end).ok_or("no period")?)
 }
 
 // The rows of one text each.
-fn text_rows(alloc: Global, rows: &[(&str, u64, u64)]) -> Result<Vec<Fragment>, Fail> {
-    let mut fragments = Vec::new(alloc);
-    for (content, start, end) in rows {
-        fragments.push(row(alloc, text_value(alloc, content)?, *start, *end)?)?;
+fn text_rows(alloc: Global, told: &[(&str, u64, u64)]) -> Result<Rows, Fail> {
+    let mut rows = Rows::new(alloc, 1);
+    'rows: for (content, start, end) in told {
+        add_row(
+            &mut rows,
+            &[text_value(alloc, content)?],
+            period(*start, *end)?,
+        )?;
     }
-    Ok(fragments)
+    Ok(rows)
 }
 
 // The text of a table of one column.
-fn written(alloc: Global, name: &[u8], rows: Vec<Fragment>) -> Result<String, Fail> {
+fn written(alloc: Global, name: &[u8], rows: Lines) -> Result<String, Fail> {
     let name = fold_name(alloc, name)?.ok_or("no name")?;
     let table = Table {
         columns: Items::of(vec![in alloc; name]?),
-        rows: Items::of(rows),
+        rows,
     };
     Ok(String::from_utf8(table_text(alloc, &table)?)?)
+}
+
+// Each row once, in the order of the rows.
+fn lines(alloc: Global, rows: Rows) -> Result<Lines, Fail> {
+    let mut lines = Vec::new(alloc);
+    for (number, period) in rows.periods().iter().enumerate() {
+        lines.push(Line {
+            row: u32::try_from(number).ok().ok_or("so many rows")?,
+            period: *period,
+        })?;
+    }
+    Ok(Lines::of(rows, lines))
 }

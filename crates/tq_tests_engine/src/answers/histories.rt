@@ -3,24 +3,25 @@
 use super::{EMP, files_of};
 use std::alloc::Global;
 use std::test::Fail;
-use tq_engine::laws::histories_have_numbers;
+use tq_engine::laws::histories_fit;
+use tq_eval::answer_list;
 use tq_event::laws::loaded_is_history;
 use tq_event::{MAX_EVENTS, load};
-use tq_plan::{answer_list, plan};
+use tq_plan::plan;
 use tq_sql::read;
 use tq_table::table_text;
 
 // The text of a statement's answer as of the first events of `emp`.
 fn answered(alloc: Global, n: u32, statement: &[u8]) -> Result<Vec<u8>, Fail> {
-    let loaded = load(alloc, &files_of(alloc, &[(b"emp", EMP)])?, MAX_EVENTS)?;
+    let loaded = load(alloc, files_of(alloc, &[(b"emp", EMP)])?, MAX_EVENTS)?;
     let plan = plan(alloc, &loaded.catalogue, &read(alloc, statement)?)?;
     let events = loaded.events.get();
     if events.len() < n as usize {
         return Err(Fail::from("so many events"));
     }
     loaded_is_history();
-    histories_have_numbers();
-    let table = answer_list(alloc, events, n, &plan)?;
+    histories_fit();
+    let table = answer_list(alloc, &loaded.catalogue, events, n, &plan)?;
     Ok(table_text(alloc, &table)?)
 }
 

@@ -207,7 +207,7 @@ fn many_groups_items_and_long_literals(rt: HostRuntime) -> Result<(), Fail> {
 #[test]
 fn megabytes_go_out_after_a_failure(rt: HostRuntime) -> Result<(), Fail> {
     let made = Made::new(rt.alloc())?;
-    let files = files_of(rt.alloc(), &[(b"big", made.big.as_bytes())])?;
+    let big = || files_of(rt.alloc(), &[(b"big", made.big.as_bytes())]);
     let mut wanted = String::from_str(rt.alloc(), "g,sum,from,to\n")?;
     for g in 0..10u32 {
         for n in 0..ROWS / 10 {
@@ -219,17 +219,17 @@ fn megabytes_go_out_after_a_failure(rt: HostRuntime) -> Result<(), Fail> {
     let mut sink = Sink::over(&mut writer);
     let small = b"VALIDTIME SELECT k FROM big WHERE k = 7";
     assert_eq!(rt;
-        answer_bytes(rt.alloc(), &files, small, 3, &mut sink),
+        answer_bytes(rt.alloc(), big()?, small, 3, &mut sink),
         Ok(())
     );
     let statement = b"VALIDTIME SELECT g, SUM(k) FROM big GROUP BY g";
     assert_eq!(rt;
-        answer_bytes(rt.alloc(), &files, statement, 16, &mut sink),
+        answer_bytes(rt.alloc(), big()?, statement, 16, &mut sink),
         Err(AnswerFault::Write)
     );
     assert_eq!(rt; sink.failed(), 1);
     assert_eq!(rt;
-        answer_bytes(rt.alloc(), &files, statement, 16, &mut sink),
+        answer_bytes(rt.alloc(), big()?, statement, 16, &mut sink),
         Ok(())
     );
     assert_eq!(rt; sink.failed(), 1);

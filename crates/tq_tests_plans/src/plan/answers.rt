@@ -1,16 +1,17 @@
 // Answers over tables of rows, written out.
 
-ghost use Rattle.std.specs.Prelude.{All, IfOk};
+ghost use Rattle.std.specs.Prelude.{◌≡◌, All, IfOk, OnOk};
 ghost use Rattle.tq_base.specs.declared.fragment.Fragment.{Fragment};
-ghost use Rattle.tq_plan.specs.Running.{AreNumbers};
-ghost use Rattle.tq_plan.specs.TableAnswers.{AreAllNumbers};
+ghost use Rattle.tq_event.specs.Tables.{lists_of};
+ghost use Rattle.tq_eval.specs.Running.{AreNumbers};
+ghost use Rattle.tq_eval.specs.TableAnswers.{AreAllNumbers};
 
 use super::planned;
 use std::alloc::Global;
 use std::process::Abort;
 use std::test::Fail;
-use tq_base::{Bound, FOREVER, Fragment, Instant, Items, Period, Value, Values};
-use tq_plan::answer_tables;
+use tq_base::{Bound, FOREVER, Instant, Period, Rows, Value};
+use tq_eval::answer_tables;
 use tq_table::table_text;
 
 // A number and a text, from when until when.
@@ -28,29 +29,35 @@ fn period(start: u64, end: u64) -> Result<Period, Fail> {
     Ok(Period::new(start, end).ok_or("no period")?)
 }
 
-fn pair(alloc: Global, number: i64, content: &str, start: u64, end: u64) -> Result<Fragment, Fail>
-    ensures { IfOk result (λ row. AreNumbers row.values) }
+fn add_pair(
+    alloc: Global,
+    number: i64,
+    content: &str,
+    period: Period,
+    rows: &mut Rows,
+) -> Result<(), Fail>
+    requires { rows.old.width ≡ 2 }
+    ensures width { rows.new.width ≡ 2 }
+    ensures numbers { OnOk result (All (λ (row : Fragment). AreNumbers row.values) rows.old.items → All (λ (row : Fragment). AreNumbers row.values) rows.new.items) }
 {
     let number = Value::int(number);
     let text = Value::text(alloc, content)?;
-    Ok(Fragment {
-        values: Values::of(vec![in alloc; number, text]?),
-        period: period(start, end)?,
-    })
+    rows.push(&mut vec![in alloc; number, text]?, period)?;
+    Ok(())
 }
 
-fn pairs(alloc: Global, rows: &[Told<'_>]) -> Result<Items<Fragment>, Fail>
-    ensures { IfOk result (λ rows. All (λ (row : Fragment). AreNumbers row.values) rows) }
+fn pairs(alloc: Global, told: &[Told<'_>]) -> Result<Rows, Fail>
+    ensures { IfOk result (λ rows. All (λ (row : Fragment). AreNumbers row.values) rows.items) }
 {
-    let mut fragments = Vec::new(alloc);
-    'rows: for (number, content, start, end) in rows {
-        fragments.push(pair(alloc, *number, content, *start, *end)?)?;
+    let mut rows = Rows::new(alloc, 2);
+    'rows: for (number, content, start, end) in told {
+        add_pair(alloc, *number, content, period(*start, *end)?, &mut rows)?;
     }
-    Ok(Items::of(fragments))
+    Ok(rows)
 }
 
-fn tables(alloc: Global, told: &[&[Told<'_>]]) -> Result<Vec<Items<Fragment>>, Fail>
-    ensures { IfOk result (λ tables. AreAllNumbers tables.items) }
+fn tables(alloc: Global, told: &[&[Told<'_>]]) -> Result<Vec<Rows>, Fail>
+    ensures { IfOk result (λ tables. AreAllNumbers (lists_of tables.items)) }
 {
     let mut tables = Vec::new(alloc);
     'tables: for rows in told {
@@ -128,6 +135,27 @@ fn items_of_groups_stand_in_any_order(rt: HostRuntime) -> Result<(), Fail> {
             (
                 b"VALIDTIME SELECT COUNT(*), name, SUM(id), name AS again FROM staff GROUP BY name",
                 b"count,name,sum,again,from,to\n1,ann,1,ann,10,30\n1,bob,2,bob,15,25\n",
+            ),
+        ],
+    )
+}
+
+#[test]
+fn groups_of_several_sources_are_counted_and_summed(rt: HostRuntime) -> Result<(), Fail> {
+    assert_answered(
+        &rt,
+        &[
+            (
+                b"VALIDTIME SELECT SUM(amount), name, COUNT(*), SUM(staff.id) FROM staff, pay WHERE name = who GROUP BY name",
+                b"sum,name,count,sum,from,to\n7,ann,1,1,12,30\n",
+            ),
+            (
+                b"VALIDTIME PERIOD '[10 - 26)' SELECT t.name, COUNT(*), SUM(s.id) FROM staff s, staff t WHERE s.id <> t.id GROUP BY t.name",
+                b"name,count,sum,from,to\nann,1,2,15,25\nbob,1,1,15,25\n",
+            ),
+            (
+                b"VALIDTIME SELECT amount, name, SUM(amount) FROM pay, staff GROUP BY name, amount",
+                b"amount,name,sum,from,to\n7,ann,7,12,30\n7,bob,7,15,25\n",
             ),
         ],
     )

@@ -1,6 +1,6 @@
 // The first fault of files, with its kind, its table's number and its record's.
 
-use super::{EMP, file, load_one};
+use super::{EMP, file, load_one, one_file, two_files};
 use std::alloc::{AllocError, Global};
 use std::test::Fail;
 use tq_event::LoadFaultKind::{
@@ -131,7 +131,6 @@ fn a_text_has_at_most_a_thousand_bytes(rt: HostRuntime) -> Result<(), Fail> {
 
 #[test]
 fn events_stay_within_the_limit(rt: HostRuntime) -> Result<(), Fail> {
-    let files = [file(rt.alloc(), b"emp", EMP)?];
     for (limit, want) in [
         (0, fault(TooManyEvents, 0, 2)),
         (1, fault(TooManyEvents, 0, 2)),
@@ -139,7 +138,8 @@ fn events_stay_within_the_limit(rt: HostRuntime) -> Result<(), Fail> {
         (6, fault(TooManyEvents, 0, 5)),
         (7, None),
     ] {
-        assert_eq!(rt; load(rt.alloc(), &files, limit).err(), want, "{limit}");
+        let files = one_file(rt.alloc(), b"emp", EMP)?;
+        assert_eq!(rt; load(rt.alloc(), files, limit).err(), want, "{limit}");
     }
     Ok(())
 }
@@ -169,12 +169,9 @@ fn a_table_is_refused_by_its_number(rt: HostRuntime) -> Result<(), Fail> {
         ),
         (b"b", good, None),
     ] {
-        let files = [
-            file(rt.alloc(), b"emp", EMP)?,
-            file(rt.alloc(), name, bytes)?,
-        ];
+        let files = two_files(rt.alloc(), name, bytes)?;
         assert_eq!(rt;
-            load(rt.alloc(), &files, 10).err(),
+            load(rt.alloc(), files, 10).err(),
             want,
             "{name:?} {bytes:?}"
         );
@@ -185,17 +182,19 @@ fn a_table_is_refused_by_its_number(rt: HostRuntime) -> Result<(), Fail> {
 #[test]
 fn there_are_at_most_sixteen_tables(rt: HostRuntime) -> Result<(), Fail> {
     let mut files = Vec::new(rt.alloc());
-    for letter in b'a'..=b'q' {
+    let mut more = Vec::new(rt.alloc());
+    for letter in b'a'..=b'p' {
         files.push(file(rt.alloc(), &[letter], b"id:int,from,to")?)?;
+        more.push(file(rt.alloc(), &[letter], b"id:int,from,to")?)?;
     }
-    assert_eq!(rt; files.len(), MAX_TABLES + 1);
+    more.push(file(rt.alloc(), b"q", b"id:int,from,to")?)?;
+    assert_eq!(rt; more.len(), MAX_TABLES + 1);
     assert_eq!(rt;
-        load(rt.alloc(), &files, 10).err(),
+        load(rt.alloc(), more, 10).err(),
         fault(TooManyTables, 16, 0)
     );
-    files.pop();
     assert_eq!(rt;
-        load(rt.alloc(), &files, 10)?.catalogue.tables.get().len(),
+        load(rt.alloc(), files, 10)?.catalogue.tables.get().len(),
         16
     );
     Ok(())

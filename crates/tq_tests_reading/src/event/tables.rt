@@ -1,17 +1,17 @@
 // The rows of the tables that files hold.
 
-use super::{EMP, file, told_rows};
+use super::{EMP, file, one_file, told_rows, two_files};
 use std::test::Fail;
 use tq_event::LoadFaultKind::{BadInt, BadPeriod, DuplicateName, TooManyEvents};
 use tq_event::{LoadFault, load, load_tables};
 
 #[test]
 fn rows_stand_in_the_order_of_their_records(rt: HostRuntime) -> Result<(), Fail> {
-    let loaded = load_tables(rt.alloc(), &[file(rt.alloc(), b"emp", EMP)?], 7)?;
+    let loaded = load_tables(rt.alloc(), one_file(rt.alloc(), b"emp", EMP)?, 7)?;
     assert_eq!(rt; loaded.catalogue.table(b"emp"), Some(0));
     let tables = loaded.rows.get();
     assert_eq!(rt; tables.len(), 1);
-    let rows = told_rows(rt.alloc(), tables[0].get())?;
+    let rows = told_rows(rt.alloc(), &tables[0])?;
     assert_eq!(rt;
         rows.as_str(),
         "row: 1 ann toys from 10 to 20
@@ -30,7 +30,7 @@ fn each_file_has_a_table_of_its_own(rt: HostRuntime) -> Result<(), Fail> {
         file(rt.alloc(), b"none", b"k:int,from,to\n")?,
         file(rt.alloc(), b"b", b"k:int,v:text,from,to\n3,x,1,5\n")?,
     ];
-    let loaded = load_tables(rt.alloc(), &files, 6)?;
+    let loaded = load_tables(rt.alloc(), Vec::from_array(rt.alloc(), files)?, 6)?;
     assert_eq!(rt; loaded.catalogue.table(b"b"), Some(2));
     let tables = loaded.rows.get();
     assert_eq!(rt; tables.len(), 3);
@@ -39,7 +39,7 @@ fn each_file_has_a_table_of_its_own(rt: HostRuntime) -> Result<(), Fail> {
         (1, ""),
         (2, "row: 3 x from 1 to 5\n"),
     ] {
-        let rows = told_rows(rt.alloc(), tables[table].get())?;
+        let rows = told_rows(rt.alloc(), &tables[table])?;
         assert_eq!(rt; rows.as_str(), want);
     }
     Ok(())
@@ -59,24 +59,22 @@ fn files_are_refused_just_as_load_refuses_them(rt: HostRuntime) -> Result<(), Fa
         (b"b", b"id:int,from,to\n1,3,3\n", BadPeriod, 1, 2),
         (b"b", b"id:int,from,to\n1,0,3\n1,0,3\n", TooManyEvents, 1, 3),
     ] {
-        let files = [
-            file(rt.alloc(), b"emp", EMP)?,
-            file(rt.alloc(), name, bytes)?,
-        ];
+        let files = two_files(rt.alloc(), name, bytes)?;
+        let same = two_files(rt.alloc(), name, bytes)?;
         let want = Some(LoadFault {
             kind,
             table,
             number,
         });
-        assert_eq!(rt; load_tables(rt.alloc(), &files, 10).err(), want);
-        assert_eq!(rt; load(rt.alloc(), &files, 10).err(), want);
+        assert_eq!(rt; load_tables(rt.alloc(), files, 10).err(), want);
+        assert_eq!(rt; load(rt.alloc(), same, 10).err(), want);
     }
     Ok(())
 }
 
 #[test]
 fn no_files_have_no_tables(rt: HostRuntime) -> Result<(), Fail> {
-    let loaded = load_tables(rt.alloc(), &[], 0)?;
+    let loaded = load_tables(rt.alloc(), Vec::new(rt.alloc()), 0)?;
     assert_eq!(rt; loaded.catalogue.tables.get().len(), 0);
     assert_eq!(rt; loaded.rows.get().len(), 0);
     Ok(())

@@ -3,7 +3,7 @@
 use super::{text, wide};
 use std::mem;
 use std::test::Fail;
-use tq_base::{Value, is_exact, rank_of};
+use tq_base::{Value, rank_of};
 
 #[test]
 fn ranks_of_numbers_rise(rt: HostRuntime) -> Result<(), Fail> {
@@ -38,30 +38,6 @@ fn ranks_of_texts_rise(rt: HostRuntime) -> Result<(), Fail> {
         ),
     ] {
         assert_eq!(rt; rank_of(&text(rt.alloc(), content)?), rank, "{content}");
-    }
-    Ok(())
-}
-
-#[test]
-fn short_values_are_exact(rt: HostRuntime) -> Result<(), Fail> {
-    let alloc = rt.alloc();
-    for (content, exact) in [
-        ("", true),
-        ("a\0", true),
-        ("\u{e9}", true),
-        ("fourteen bytes", true),
-        ("fifteen bytes .", false),
-    ] {
-        assert_eq!(rt; is_exact(&text(alloc, content)?), exact, "{content}");
-    }
-    for (number, exact) in [
-        (-9_223_372_036_854_775_809, false),
-        (-9_223_372_036_854_775_808, true),
-        (0, true),
-        (9_223_372_036_854_775_807, true),
-        (9_223_372_036_854_775_808, false),
-    ] {
-        assert_eq!(rt; is_exact(&wide(alloc, number)?), exact, "{number}");
     }
     Ok(())
 }

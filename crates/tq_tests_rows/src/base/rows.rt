@@ -1,64 +1,72 @@
-// Rows that come to lie in shared blocks.
+// Rows that lie side by side.
 
-use super::text;
+use super::{period, text};
+use crate::adding::add_row;
 use std::alloc::{AllocError, Global};
 use std::test::Fail;
-use tq_base::{RowBuffer, Value, Values};
+use tq_base::{Rows, Value};
 
 // So many numbers from the first one on.
-fn numbers(alloc: Global, first: u32, count: u32) -> Result<Vec<Value>, AllocError> {
-    let mut row = Vec::new(alloc);
-    for more in 0..count {
-        row.push(Value::int(i64::from(first) + i64::from(more)))?;
+fn numbers(alloc: Global, first: i64, count: usize) -> Result<Vec<Value>, AllocError> {
+    let mut row = Vec::with_capacity(alloc, count)?;
+    'more: for more in 0..count {
+        row.push(Value::int(first.wrapping_add(more as i64)))?;
     }
     Ok(row)
 }
 
-// Rows of 0 to 6 numbers fill two blocks; a row of 3,000 has a block alone, and a text another.
 #[test]
 fn rows_come_back_as_they_were_pushed(rt: HostRuntime) -> Result<(), Fail> {
     let alloc = rt.alloc();
-    let mut buffer = RowBuffer::new(alloc);
-    let mut expected = Vec::new(alloc);
-    for number in 0..700 {
-        let mut row = numbers(alloc, number, number % 7)?;
-        buffer.push(&mut row, number)?;
+    let mut rows = Rows::new(alloc, 3);
+    'rows: for number in 0..700 {
+        let valid = period(number, number + 9).ok_or("no period")?;
+        let mut row = numbers(alloc, number as i64, 3)?;
+        assert_eq!(rt; (row.len(), rows.width()), (3, 3));
+        if row.len() == rows.width() {
+            rows.push(&mut row, valid)?;
+        }
         assert!(rt; row.is_empty());
-        expected.push(Values::of(numbers(alloc, number, number % 7)?))?;
+        add_row(&mut rows, &numbers(alloc, -5, 3)?, valid)?;
     }
-    buffer.push(&mut numbers(alloc, 5, 3000)?, 700)?;
-    expected.push(Values::of(numbers(alloc, 5, 3000)?))?;
-    buffer.push(&mut vec![in alloc; text(alloc, "ann")?]?, 701)?;
-    expected.push(Values::of(vec![in alloc; text(alloc, "ann")?]?))?;
-
-    let rows = buffer.finish()?;
-    assert_eq!(rt; rows.len(), 702);
-    for (place, ((values, beside), wanted)) in rows.iter().zip(&expected).enumerate() {
-        assert_eq!(rt; *beside as usize, place);
-        assert_eq!(rt; values, wanted);
+    assert_eq!(rt; rows.len(), 1400);
+    assert_eq!(rt; rows.width(), 3);
+    'told: for (number, valid) in rows.periods().iter().enumerate() {
+        assert_eq!(rt;
+            Some(*valid),
+            period(number as u64 / 2, number as u64 / 2 + 9)
+        );
+        if number < rows.len() {
+            let first = if number % 2 == 0 {
+                number as i64 / 2
+            } else {
+                -5
+            };
+            assert_eq!(rt; rows.values(number), numbers(alloc, first, 3)?.as_slice());
+        }
     }
     Ok(())
 }
 
 #[test]
-fn a_row_outlives_the_rows_around_it(rt: HostRuntime) -> Result<(), Fail> {
-    let alloc = rt.alloc();
-    let mut buffer = RowBuffer::new(alloc);
-    for (first, count) in [(1, 2), (8, 0), (3, 3)] {
-        buffer.push(&mut numbers(alloc, first, count)?, ())?;
+fn rows_without_values_are_counted(rt: HostRuntime) -> Result<(), Fail> {
+    let mut rows = Rows::new(rt.alloc(), 0);
+    assert_eq!(rt; rows.len(), 0);
+    'rows: for start in 0..3 {
+        add_row(&mut rows, &[], period(start, 9).ok_or("no period")?)?;
     }
-    let rows = buffer.finish()?;
-    let (last, _) = rows.last().ok_or("no row")?;
-    let copy = last.try_copy()?;
-    drop(rows);
-    assert_eq!(rt; copy, Values::of(numbers(alloc, 3, 3)?));
-    assert_eq!(rt; copy.try_copy()?.get().len(), 3);
+    assert_eq!(rt; rows.len(), 3);
     Ok(())
 }
 
 #[test]
-fn no_rows_are_no_rows(rt: HostRuntime) -> Result<(), Fail> {
-    let buffer: RowBuffer<u32> = RowBuffer::new(rt.alloc());
-    assert!(rt; buffer.finish()?.is_empty());
+fn long_texts_are_copied(rt: HostRuntime) -> Result<(), Fail> {
+    let mut rows = Rows::new(rt.alloc(), 1);
+    let long = text(rt.alloc(), "a text of more than fourteen bytes")?;
+    rows.push_copy(&[long.try_copy()?], period(0, 9).ok_or("no period")?)?;
+    drop(long);
+    let wanted = text(rt.alloc(), "a text of more than fourteen bytes")?;
+    assert!(rt; rows.len() == 1);
+    assert_eq!(rt; rows.values(0), [wanted].as_slice());
     Ok(())
 }

@@ -1,8 +1,9 @@
 // Selection, projection, join and difference.
 
 use super::{both, compare, counts, either, number, numbers, pairs, period, shown};
+use crate::adding::add_row;
 use std::test::Fail;
-use tq_base::{FOREVER, Fragment};
+use tq_base::{FOREVER, Rows, Value};
 use tq_ops::{Compare, Operand, except_all, join, join_shown, project, select};
 
 #[test]
@@ -25,7 +26,7 @@ fn selects_by_either_comparison(rt: HostRuntime) -> Result<(), Fail> {
     let out = select(rt.alloc(), &rows, &period(0, FOREVER)?, Some(&test))?;
     let names = project(rt.alloc(), &out, &[1])?;
     assert_eq!(rt;
-        shown(rt.alloc(), names)?.as_str(),
+        shown(rt.alloc(), &names)?.as_str(),
         "high,3,1000000000000 low,0,5 "
     );
     Ok(())
@@ -33,16 +34,19 @@ fn selects_by_either_comparison(rt: HostRuntime) -> Result<(), Fail> {
 
 #[test]
 fn selects_inside_the_window(rt: HostRuntime) -> Result<(), Fail> {
-    let mut rows = Vec::new(rt.alloc());
-    for place in 0..200u64 {
-        let mut one = numbers(rt.alloc(), &[(place as i64, place, place + 100)])?;
-        rows.append(&mut one)?;
+    let mut rows = Rows::new(rt.alloc(), 1);
+    'places: for place in 0..200u64 {
+        add_row(
+            &mut rows,
+            &[Value::int(place as i64)],
+            period(place, place + 100)?,
+        )?;
     }
     let test = compare(Operand::Column(0), Compare::Lt, number(53));
     let out = select(rt.alloc(), &rows, &period(150, 151)?, Some(&test))?;
-    assert_eq!(rt; shown(rt.alloc(), out)?.as_str(), "51,150,151 52,150,151 ");
+    assert_eq!(rt; shown(rt.alloc(), &out)?.as_str(), "51,150,151 52,150,151 ");
     let out = select(rt.alloc(), &rows, &period(0, 1)?, None)?;
-    assert_eq!(rt; shown(rt.alloc(), out)?.as_str(), "0,0,1 ");
+    assert_eq!(rt; shown(rt.alloc(), &out)?.as_str(), "0,0,1 ");
     Ok(())
 }
 
@@ -50,9 +54,9 @@ fn selects_inside_the_window(rt: HostRuntime) -> Result<(), Fail> {
 fn projects_columns_in_their_order(rt: HostRuntime) -> Result<(), Fail> {
     let rows = pairs(rt.alloc(), &[(1, "x", 0, 10), (1, "y", 2, 8)])?;
     let out = project(rt.alloc(), &rows, &[1, 0, 1])?;
-    assert_eq!(rt; shown(rt.alloc(), out)?.as_str(), "x,1,x,0,10 y,1,y,2,8 ");
+    assert_eq!(rt; shown(rt.alloc(), &out)?.as_str(), "x,1,x,0,10 y,1,y,2,8 ");
     let out = project(rt.alloc(), &rows, &[])?;
-    assert_eq!(rt; shown(rt.alloc(), out)?.as_str(), "0,10 2,8 ");
+    assert_eq!(rt; shown(rt.alloc(), &out)?.as_str(), "0,10 2,8 ");
     Ok(())
 }
 
@@ -62,15 +66,15 @@ fn joins_no_meeting_rows(rt: HostRuntime) -> Result<(), Fail> {
     let right = numbers(rt.alloc(), &[(1, 5, 9)])?;
     let test = compare(Operand::Column(0), Compare::Eq, Operand::Column(1));
     let all = period(0, FOREVER)?;
-    assert!(rt; join(rt.alloc(), &left, &right, &all, Some(&test))?.is_empty());
-    assert!(rt; join(rt.alloc(), &right, &left, &all, None)?.is_empty());
+    assert!(rt; join(rt.alloc(), &left, &right, &all, Some(&test))?.len() == 0);
+    assert!(rt; join(rt.alloc(), &right, &left, &all, None)?.len() == 0);
     Ok(())
 }
 
 // The names and departments of three people.
-fn staff(rt: &HostRuntime) -> Result<Vec<Fragment>, Fail> {
-    let mut rows = Vec::new(rt.alloc());
-    for (key, name, dept, start, end) in [
+fn staff(rt: &HostRuntime) -> Result<Rows, Fail> {
+    let mut rows = Rows::new(rt.alloc(), 3);
+    'rows: for (key, name, dept, start, end) in [
         (1, "ann", "toys", 10, 20),
         (1, "ann", "toys", 20, 30),
         (2, "bob", "toys", 15, 25),
@@ -78,11 +82,11 @@ fn staff(rt: &HostRuntime) -> Result<Vec<Fragment>, Fail> {
     ] {
         let dept = super::text(rt.alloc(), dept)?;
         let name = super::text(rt.alloc(), name)?;
-        let key = tq_base::Value::int(key);
-        rows.push(Fragment {
-            values: tq_base::Values::of(vec![in rt.alloc(); key, name, dept]?),
-            period: period(start, end)?,
-        })?;
+        add_row(
+            &mut rows,
+            &[Value::int(key), name, dept],
+            period(start, end)?,
+        )?;
     }
     Ok(rows)
 }
@@ -99,13 +103,13 @@ fn joins_a_list_with_itself(rt: HostRuntime) -> Result<(), Fail> {
     let out = join(rt.alloc(), &rows, &rows, &all, Some(&test))?;
     let names = project(rt.alloc(), &out, &[1, 4])?;
     assert_eq!(rt;
-        shown(rt.alloc(), names)?.as_str(),
+        shown(rt.alloc(), &names)?.as_str(),
         "ann,bob,15,20 ann,bob,20,25 "
     );
     let out = join(rt.alloc(), &rows, &rows, &period(18, 22)?, Some(&test))?;
     let names = project(rt.alloc(), &out, &[1, 4])?;
     assert_eq!(rt;
-        shown(rt.alloc(), names)?.as_str(),
+        shown(rt.alloc(), &names)?.as_str(),
         "ann,bob,18,20 ann,bob,20,22 "
     );
     Ok(())
@@ -120,18 +124,6 @@ fn joins_each_copy_with_each(rt: HostRuntime) -> Result<(), Fail> {
     assert_eq!(rt; counts(rt.alloc(), &out, 10)?.as_str(), "0020440000");
     let out = join(rt.alloc(), &left, &right, &period(0, FOREVER)?, None)?;
     assert_eq!(rt; counts(rt.alloc(), &out, 10)?.as_str(), "3363990000");
-    Ok(())
-}
-
-#[test]
-fn joins_rows_of_several_widths(rt: HostRuntime) -> Result<(), Fail> {
-    let mut left = numbers(rt.alloc(), &[(7, 0, 4)])?;
-    let mut wider = pairs(rt.alloc(), &[(7, "x", 0, 4)])?;
-    left.append(&mut wider)?;
-    let right = numbers(rt.alloc(), &[(7, 1, 9)])?;
-    let test = compare(Operand::Column(0), Compare::Eq, Operand::Column(1));
-    let out = join(rt.alloc(), &left, &right, &period(0, FOREVER)?, Some(&test))?;
-    assert_eq!(rt; shown(rt.alloc(), out)?.as_str(), "7,7,1,4 ");
     Ok(())
 }
 
@@ -157,7 +149,30 @@ fn takes_away_equal_rows_alone(rt: HostRuntime) -> Result<(), Fail> {
     let right = numbers(rt.alloc(), &[(2, 1, 3), (3, 0, 9), (2, 5, 9)])?;
     let out = except_all(rt.alloc(), &left, &right, &period(0, FOREVER)?)?;
     assert_eq!(rt; counts(rt.alloc(), &out, 10)?.as_str(), "3223000000");
-    assert!(rt; except_all(rt.alloc(), &[], &left, &period(0, FOREVER)?)?.is_empty());
+    let none = numbers(rt.alloc(), &[])?;
+    assert!(rt; except_all(rt.alloc(), &none, &left, &period(0, FOREVER)?)?.len() == 0);
+    Ok(())
+}
+
+#[test]
+fn rows_of_one_side_alone_are_only_cut(rt: HostRuntime) -> Result<(), Fail> {
+    let left = numbers(rt.alloc(), &[(1, 0, 4), (2, 5, 6), (1, 2, 9), (4, 0, 2)])?;
+    let right = numbers(rt.alloc(), &[(3, 0, 9), (3, 1, 2), (4, 1, 9)])?;
+    let out = except_all(rt.alloc(), &left, &right, &period(1, 5)?)?;
+    assert_eq!(rt; shown(rt.alloc(), &out)?.as_str(), "1,1,4 1,2,5 ");
+    let out = except_all(rt.alloc(), &right, &left, &period(1, 5)?)?;
+    assert_eq!(rt; shown(rt.alloc(), &out)?.as_str(), "3,1,2 3,1,5 4,2,5 ");
+    Ok(())
+}
+
+#[test]
+fn rows_of_another_width_are_never_taken_away(rt: HostRuntime) -> Result<(), Fail> {
+    let left = numbers(rt.alloc(), &[(7, 0, 4), (7, 6, 9)])?;
+    let right = pairs(rt.alloc(), &[(7, "x", 0, 4)])?;
+    let out = except_all(rt.alloc(), &left, &right, &period(1, 8)?)?;
+    assert_eq!(rt; shown(rt.alloc(), &out)?.as_str(), "7,1,4 7,6,8 ");
+    let out = except_all(rt.alloc(), &right, &left, &period(0, FOREVER)?)?;
+    assert_eq!(rt; shown(rt.alloc(), &out)?.as_str(), "7,x,0,4 ");
     Ok(())
 }
 
@@ -178,7 +193,7 @@ fn joins_rows_that_agree_in_all_links(rt: HostRuntime) -> Result<(), Fail> {
     )?;
     let out = join(rt.alloc(), &left, &right, &period(0, FOREVER)?, Some(&test))?;
     assert_eq!(rt;
-        shown(rt.alloc(), out)?.as_str(),
+        shown(rt.alloc(), &out)?.as_str(),
         "0,y,0,y,1,4 5,x,5,x,2,4 "
     );
     Ok(())
@@ -190,9 +205,9 @@ fn takes_no_text_for_a_number(rt: HostRuntime) -> Result<(), Fail> {
     let texts = pairs(rt.alloc(), &[(0, "", 0, 4), (0, "0", 0, 4)])?;
     let texts = project(rt.alloc(), &texts, &[1])?;
     let out = except_all(rt.alloc(), &texts, &zero, &period(0, FOREVER)?)?;
-    assert_eq!(rt; shown(rt.alloc(), out)?.as_str(), ",0,4 0,0,4 ");
+    assert_eq!(rt; shown(rt.alloc(), &out)?.as_str(), ",0,4 0,0,4 ");
     let test = compare(Operand::Column(0), Compare::Eq, Operand::Column(1));
-    assert!(rt; join(rt.alloc(), &zero, &texts, &period(0, FOREVER)?, Some(&test))?.is_empty());
+    assert!(rt; join(rt.alloc(), &zero, &texts, &period(0, FOREVER)?, Some(&test))?.len() == 0);
     Ok(())
 }
 
@@ -207,7 +222,7 @@ fn shows_columns_of_joined_rows(rt: HostRuntime) -> Result<(), Fail> {
     let all = period(0, FOREVER)?;
     let out = join_shown(rt.alloc(), &rows, &rows, &all, Some(&test), &[4, 1, 3, 6])?;
     assert_eq!(rt;
-        shown(rt.alloc(), out)?.as_str(),
+        shown(rt.alloc(), &out)?.as_str(),
         "bob,ann,2,0,15,20 bob,ann,2,0,20,25 "
     );
     Ok(())

@@ -1,8 +1,9 @@
 // Rows that overlap, meet, nest or stand twice.
 
-use super::{row, text_rows, written};
+use super::{period, text_rows, written};
+use crate::adding::add_row;
 use std::test::Fail;
-use tq_base::{FOREVER, Value};
+use tq_base::{FOREVER, Rows, Value};
 use tq_table::coalesce;
 
 #[test]
@@ -39,10 +40,10 @@ fn counts_the_copies_at_each_instant(rt: HostRuntime) -> Result<(), Fail> {
 
 #[test]
 fn keeps_each_of_many_equal_rows(rt: HostRuntime) -> Result<(), Fail> {
-    let mut rows = Vec::new(rt.alloc());
-    for place in 0..33 {
+    let mut rows = Rows::new(rt.alloc(), 1);
+    'places: for place in 0..33 {
         let end = if place < 29 { 2 } else { FOREVER };
-        rows.push(row(rt.alloc(), Value::int(7), 1, end)?)?;
+        add_row(&mut rows, &[Value::int(7)], period(1, end)?)?;
     }
     let text = written(rt.alloc(), b"k", coalesce(rt.alloc(), rows)?)?;
     let short = "7,1,2\n".repeat(rt.alloc(), 29)?;
@@ -54,22 +55,22 @@ fn keeps_each_of_many_equal_rows(rt: HostRuntime) -> Result<(), Fail> {
 
 #[test]
 fn no_rows_are_a_table(rt: HostRuntime) -> Result<(), Fail> {
-    let table = coalesce(rt.alloc(), Vec::new(rt.alloc()))?;
+    let table = coalesce(rt.alloc(), Rows::new(rt.alloc(), 1))?;
     assert_eq!(rt; written(rt.alloc(), b"k", table)?.as_str(), "k,from,to\n");
     Ok(())
 }
 
 #[test]
 fn rows_stand_in_the_order_of_their_values(rt: HostRuntime) -> Result<(), Fail> {
-    let mut rows = Vec::new(rt.alloc());
-    for number in [
+    let mut rows = Rows::new(rt.alloc(), 1);
+    'numbers: for number in [
         10,
         -9_223_372_036_854_775_808,
         9,
         9_223_372_036_854_775_807,
         -1,
     ] {
-        rows.push(row(rt.alloc(), Value::int(number), 0, 3)?)?;
+        add_row(&mut rows, &[Value::int(number)], period(0, 3)?)?;
     }
     let text = written(rt.alloc(), b"k", coalesce(rt.alloc(), rows)?)?;
     assert_eq!(rt;

@@ -1,10 +1,11 @@
 // The text of tables, and writers that take all or a part of it.
 
-use super::{row, text_rows, text_value, written};
+use super::{lines, period, text_rows, text_value, written};
+use crate::adding::add_row;
 use std::alloc::Global;
 use std::io::{self, ErrorKind, Write};
 use std::test::Fail;
-use tq_base::{FOREVER, Items, Name, Value, Values, fold_name};
+use tq_base::{FOREVER, Items, Name, Rows, Value, fold_name};
 use tq_table::{Sink, Table, WriteFault, write_table};
 
 #[test]
@@ -24,23 +25,30 @@ fn a_field_is_quoted_where_it_has_to_be(rt: HostRuntime) -> Result<(), Fail> {
     ] {
         let rows = text_rows(rt.alloc(), &[(content, 0, 3)])?;
         let want = format!(in rt.alloc(); "note,from,to\n{field},0,3\n")?;
-        assert_eq!(rt; written(rt.alloc(), b"Note", rows)?, want);
+        assert_eq!(rt;
+            written(rt.alloc(), b"Note", lines(rt.alloc(), rows)?)?,
+            want
+        );
     }
     Ok(())
 }
 
 #[test]
 fn numbers_are_printed_in_decimal(rt: HostRuntime) -> Result<(), Fail> {
-    let mut rows = Vec::new(rt.alloc());
-    for (number, start, end) in [
+    let mut rows = Rows::new(rt.alloc(), 1);
+    'numbers: for (number, start, end) in [
         (18_446_744_073_709_551_614, 2, 4),
         (-9_223_372_036_854_775_808, 0, 1),
         (0, 999_999_999_998, 999_999_999_999),
         (1_000_000_000_000, 999_999_999_999, FOREVER),
     ] {
-        rows.push(row(rt.alloc(), Value::number(rt.alloc(), number)?, start, end)?)?;
+        add_row(
+            &mut rows,
+            &[Value::number(rt.alloc(), number)?],
+            period(start, end)?,
+        )?;
     }
-    let text = written(rt.alloc(), b"total", rows)?;
+    let text = written(rt.alloc(), b"total", lines(rt.alloc(), rows)?)?;
     assert_eq!(rt;
         text.as_str(),
         "total,from,to
@@ -59,12 +67,11 @@ fn column(alloc: Global, name: &[u8]) -> Result<Name, Fail> {
 
 // A table of two columns and one row.
 fn ann(alloc: Global) -> Result<Table, Fail> {
-    let mut fragment = row(alloc, Value::int(1), 10, 20)?;
-    let values = vec![in alloc; text_value(alloc, "ann")?, Value::int(1)]?;
-    fragment.values = Values::of(values);
+    let mut rows = Rows::new(alloc, 2);
+    rows.push_copy(&[text_value(alloc, "ann")?, Value::int(1)], period(10, 20)?)?;
     Ok(Table {
         columns: Items::of(vec![in alloc; column(alloc, b"name")?, column(alloc, b"k")?]?),
-        rows: Items::of(vec![in alloc; fragment]?),
+        rows: lines(alloc, rows)?,
     })
 }
 

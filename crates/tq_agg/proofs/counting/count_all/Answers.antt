@@ -25,17 +25,17 @@ counted_rows window rows t v total old new is none more = split (holds window t)
         omega (arith, more, none, ap (λ b. cond b (one_if (eq_by_cmp values_cmp (Int total ∷ []) v)) 0) inside, ap (λ n. one_if (eq_by_cmp values_cmp (Int n ∷ []) v)) all)
     split false outside = omega (arith, more, none, ap (λ b. cond b (one_if (eq_by_cmp values_cmp (Int total ∷ []) v)) 0) outside)
 
-counted : (c : goal.After-drop-starts-2) (t : ℕ) (v : List Value) → copies c.sweep_edges.new.out.items v t ≡ cond (holds c.args.window.now t) (occurrences (count_rows (at c.args.rows.now t)) v) 0
+counted : (c : goal.After-drop-starts-2) (t : ℕ) (v : List Value) → copies c.sweep_edges.new.out.items v t ≡ cond (holds c.args.window.now t) (occurrences (count_rows (at c.args.rows.now.items t)) v) 0
 counted c t v =
-    counted_rows c.args.window.now c.args.rows.now t v (count_upto c.in_ok-starts.field-0.starts.items c.in_ok-starts.field-0.ends.items t) (copies c.new-out.result.items v t) (copies c.sweep_edges.new.out.items v t)
-    (c.in_ok-starts.ensures.counts t) (ap (λ l. copies l v t) c.new-out.ensures.items)
-    (c.in_ok-sweep_edges.ensures t v ∙ ap {B = ℕ} (λ n. copies c.new-out.result.items v t + cond (holds c.args.window.now t) (row_copies [] (n ∷ []) v) 0) same)
+    counted_rows c.args.window.now c.args.rows.now.items t v (count_upto c.in_ok-starts.field-0.starts.items c.in_ok-starts.field-0.ends.items t) (copies c.new-out.result.items v t) (copies c.sweep_edges.new.out.items v t)
+    (c.in_ok-starts.ensures.counts t) (ap (λ l. copies l v t) c.new-out.ensures.rows)
+    (c.in_ok-sweep_edges.ensures.rows t v ∙ ap {B = ℕ} (λ n. copies c.new-out.result.items v t + cond (holds c.args.window.now t) (row_copies [] (n ∷ []) v) 0) same)
   where
     same : count_upto c.deref.result.now c.deref-2.result.now t ≡ count_upto c.in_ok-starts.field-0.starts.items c.in_ok-starts.field-0.ends.items t
     same = ap (λ l. count_upto l c.deref-2.result.now t) c.deref.ensures.value ∙ ap (λ l. count_upto c.in_ok-starts.field-0.starts.items l t) c.deref-2.ensures.value
 
 pub returns-clause-inside : goal.returns-clause-inside
-returns-clause-inside c = inside_from_counts c.args.window.now c.sweep_edges.new.out.items (λ t v. occurrences (count_rows (at c.args.rows.now t)) v) (counted c)
+returns-clause-inside c = inside_from_counts c.args.window.now c.sweep_edges.new.out.items (λ t v. occurrences (count_rows (at c.args.rows.now.items t)) v) (counted c)
 
 pub returns-clause-outside : goal.returns-clause-outside
-returns-clause-outside c = outside_from_counts c.args.window.now c.sweep_edges.new.out.items (λ t v. occurrences (count_rows (at c.args.rows.now t)) v) (counted c)
+returns-clause-outside c = outside_from_counts c.args.window.now c.sweep_edges.new.out.items (λ t v. occurrences (count_rows (at c.args.rows.now.items t)) v) (counted c)

@@ -6,9 +6,9 @@ use Rattle.tq_base.specs.Fragments.{copies}
 use Rattle.tq_agg.specs.Totals.{row_copies}
 use Rattle.tq_agg.proofs.edges.add_count.Goals as goal
 
-pub returns : goal.returns
-returns c =
+pub returns-clause-rows : goal.returns-clause-rows
+returns-clause-rows c =
     let fits : FitsSigned w128 c.left.result = omega (arith, ints, c.left.ensures, c.ranges.begun.fits, c.ranges.ended.fits) in
     on_ok_weaker c.add_row.result
     (λ more t v. more t v ∙ ap (λ n. copies c.args.out.now.items v t + cond (nat_le c.args.since t && nat_lt t c.args.until) (row_copies [] (n ∷ []) v) 0) (to_z-of_z w128 c.left.result fits ∙ c.left.ensures))
-    c.add_row.ensures
+    c.add_row.ensures.rows

@@ -1,11 +1,14 @@
-use Rattle.std.proofs.Common.{◌≡◌, ◌≤◌, ℕ, cond, ℤ, pos, nat_le, List, sym, subst, ap, arith}
+use Rattle.std.proofs.Common.{◌≡◌, ◌+◌, ◌<◌, ◌≤◌, ℕ, ◌&&◌, cond, ℤ, pos, ◌+ℤ◌, nat_le, List, length, take, get_or, sym, subst, ap, ◌∙◌, arith}
 use Rattle.std.specs.Prelude.{All}
 use Rattle.std.proofs.lemmas.Bool.{false≢true}
 use Rattle.std.proofs.lemmas.Int.{ints}
-use Rattle.std.proofs.lemmas.List.{take_all}
+use Rattle.std.proofs.lemmas.List.{get_or_default, take_all}
 use Rattle.std.proofs.lemmas.List.Elements.{All-push}
 use Rattle.std.proofs.lemmas.List.Sorted.{All-permutation, sum_by-IsPermutation}
-use Rattle.tq_base.specs.Periods.{IsOverlap}
+use Rattle.tq_base.specs.declared.period.Period.{Period}
+use Rattle.tq_base.specs.declared.fragment.Fragment.{Fragment}
+use Rattle.tq_base.specs.Keys.{no_row}
+use Rattle.tq_base.specs.Periods.{holds, IsOverlap}
 use Rattle.tq_base.specs.Sweep.{upto, upto-push}
 use Rattle.tq_agg.specs.declared.summands.Summand.TheVariants.{One}
 use Rattle.tq_agg.specs.Totals.{added, held_weight}
@@ -14,27 +17,34 @@ use Rattle.tq_agg.proofs.Changing.{apart_adds_none, one_while_it_lasts}
 use Rattle.tq_agg.proofs.Cutting.{holds-overlap, overlap_within}
 use Rattle.tq_agg.proofs.edges.edges_of.Goals as goal
 
+-- what one more row adds, of which the period is known
+adds_row : (window : Period) (t : ℕ) (rows : List Fragment) (i : ℕ) (period : Period) → i < length rows → ((d : Fragment) → period ≡ (get_or rows i d).period)
+    → added (held_weight One window t) (take (i + 1) rows) ≡ added (held_weight One window t) (take i rows) +ℤ cond (holds period t && holds window t) (pos 1) (pos 0)
+adds_row window t rows i period lt are =
+    let row = get_or rows i no_row in
+    added-step (held_weight One window t) rows i row lt (get_or_default rows i no_row row lt) ∙ ap (λ (p : Period). added (held_weight One window t) (take i rows) +ℤ cond (holds p t && holds window t) (pos 1) (pos 0)) (sym (are no_row))
+
 pub rows-preserved : goal.rows-preserved
 rows-preserved c =
     let window = c.args.window.now in
-    let row = c.row-item.result in
-    let both : IsOverlap row.period window c.in-Some.period = c.in-Some.ensures.value in
+    let period = c.period.result in
+    let both : IsOverlap period window c.in-Some.period = c.in-Some.ensures.value in
     let at_start : c.bound_at.result ≡ c.in-Some.period.start = c.bound_at.ensures in
-    let inside = overlap_within row.period window c.in-Some.period both in
+    let inside = overlap_within period window c.in-Some.period both in
     record {
       counts = λ t.
           omega (
             arith,
             ints,
             c.rows.invariant.counts t,
-            added-step (held_weight One window t) c.args.rows.now c.rows.row-index row c.rows-test.true c.row-item.is,
+            adds_row window t c.args.rows.now.items c.rows.row period (omega arith) c.period.ensures,
             ap (λ l. upto l t) c.in_ok-push.ensures.items,
             ap (λ l. upto l t) c.in_ok-push-2.ensures.items,
             upto-push c.rows.starts.items c.bound_at.result t,
             upto-push c.rows.ends.items c.in-Some.period.end t,
             ap {B = ℕ} (λ b. cond (nat_le b t) 1 0) at_start,
             one_while_it_lasts c.in-Some.period t,
-            ap {B = ℤ} (λ h. cond h (pos 1) (pos 0)) (holds-overlap row.period window c.in-Some.period both t),
+            ap {B = ℤ} (λ h. cond h (pos 1) (pos 0)) (holds-overlap period window c.in-Some.period both t),
           );
       starts =
           subst (All (λ b. (window.start ≤ b) × (b ≤ window.end))) (sym {A = List ℕ} c.in_ok-push.ensures.items)
@@ -47,15 +57,15 @@ rows-preserved c =
 pub rows-preserved-in_default : goal.rows-preserved-in_default
 rows-preserved-in_default c =
     let window = c.args.window.now in
-    let row = c.row-item.result in
+    let period = c.period.result in
     record {
       counts = λ t.
           omega (
             arith,
             ints,
             c.rows.invariant.counts t,
-            added-step (held_weight One window t) c.args.rows.now c.rows.row-index row c.rows-test.true c.row-item.is,
-            apart_adds_none row.period window t (pos 1) (λ both. false≢true (c.in_default.ensures.some.1 both)),
+            adds_row window t c.args.rows.now.items c.rows.row period (omega arith) c.period.ensures,
+            apart_adds_none period window t (pos 1) (λ both. false≢true (c.in_default.ensures.some.1 both)),
           );
       starts = c.rows.invariant.starts;
       ends = c.rows.invariant.ends;
@@ -69,7 +79,7 @@ returns-clause-counts c t =
       c.rows.invariant.counts t,
       sum_by-IsPermutation (λ (b : ℕ). cond (nat_le b t) 1 0) c.rows.starts.items c.sort_unstable.new.self.items c.sort_unstable.ensures.permutation,
       sum_by-IsPermutation (λ (b : ℕ). cond (nat_le b t) 1 0) c.rows.ends.items c.sort_unstable-2.new.self.items c.sort_unstable-2.ensures.permutation,
-      ap (added (held_weight One c.args.window.now t)) (take_all c.rows.row-index c.args.rows.now c.rows-test.false),
+      ap (added (held_weight One c.args.window.now t)) (take_all c.rows.row c.args.rows.now.items (omega arith)),
     )
 
 pub returns-clause-starts : goal.returns-clause-starts

@@ -1,10 +1,14 @@
--- What holds between two bounds.
-use Rattle.std.proofs.Common.{◌-◌, ◌+◌, length}
-use Rattle.tq_agg.proofs.Starts.{Counting}
+-- What holds between two bounds; no values wait in the room.
+use Rattle.std.proofs.Common.{◌≡◌, ◌-◌, ◌+◌, [], length}
+use Rattle.tq_agg.proofs.Starts.{counts_shown, Counting}
 use Rattle.tq_agg.proofs.edges.sweep_edges.Given as goal
 
 abbrev pub invariant-edges : goal.invariant-edges
-invariant-edges l = Counting l.starts l.ends l.window l.initial.out.items l.begun l.ended l.since l.out.items
+invariant-edges l = record {
+  empty : l.room.items ≡ [];
+  width : l.out.width ≡ l.initial.out.width;
+  counting : Counting counts_shown l.starts l.ends l.window l.initial.out.items l.begun l.ended l.since l.out.items;
+}
 
 abbrev pub decreases-edges : goal.decreases-edges
 decreases-edges l = (length l.starts - l.begun) + (length l.ends - l.ended)

@@ -1,6 +1,8 @@
 use Rattle.std.proofs.Common.{List, length, get_or, sym, subst}
-use Rattle.tq_base.specs.declared.fragment.Fragment.{Fragment}
-use Rattle.tq_plan.specs.TableAnswers.{AreAllNumbers, IsTablesAnswer, tables_read}
+use Rattle.tq_base.specs.RowLists.{RowList}
+use Rattle.tq_event.specs.Tables.{lists_of}
+use Rattle.tq_eval.specs.Answers.{IsTablesAnswer, tables_read}
+use Rattle.tq_eval.specs.TableAnswers.{AreAllNumbers}
 use Rattle.tq_engine.proofs.answering.answer_statement.Goals as goal
 
 pub returns-clause-answer : goal.returns-clause-answer
@@ -8,11 +10,11 @@ returns-clause-answer c history hold = record {
   plan = c.in_ok-plan.plan;
   planned = c.in_ok-plan.ensures.plan;
   is_answer =
-      c.tables_answer.ensures c.args.tables.now.rows history (length history) c.in_ok-plan.plan c.in_ok-table.table
+      c.tables_answer.ensures (lists_of c.args.tables.now.rows) history (length history) c.in_ok-plan.plan c.in_ok-table.table
       (record { catalogue = c.args.tables.now.catalogue; statement = c.args.statement.now; planned = c.in_ok-plan.ensures.plan })
       (λ k d less. hold (get_or (tables_read c.in_ok-plan.plan) k d))
-      (subst (λ (tables : List (List Fragment)). IsTablesAnswer tables c.in_ok-plan.plan c.in_ok-table.table) c.get.ensures c.in_ok-table.ensures);
+      (subst (λ (tables : List RowList). IsTablesAnswer (lists_of tables) c.in_ok-plan.plan c.in_ok-table.table) c.get.ensures c.in_ok-table.ensures);
 }
 
 pub answer_tables-requires-clause-numbers : goal.answer_tables-requires-clause-numbers
-answer_tables-requires-clause-numbers c = subst AreAllNumbers (sym c.get.ensures) c.requires.numbers
+answer_tables-requires-clause-numbers c = subst (λ (tables : List RowList). AreAllNumbers (lists_of tables)) (sym c.get.ensures) c.requires.numbers

@@ -2,6 +2,7 @@ use Rattle.std.proofs.Common.{◌<◌, length, refl, sym, subst}
 use Rattle.std.specs.Prelude.{All}
 use Rattle.std.proofs.lemmas.List.Elements.{All-weaker}
 use Rattle.tq_event.specs.Entries.{Entry}
+use Rattle.tq_event.specs.Tables.{lists_of}
 use Rattle.tq_event.proofs.CatalogueLemmas.{Stored, contents_loaded}
 use Rattle.tq_event.proofs.LoadedLemmas.{Placeable, contents_placeable}
 use Rattle.tq_event.proofs.HeldLemmas.{entries_have_some, tables_hold}
@@ -19,5 +20,5 @@ returns c = λ files limit tables are.
       loaded = record { catalogue = tables.catalogue; events = some.events };
       is_loaded = record { contents = are.contents; is_contents = are.is_contents; catalogue = are.catalogue; events = some.are };
       catalogue = refl;
-      hold = λ table. tables_hold tables.catalogue entries some.events tables.rows table some.are are.rows periods stored;
+      hold = λ table. tables_hold tables.catalogue entries some.events (lists_of tables.rows) table some.are are.rows periods stored;
     }

@@ -1,12 +1,16 @@
-use Rattle.std.proofs.Common.{arith, map}
-use Rattle.tq_event.specs.Entries.{entry_in}
-use Rattle.tq_event.proofs.LoadedLemmas.{contents_placeable}
+use Rattle.std.proofs.Common.{◌≡◌, sym, subst}
+use Rattle.tq_event.specs.Tables.{AreRead, AreRowsOf, entries_from, lists_of}
+use Rattle.tq_event.proofs.TableLemmas.{rows_are_told}
 use Rattle.tq_event.proofs.loading.load_tables.Goals as goal
 
-pub rows_by_table-requires-clause-periods : goal.rows_by_table-requires-clause-periods
-rows_by_table-requires-clause-periods c =
-    λ k d below. (contents_placeable c.args.limit c.args.files.now (record { tables = c.in_ok-schemas.schemas.items; entries = map entry_in c.in_ok-schemas.entries.items }) c.in_ok-schemas.ensures.ok k d below).0
-
-pub rows_by_table-requires-clause-tables : goal.rows_by_table-requires-clause-tables
-rows_by_table-requires-clause-tables c =
-    λ k d below. omega (arith, (contents_placeable c.args.limit c.args.files.now (record { tables = c.in_ok-schemas.schemas.items; entries = map entry_in c.in_ok-schemas.entries.items }) c.in_ok-schemas.ensures.ok k d below).1, c.len.ensures, c.in_ok-schemas.schemas.ok.0)
+pub returns-clause-tables : goal.returns-clause-tables
+returns-clause-tables c =
+    let schemas = c.in_ok-schemas.schemas.items in
+    let rows = c.in_ok-schemas.rows.items in
+    record {
+      contents = record { tables = schemas; entries = entries_from 0 rows };
+      is_contents = c.in_ok-schemas.ensures.ok;
+      catalogue = c.of.ensures;
+      read = subst (AreRead schemas) (sym c.of-2.ensures) c.in_ok-schemas.ensures.read;
+      rows = subst (λ tables. AreRowsOf (entries_from 0 rows) (lists_of tables)) (sym c.of-2.ensures) (rows_are_told rows);
+    }

@@ -1,11 +1,15 @@
--- What the files that are left make of the tables and entries so far is what all make.
-use Rattle.std.proofs.Common.{◌≡◌, ◌≤◌, drop, length, sum_by}
+-- What the files that are left make of the tables and rows so far is what all make.
+use Rattle.std.proofs.Common.{◌≡◌, ◌≤◌, length, sum_by}
+use Rattle.std.specs.Vec.Iter.{into_iter_items}
 use Rattle.tq_event.specs.Loading.{contents_after, contents_of, event_count}
+use Rattle.tq_event.specs.Tables.{AreRead, entries_from}
 use Rattle.tq_event.proofs.loading.read_files.Given as goal
 
 abbrev pub invariant-files : goal.invariant-files
 invariant-files l = record {
   few : length l.tables.items ≤ 16;
-  within : sum_by event_count l.entries ≤ l.limit;
-  rest : contents_of l.files l.limit ≡ contents_after l.limit (record { tables = l.tables.items; entries = l.entries }) (drop l.file-index l.files);
+  read : AreRead l.tables.items l.rows.items;
+  counted : l.events ≡ sum_by event_count (entries_from 0 l.rows.items);
+  within : l.events ≤ l.limit;
+  rest : contents_of l.fn.files.items l.limit ≡ contents_after l.limit (record { tables = l.tables.items; entries = entries_from 0 l.rows.items }) (into_iter_items l.file-iterator);
 }

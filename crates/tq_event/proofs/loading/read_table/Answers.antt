@@ -1,29 +1,34 @@
-use Rattle.std.proofs.Common.{◌≡◌, ◌∙◌, List, ℕ, drop, sym, ap, refl, arith}
+use Rattle.std.proofs.Common.{◌≡◌, ◌∙◌, ◌+◌, ◌≤◌, ◌++◌, ◌∷◌, [], List, Result, Err, ℕ, drop, map, sum_by, sym, ap, refl, append_assoc, append-nil, arith}
+use Rattle.std.proofs.lemmas.List.{map-append}
+use Rattle.std.proofs.lemmas.List.Sums.{sum_by_push}
 use Rattle.csv.specs.Records.{fields_of}
-use Rattle.tq_event.specs.declared.fault.LoadFaultKind.TheVariants.{BadHeader, OutOfMemory}
-use Rattle.tq_event.specs.Entries.{entry_in}
-use Rattle.tq_event.specs.Loading.{csv_records, entries_after}
-use Rattle.tq_event.proofs.LoadLemmas.{known_kind, header_fault, columns_first, columns_none, read_ok, read_fault, entry_fault, add_fault, add_ok}
+use Rattle.tq_base.specs.declared.fragment.Fragment.{Fragment}
+use Rattle.tq_event.specs.declared.fault.LoadFaultKind.TheVariants.{BadHeader, OutOfMemory, TooManyEvents}
+use Rattle.tq_event.specs.declared.fault.LoadFaultKind.{LoadFaultKind}
+use Rattle.tq_event.specs.Entries.{Entry}
+use Rattle.tq_event.specs.Loading.{csv_records, entries_after, event_count, next_entries}
+use Rattle.tq_event.specs.Tables.{told_by}
+use Rattle.tq_event.proofs.LoadLemmas.{known_kind, header_fault, columns_first, columns_none, read_ok, read_fault, entry_fault, add_fault, add_ok, makes_events, next_ok, next_many, told_count}
 use Rattle.tq_event.proofs.loading.read_table.Goals as goal
 
 bad_header : (BadHeader ≡ OutOfMemory) → ⊥
 bad_header e = cc
 
 pub returns-then-not-branch-clause-fault : goal.returns-then-not-branch-clause-fault
-returns-then-not-branch-clause-fault c known =
+returns-then-not-branch-clause-fault c before same known =
     let bytes = c.args.bytes.now in
     let none = rw c.if-not-branch.true at (c.in_ok-next_record.ensures (csv_records bytes) c.record_reader-reader.ensures) in
-    header_fault c.args.limit c.args.table c.args.entries.now bytes BadHeader c.fault_at-then-not-branch.result
-    (columns_none c.args.limit c.args.table c.args.entries.now bytes (sym c.is_marked_twice.ensures ∙ c.if-is_marked_twice.false) none)
+    header_fault c.args.limit c.args.table before bytes BadHeader c.fault_at-then-not-branch.result
+    (columns_none c.args.limit c.args.table before bytes (sym c.is_marked_twice.ensures ∙ c.if-is_marked_twice.false) none)
     (c.fault_at-then-not-branch.ensures.named bad_header)
 
 pub returns-in-Err-clause-fault : goal.returns-in-Err-clause-fault
-returns-in-Err-clause-fault c known =
+returns-in-Err-clause-fault c before same known =
     let bytes = c.args.bytes.now in
     let (more, split, has) = rw c.if-not-branch.false at (c.in_ok-next_record.ensures (csv_records bytes) c.record_reader-reader.ensures) in
     let kind = known_kind c.in-Err.kind c.fault_at-in-Err.result c.fault_at-in-Err.ensures.out_of_memory known in
-    header_fault c.args.limit c.args.table c.args.entries.now bytes c.in-Err.kind c.fault_at-in-Err.result
-    (columns_first c.args.limit c.args.table c.args.entries.now bytes (fields_of c.next_record.new.record) more (sym c.is_marked_twice.ensures ∙ c.if-is_marked_twice.false) split ∙ c.in-Err.ensures.fault kind)
+    header_fault c.args.limit c.args.table before bytes c.in-Err.kind c.fault_at-in-Err.result
+    (columns_first c.args.limit c.args.table before bytes (fields_of c.next_record.new.record) more (sym c.is_marked_twice.ensures ∙ c.if-is_marked_twice.false) split ∙ c.in-Err.ensures.fault kind)
     (c.fault_at-in-Err.ensures.named kind)
 
 pub records-init : goal.records-init
@@ -31,48 +36,71 @@ records-init c =
     let bytes = c.args.bytes.now in
     let (more, split, has) = rw c.if-not-branch.false at (c.in_ok-next_record.ensures (csv_records bytes) c.record_reader-reader.ensures) in
     record {
-      columns = columns_first c.args.limit c.args.table c.args.entries.now bytes (fields_of c.next_record.new.record) more (sym c.is_marked_twice.ensures ∙ c.if-is_marked_twice.false) split ∙ c.in-Ok.ensures.ok;
+      columns = columns_first c.args.limit c.args.table [] bytes (fields_of c.next_record.new.record) more (sym c.is_marked_twice.ensures ∙ c.if-is_marked_twice.false) split ∙ c.in-Ok.ensures.ok;
+      width = omega (arith, c.new-rows.ensures.width, c.len.ensures, c.in-Ok.columns.ok.0);
+      counted = rw c.new-rows.ensures.rows (omega arith);
       within = c.requires.within;
       few = omega arith;
       left = more;
       has = has;
-      rest = ap (λ (l : List (List (List ℕ))). entries_after c.args.limit c.args.table c.in-Ok.columns.items 2 c.args.entries.now (drop 1 l)) split;
+      rest = λ before same. ap (λ (l : List (List (List ℕ))). entries_after c.args.limit c.args.table c.in-Ok.columns.items 2 before (drop 1 l)) split
+          ∙ ap (λ es. entries_after c.args.limit c.args.table c.in-Ok.columns.items 2 es more) (sym (rw c.new-rows.ensures.rows (append-nil before)));
     }
-
-pub returns-then-not-branch-2-clause-ok : goal.returns-then-not-branch-2-clause-ok
-returns-then-not-branch-2-clause-ok c =
-    let i = c.records.invariant in
-    let none = rw c.if-not-branch-2.true at (c.in_ok-next_record-2.ensures i.left i.has) in
-    read_ok c.args.limit c.args.table c.args.entries.now c.args.bytes.now c.in-Ok.columns.items c.records.entries i.columns (i.rest ∙ rw none refl)
-
-pub returns-in-Err-read_entry-clause-fault : goal.returns-in-Err-read_entry-clause-fault
-returns-in-Err-read_entry-clause-fault c known =
-    let i = c.records.invariant in
-    let (more, split, has) = rw c.if-not-branch-2.false at (c.in_ok-next_record-2.ensures i.left i.has) in
-    let kind = known_kind c.in-Err-read_entry.kind c.fault_at-in-Err-read_entry.result c.fault_at-in-Err-read_entry.ensures.out_of_memory known in
-    read_fault c.args.limit c.args.table c.args.entries.now c.args.bytes.now c.in-Ok.columns.items c.fault_at-in-Err-read_entry.result i.columns
-    (i.rest ∙ entry_fault c.args.limit c.args.table c.in-Ok.columns.items c.records.number c.records.entries (fields_of c.next_record-in-records.new.record) more i.left split
-    c.in-Err-read_entry.kind c.fault_at-in-Err-read_entry.result (rw c.deref.ensures.value at (c.in-Err-read_entry.ensures.fault kind)) (c.fault_at-in-Err-read_entry.ensures.named kind))
-
-pub returns-in-Err-add-clause-fault : goal.returns-in-Err-add-clause-fault
-returns-in-Err-add-clause-fault c known =
-    let i = c.records.invariant in
-    let (more, split, has) = rw c.if-not-branch-2.false at (c.in_ok-next_record-2.ensures i.left i.has) in
-    let kind = known_kind c.in-Err-add.kind c.fault_at-in-Err-add.result c.fault_at-in-Err-add.ensures.out_of_memory known in
-    read_fault c.args.limit c.args.table c.args.entries.now c.args.bytes.now c.in-Ok.columns.items c.fault_at-in-Err-add.result i.columns
-    (i.rest ∙ add_fault c.args.limit c.args.table c.in-Ok.columns.items c.records.number c.records.entries (fields_of c.next_record-in-records.new.record) more i.left split
-    (entry_in (c.read_entry.new.values.items, c.in-Ok-read_entry.validity)) c.in-Err-add.kind c.fault_at-in-Err-add.result (rw c.deref.ensures.value at c.in-Ok-read_entry.ensures.ok) (c.in-Err-add.ensures.fault kind) (c.fault_at-in-Err-add.ensures.named kind))
 
 pub records-preserved : goal.records-preserved
 records-preserved c =
     let i = c.records.invariant in
     let (more, split, has) = rw c.if-not-branch-2.false at (c.in_ok-next_record-2.ensures i.left i.has) in
+    let table = c.args.table in
+    let told = map (told_by table) c.records.rows.items in
+    let row : Fragment = record { values = c.read_entry.new.values.items; period = c.in-Ok-read_entry.period } in
+    let entry : Entry = told_by table row in
+    let grown : map (told_by table) c.add_row.new.rows.items ≡ told ++ entry ∷ [] = ap (map (told_by table)) c.in_default.ensures.rows ∙ map-append (told_by table) c.records.rows.items (row ∷ []) in
+    let counted : c.add_row.new.events ≡ c.records.events + event_count entry = c.in_default.ensures.events in
+    let pushed : sum_by event_count (told ++ entry ∷ []) ≡ sum_by event_count told + event_count entry = sum_by_push event_count told entry in
+    let some : 1 ≤ event_count entry = makes_events entry in
     record {
       columns = i.columns;
+      width = c.add_row.ensures.width ∙ i.width;
+      counted = omega (arith, counted, pushed, i.counted, ap (sum_by event_count) grown);
       within = c.in_default.ensures.within;
-      few = omega (arith, i.few, c.in_default.ensures.grown);
+      few = omega (arith, i.few, counted, some);
       left = more;
       has = has;
-      rest = i.rest ∙ add_ok c.args.limit c.args.table c.in-Ok.columns.items c.records.number c.records.entries (fields_of c.next_record-in-records.new.record) more i.left split
-          (entry_in (c.read_entry.new.values.items, c.in-Ok-read_entry.validity)) c.add.new.self (rw c.deref.ensures.value at c.in-Ok-read_entry.ensures.ok) c.in_default.ensures.ok;
+      rest = λ before same. i.rest before same
+          ∙ add_ok c.args.limit table c.in-Ok.columns.items c.records.number (before ++ told) (fields_of c.next_record-in-records.new.record) more i.left split entry ((before ++ told) ++ entry ∷ [])
+          (rw c.deref.ensures.value at (c.in-Ok-read_entry.ensures.ok table))
+          (next_ok c.args.limit (before ++ told) entry c.add_row.new.events (omega (arith, counted, told_count before told c.args.events.now c.records.events same i.counted)) c.in_default.ensures.within)
+          ∙ ap (λ es. entries_after c.args.limit table c.in-Ok.columns.items (c.records.number + 1) es more) (append_assoc before told (entry ∷ []) ∙ ap (λ es. before ++ es) (sym grown));
     }
+
+pub returns-then-not-branch-2-clause-ok : goal.returns-then-not-branch-2-clause-ok
+returns-then-not-branch-2-clause-ok c before same =
+    let i = c.records.invariant in
+    let none = rw c.if-not-branch-2.true at (c.in_ok-next_record-2.ensures i.left i.has) in
+    read_ok c.args.limit c.args.table before c.args.bytes.now c.in-Ok.columns.items (before ++ map (told_by c.args.table) c.records.rows.items) i.columns (i.rest before same ∙ rw none refl)
+
+pub returns-in-Err-read_entry-clause-fault : goal.returns-in-Err-read_entry-clause-fault
+returns-in-Err-read_entry-clause-fault c before same known =
+    let i = c.records.invariant in
+    let (more, split, has) = rw c.if-not-branch-2.false at (c.in_ok-next_record-2.ensures i.left i.has) in
+    let kind = known_kind c.in-Err-read_entry.kind c.fault_at-in-Err-read_entry.result c.fault_at-in-Err-read_entry.ensures.out_of_memory known in
+    read_fault c.args.limit c.args.table before c.args.bytes.now c.in-Ok.columns.items c.fault_at-in-Err-read_entry.result i.columns
+    (i.rest before same ∙ entry_fault c.args.limit c.args.table c.in-Ok.columns.items c.records.number (before ++ map (told_by c.args.table) c.records.rows.items) (fields_of c.next_record-in-records.new.record) more i.left split
+    c.in-Err-read_entry.kind c.fault_at-in-Err-read_entry.result (rw c.deref.ensures.value at (c.in-Err-read_entry.ensures.fault c.args.table kind)) (c.fault_at-in-Err-read_entry.ensures.named kind))
+
+pub returns-in-Err-add_row-clause-fault : goal.returns-in-Err-add_row-clause-fault
+returns-in-Err-add_row-clause-fault c before same known =
+    let i = c.records.invariant in
+    let (more, split, has) = rw c.if-not-branch-2.false at (c.in_ok-next_record-2.ensures i.left i.has) in
+    let kind = known_kind c.in-Err-add_row.kind c.fault_at-in-Err-add_row.result c.fault_at-in-Err-add_row.ensures.out_of_memory known in
+    let table = c.args.table in
+    let told = map (told_by table) c.records.rows.items in
+    let row : Fragment = record { values = c.read_entry.new.values.items; period = c.in-Ok-read_entry.period } in
+    let entry : Entry = told_by table row in
+    let many : next_entries c.args.limit (before ++ told) entry ≡ Err TooManyEvents = next_many c.args.limit (before ++ told) entry (c.records.events + event_count entry)
+    (omega (arith, told_count before told c.args.events.now c.records.events same i.counted)) (c.in-Err-add_row.ensures.many kind) in
+    read_fault c.args.limit table before c.args.bytes.now c.in-Ok.columns.items c.fault_at-in-Err-add_row.result i.columns
+    (i.rest before same ∙ add_fault c.args.limit table c.in-Ok.columns.items c.records.number (before ++ told) (fields_of c.next_record-in-records.new.record) more i.left split entry
+    c.in-Err-add_row.kind c.fault_at-in-Err-add_row.result (rw c.deref.ensures.value at (c.in-Ok-read_entry.ensures.ok table))
+    (many ∙ ap (λ (k : LoadFaultKind). let r : Result (List Entry) LoadFaultKind = Err k in r) (sym (c.in-Err-add_row.ensures.kind kind))) (c.fault_at-in-Err-add_row.ensures.named kind))

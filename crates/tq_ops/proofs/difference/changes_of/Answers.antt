@@ -1,33 +1,54 @@
-use Rattle.std.proofs.Common.{rules, refl, ap, arith, not, nat_le, ◌&&◌}
-use Rattle.std.proofs.lemmas.List.{take_all}
+use Rattle.std.proofs.Common.{rules, ◌≡◌, ◌<◌, length, get_or, map, refl, sym, ap, subst, arith, not, nat_le, ◌&&◌}
+use Rattle.std.proofs.lemmas.List.{get_or-map, length-map, take_all}
 use Rattle.std.proofs.lemmas.List.Sorted.{answers_always, sum_by-IsPermutation}
-use Rattle.tq_ops.specs.declared.sides.Side.TheVariants.{Left, Right}
+use Rattle.tq_base.specs.declared.sides.Key.{Key}
+use Rattle.tq_base.specs.declared.sides.Side.TheVariants.{Left, Right}
+use Rattle.tq_base.specs.Keys.{held}
+use Rattle.tq_base.specs.KeySides.{state_of}
+use Rattle.tq_base.specs.Periods.{IsOverlap, Overlap}
 use Rattle.tq_ops.specs.declared.difference.Change.{Change}
 use Rattle.tq_ops.specs.Differences.{side_held}
 use Rattle.tq_ops.proofs.Counting.{one_if}
 use Rattle.tq_ops.proofs.Changing.{counts_on, counts_past, stays_even}
 use Rattle.tq_ops.proofs.difference.changes_of.Goals as goal
 
+abbrev no_key : Key
+no_key = record { rank = 0; start = 0; row = 0; side = Left }
+
 pub rows-preserved-in_default : goal.rows-preserved-in_default
-rows-preserved-in_default c = record {
-  counted = λ t. counts_past c.args.window.now c.args.rows.now c.rows.row-index c.row-item.result c.rows-test.true c.row-item.is c.rows.changes.items
-      (λ inside. let some = c.in_default.ensures.some.1 inside in cc) t (c.rows.invariant.counted t);
-  even = c.rows.invariant.even;
-}
+rows-preserved-in_default c =
+    let f = held (state_of c.args.sides.now) in
+    let k = get_or c.args.group.now c.rows.key-index no_key in
+    let lt : c.rows.key-index < length (map f c.args.group.now) = omega (arith, c.rows-test.true, length-map c.args.group.now f) in
+    let is : f k ≡ get_or (map f c.args.group.now) c.rows.key-index (f k) = sym (get_or-map f c.args.group.now c.rows.key-index no_key (f k) c.rows-test.true) in
+    let same : c.period.result ≡ (f k).row.period = c.period.ensures in
+    record {
+      counted = λ t. counts_past c.args.window.now (map f c.args.group.now) c.rows.key-index (f k) lt is c.rows.changes.items
+          (λ inside. let some = c.in_default.ensures.some.1 (subst (λ p. Overlap p c.args.window.now) (sym same) inside) in cc) t (c.rows.invariant.counted t);
+      even = c.rows.invariant.even;
+    }
 
 pub rows-preserved : goal.rows-preserved
-rows-preserved c = record {
-  counted = λ t. counts_on c.args.window.now c.args.rows.now c.rows.row-index c.row-item.result c.rows-test.true c.row-item.is
-      c.in-Some.period c.is_left-rises.result c.bound_at.result c.in-Some.period.end c.rows.changes.items c.push.new.self.items c.push-in-rows.new.self.items
-      c.in-Some.ensures.start c.in-Some.ensures.end c.is_left-rises.ensures c.bound_at.ensures refl c.in_ok-push.ensures.items c.in_ok-push-2.ensures.items t (c.rows.invariant.counted t);
-  even = stays_even c.rows.changes.items c.push.new.self.items c.push-in-rows.new.self.items c.is_left-rises.result c.bound_at.result c.in-Some.period.end
-      c.in_ok-push.ensures.items c.in_ok-push-2.ensures.items c.rows.invariant.even;
-}
+rows-preserved c =
+    let f = held (state_of c.args.sides.now) in
+    let k = get_or c.args.group.now c.rows.key-index no_key in
+    let lt : c.rows.key-index < length (map f c.args.group.now) = omega (arith, c.rows-test.true, length-map c.args.group.now f) in
+    let is : f k ≡ get_or (map f c.args.group.now) c.rows.key-index (f k) = sym (get_or-map f c.args.group.now c.rows.key-index no_key (f k) c.rows-test.true) in
+    let same : c.period.result ≡ (f k).row.period = c.period.ensures in
+    let overlap = subst (λ p. IsOverlap p c.args.window.now c.in-Some.period) same c.in-Some.ensures.value in
+    record {
+      counted = λ t. counts_on c.args.window.now (map f c.args.group.now) c.rows.key-index (f k) lt is
+          c.in-Some.period c.is_left-rises.result c.bound_at.result c.in-Some.period.end c.rows.changes.items c.push.new.self.items c.push-in-rows.new.self.items
+          overlap c.is_left-rises.ensures c.bound_at.ensures refl c.in_ok-push.ensures.items c.in_ok-push-2.ensures.items t (c.rows.invariant.counted t);
+      even = stays_even c.rows.changes.items c.push.new.self.items c.push-in-rows.new.self.items c.is_left-rises.result c.bound_at.result c.in-Some.period.end
+          c.in_ok-push.ensures.items c.in_ok-push-2.ensures.items c.rows.invariant.even;
+    }
 
 pub returns-clause-counted : goal.returns-clause-counted
 returns-clause-counted c t =
+    let f = held (state_of c.args.sides.now) in
     let same = c.sort_unstable_by_key.ensures.permutation in
-    let all = take_all c.rows.row-index c.args.rows.now c.rows-test.false in
+    let all = take_all c.rows.key-index (map f c.args.group.now) (omega (arith, c.rows-test.false, length-map c.args.group.now f)) in
     omega (
       arith,
       c.rows.invariant.counted t,

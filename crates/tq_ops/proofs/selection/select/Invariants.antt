@@ -7,4 +7,7 @@ use Rattle.tq_ops.proofs.Selecting.{selected}
 use Rattle.tq_ops.proofs.selection.select.Given as goal
 
 abbrev pub invariant-rows : goal.invariant-rows
-invariant-rows l = (t : ℕ) (v : List Value) → copies l.out.items v t ≡ sum_by (selected l.window (option_copied l.test) t v) (take l.row-index l.rows)
+invariant-rows l = record {
+  width : l.out.width ≡ l.rows.width;
+  counted : (t : ℕ) (v : List Value) → copies l.out.items v t ≡ sum_by (selected l.window (option_copied l.test) t v) (take l.number l.rows.items);
+}

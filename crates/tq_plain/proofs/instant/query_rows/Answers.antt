@@ -1,7 +1,7 @@
 use Rattle.std.proofs.Common.{◌∙◌}
 use Rattle.std.specs.Prelude.{All}
 use Rattle.std.proofs.lemmas.List.Elements.{All-same}
-use Rattle.tq_plan.specs.Running.{AreNumbers}
+use Rattle.tq_eval.specs.Running.{AreNumbers}
 use Rattle.tq_plain.proofs.NarrowLemmas.{lists_narrow}
 use Rattle.tq_plain.proofs.instant.query_rows.Goals as goal
 

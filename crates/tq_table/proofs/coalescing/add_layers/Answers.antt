@@ -1,55 +1,60 @@
-use Rattle.std.proofs.Common.{◌≡◌, ◌++◌, ◌∷◌, [], List, take, map, subst, append_assoc, sym, ap, ◌∙◌, get_or, arith, cond, is_ok, Result, Ok, Err}
-use Rattle.std.specs.Prelude.{All, OnOk}
-use Rattle.std.proofs.lemmas.List.{map_more, take_all}
+use Rattle.std.proofs.Common.{◌≡◌, ◌++◌, ◌∷◌, [], List, Some, take, map, subst, refl, ap, ◌∙◌, get_or, slice_get}
+use Rattle.std.specs.Prelude.{All}
+use Rattle.std.proofs.lemmas.List.{take_all}
+use Rattle.std.proofs.lemmas.List.Elements.{All-head, All-map}
 use Rattle.tq_base.specs.declared.value.Value.{Value}
 use Rattle.tq_base.specs.declared.period.Period.{Period}
 use Rattle.tq_base.specs.declared.fragment.Fragment.{Fragment}
-use Rattle.tq_base.specs.Layering.{rows_of, AddsLayers, IsLayering}
-use Rattle.tq_table.specs.Apart.{AreApart}
+use Rattle.tq_base.specs.declared.sides.Key.{Key}
+use Rattle.tq_base.specs.declared.sides.Side.TheVariants as side
+use Rattle.tq_base.specs.Keys.{key_row, no_row, rows_on, SidesState}
+use Rattle.tq_base.specs.KeySides.{state_of}
+use Rattle.tq_base.specs.Layering.{rows_of, IsLayering}
+use Rattle.tq_table.specs.Lines.{line_of}
 use Rattle.tq_table.proofs.Apart.{adds_apart}
-use Rattle.tq_table.proofs.Seams.{at_seam}
 use Rattle.tq_table.proofs.coalescing.add_layers.Goals as goal
 
-pub loop-period-preserved : goal.loop-period-preserved
-loop-period-preserved c =
-    let (gone, split) = c.loop-period.invariant.group in
-    let p = c.period-item.result in
-    let periods = c.deref-period-items.result.now in
-    let popped = c.pop.new.self.items in
-    let row = c.in-Some.row in
-    let front = split ∙ ap (λ l. l ++ gone) c.in-Some.ensures.items ∙ append_assoc popped (row ∷ []) gone in
-    record {
-      enough = omega (arith, c.in-Some.ensures.len, c.loop-period.invariant.enough);
-      group = (row ∷ gone, front);
-      table = λ v alike.
-          let with_v = λ (q : Period). let f : Fragment = record { values = v; period = q } in f in
-          let done = rows_of v (take c.loop-period.period-index periods) in
-          let is_v : row.values ≡ v = at_seam (λ f. f.values ≡ v) popped row gone (rw front at alike) in
-          let f : Fragment = record { values = row.values; period = p } in
-          let same : f ≡ with_v (get_or periods c.loop-period.period-index p) = rw is_v (ap with_v c.period-item.is) in
-          c.in_ok-push.ensures.items
-          ∙ ap (λ l. l ++ f ∷ []) (c.loop-period.invariant.table v alike)
-          ∙ append_assoc c.args.table.now.items done (f ∷ [])
-          ∙ ap (λ (g : Fragment). c.args.table.now.items ++ (done ++ g ∷ [])) same
-          ∙ ap (λ l. c.args.table.now.items ++ l) (sym (map_more with_v periods c.loop-period.period-index p c.loop-period-test.true));
-    }
+-- what holds of each key holds of the first
+at_first : (P : Key → Type 0) (keys : List Key) (first : Key) → Some first ≡ slice_get keys 0 → All P keys → P first
+at_first P [] first is all = cc
+at_first P (k ∷ keys) first is all =
+    let same : k ≡ first = cc in
+    subst P same (All-head P k keys all)
 
-pub returns-clause-added : goal.returns-clause-added
-returns-clause-added c v alike =
-    let all = take_all c.loop-period.period-index c.deref-period-items.result.now c.loop-period-test.false in
-    let given = c.deref-3.ensures.value ∙ c.in_ok-periods.ensures ∙ ap (λ rows. map (λ (f : Fragment). f.period) rows) c.deref-2.ensures.value in
+-- the periods of the keys' rows
+periods_are : (s : SidesState) (keys : List Key) → map (λ (k : Key). (key_row s k).period) keys ≡ map (λ (f : Fragment). f.period) (map (key_row s) keys)
+periods_are s [] = refl
+periods_are s (k ∷ keys) = ap (λ (l : List Period). (key_row s k).period ∷ l) (periods_are s keys)
+
+-- the row of a left key is read by its number
+read_left : (s : SidesState) (k : Key) (v : List Value) → k.side ≡ side.Left → (key_row s k).values ≡ v → (get_or s.left k.row no_row).values ≡ v
+read_left s k v left is = subst (λ z. (get_or (rows_on s z) k.row no_row).values ≡ v) left is
+
+pub returns-then-stand_apart : goal.returns-then-stand_apart
+returns-then-stand_apart c v alike =
+    let s = state_of c.args.sides.now in
+    let group = c.args.group.now in
+    let line = line_of c.args.sides.now.left.now.items in
+    let old = map line c.args.table.now.items in
+    adds_apart v (map (key_row s) group) c.if-stand_apart.ensures (All-map (λ (f : Fragment). f.values ≡ v) (key_row s) group alike) old (map line c.apart.table.items)
+    (c.apart.invariant ∙ ap (λ l. old ++ map (key_row s) l) (take_all c.apart.key-index group c.apart-test.false))
+
+pub returns : goal.returns
+returns c v alike =
+    let s = state_of c.args.sides.now in
+    let group = c.args.group.now in
+    let first = c.in-Some.first.now in
+    let old = map (line_of c.args.sides.now.left.now.items) c.args.table.now.items in
+    let periods = c.deref-period-items.result.now in
+    let left : first.side ≡ side.Left = at_first (λ k. k.side ≡ side.Left) group first c.in-Some.ensures.value c.requires in
+    let values : (get_or c.args.sides.now.left.now.items first.row no_row).values ≡ v =
+    read_left s first v left (at_first (λ k. (key_row s k).values ≡ v) group first c.in-Some.ensures.value alike) in
+    let given = c.deref.ensures.value ∙ c.in_ok-periods.ensures ∙ periods_are s group in
     record {
       layering = c.in_ok-layering.layering.items;
       is_layering = subst (λ periods. IsLayering periods c.in_ok-layering.layering.items) given c.in_ok-layering.ensures.layering;
       in_order = c.in_ok-layering.ensures.in_order;
-      added = c.loop-period.invariant.table v alike ∙ ap (λ l. c.args.table.now.items ++ rows_of v l) (all ∙ c.deref-period-items.ensures.value);
+      added = c.layers.invariant
+          ∙ ap (λ (u : List Value). old ++ rows_of u (take c.layers.period-index periods)) values
+          ∙ ap (λ (l : List Period). old ++ rows_of v l) (take_all c.layers.period-index periods c.layers-test.false ∙ c.deref-period-items.ensures.value);
     }
-
-appended : {E : Type 0} (r : Result (Unit {0}) E) (group old new : List Fragment) → AreApart group → new ≡ cond (is_ok r) (old ++ group) old → OnOk r ((v : List Value) → All (λ f. f.values ≡ v) group → AddsLayers v group old new)
-appended (Ok u) group old new apart is = λ v alike. adds_apart v group apart alike old new is
-appended (Err e) group old new apart is = tt
-
-pub returns-then-stand_apart-clause-added : goal.returns-then-stand_apart-clause-added
-returns-then-stand_apart-clause-added c =
-    let apart : AreApart c.args.group.now.items = rw c.deref.ensures.value at c.if-stand_apart.ensures in
-    appended c.append.result c.args.group.now.items c.args.table.now.items c.append.new.self.items apart c.append.ensures.items

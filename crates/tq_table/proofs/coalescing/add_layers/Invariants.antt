@@ -1,14 +1,17 @@
--- A row of the group went into the table for each period so far.
-use Rattle.std.proofs.Common.{◌≡◌, ◌++◌, ◌+◌, ◌≤◌, List, take, vec_len, length}
-use Rattle.std.specs.Prelude.{All}
-use Rattle.tq_base.specs.declared.value.Value.{Value}
-use Rattle.tq_base.specs.declared.fragment.Fragment.{Fragment}
+-- The keys so far are in the table, as lines of their rows; or a line of the group's row for each period so far.
+use Rattle.std.proofs.Common.{◌≡◌, ◌++◌, map, take, get_or}
+use Rattle.tq_base.specs.Keys.{key_row, no_row}
+use Rattle.tq_base.specs.KeySides.{state_of}
 use Rattle.tq_base.specs.Layering.{rows_of}
+use Rattle.tq_table.specs.Lines.{line_of}
 use Rattle.tq_table.proofs.coalescing.add_layers.Given as goal
 
-abbrev pub invariant-loop-period : goal.invariant-loop-period
-invariant-loop-period l = record {
-  enough : length l.period-items ≤ vec_len l.group + l.period-index;
-  group : (gone : List Fragment) × (l.initial.group.items ≡ l.group.items ++ gone);
-  table : (v : List Value) → All (λ f. f.values ≡ v) l.initial.group.items → l.table.items ≡ l.initial.table.items ++ rows_of v (take l.period-index l.period-items);
-}
+abbrev pub invariant-apart : goal.invariant-apart
+invariant-apart l =
+    map (line_of l.fn.sides.left.now.items) l.table.items
+    ≡ map (line_of l.fn.sides.left.now.items) l.initial.table.items ++ map (key_row (state_of l.fn.sides)) (take l.key-index l.fn.group)
+
+abbrev pub invariant-layers : goal.invariant-layers
+invariant-layers l =
+    map (line_of l.fn.sides.left.now.items) l.table.items
+    ≡ map (line_of l.fn.sides.left.now.items) l.initial.table.items ++ rows_of (get_or l.fn.sides.left.now.items l.first.row no_row).values (take l.period-index l.period-items)

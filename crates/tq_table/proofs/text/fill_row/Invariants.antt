@@ -5,6 +5,6 @@ use Rattle.tq_table.proofs.text.fill_row.Given as goal
 
 abbrev pub invariant-loop-value : goal.invariant-loop-value
 invariant-loop-value l = record {
-  fields : fields_of l.record ≡ map value_field (take l.value-index l.value-items);
+  fields : fields_of l.record ≡ map value_field (take l.value-index l.values);
   partial : partial_of l.record ≡ [];
 }

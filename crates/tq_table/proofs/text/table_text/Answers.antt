@@ -1,14 +1,15 @@
-use Rattle.std.proofs.Common.{◌≡◌, ◌∙◌, ◌+◌, subst, ◌++◌, [], ◌∷◌, ap, sym, take, refl}
+use Rattle.std.proofs.Common.{◌≡◌, ◌∙◌, ◌+◌, ◌<◌, subst, ◌++◌, [], ◌∷◌, ap, arith, sym, take, refl, get_or, length}
 use Rattle.std.specs.List.{flat_map}
 use Rattle.std.proofs.lemmas.List.{append-nil, flat_map_more, take_more}
 use Rattle.csv.specs.Writing.{row_text}
 use Rattle.tq_base.specs.declared.fragment.Fragment.{Fragment}
+use Rattle.tq_base.specs.RowLists.{row_at}
 use Rattle.tq_table.specs.Text.{answer_format, header_fields, row_fields}
 use Rattle.tq_table.specs.Writing.{HasWritten}
 use Rattle.tq_table.proofs.text.table_text.Goals as goal
 
-pub loop-row-init : goal.loop-row-init
-loop-row-init c =
+pub rows-init : goal.rows-init
+rows-init c =
     let made = c.from_writer-writer.ensures in
     let started : HasWritten c.from_writer-writer.result [] = record {
       written = rw (made.wtr, made.empty, c.new-2.ensures.items) refl;
@@ -19,15 +20,18 @@ loop-row-init c =
     rw (append-nil (row_text answer_format (header_fields c.args.table.now.columns)))
     (rw (c.in_ok-fill_header.ensures, c.get.ensures) at (c.in_ok-write_line.ensures [] started))
 
-pub loop-row-preserved : goal.loop-row-preserved
-loop-row-preserved c =
+pub rows-preserved : goal.rows-preserved
+rows-preserved c =
     let line = λ (row : Fragment). row_text answer_format (row_fields row) in
     let header = row_text answer_format (header_fields c.args.table.now.columns) in
-    let rows = c.get-row-items.result.now in
-    let row = c.row-item.result in
-    let so_far = take c.loop-row.row-index rows in
-    let one_more = take_more rows c.loop-row.row-index row c.loop-row-test.true in
-    let text : (header ++ flat_map line so_far) ++ line row ≡ header ++ flat_map line (take (c.loop-row.row-index + 1) rows) =
-    flat_map_more line header so_far row ∙ ap (λ l. header ++ flat_map line (so_far ++ l ∷ [])) c.row-item.is ∙ ap (λ l. header ++ flat_map line l) (sym one_more) in
-    subst (HasWritten c.write_line-in-loop-row.new.writer) text
-    (rw c.in_ok-fill_row.ensures at (c.in_ok-write_line-2.ensures (header ++ flat_map line so_far) c.loop-row.invariant))
+    let rows = c.args.table.now.rows in
+    let at = c.rows.row in
+    let row : Fragment = record { values = c.values.result.now; period = c.period.result } in
+    let is : row ≡ get_or rows at row = row_at rows at c.values.result.now c.period.result c.values.ensures c.period.ensures row in
+    let so_far = take at rows in
+    let within : at < length rows = omega (arith, c.rows-test.true, c.len-row-end.ensures) in
+    let one_more = take_more rows at row within in
+    let text : (header ++ flat_map line so_far) ++ line row ≡ header ++ flat_map line (take (at + 1) rows) =
+    flat_map_more line header so_far row ∙ ap (λ (r : Fragment). header ++ flat_map line (so_far ++ r ∷ [])) is ∙ ap (λ l. header ++ flat_map line l) (sym one_more) in
+    subst (HasWritten c.write_line-in-rows.new.writer) text
+    (rw c.in_ok-fill_row.ensures at (c.in_ok-write_line-2.ensures (header ++ flat_map line so_far) c.rows.invariant))

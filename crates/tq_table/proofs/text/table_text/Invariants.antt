@@ -6,6 +6,6 @@ use Rattle.tq_table.specs.Text.{answer_format, header_fields, row_fields}
 use Rattle.tq_table.specs.Writing.{HasWritten}
 use Rattle.tq_table.proofs.text.table_text.Given as goal
 
-abbrev pub invariant-loop-row : goal.invariant-loop-row
-invariant-loop-row l =
-    HasWritten l.writer (row_text answer_format (header_fields l.fn.table.columns) ++ flat_map (λ row. row_text answer_format (row_fields row)) (take l.row-index l.row-items))
+abbrev pub invariant-rows : goal.invariant-rows
+invariant-rows l =
+    HasWritten l.writer (row_text answer_format (header_fields l.fn.table.columns) ++ flat_map (λ row. row_text answer_format (row_fields row)) (take l.row l.fn.table.rows))

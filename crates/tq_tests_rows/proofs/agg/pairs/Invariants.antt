@@ -8,4 +8,4 @@ use Rattle.tq_agg.specs.Grouping.{number_of}
 use Rattle.tq_tests_rows.proofs.agg.pairs.Given as goal
 
 abbrev pub invariant-rows : goal.invariant-rows
-invariant-rows l = All (λ (row : Fragment). (place : ℕ) → FitsSigned w64 (number_of (value_at row.values place))) l.fragments.items
+invariant-rows l = All (λ (row : Fragment). (place : ℕ) → FitsSigned w64 (number_of (value_at row.values place))) l.rows.items

@@ -1,7 +1,7 @@
 -- The numbers of the rows so far are of 64 signed bits.
 use Rattle.std.specs.Prelude.{All}
 use Rattle.tq_base.specs.declared.fragment.Fragment.{Fragment}
-use Rattle.tq_plan.specs.Running.{AreNumbers}
+use Rattle.tq_eval.specs.Running.{AreNumbers}
 use Rattle.tq_tests_plans.proofs.plan.answers.pairs.Given as goal
 
 abbrev pub invariant-rows : goal.invariant-rows

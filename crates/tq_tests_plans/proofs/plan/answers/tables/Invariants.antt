@@ -1,5 +1,5 @@
 -- The numbers of the tables so far are of 64 signed bits.
-use Rattle.tq_plan.specs.TableAnswers.{AreAllNumbers}
+use Rattle.tq_eval.specs.TableAnswers.{AreAllNumbers}
 use Rattle.tq_tests_plans.proofs.plan.answers.tables.Given as goal
 
 abbrev pub invariant-tables : goal.invariant-tables

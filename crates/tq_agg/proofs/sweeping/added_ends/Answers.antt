@@ -1,0 +1,25 @@
+use Rattle.std.proofs.Common.{ap, arith}
+use Rattle.std.proofs.lemmas.Int.{ints}
+use Rattle.tq_base.specs.KeySides.{state_of}
+use Rattle.tq_agg.specs.declared.bounds.End.{End}
+use Rattle.tq_agg.specs.Totals.{end_key, key_weight, weight_of}
+use Rattle.tq_agg.proofs.Adding.{added-step}
+use Rattle.tq_agg.proofs.Totals.{more_fits}
+use Rattle.tq_agg.proofs.sweeping.added_ends.Goals as goal
+
+pub overflow_add-total : goal.overflow_add-total
+overflow_add-total c =
+    let ends = c.args.ends.now in
+    let fits = more_fits (λ (e : End). key_weight (state_of c.args.sides.now) c.args.summand (end_key e)) ends c.ends.end-index c.end-item.result c.requires c.ends-test.true (omega arith) c.end-item.is in
+    let weighs = c.weight-total.ensures in
+    let values = ap (weight_of c.args.summand) c.values.ensures in
+    omega (arith, ints, fits, weighs, values, c.ends.invariant)
+
+pub ends-preserved : goal.ends-preserved
+ends-preserved c =
+    let ends = c.args.ends.now in
+    let fits = more_fits (λ (e : End). key_weight (state_of c.args.sides.now) c.args.summand (end_key e)) ends c.ends.end-index c.end-item.result c.requires c.ends-test.true (omega arith) c.end-item.is in
+    let step = added-step (λ (e : End). key_weight (state_of c.args.sides.now) c.args.summand (end_key e)) ends c.ends.end-index c.end-item.result c.ends-test.true c.end-item.is in
+    let weighs = c.weight-total.ensures in
+    let values = ap (weight_of c.args.summand) c.values.ensures in
+    omega (arith, ints, fits, step, weighs, values, c.ends.invariant)

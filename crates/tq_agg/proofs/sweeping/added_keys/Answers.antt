@@ -1,0 +1,34 @@
+use Rattle.std.proofs.Common.{ap, arith, get_or}
+use Rattle.std.proofs.lemmas.Int.{ints}
+use Rattle.std.proofs.lemmas.List.{get_or_default}
+use Rattle.tq_base.specs.KeySides.{state_of}
+use Rattle.tq_agg.specs.Totals.{key_weight, weight_of}
+use Rattle.tq_agg.proofs.Adding.{added-step}
+use Rattle.tq_agg.proofs.Runs.{no_key}
+use Rattle.tq_agg.proofs.Totals.{more_fits}
+use Rattle.tq_agg.proofs.sweeping.added_keys.Goals as goal
+
+pub overflow_add-total : goal.overflow_add-total
+overflow_add-total c =
+    let keys = c.args.keys.now in
+    let i = c.keys.key-index in
+    let k = get_or keys i no_key in
+    let w = key_weight (state_of c.args.sides.now) c.args.summand in
+    let lt = c.keys-test.true in
+    let fits = more_fits w keys i k c.requires lt (omega arith) (get_or_default keys i no_key k lt) in
+    let weighs = c.weight-total.ensures in
+    let values = ap (weight_of c.args.summand) c.values.ensures in
+    omega (arith, ints, fits, weighs, values, c.keys.invariant)
+
+pub keys-preserved : goal.keys-preserved
+keys-preserved c =
+    let keys = c.args.keys.now in
+    let i = c.keys.key-index in
+    let k = get_or keys i no_key in
+    let w = key_weight (state_of c.args.sides.now) c.args.summand in
+    let lt = c.keys-test.true in
+    let fits = more_fits w keys i k c.requires lt (omega arith) (get_or_default keys i no_key k lt) in
+    let step = added-step w keys i k lt (get_or_default keys i no_key k lt) in
+    let weighs = c.weight-total.ensures in
+    let values = ap (weight_of c.args.summand) c.values.ensures in
+    omega (arith, ints, fits, step, weighs, values, c.keys.invariant)

@@ -1,0 +1,162 @@
+-- Keys that are compared, sorted and gathered.
+use Rattle.std.proofs.Common.{inl, inr, subst, ◌≡◌, ◌≢◌, ℕ, ◌+◌, ◌<◌, Bool, true, false, cond, List, [], ◌∷◌, ◌++◌, append_assoc, append-nil, length, take, drop, map, get_or, refl, sym, ap, ◌∙◌, arith}
+use Rattle.std.specs.Prelude.{All, IsSorted, Option, Some, None}
+use Rattle.std.specs.Bool.{OnTrue}
+use Rattle.std.specs.Cmp.{IsTotalOrder, nat_cmp_total, on_total, then_total}
+use Rattle.std.specs.List.{IsAllAdjacentAnswer}
+use Rattle.std.specs.Ordering.{is_le, is_lt, is_ne, nat_cmp, ordering_reverse, ordering_then}
+use Rattle.std.specs.declared.cmp.Ordering.{Ordering}
+use Rattle.std.specs.declared.cmp.Ordering.TheVariants.{Less, Equal, Greater}
+use Rattle.std.proofs.lemmas.Bool.{cases_lt}
+use Rattle.std.proofs.lemmas.List.{drop_all, drop_more, get_or-map, get_or_default, length-map, map-append, take_more}
+use Rattle.std.proofs.lemmas.List.Elements.{filter-append, All-more}
+use Rattle.tq_base.specs.declared.value.Value.{Value}
+use Rattle.tq_base.specs.declared.period.Period.{Period}
+use Rattle.tq_base.specs.declared.fragment.Fragment.{Fragment}
+use Rattle.tq_base.specs.declared.sides.Key.{Key}
+use Rattle.tq_base.specs.declared.sides.Side.{Side}
+use Rattle.tq_base.specs.Keys.{columns_on, held, held_on, is_overlap, is_within, key_cmp, key_row, key_values, no_row, overlapping, rank_tells, rows_on, told_cmp, value_at, value_key_cmp, values_left, within, AreTold, Held, IsKey, SidesState}
+use Rattle.tq_base.specs.KeyLaws.{alike, told}
+use Rattle.tq_base.specs.ValueOrder.{value_cmp, values_cmp}
+
+-- the value at a place stands before those after it
+pub compared_at : (s : SidesState) (k : Key) (row : List Value) (columns : List ℕ) (place column : ℕ) → row ≡ (key_row s k).values → columns ≡ columns_on s k.side → place < length columns → column ≡ get_or columns place 0
+    → drop place (key_values s k) ≡ value_at row column ∷ drop (place + 1) (key_values s k)
+compared_at s k row columns place column row_is columns_is less column_is =
+    let values : key_values s k ≡ map (value_at row) columns = rw (row_is, columns_is) refl in
+    let within : place < length (map (value_at row) columns) = omega (arith, length-map columns (value_at row), less) in
+    let here : get_or (map (value_at row) columns) place (value_at row 0) ≡ value_at row column = get_or-map (value_at row) columns place 0 (value_at row 0) less ∙ ap (value_at row) (sym column_is) in
+    rw values (drop_more (map (value_at row) columns) place (value_at row 0) within ∙ ap (λ v. v ∷ drop (place + 1) (map (value_at row) columns)) here)
+
+-- the first values decide where they differ
+pub first_differs : (x y : Value) (u v : List Value) → value_cmp x y ≢ Equal → values_cmp (x ∷ u) (y ∷ v) ≡ value_cmp x y
+first_differs x y u v differ = by (value_cmp x y) differ
+  where
+    by : (r : Ordering) → r ≢ Equal → ordering_then r (values_cmp u v) ≡ r
+    by Less d = refl
+    by Equal d = absurd (d refl)
+    by Greater d = refl
+
+-- where they are equal the others do
+pub first_same : (x y : Value) (u v : List Value) → value_cmp x y ≡ Equal → values_cmp (x ∷ u) (y ∷ v) ≡ values_cmp u v
+first_same x y u v same = ap (λ r. ordering_then r (values_cmp u v)) same
+
+-- ---- sorted keys
+
+pub told_total : IsTotalOrder told_cmp
+told_total = then_total (on_total (λ (k : Key). k.rank) nat_cmp_total) (on_total (λ (k : Key). k.start) nat_cmp_total)
+
+not_below : {X : Type 0} (cmp : X → X → Ordering) → IsTotalOrder cmp → (x y : X) → true ≡ is_le (cmp x y) → is_lt (cmp y x) ≡ false
+not_below cmp total x y le = split (cmp x y) refl le
+  where
+    split : (r : Ordering) → cmp x y ≡ r → true ≡ is_le r → is_lt (cmp y x) ≡ false
+    split Less is le = ap is_lt (total.antisymm y x ∙ ap ordering_reverse is)
+    split Equal is le = ap is_lt (total.antisymm y x ∙ ap ordering_reverse is)
+    split Greater is le = cc
+
+-- a list in which no neighbours turn is sorted
+pub sorted_from_neighbours : {X : Type 0} (cmp : X → X → Ordering) → IsTotalOrder cmp → (xs : List X) (r : Bool) → IsAllAdjacentAnswer (λ x y b. b ≡ is_le (cmp x y)) xs r → OnTrue r (IsSorted cmp xs)
+sorted_from_neighbours cmp total xs true rise = λ k d low high. not_below cmp total (get_or xs k d) (get_or xs (k + 1) d) (rise k d high)
+sorted_from_neighbours cmp total xs false turn = tt
+
+same_without : (r t : Ordering) → ordering_then (ordering_then r Equal) t ≡ ordering_then r t
+same_without Less t = refl
+same_without Equal t = refl
+same_without Greater t = refl
+
+-- where no values are left to be compared, ranks and starts decide
+told_is : (s : SidesState) (x y : Key) → values_left x.rank (key_values s x) ≡ [] → values_left y.rank (key_values s y) ≡ [] → key_cmp s x y ≡ told_cmp x y
+told_is s x y x_told y_told =
+    ap (λ v. ordering_then (ordering_then (nat_cmp x.rank y.rank) (values_cmp v (values_left y.rank (key_values s y)))) (nat_cmp x.start y.start)) x_told
+    ∙ ap (λ v. ordering_then (ordering_then (nat_cmp x.rank y.rank) (values_cmp [] v)) (nat_cmp x.start y.start)) y_told
+    ∙ same_without (nat_cmp x.rank y.rank) (nat_cmp x.start y.start)
+
+pub told_sorted : (s : SidesState) (keys : List Key) → AreTold s keys → IsSorted told_cmp keys → IsSorted (key_cmp s) keys
+told_sorted s keys are sorted k d low high =
+    ap is_lt (told_is s (get_or keys (k + 1) d) (get_or keys k d) (are (k + 1) d high) (are k d (omega (arith, high)))) ∙ sorted k d low high
+
+none_left : (rank : ℕ) (values : List Value) → rank_tells rank ≡ true → length values ≡ 1 → values_left rank values ≡ []
+none_left rank values tells one = ap (λ b. cond b (drop 1 values) values) tells ∙ drop_all 1 values (omega (arith, one))
+
+-- one column, and ranks that tell their values
+pub told_one : (s : SidesState) (keys : List Key) (b : Bool) → ((of : Side) → length (columns_on s of) ≡ 1) → OnTrue b (All (λ (k : Key). rank_tells k.rank ≡ true) keys) → OnTrue b (AreTold s keys)
+told_one s keys true one tell = λ i d less.
+    let k = get_or keys i d in
+    none_left k.rank (key_values s k) (tell i d less) (length-map (columns_on s k.side) (value_at (key_row s k).values) ∙ one k.side)
+told_one s keys false one tell = tt
+
+-- ---- gathered keys
+
+-- the period that is read is that of the row
+pub period_here : (rows : List Fragment) (periods : List Period) (i : ℕ) (p : Period) → periods ≡ map (λ (row : Fragment). row.period) rows → i < length rows → p ≡ get_or periods i p → (get_or rows i no_row).period ≡ p
+period_here rows periods i p are less is =
+    sym (get_or-map (λ (row : Fragment). row.period) rows i no_row p less) ∙ ap (λ l. get_or l i p) (sym are) ∙ sym is
+
+within_more : (window : Option Period) (rows : List Fragment) (i : ℕ) (d : Fragment) → i < length rows
+    → within window (take (i + 1) rows) ≡ within window (take i rows) ++ cond (is_within window (get_or rows i d).period) (get_or rows i d ∷ []) []
+within_more None rows i d less = take_more rows i d less
+within_more (Some window) rows i d less =
+    ap (overlapping window) (take_more rows i d less) ∙ filter-append (λ (f : Fragment). is_overlap f.period window) (take i rows) (get_or rows i d ∷ [])
+
+module _ (s : SidesState) (of : Side) (window : Option Period) (i : ℕ) (less : i < length (rows_on s of)) where
+  abbrev here : Fragment
+  here = get_or (rows_on s of) i no_row
+
+  abbrev on_side : Fragment → Held
+  on_side row = record { side = of; row = row }
+
+  -- the key of a row inside the window
+  pub adds_key : (old mid : List Key) (k : Key) → is_within window (get_or (rows_on s of) i no_row).period ≡ true → k.side ≡ of → k.row ≡ i
+      → map (held s) mid ≡ map (held s) old ++ held_on of (within window (take i (rows_on s of)))
+      → map (held s) (mid ++ k ∷ []) ≡ map (held s) old ++ held_on of (within window (take (i + 1) (rows_on s of)))
+  adds_key old mid k inside of_side of_row before =
+      let stands : held s k ≡ on_side here =
+      ap (λ o. let h : Held = record { side = o; row = get_or (rows_on s o) k.row no_row } in h) of_side ∙ ap (λ n. let h : Held = record { side = of; row = get_or (rows_on s of) n no_row } in h) of_row in
+      let more : within window (take (i + 1) (rows_on s of)) ≡ within window (take i (rows_on s of)) ++ here ∷ [] =
+      within_more window (rows_on s of) i no_row less ∙ ap (λ b. within window (take i (rows_on s of)) ++ cond b (here ∷ []) []) inside in
+      map-append (held s) mid (k ∷ [])
+      ∙ ap (λ l. l ++ held s k ∷ []) before
+      ∙ ap (λ h. (map (held s) old ++ held_on of (within window (take i (rows_on s of)))) ++ h ∷ []) stands
+      ∙ append_assoc (map (held s) old) (held_on of (within window (take i (rows_on s of)))) (on_side here ∷ [])
+      ∙ ap (λ l. map (held s) old ++ l) (sym (ap (held_on of) more ∙ map-append on_side (within window (take i (rows_on s of))) (here ∷ [])))
+
+  -- a row apart from the window
+  pub adds_none : (old mid : List Key) → is_within window (get_or (rows_on s of) i no_row).period ≡ false
+      → map (held s) mid ≡ map (held s) old ++ held_on of (within window (take i (rows_on s of)))
+      → map (held s) mid ≡ map (held s) old ++ held_on of (within window (take (i + 1) (rows_on s of)))
+  adds_none old mid apart before =
+      let more : within window (take (i + 1) (rows_on s of)) ≡ within window (take i (rows_on s of)) =
+      within_more window (rows_on s of) i no_row less ∙ ap (λ b. within window (take i (rows_on s of)) ++ cond b (here ∷ []) []) apart ∙ append-nil (within window (take i (rows_on s of))) in
+      before ∙ ap (λ l. map (held s) old ++ held_on of l) (sym more)
+
+-- ---- runs of keys
+
+equal_from : (r : Ordering) → is_ne r ≡ false → r ≡ Equal
+equal_from Less is = cc
+equal_from Equal is = refl
+equal_from Greater is = cc
+
+module _ (s : SidesState) (keys : List Key) (are : All (IsKey s) keys) (first : Key) (some : 0 < length keys) (is_first : (d : Key) → first ≡ get_or keys 0 d) where
+  first_is : IsKey s first
+  first_is = subst (IsKey s) (sym (is_first first)) (are 0 first some)
+
+  -- a key that stands apart from the first has other values
+  pub stands_apart : (i : ℕ) (e : Key) → i < length keys → is_ne (value_key_cmp s (get_or keys i e) first) ≡ true → (d : Key) → key_values s (get_or keys i d) ≢ key_values s (get_or keys 0 d)
+  stands_apart i e less apart d same =
+      let of_first : key_values s (get_or keys i e) ≡ key_values s first = ap (key_values s) (get_or_default keys i e d less) ∙ same ∙ ap (key_values s) (sym (is_first d)) in
+      let equal : is_ne (value_key_cmp s (get_or keys i e) first) ≡ false = ap is_ne (alike s (get_or keys i e) first (are i e less) first_is of_first) in
+      cc (equal, apart)
+
+  -- so it is not the first
+  pub later : (i : ℕ) (e : Key) → i < length keys → is_ne (value_key_cmp s (get_or keys i e) first) ≡ true → 0 < i
+  later i e less apart = elim (cases_lt 0 i) [
+    | inl after ↦ after
+    | inr none ↦ let zeroth : i ≡ 0 = omega (arith, none) in absurd (stands_apart i e less apart e (ap (λ n. key_values s (get_or keys n e)) zeroth))
+  ]
+
+  -- one that does not has its values
+  pub run_more : (i : ℕ) (e : Key) → i < length keys → is_ne (value_key_cmp s (get_or keys i e) first) ≡ false
+      → All (λ (k : Key). key_values s k ≡ key_values s first) (take i keys) → All (λ (k : Key). key_values s k ≡ key_values s first) (take (i + 1) keys)
+  run_more i e less tie before =
+      All-more (λ (k : Key). key_values s k ≡ key_values s first) keys i e less before
+      (told s (get_or keys i e) first (are i e less) first_is (equal_from (value_key_cmp s (get_or keys i e) first) tie))

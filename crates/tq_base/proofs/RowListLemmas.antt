@@ -1,0 +1,61 @@
+-- Rows that lie one behind the other in one list of values.
+use Rattle.std.proofs.Common.{suc, zero, ◌≡◌, ◌≤◌, ◌<◌, ◌+◌, ◌*◌, ℕ, List, [], ◌∷◌, ◌++◌, length, take, drop, map, get_or, sym, refl, ap, ◌∙◌, arith, length-drop}
+use Rattle.std.specs.Prelude.{All}
+use Rattle.std.proofs.lemmas.List.{drop-append-le, take-append-le, take_all, drop-drop, length-take-le}
+use Rattle.std.proofs.lemmas.List.Elements.{All-cons}
+use Rattle.tq_base.specs.declared.value.Value.{Value}
+use Rattle.tq_base.specs.declared.fragment.Fragment.{Fragment}
+use Rattle.tq_base.specs.declared.period.Period.{Period}
+use Rattle.tq_base.specs.RowLists.{rows_from}
+
+pub length-rows_from : (width : ℕ) (values : List Value) (periods : List Period) → length (rows_from width values periods) ≡ length periods
+unfolding rows_from
+length-rows_from width values [] = refl
+length-rows_from width values (period ∷ periods) =
+    let rest : length (rows_from width (drop width values) periods) ≡ length periods = length-rows_from width (drop width values) periods in
+    ap (λ n. suc n) rest
+
+pub periods-rows_from : (width : ℕ) (values : List Value) (periods : List Period) → map (λ (row : Fragment). row.period) (rows_from width values periods) ≡ periods
+unfolding rows_from
+periods-rows_from width values [] = refl
+periods-rows_from width values (period ∷ periods) = ap (λ ps. period ∷ ps) (periods-rows_from width (drop width values) periods)
+
+-- the values of a row are those from its place on
+pub values-rows_from : (width : ℕ) (values : List Value) (periods : List Period) (k : ℕ) (d : Fragment) → k < length periods → (get_or (rows_from width values periods) k d).values ≡ take width (drop (k * width) values)
+unfolding rows_from
+values-rows_from width values [] k d less = absurd (omega (arith, less))
+values-rows_from width values (period ∷ periods) zero d less = let z : zero * width ≡ zero = omega arith in rw z refl
+values-rows_from width values (period ∷ periods) (suc k) d less =
+    let here : (get_or (rows_from width (drop width values) periods) k d).values ≡ take width (drop (k * width) (drop width values)) = values-rows_from width (drop width values) periods k d (omega arith) in
+    let both : drop (k * width) (drop width values) ≡ drop (width + k * width) values = drop-drop (k * width) width values in
+    let place : suc k * width ≡ width + k * width = grind arith in
+    here ∙ ap (take width) both ∙ ap (λ n. take width (drop n values)) (sym place)
+
+-- each row has as many values as there are columns
+pub widths-rows_from : (width : ℕ) (values : List Value) (periods : List Period) → length values ≡ length periods * width → All (λ (row : Fragment). length row.values ≡ width) (rows_from width values periods)
+unfolding rows_from
+widths-rows_from width values [] fill = λ k d less. absurd (omega (arith, less))
+widths-rows_from width values (period ∷ periods) fill =
+    let left : length (drop width values) ≡ length periods * width = grind (arith, length-drop width values, fill) in
+    let rest : All (λ (row : Fragment). length row.values ≡ width) (rows_from width (drop width values) periods) = widths-rows_from width (drop width values) periods left in
+    let first : length (take width values) ≡ width = length-take-le width values (grind (arith, fill)) in
+    All-cons (λ (row : Fragment). length row.values ≡ width) (record { values = take width values; period = period }) (rows_from width (drop width values) periods) first rest
+
+-- a row that is put behind the values, with its period behind the periods, is the last row
+pub push-rows_from : (width : ℕ) (values row : List Value) (periods : List Period) (period : Period) → length values ≡ length periods * width → length row ≡ width → rows_from width (values ++ row) (periods ++ period ∷ []) ≡ rows_from width values periods ++ record { values = row; period = period } ∷ []
+unfolding rows_from
+push-rows_from width [] row [] period fill fits =
+    let whole : take width row ≡ row = take_all width row (omega (arith, fits)) in
+    rw whole refl
+push-rows_from width (value ∷ values) row [] period fill fits = absurd (omega (arith, fill))
+push-rows_from width values row (first ∷ periods) period fill fits =
+    let inside : width ≤ length values = grind (arith, fill) in
+    let left : length (drop width values) ≡ length periods * width = grind (arith, length-drop width values, fill) in
+    let values_stay : take width (values ++ row) ≡ take width values = take-append-le width values row inside in
+    let rest : drop width (values ++ row) ≡ drop width values ++ row = drop-append-le width values row inside in
+    let others : rows_from width (drop width values ++ row) (periods ++ period ∷ []) ≡ rows_from width (drop width values) periods ++ record { values = row; period = period } ∷ [] = push-rows_from width (drop width values) row periods period left fits in
+    rw (values_stay, rest, others) refl
+
+-- the values of a row lie within those of all rows
+pub row_inside : (row rows width total : ℕ) → row < rows → total ≡ rows * width → row * width + width ≤ total
+row_inside row rows width total less fill = grind (arith, less, fill)

@@ -1,0 +1,447 @@
+-- What is left to be compared of keys' values, and lists of keys that are sorted run by run.
+use Rattle.std.proofs.Common.{inl, inr, subst, ◌≡◌, ◌≢◌, ℕ, zero, suc, ◌+◌, ◌-◌, ◌<◌, ◌≤◌, true, false, List, [], ◌∷◌, ◌++◌, length, take, drop, map, get_or, refl, set, sym, ap, ◌∙◌, arith}
+use Rattle.std.specs.Prelude.{All, IsPermutation, IsSorted}
+use Rattle.std.specs.Cmp.{IsTotalOrder, nat_cmp_total, on_total, ranked as ranked_by, then_total, tied_itself}
+use Rattle.std.specs.Cmp.Lexicographic.{slice_cmp}
+use Rattle.std.specs.Ordering.{is_lt, is_ne, nat_cmp, ordering_reverse, ordering_then}
+use Rattle.std.specs.declared.cmp.Ordering.{Ordering}
+use Rattle.std.specs.declared.cmp.Ordering.TheVariants.{Less, Equal, Greater}
+use Rattle.std.proofs.lemmas.Bool.{cases_lt}
+use Rattle.std.proofs.lemmas.List.{append-nil, drop-drop, drop_all, get_or_default, get_or-append_right, get_or-drop, get_or-map, get_or-take, get_or_append_left, length-append, length-drop, length-map, length-take, map-append, take-take, take_all, take_more_set}
+use Rattle.std.proofs.lemmas.List.Edits.{map_over_more}
+use Rattle.std.proofs.lemmas.List.Elements.{All-drop, All-head, All-map, All-more, All-push, All-tail, All-take, All-weaker}
+use Rattle.std.proofs.lemmas.List.Sorted.{length_permutation, All-permutation, IsPermutation-map, IsPermutation-put_mid}
+use Rattle.std.proofs.lemmas.Slice.{take-put_mid}
+use borrow.Rule.Slice.PartMut.{mid_of, post_of, put_mid, put_same}
+use Rattle.tq_base.specs.declared.value.Value.{Value}
+use Rattle.tq_base.specs.declared.sides.Key.{Key}
+use Rattle.tq_base.specs.declared.sides.Side.{Side}
+use Rattle.tq_base.specs.Contents.{Int, Text}
+use Rattle.tq_base.specs.Keys.{columns_on, first_rank, key_cmp, key_row, key_values, rank_tells, told_cmp, value_at, BeginsWithBytes, IsKey, SidesState}
+use Rattle.tq_base.specs.KeyLaws.{as_values, less_from_rank, told_firsts}
+use Rattle.tq_base.specs.Untold.{first_text, from_cmp, rank_cmp, ranked, value_after, values_after, values_from, with_rank, IsRanked, RunsDone, SameOrder}
+use Rattle.tq_base.specs.ValueOrder.{value_cmp, values_cmp, values_total}
+use Rattle.tq_base.proofs.KeyLemmas.{compared_at}
+
+-- ---- what is left of values
+
+pub after_none : (values : List Value) → values_after 0 values ≡ values
+after_none [] = refl
+after_none (Int n ∷ values) = refl
+after_none (Text t ∷ values) = refl
+
+after_more : (m n : ℕ) (values : List Value) → values_after (m + n) values ≡ values_after n (values_after m values)
+after_more m n [] = refl
+after_more m n (Int k ∷ values) = refl
+after_more m n (Text t ∷ values) = ap (λ u. Text u ∷ values) (sym (drop-drop n m t))
+
+drop_first : (offset : ℕ) (values : List Value) → drop 1 (values_after offset values) ≡ drop 1 values
+drop_first offset [] = refl
+drop_first offset (v ∷ values) = refl
+
+-- texts with the same first bytes stand to each other as what follows these
+same_front : (n : ℕ) (t u : List ℕ) → take n t ≡ take n u → slice_cmp nat_cmp (drop n t) (drop n u) ≡ slice_cmp nat_cmp t u
+same_front zero t u same = refl
+same_front (suc n) [] [] same = refl
+same_front (suc n) [] (y ∷ u) same = absurd (let short : 0 ≡ suc (length (take n u)) = ap length same in omega (arith, short))
+same_front (suc n) (x ∷ t) [] same = absurd (let short : suc (length (take n t)) ≡ 0 = ap length same in omega (arith, short))
+same_front (suc n) (x ∷ t) (y ∷ u) same =
+    let first : x ≡ y = ap (λ l. get_or l 0 x) same in
+    let rest : take n t ≡ take n u = ap (λ l. drop 1 l) same in
+    let equal : nat_cmp x y ≡ Equal = subst (λ z. nat_cmp x z ≡ Equal) first (tied_itself nat_cmp_total x) in
+    same_front n t u rest ∙ sym (ap (λ r. ordering_then r (slice_cmp nat_cmp t u)) equal)
+
+left_same : (n : ℕ) (u v : List Value) → take n (first_text u) ≡ take n (first_text v) → values_cmp (values_after n u) (values_after n v) ≡ values_cmp u v
+left_same n [] [] same = refl
+left_same n [] (y ∷ v) same = refl
+left_same n (x ∷ u) [] same = refl
+left_same n (Int x ∷ u) (Int y ∷ v) same = refl
+left_same n (Int x ∷ u) (Text y ∷ v) same = refl
+left_same n (Text x ∷ u) (Int y ∷ v) same = refl
+left_same n (Text x ∷ u) (Text y ∷ v) same = ap (λ r. ordering_then r (values_cmp u v)) (same_front n x y same)
+
+-- ---- what is left of keys' values
+
+pub from_at : (s : SidesState) (k : Key) (row : List Value) (columns : List ℕ) (place column offset : ℕ) → row ≡ (key_row s k).values → columns ≡ columns_on s k.side → place < length columns → column ≡ get_or columns place 0
+    → values_from s place offset k ≡ value_after offset (value_at row column) ∷ drop (place + 1) (key_values s k)
+from_at s k row columns place column offset row_is columns_is less column_is =
+    ap (values_after offset) (compared_at s k row columns place column row_is columns_is less column_is)
+
+pub from_past : (s : SidesState) (k : Key) (columns : List ℕ) (place offset : ℕ) → columns ≡ columns_on s k.side → length columns ≤ place → values_from s place offset k ≡ []
+from_past s k columns place offset columns_is past =
+    ap (values_after offset) (drop_all place (key_values s k) (omega (arith, past, ap length columns_is, length-map (columns_on s k.side) (value_at (key_row s k).values))))
+
+-- the two values at a place decide first, then those after it
+pub compared_from : (s : SidesState) (place offset : ℕ) (a b : Key) (x y : Value) (u v : List Value) → values_from s place offset a ≡ x ∷ u → values_from s place offset b ≡ y ∷ v
+    → ordering_then (ordering_then (value_cmp x y) (values_cmp u v)) (nat_cmp a.start b.start) ≡ from_cmp s place offset a b
+compared_from s place offset a b x y u v a_is b_is =
+    ap (λ o. ordering_then o (nat_cmp a.start b.start)) (ap (values_cmp (x ∷ u)) (sym b_is) ∙ ap (λ l. values_cmp l (values_from s place offset b)) (sym a_is))
+
+pub compared_past : (s : SidesState) (place offset : ℕ) (a b : Key) → values_from s place offset a ≡ [] → values_from s place offset b ≡ [] → nat_cmp a.start b.start ≡ from_cmp s place offset a b
+compared_past s place offset a b a_is b_is =
+    ap (λ o. ordering_then o (nat_cmp a.start b.start)) (ap (values_cmp []) (sym b_is) ∙ ap (λ l. values_cmp l (values_from s place offset b)) (sym a_is))
+
+unlike : (r o t : Ordering) → is_ne r ≡ true → ordering_then (ordering_then r o) t ≡ r
+unlike Less o t is = refl
+unlike Equal o t is = cc
+unlike Greater o t is = refl
+
+-- where they differ, they decide
+pub compared_unlike : (s : SidesState) (place offset : ℕ) (a b : Key) (x y : Value) (u v : List Value) → values_from s place offset a ≡ x ∷ u → values_from s place offset b ≡ y ∷ v
+    → is_ne (value_cmp x y) ≡ true → value_cmp x y ≡ from_cmp s place offset a b
+compared_unlike s place offset a b x y u v a_is b_is differ =
+    sym (unlike (value_cmp x y) (values_cmp u v) (nat_cmp a.start b.start) differ) ∙ compared_from s place offset a b x y u v a_is b_is
+
+pub from_cmp_total : (s : SidesState) (place offset : ℕ) → IsTotalOrder (from_cmp s place offset)
+from_cmp_total s place offset = then_total (on_total (values_from s place offset) values_total) (on_total (λ (k : Key). k.start) nat_cmp_total)
+
+next_column : (s : SidesState) (place offset : ℕ) (k : Key) → values_from s (place + 1) 0 k ≡ drop 1 (values_from s place offset k)
+next_column s place offset k =
+    after_none (drop (place + 1) (key_values s k)) ∙ sym (drop-drop 1 place (key_values s k)) ∙ sym (drop_first offset (drop place (key_values s k)))
+
+-- where a rank tells the first value of what is left, the other columns decide
+pub told_next : (s : SidesState) (place offset : ℕ) (a b : Key) → IsRanked s place offset a → IsRanked s place offset b → a.rank ≡ b.rank → rank_tells a.rank ≡ true
+    → from_cmp s (place + 1) 0 a b ≡ from_cmp s place offset a b
+told_next s place offset a b a_is b_is same tells =
+    let u = values_from s place offset a in
+    let v = values_from s place offset b in
+    let decide : values_cmp (drop 1 u) (drop 1 v) ≡ values_cmp u v =
+    told_firsts u v a_is.bytes b_is.bytes (sym a_is.rank ∙ same ∙ b_is.rank) (ap rank_tells (sym a_is.rank) ∙ tells) in
+    ap (λ o. ordering_then o (nat_cmp a.start b.start))
+    (ap (λ w. values_cmp w (values_from s (place + 1) 0 b)) (next_column s place offset a) ∙ ap (values_cmp (drop 1 u)) (next_column s place offset b) ∙ decide)
+
+-- where the texts begin with the same bytes, what follows decides
+pub shared_next : (s : SidesState) (place offset len next : ℕ) (a b : Key) → next ≡ offset + len → take len (first_text (values_from s place offset a)) ≡ take len (first_text (values_from s place offset b))
+    → from_cmp s place next a b ≡ from_cmp s place offset a b
+shared_next s place offset len next a b next_is same =
+    let later : (k : Key) → values_from s place next k ≡ values_after len (values_from s place offset k) =
+    λ k. ap (λ n. values_after n (drop place (key_values s k))) next_is ∙ after_more offset len (drop place (key_values s k)) in
+    ap (λ o. ordering_then o (nat_cmp a.start b.start))
+    (ap (λ w. values_cmp w (values_from s place next b)) (later a)
+    ∙ ap (values_cmp (values_after len (values_from s place offset a))) (later b)
+    ∙ left_same len (values_from s place offset a) (values_from s place offset b) same)
+
+rank_decides : (s : SidesState) (place offset : ℕ) (a b : Key) → IsRanked s place offset a → IsRanked s place offset b → a.rank < b.rank → from_cmp s place offset a b ≡ Less
+rank_decides s place offset a b a_is b_is lt =
+    ap (λ o. ordering_then o (nat_cmp a.start b.start))
+    (less_from_rank (values_from s place offset a) (values_from s place offset b) a_is.bytes b_is.bytes (omega (arith, lt, a_is.rank, b_is.rank)))
+
+-- one more text begins with the bytes that the texts so far have in common
+pub shared_more : (s : SidesState) (place offset : ℕ) (keys : List Key) (i : ℕ) (e : Key) (text : List ℕ) (len less_len : ℕ) → i < length keys → len ≤ length text → less_len ≤ length (take len text)
+    → All (λ (k : Key). take len (first_text (values_from s place offset k)) ≡ take len text) (take i keys)
+    → take less_len (take len text) ≡ take less_len (first_text (values_from s place offset (get_or keys i e)))
+    → record {
+      within : less_len ≤ length text;
+      same : All (λ (k : Key). take less_len (first_text (values_from s place offset k)) ≡ take less_len text) (take (i + 1) keys);
+    }
+shared_more s place offset keys i e text len less_len less within fewer before here =
+    let le : less_len ≤ len = omega (arith, fewer, length-take len text) in
+    record {
+      within = omega (arith, le, within);
+      same = All-more (λ (k : Key). take less_len (first_text (values_from s place offset k)) ≡ take less_len text) keys i e less
+          (All-weaker (λ (k : Key). take len (first_text (values_from s place offset k)) ≡ take len text) (λ (k : Key). take less_len (first_text (values_from s place offset k)) ≡ take less_len text)
+          (λ k same. sym (take-take less_len len (first_text (values_from s place offset k)) le) ∙ ap (take less_len) same ∙ take-take less_len len text le) (take i keys) before)
+          (sym here ∙ take-take less_len len text le);
+    }
+
+-- ---- the whole of the values
+
+pub ranked_first : (s : SidesState) (k : Key) → IsKey s k → IsRanked s 0 0 k
+ranked_first s k is = record {
+  rank = is.rank ∙ ap first_rank (sym (after_none (key_values s k)));
+  bytes = subst BeginsWithBytes (sym (after_none (key_values s k))) is.bytes;
+}
+
+key_is_from : (s : SidesState) (a b : Key) → IsKey s a → IsKey s b → key_cmp s a b ≡ from_cmp s 0 0 a b
+key_is_from s a b a_is b_is =
+    ap (λ o. ordering_then o (nat_cmp a.start b.start))
+    (as_values s a b a_is b_is
+    ∙ ap (λ w. values_cmp w (key_values s b)) (sym (after_none (key_values s a)))
+    ∙ ap (values_cmp (values_after 0 (key_values s a))) (sym (after_none (key_values s b))))
+
+pub key_sorted : (s : SidesState) (keys : List Key) → All (IsKey s) keys → IsSorted (from_cmp s 0 0) keys → IsSorted (key_cmp s) keys
+key_sorted s keys are sorted k d low high =
+    ap is_lt (key_is_from s (get_or keys (k + 1) d) (get_or keys k d) (are (k + 1) d high) (are k d (omega (arith, high)))) ∙ sorted k d low high
+
+-- ---- order where nothing more is told
+
+abbrev pub start_cmp : Key → Key → Ordering
+start_cmp a b = nat_cmp a.start b.start
+
+pub start_cmp_total : IsTotalOrder start_cmp
+start_cmp_total = on_total (λ (k : Key). k.start) nat_cmp_total
+
+-- past the last column the starts decide
+pub start_sorted : (s : SidesState) (place offset : ℕ) (keys : List Key) → ((of : Side) → length (columns_on s of) ≤ place) → IsSorted start_cmp keys → IsSorted (from_cmp s place offset) keys
+start_sorted s place offset keys past sorted k d low high =
+    let a = get_or keys (k + 1) d in
+    let b = get_or keys k d in
+    ap is_lt (sym (compared_past s place offset a b (from_past s a (columns_on s a.side) place offset refl (past a.side)) (from_past s b (columns_on s b.side) place offset refl (past b.side)))) ∙ sorted k d low high
+
+-- keys that stand to each other as before, sorted by what is left from a later place on
+pub sorted_before : (s : SidesState) (place offset next next_offset : ℕ) (run new : List Key) → IsPermutation run new → SameOrder s place offset next next_offset run → IsSorted (from_cmp s next next_offset) new → IsSorted (from_cmp s place offset) new
+sorted_before s place offset next next_offset run new moved same sorted k d low high =
+    let Alike : Key → Key → Type 0 = λ a b. from_cmp s next next_offset a b ≡ from_cmp s place offset a b in
+    let one : All (λ a. All (Alike a) new) run = λ i e less. All-permutation (Alike (get_or run i e)) run new moved (same i e less) in
+    let both : All (λ a. All (Alike a) new) new = All-permutation (λ a. All (Alike a) new) run new moved one in
+    ap is_lt (sym (both (k + 1) d high k d (omega (arith, high)))) ∙ sorted k d low high
+
+-- ---- ranks taken anew, and given back
+
+pub rank_cmp_total : IsTotalOrder rank_cmp
+rank_cmp_total = on_total (λ (k : Key). k.rank) nat_cmp_total
+
+by_rank : (r t : Ordering) → is_lt (ordering_then r t) ≡ false → is_lt r ≡ false
+by_rank Less t is = is
+by_rank Equal t is = refl
+by_rank Greater t is = refl
+
+pub rank_sorted : (keys : List Key) → IsSorted told_cmp keys → IsSorted rank_cmp keys
+rank_sorted keys sorted k d low high =
+    let a = get_or keys (k + 1) d in
+    let b = get_or keys k d in
+    by_rank (nat_cmp a.rank b.rank) (nat_cmp a.start b.start) (sorted k d low high)
+
+own_rank : (rank : ℕ) (k : Key) → k.rank ≡ rank → with_rank rank k ≡ k
+own_rank rank k same = ap (λ r. with_rank r k) (sym same)
+
+given_back : (s : SidesState) (place offset rank : ℕ) (keys : List Key) → All (λ (k : Key). k.rank ≡ rank) keys → map (with_rank rank) (map (ranked s place offset) keys) ≡ keys
+given_back s place offset rank [] alike = refl
+given_back s place offset rank (k ∷ keys) alike = λ i.
+    own_rank rank k (All-head (λ (k : Key). k.rank ≡ rank) k keys alike) i ∷ given_back s place offset rank keys (All-tail (λ (k : Key). k.rank ≡ rank) k keys alike) i
+
+module _ (s : SidesState) (place offset next next_offset rank : ℕ) (run mid : List Key) (moved : IsPermutation (map (ranked s next next_offset) run) mid) where
+  pub back_same : All (λ (k : Key). k.rank ≡ rank) run → IsPermutation run (map (with_rank rank) mid)
+  back_same alike =
+      subst (λ l. IsPermutation l (map (with_rank rank) mid)) (given_back s next next_offset rank run alike)
+      (IsPermutation-map (with_rank rank) (map (ranked s next next_offset) run) mid moved)
+
+  abbrev Alike : Key → Key → Type 0
+  Alike a b = from_cmp s next next_offset a b ≡ from_cmp s place offset a b
+
+  order_here : SameOrder s place offset next next_offset run → All (λ a. All (Alike a) mid) mid
+  order_here same =
+      let after : All (λ a. All (Alike a) (map (ranked s next next_offset) run)) (map (ranked s next next_offset) run) =
+      All-map (λ a. All (Alike a) (map (ranked s next next_offset) run)) (ranked s next next_offset) run
+      (λ i d less. All-map (Alike (ranked s next next_offset (get_or run i d))) (ranked s next next_offset) run (same i d less)) in
+      All-permutation (λ a. All (Alike a) mid) (map (ranked s next next_offset) run) mid moved
+      (λ i d less. All-permutation (Alike (get_or (map (ranked s next next_offset) run) i d)) (map (ranked s next next_offset) run) mid moved (after i d less))
+
+  pub back_sorted : SameOrder s place offset next next_offset run → IsSorted (from_cmp s next next_offset) mid → IsSorted (from_cmp s place offset) (map (with_rank rank) mid)
+  back_sorted same sorted k d low high =
+      let above : k + 1 < length mid = omega (arith, high, length-map mid (with_rank rank)) in
+      let below : k < length mid = omega (arith, above) in
+      ap (λ a. is_lt (from_cmp s place offset a (get_or (map (with_rank rank) mid) k d))) (get_or-map (with_rank rank) mid (k + 1) d d above)
+      ∙ ap (λ b. is_lt (from_cmp s place offset (get_or mid (k + 1) d) b)) (get_or-map (with_rank rank) mid k d d below)
+      ∙ ap is_lt (sym (order_here same (k + 1) d above k d below))
+      ∙ sorted k d low above
+
+-- a loop over all keys has come to their end
+pub map_over_all : (f : Key → Key) (xs ys : List Key) (i : ℕ) → length xs ≤ i → ys ≡ map f (take i xs) ++ drop i xs → ys ≡ map f xs
+map_over_all f xs ys i past is =
+    is ∙ ap (λ l. map f l ++ drop i xs) (take_all i xs past) ∙ ap (λ l. map f xs ++ l) (drop_all i xs past) ∙ append-nil (map f xs)
+
+-- one more key has got its rank
+pub ranked_now : (s : SidesState) (place offset : ℕ) (xs ys : List Key) (i : ℕ) (e : Key) (rank : ℕ) → i < length xs → i < length ys
+    → ys ≡ map (ranked s place offset) (take i xs) ++ drop i xs → All (IsRanked s place offset) (take i ys)
+    → rank ≡ first_rank (values_from s place offset (get_or ys i e)) → BeginsWithBytes (values_from s place offset (get_or ys i e))
+    → record {
+      keys : set ys i (with_rank rank (get_or ys i e)) ≡ map (ranked s place offset) (take (i + 1) xs) ++ drop (i + 1) xs;
+      ranks : All (IsRanked s place offset) (take (i + 1) (set ys i (with_rank rank (get_or ys i e))));
+    }
+ranked_now s place offset xs ys i e rank less short are ranks rank_is bytes = record {
+  keys =
+      ap (λ r. set ys i (with_rank r (get_or ys i e))) rank_is
+      ∙ map_over_more (ranked s place offset) xs ys i (get_or ys i e) less are (get_or_default ys i e (get_or ys i e) short);
+  ranks =
+      subst (All (IsRanked s place offset)) (sym (take_more_set ys i (with_rank rank (get_or ys i e)) short))
+      (All-push (IsRanked s place offset) (take i ys) (with_rank rank (get_or ys i e)) ranks (record { rank = rank_is; bytes = bytes }));
+}
+
+-- ---- lists that are sorted run by run
+
+sorted_join : {X : Type 0} (cmp : X → X → Ordering) (xs ys : List X) → IsSorted cmp xs → IsSorted cmp ys
+    → ((d : X) → 0 < length xs → 0 < length ys → is_lt (cmp (get_or ys 0 d) (get_or xs (length xs - 1) d)) ≡ false) → IsSorted cmp (xs ++ ys)
+sorted_join cmp xs ys xs_sorted ys_sorted seam k d low high =
+    let wide : k + 1 < length xs + length ys = omega (arith, high, length-append xs ys) in
+    elim (cases_lt (k + 1) (length xs)) [
+      | inl inside ↦
+          ap (λ x. is_lt (cmp x (get_or (xs ++ ys) k d))) (get_or_append_left xs ys d (k + 1) inside)
+          ∙ ap (λ x. is_lt (cmp (get_or xs (k + 1) d) x)) (get_or_append_left xs ys d k (omega (arith, inside)))
+          ∙ xs_sorted k d low inside
+      | inr past ↦ elim (cases_lt k (length xs)) [
+        | inl last ↦
+            ap (λ x. is_lt (cmp x (get_or (xs ++ ys) k d))) (get_or-append_right xs ys (length xs) (k + 1) d refl past ∙ ap (λ i. get_or ys i d) (let first : k + 1 - length xs ≡ 0 = omega (arith, last) in first))
+            ∙ ap (λ x. is_lt (cmp (get_or ys 0 d) x)) (get_or_append_left xs ys d k last ∙ ap (λ i. get_or xs i d) (let end : k ≡ length xs - 1 = omega (arith, past, last) in end))
+            ∙ seam d (omega (arith, last)) (omega (arith, wide, past))
+        | inr after ↦
+            ap (λ x. is_lt (cmp x (get_or (xs ++ ys) k d))) (get_or-append_right xs ys (length xs) (k + 1) d refl past ∙ ap (λ i. get_or ys i d) (let next : k + 1 - length xs ≡ k - length xs + 1 = omega (arith, after) in next))
+            ∙ ap (λ x. is_lt (cmp (get_or ys (k - length xs + 1) d) x)) (get_or-append_right xs ys (length xs) k d refl after)
+            ∙ ys_sorted (k - length xs) d (omega arith) (omega (arith, after, wide))
+      ]
+    ]
+
+one_rank : (rank : ℕ) (xs ys : List Key) → All (λ (k : Key). k.rank ≡ rank) xs → All (λ (k : Key). k.rank ≡ rank) ys → length xs ≡ length ys → map (λ (k : Key). k.rank) xs ≡ map (λ (k : Key). k.rank) ys
+one_rank rank [] [] xs_alike ys_alike long = refl
+one_rank rank [] (y ∷ ys) xs_alike ys_alike long = absurd (omega (arith, long))
+one_rank rank (x ∷ xs) [] xs_alike ys_alike long = absurd (omega (arith, long))
+one_rank rank (x ∷ xs) (y ∷ ys) xs_alike ys_alike long =
+    let P : Key → Type 0 = λ (k : Key). k.rank ≡ rank in
+    let first : x.rank ≡ y.rank = All-head P x xs xs_alike ∙ sym (All-head P y ys ys_alike) in
+    let rest = one_rank rank xs ys (All-tail P x xs xs_alike) (All-tail P y ys ys_alike) (omega (arith, long)) in
+    λ i. first i ∷ rest i
+
+rank_at : (xs ys : List Key) → map (λ (k : Key). k.rank) xs ≡ map (λ (k : Key). k.rank) ys → (i : ℕ) (d : Key) → i < length xs → (get_or xs i d).rank ≡ (get_or ys i d).rank
+rank_at xs ys same i d less =
+    let long : length xs ≡ length ys = sym (length-map xs (λ (k : Key). k.rank)) ∙ ap length same ∙ length-map ys (λ (k : Key). k.rank) in
+    sym (get_or-map (λ (k : Key). k.rank) xs i d d.rank less) ∙ ap (λ l. get_or l i d.rank) same ∙ get_or-map (λ (k : Key). k.rank) ys i d d.rank (omega (arith, less, long))
+
+rise_still : (xs ys : List Key) → map (λ (k : Key). k.rank) xs ≡ map (λ (k : Key). k.rank) ys → IsSorted rank_cmp xs → IsSorted rank_cmp ys
+rise_still xs ys same sorted k d low high =
+    let long : length xs ≡ length ys = sym (length-map xs (λ (k : Key). k.rank)) ∙ ap length same ∙ length-map ys (λ (k : Key). k.rank) in
+    let above : k + 1 < length xs = omega (arith, high, long) in
+    ap (λ n. is_lt (nat_cmp n (get_or ys k d).rank)) (sym (rank_at xs ys same (k + 1) d above))
+    ∙ ap (λ n. is_lt (nat_cmp (get_or xs (k + 1) d).rank n)) (sym (rank_at xs ys same k d (omega (arith, above))))
+    ∙ sorted k d low above
+
+-- a rank that is not below another and is another is above it
+above_it : (m n : ℕ) → is_lt (nat_cmp n m) ≡ false → n ≢ m → m < n
+above_it m n not_below differ = split (nat_cmp n m) refl
+  where
+    split : (r : Ordering) → nat_cmp n m ≡ r → m < n
+    split Less is = absurd (let below : is_lt (nat_cmp n m) ≡ true = ap is_lt is in cc (below, not_below))
+    split Equal is = absurd (differ (ranked_by n m Equal (sym is)))
+    split Greater is = ranked_by n m Greater (sym is)
+
+module _ (start len rank : ℕ) (keys run : List Key) (inside : start + len ≤ length keys) (moved : IsPermutation (mid_of start len keys) run) (alike : All (λ (k : Key). k.rank ≡ rank) (mid_of start len keys)) where
+  abbrev joined : List Key
+  joined = put_mid start len keys run
+
+  run_len : length run ≡ len
+  run_len = length_permutation (mid_of start len keys) run moved ∙ (let long : length (take len (drop start keys)) ≡ len = omega (arith, length-take len (drop start keys), length-drop start keys, inside) in long)
+
+  run_alike : All (λ (k : Key). k.rank ≡ rank) run
+  run_alike = All-permutation (λ (k : Key). k.rank ≡ rank) (mid_of start len keys) run moved alike
+
+  ranks_same : map (λ (k : Key). k.rank) joined ≡ map (λ (k : Key). k.rank) keys
+  ranks_same =
+      let f : Key → ℕ = λ (k : Key). k.rank in
+      let apart : (l : List Key) → map f (put_mid start len keys l) ≡ map f (take start keys) ++ (map f l ++ map f (post_of start len keys)) =
+      λ l. map-append f (take start keys) (l ++ post_of start len keys) ∙ ap (λ m. map f (take start keys) ++ m) (map-append f l (post_of start len keys)) in
+      apart run
+      ∙ ap (λ m. map f (take start keys) ++ (m ++ map f (post_of start len keys))) (one_rank rank run (mid_of start len keys) run_alike alike (sym (sym (length_permutation (mid_of start len keys) run moved))))
+      ∙ sym (apart (mid_of start len keys))
+      ∙ ap (map f) (put_same start len keys)
+
+  pub rise_joined : IsSorted rank_cmp keys → IsSorted rank_cmp joined
+  rise_joined = rise_still keys joined (sym ranks_same)
+
+  first_of_run : (d : Key) → 0 < len → (get_or keys start d).rank ≡ rank
+  first_of_run d some =
+      ap (λ (k : Key). k.rank) (sym (get_or-take len (drop start keys) 0 d some ∙ get_or-drop start keys 0 d ∙ ap (λ i. get_or keys i d) (let same : start + 0 ≡ start = omega arith in same)))
+      ∙ alike 0 d (omega (arith, some, length-take len (drop start keys), length-drop start keys, inside))
+
+  last_of_run : (d : Key) → 0 < len → (get_or keys (start + len - 1) d).rank ≡ rank
+  last_of_run d some =
+      let at : start + (len - 1) ≡ start + len - 1 = omega (arith, some) in
+      ap (λ (k : Key). k.rank) (sym (get_or-take len (drop start keys) (len - 1) d (omega (arith, some)) ∙ get_or-drop start keys (len - 1) d ∙ ap (λ i. get_or keys i d) at))
+      ∙ alike (len - 1) d (omega (arith, some, length-take len (drop start keys), length-drop start keys, inside))
+
+  pub apart_joined : 0 < len → IsSorted rank_cmp keys → ((d : Key) → len < length (drop start keys) → (get_or (drop start keys) len d).rank ≢ rank)
+      → (d : Key) → 0 < start + len → start + len < length joined → (get_or joined (start + len - 1) d).rank < (get_or joined (start + len) d).rank
+  apart_joined some rise ends d positive short =
+      let long : length joined ≡ length keys = sym (length-map joined (λ (k : Key). k.rank)) ∙ ap length ranks_same ∙ length-map keys (λ (k : Key). k.rank) in
+      let differ : (get_or keys (start + len) d).rank ≢ rank = λ same. ends d (omega (arith, short, long, length-drop start keys)) (ap (λ (k : Key). k.rank) (get_or-drop start keys len d) ∙ same) in
+      let last = last_of_run d some in
+      let prior : start + len - 1 + 1 ≡ start + len = omega (arith, some) in
+      let no_less : is_lt (nat_cmp (get_or keys (start + len) d).rank rank) ≡ false =
+      ap (λ n. is_lt (nat_cmp (get_or keys (start + len) d).rank n)) (sym last)
+      ∙ ap (λ i. is_lt (nat_cmp (get_or keys i d).rank (get_or keys (start + len - 1) d).rank)) (sym prior)
+      ∙ rise (start + len - 1) d (omega arith) (omega (arith, short, long, some)) in
+      let above = above_it rank (get_or keys (start + len) d).rank no_less differ in
+      let here = rank_at joined keys ranks_same (start + len - 1) d (omega (arith, short)) in
+      let there = rank_at joined keys ranks_same (start + len) d short in
+      omega (arith, above, here, there, last)
+
+  pub done_joined : (s : SidesState) (place offset : ℕ) → 0 < len → All (IsRanked s place offset) keys → IsSorted (from_cmp s place offset) (take start keys) → IsSorted (from_cmp s place offset) run
+      → ((d : Key) → 0 < start → start < length keys → (get_or keys (start - 1) d).rank < (get_or keys start d).rank)
+      → IsSorted (from_cmp s place offset) (take (start + len) joined)
+  done_joined s place offset some ranks done sorted before =
+      let front : length (take start keys) ≡ start = omega (arith, length-take start keys, inside) in
+      let mid_ranks : All (IsRanked s place offset) run = All-permutation (IsRanked s place offset) (mid_of start len keys) run moved (All-take (IsRanked s place offset) len (drop start keys) (All-drop (IsRanked s place offset) start keys ranks)) in
+      let seam : (d : Key) → 0 < length (take start keys) → 0 < length run → is_lt (from_cmp s place offset (get_or run 0 d) (get_or (take start keys) (length (take start keys) - 1) d)) ≡ false =
+      λ d has some_run.
+      let was : get_or (take start keys) (length (take start keys) - 1) d ≡ get_or keys (start - 1) d =
+      ap (λ n. get_or (take start keys) (n - 1) d) front ∙ get_or-take start keys (start - 1) d (omega (arith, has, front)) in
+      let a = get_or keys (start - 1) d in
+      let b = get_or run 0 d in
+      let lower : a.rank < b.rank = omega (arith, before d (omega (arith, has, front)) (omega (arith, inside, some)), first_of_run d some, run_alike 0 d some_run) in
+      let less : from_cmp s place offset a b ≡ Less = rank_decides s place offset a b (ranks (start - 1) d (omega (arith, inside, some))) (mid_ranks 0 d some_run) lower in
+      ap (λ x. is_lt (from_cmp s place offset b x)) was ∙ ap is_lt ((from_cmp_total s place offset).antisymm b a ∙ ap ordering_reverse less) in
+      subst (IsSorted (from_cmp s place offset)) (sym (take-put_mid start len keys run (start + len) (ap (λ n. start + n) (sym run_len)) (omega (arith, inside))))
+      (sorted_join (from_cmp s place offset) (take start keys) run done sorted seam)
+
+pub runs_start : (s : SidesState) (place offset : ℕ) (keys : List Key) → IsSorted rank_cmp keys → RunsDone s place offset keys 0
+runs_start s place offset keys rise = record {
+  within = omega arith;
+  rise = rise;
+  done = λ k d low high. absurd (omega (arith, high));
+  apart = λ d positive short. absurd (omega (arith, positive));
+}
+
+-- a run that begins with its rank has some keys
+run_some_here : (keys : List Key) (start len rank : ℕ) (e : Key) → start < length keys → rank ≡ (get_or keys start e).rank
+    → ((d : Key) → len < length (drop start keys) → (get_or (drop start keys) len d).rank ≢ rank) → 0 < len
+run_some_here keys start len rank e less is ends = elim (cases_lt 0 len) [
+  | inl some ↦ some
+  | inr none ↦
+      let at : start + len ≡ start = omega (arith, none) in
+      absurd (ends e (omega (arith, none, less, length-drop start keys)) (ap (λ (k : Key). k.rank) (get_or-drop start keys len e ∙ ap (λ i. get_or keys i e) at) ∙ sym is))
+]
+
+-- the keys from the place on
+rest_is : (keys : List Key) (start : ℕ) → take (length keys - start) (drop start keys) ≡ drop start keys
+rest_is keys start = take_all (length keys - start) (drop start keys) (omega (arith, length-drop start keys))
+
+abbrev pub Ends : List Key → ℕ → ℕ → Type 0
+Ends rest len rank = (d : Key) → len < length rest → (get_or rest len d).rank ≢ rank
+
+pub run_some : (keys : List Key) (start len rank : ℕ) (e : Key) → start < length keys → rank ≡ (get_or keys start e).rank
+    → Ends (take (length keys - start) (drop start keys)) len rank → 0 < len
+run_some keys start len rank e less is ends = run_some_here keys start len rank e less is (subst (λ l. Ends l len rank) (rest_is keys start) ends)
+
+same_size : (start len : ℕ) → start + len - start ≡ len
+same_size start len = omega arith
+
+-- the run as a part of the keys
+pub run_part : (keys : List Key) (start len : ℕ) → len ≤ length (take (length keys - start) (drop start keys))
+    → take len (take (length keys - start) (drop start keys)) ≡ mid_of start (start + len - start) keys
+run_part keys start len within =
+    ap (take len) (rest_is keys start) ∙ ap (λ m. take m (drop start keys)) (sym (same_size start len))
+
+-- one more run is sorted
+pub runs_more : (s : SidesState) (place offset : ℕ) (keys run : List Key) (start len rank : ℕ) (e : Key) → RunsDone s place offset keys start → All (IsRanked s place offset) keys
+    → start < length keys → rank ≡ (get_or keys start e).rank → len ≤ length (take (length keys - start) (drop start keys))
+    → All (λ (k : Key). k.rank ≡ rank) (take len (take (length keys - start) (drop start keys)))
+    → Ends (take (length keys - start) (drop start keys)) len rank
+    → IsPermutation (mid_of start (start + len - start) keys) run → IsSorted (from_cmp s place offset) run
+    → RunsDone s place offset (put_mid start (start + len - start) keys run) (start + len)
+runs_more s place offset keys run start len rank e before ranks less is within alike ends moved sorted =
+    let here : IsPermutation (mid_of start len keys) run = subst (λ m. IsPermutation (mid_of start m keys) run) (same_size start len) moved in
+    let fits : len ≤ length (drop start keys) = subst (λ l. len ≤ length l) (rest_is keys start) within in
+    let inside : start + len ≤ length keys = omega (arith, fits, less, length-drop start keys) in
+    let stop : Ends (drop start keys) len rank = subst (λ l. Ends l len rank) (rest_is keys start) ends in
+    let one : All (λ (k : Key). k.rank ≡ rank) (mid_of start len keys) = subst (λ l. All (λ (k : Key). k.rank ≡ rank) (take len l)) (rest_is keys start) alike in
+    let some : 0 < len = run_some_here keys start len rank e less is stop in
+    let joined_same : IsPermutation keys (put_mid start len keys run) = IsPermutation-put_mid start len keys run here in
+    subst (λ m. RunsDone s place offset (put_mid start m keys run) (start + len)) (sym (same_size start len))
+    (record {
+      within = omega (arith, inside, length_permutation keys (put_mid start len keys run) joined_same);
+      rise = rise_joined start len rank keys run inside here one before.rise;
+      done = done_joined start len rank keys run inside here one s place offset some ranks before.done sorted before.apart;
+      apart = apart_joined start len rank keys run inside here one some before.rise stop;
+    })
+
+-- where all runs are sorted, all keys are
+pub runs_end : (s : SidesState) (place offset : ℕ) (keys : List Key) (start : ℕ) → RunsDone s place offset keys start → length keys ≤ start → IsSorted (from_cmp s place offset) keys
+runs_end s place offset keys start before past = subst (IsSorted (from_cmp s place offset)) (take_all start keys past) before.done

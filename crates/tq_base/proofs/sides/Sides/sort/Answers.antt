@@ -1,0 +1,46 @@
+use Rattle.std.proofs.Common.{get_or, subst}
+use Rattle.std.specs.Prelude.{◌≡◌, [], IsSorted}
+use Rattle.std.proofs.lemmas.List.Sorted.{All-permutation}
+use Rattle.tq_base.specs.declared.sides.Key.{Key}
+use Rattle.tq_base.specs.KeySides.{state_of}
+use Rattle.tq_base.specs.Keys.{key_cmp, key_values, values_left, AreTold, IsKey}
+use Rattle.tq_base.specs.KeyLaws.{rises}
+use Rattle.tq_base.proofs.KeyLemmas.{told_sorted}
+use Rattle.tq_base.proofs.UntoldLemmas.{key_sorted, ranked_first}
+use Rattle.tq_base.proofs.sides.Sides.sort.Goals as goal
+
+pub returns-then-are_sorted-clause-rises : goal.returns-then-are_sorted-clause-rises
+returns-then-are_sorted-clause-rises c =
+    let s = state_of c.args.self.now in
+    rises s c.args.keys.now.items (subst (IsSorted (key_cmp s)) c.deref.ensures.value c.if-are_sorted.ensures) c.requires.keys
+
+pub returns-in_ok-sort_told-clause-keys : goal.returns-in_ok-sort_told-clause-keys
+returns-in_ok-sort_told-clause-keys c =
+    All-permutation (IsKey (state_of c.args.self.now)) c.args.keys.now.items c.sort_told.new.keys.items c.in_ok-sort_told.ensures.same c.requires.keys
+
+pub returns-in_ok-sort_told-clause-order : goal.returns-in_ok-sort_told-clause-order
+returns-in_ok-sort_told-clause-order c =
+    let s = state_of c.args.self.now in
+    told_sorted s c.sort_told.new.keys.items
+    (All-permutation (λ (k : Key). values_left k.rank (key_values s k) ≡ []) c.args.keys.now.items c.sort_told.new.keys.items c.in_ok-sort_told.ensures.same
+    (subst (AreTold s) c.deref-2.ensures.value c.if-are_told.ensures))
+    c.in_ok-sort_told.ensures.order
+
+pub returns-in_ok-sort_told-clause-rises : goal.returns-in_ok-sort_told-clause-rises
+returns-in_ok-sort_told-clause-rises c =
+    rises (state_of c.args.self.now) c.sort_told.new.keys.items (returns-in_ok-sort_told-clause-order c) (returns-in_ok-sort_told-clause-keys c)
+
+pub sort_untold-requires : goal.sort_untold-requires
+sort_untold-requires c = λ i d less. ranked_first (state_of c.args.self.now) (get_or c.args.keys.now.items i d) (c.requires.keys i d less)
+
+pub returns-else-are_told-clause-keys : goal.returns-else-are_told-clause-keys
+returns-else-are_told-clause-keys c =
+    All-permutation (IsKey (state_of c.args.self.now)) c.args.keys.now.items c.sort_untold.new.keys.items c.sort_untold.ensures.same c.requires.keys
+
+pub returns-else-are_told-clause-order : goal.returns-else-are_told-clause-order
+returns-else-are_told-clause-order c =
+    key_sorted (state_of c.args.self.now) c.sort_untold.new.keys.items (returns-else-are_told-clause-keys c) c.sort_untold.ensures.order
+
+pub returns-else-are_told-clause-rises : goal.returns-else-are_told-clause-rises
+returns-else-are_told-clause-rises c =
+    rises (state_of c.args.self.now) c.sort_untold.new.keys.items (returns-else-are_told-clause-order c) (returns-else-are_told-clause-keys c)

@@ -1,0 +1,342 @@
+//! Keys: rows of one or two lists, each stood for by 32 bytes, by which they are sorted and parted into runs of
+//! equal values.
+
+ghost use Rattle.std.specs.Prelude.{◌≡◌, ◌≢◌, ◌<◌, ◌≤◌, ◌++◌, All, IsPermutation, IsSorted, OnErr, OnOk, drop, length, map, slice_index_or, take, true};
+ghost use Rattle.std.specs.Bool.{OnTrue};
+ghost use Rattle.std.specs.Option.{option_copied};
+ghost use Rattle.tq_base.specs.declared.sides.Key.{Key};
+ghost use Rattle.tq_base.specs.KeySides.{state_of};
+ghost use Rattle.tq_base.specs.Keys.{columns_on, first_rank, held, held_on, is_within, key_cmp, key_row, key_values, no_row, rank_tells, rows_on, told_cmp, value_at, value_key_cmp, within, AreTold, BeginsWithBytes, IsKey, Rises};
+ghost use Rattle.tq_base.specs.Ranks.{value_rank, HasBytes};
+ghost use Rattle.tq_base.specs.ValueOrder.{value_cmp, values_cmp};
+
+use crate::period::{Bound, Instant, Period};
+use crate::rank::rank_of;
+use crate::rows::Rows;
+use crate::sides::{Key, Side, Sides};
+use crate::value::Value;
+use std::alloc::{AllocError, Global};
+use std::cmp::Ordering;
+
+// The least rank of a text, and that of numbers beyond those of 64 signed bits.
+const TEXT_RANK: u128 = 1 << 120;
+
+const WIDE_RANK: u128 = 1 << 64;
+
+// How long runs have to be on average to be long.
+const LONG_RUN: usize = 1024;
+
+// How the values in the two columns stand to each other; a column that a row does not have counts as the
+// number 0.
+fn compare_at(one: &[Value], column: u32, other: &[Value], other_column: u32) -> Ordering
+    ensures { result ≡ value_cmp (value_at one.now column) (value_at other.now other_column) }
+{
+    let zero = Value::int(0);
+    let left = one.get(column as usize).unwrap_or(&zero);
+    let right = other.get(other_column as usize).unwrap_or(&zero);
+    left.compare(right)
+}
+
+// The rank of the value in the column.
+fn rank_in(row: &[Value], column: u32) -> u128
+    ensures rank { result ≡ value_rank (value_at row.now column) }
+    ensures bytes { HasBytes (value_at row.now column) }
+{
+    let zero = Value::int(0);
+    let value = row.get(column as usize).unwrap_or(&zero);
+    rank_of(value)
+}
+
+// The values of a row, none where there is no such row.
+fn values_in(rows: &Rows, row: u32) -> &[Value]
+    ensures { result.now ≡ (slice_index_or rows.now.items row no_row).values }
+{
+    let row = row as usize;
+    if row < rows.len() {
+        rows.values(row)
+    } else {
+        &[]
+    }
+}
+
+// The first instant alone.
+fn first_period() -> Period
+    ensures { result ≡ no_row.period }
+{
+    let start = Instant::new(0).unwrap();
+    let end = Bound::new(1).unwrap();
+    Period { start, end }
+}
+
+// The period of a row, the first instant where there is no such row.
+fn period_in(rows: &Rows, row: u32) -> Period
+    ensures { result ≡ (slice_index_or rows.now.items row no_row).period }
+{
+    match rows.periods().get(row as usize) {
+        Some(period) => *period,
+        None => first_period(),
+    }
+}
+
+// Whether the period overlaps the window, if there is one.
+fn is_within(period: &Period, window: Option<&Period>) -> bool
+    ensures { result ≡ is_within (option_copied window.entry) period.now }
+{
+    match window {
+        Some(window) => {
+            period.start.number() < window.end.number()
+                && window.start.number() < period.end.number()
+        }
+        None => true,
+    }
+}
+
+// Whether a rank tells its value wholly.
+pub(crate) fn rank_tells(rank: u128) -> bool
+    ensures { result ≡ rank_tells rank }
+{
+    if rank < TEXT_RANK {
+        0 < rank && rank <= WIDE_RANK
+    } else {
+        rank % 256 < 15
+    }
+}
+
+// Whether each rank tells its value wholly.
+fn do_ranks_tell(keys: &[Key]) -> bool
+    ensures { OnTrue result (All (λ k. rank_tells k.rank ≡ true) keys.now) }
+{
+    keys.iter().all(|key| rank_tells(key.rank))
+}
+
+// By the ranks, then by the starts.
+pub(crate) fn compare_told(one: &Key, other: &Key) -> Ordering
+    ensures { result ≡ told_cmp one.now other.now }
+{
+    one.rank.cmp(&other.rank).then(one.start.cmp(&other.start))
+}
+
+// Whether the ranks rise and fall in long runs: as counts do over a time in which rows come and then go.
+fn are_long_runs(keys: &[Key]) -> bool {
+    let mut turns_left = keys.len() / LONG_RUN;
+    let mut rises = true;
+    let mut rank = 0;
+    'keys: for key in keys {
+        if (rank <= key.rank) != rises {
+            if turns_left == 0 {
+                return false;
+            }
+            turns_left -= 1;
+            rises = !rises;
+        }
+        rank = key.rank;
+    }
+    true
+}
+
+// Sorts keys whose ranks tell all that is compared: no row is read. A stable sort takes runs as they stand,
+// and is slower where there are none.
+fn sort_told(keys: &mut Vec<Key>) -> Result<(), AllocError>
+    ensures same { OnOk result (IsPermutation keys.old.items keys.new.items) }
+    ensures order { OnOk result (IsSorted told_cmp keys.new.items) }
+    ensures kept { OnErr result (keys.new.items ≡ keys.old.items) }
+{
+    if are_long_runs(keys) {
+        keys.sort_by(|one, other| compare_told(one, other))?;
+    } else {
+        keys.sort_unstable_by(|one, other| compare_told(one, other));
+    }
+    Ok(())
+}
+
+impl<'a> Sides<'a> {
+    /// The values of the row that the key stands for.
+    pub fn values(&self, key: &Key) -> &'a [Value]
+        ensures { result.now ≡ (key_row (state_of self.now) key.now).values }
+    {
+        match key.side {
+            Side::Left => values_in(self.left, key.row),
+            Side::Right => values_in(self.right, key.row),
+        }
+    }
+
+    /// The period of the row that the key stands for.
+    pub fn period(&self, key: &Key) -> Period
+        ensures { result ≡ (key_row (state_of self.now) key.now).period }
+    {
+        match key.side {
+            Side::Left => period_in(self.left, key.row),
+            Side::Right => period_in(self.right, key.row),
+        }
+    }
+
+    // The rows of the side.
+    fn rows(&self, side: Side) -> &Rows
+        ensures { result.now.items ≡ rows_on (state_of self.now) side }
+    {
+        match side {
+            Side::Left => self.left,
+            Side::Right => self.right,
+        }
+    }
+
+    // The columns of the side that are compared.
+    pub(crate) fn columns(&self, side: Side) -> &[u32]
+        ensures columns { result.now ≡ columns_on (state_of self.now) side }
+        ensures same { length result.now ≡ length self.now.left_columns.now }
+    {
+        match side {
+            Side::Left => self.left_columns,
+            Side::Right => self.right_columns,
+        }
+    }
+
+    // How the values that are compared stand to each other from the place on.
+    pub(crate) fn compare_from(&self, first: usize, one: &Key, other: &Key) -> Ordering
+        ensures { result ≡ values_cmp (drop first (key_values (state_of self.now) one.now)) (drop first (key_values (state_of self.now) other.now)) }
+    {
+        let (row, columns) = (self.values(one), self.columns(one.side));
+        let (other_row, other_columns) = (self.values(other), self.columns(other.side));
+        'places: for place in first..columns.len() {
+            let order = compare_at(row, columns[place], other_row, other_columns[place]);
+            if order.is_ne() {
+                return order;
+            }
+        }
+        Ordering::Equal
+    }
+
+    /// By the ranks, then by the values that these do not tell.
+    pub fn compare_values(&self, one: &Key, other: &Key) -> Ordering
+        ensures { result ≡ value_key_cmp (state_of self.now) one.now other.now }
+    {
+        match one.rank.cmp(&other.rank) {
+            Ordering::Equal => {
+                let first = if rank_tells(one.rank) { 1 } else { 0 };
+                self.compare_from(first, one, other)
+            }
+            order => order,
+        }
+    }
+
+    /// By the ranks, by the values that these do not tell, then by the starts.
+    pub fn compare(&self, one: &Key, other: &Key) -> Ordering
+        ensures { result ≡ key_cmp (state_of self.now) one.now other.now }
+    {
+        self.compare_values(one, other)
+            .then(one.start.cmp(&other.start))
+    }
+
+    // The rank of the first value of the row that is compared, 0 where none is.
+    fn rank_at(&self, side: Side, row: &[Value]) -> u128
+        ensures rank { result ≡ first_rank (map (value_at row.now) (columns_on (state_of self.now) side)) }
+        ensures bytes { BeginsWithBytes (map (value_at row.now) (columns_on (state_of self.now) side)) }
+    {
+        match self.columns(side) {
+            [first, ..] => rank_in(row, *first),
+            [] => 0,
+        }
+    }
+
+    // The key of the row.
+    fn key_of(&self, side: Side, row: u32) -> Key
+        requires { row < length (rows_on (state_of self.now) side) }
+        ensures key { IsKey (state_of self.now) result }
+        ensures side { result.side ≡ side }
+        ensures row { result.row ≡ row }
+    {
+        let rows = self.rows(side);
+        let place = row as usize;
+        let rank = self.rank_at(side, rows.values(place));
+        let start = rows.periods()[place].start.number();
+        Key {
+            rank,
+            start,
+            row,
+            side,
+        }
+    }
+
+    /// The keys of the rows of the side, or of those that overlap the window where there is one, go to the end
+    /// of the list. `AllocError` where a growth was refused: then the list is as before.
+    pub fn add_keys(
+        &self,
+        side: Side,
+        window: Option<&Period>,
+        keys: &mut Vec<Key>,
+    ) -> Result<(), AllocError>
+        ensures rows { OnOk result (map (held (state_of self.now)) keys.new.items
+            ≡ map (held (state_of self.now)) keys.old.items ++ held_on side (within (option_copied window.entry) (rows_on (state_of self.now) side))) }
+        ensures keys { OnOk result (All (IsKey (state_of self.now)) keys.old.items → All (IsKey (state_of self.now)) keys.new.items) }
+        ensures kept { OnErr result (keys.new.items ≡ keys.old.items) }
+    {
+        let rows = self.rows(side);
+        let len = rows.len();
+        keys.reserve(len)?;
+        'rows: for (row, period) in rows.periods().iter().enumerate() {
+            if is_within(period, window) {
+                keys.push_reserved(self.key_of(side, row as u32));
+            }
+        }
+        Ok(())
+    }
+
+    // Whether the keys are in order.
+    fn are_sorted(&self, keys: &[Key]) -> bool
+        ensures { OnTrue result (IsSorted (key_cmp (state_of self.now)) keys.now) }
+    {
+        keys.is_sorted_by(|one, other| self.compare(one, other).is_le())
+    }
+
+    // Whether the ranks tell all values that are compared.
+    fn are_told(&self, keys: &[Key]) -> bool
+        ensures { OnTrue result (AreTold (state_of self.now) keys.now) }
+    {
+        match self.left_columns.len() {
+            0 => true,
+            1 => do_ranks_tell(keys),
+            _ => false,
+        }
+    }
+
+    /// Sorts the keys by the values that are compared, then by start. What is in order already is not sorted.
+    /// `AllocError` where a growth was refused: then the keys stand as before.
+    pub fn sort(&self, keys: &mut Vec<Key>) -> Result<(), AllocError>
+        requires keys { All (IsKey (state_of self.now)) keys.old.items }
+        ensures same { OnOk result (IsPermutation keys.old.items keys.new.items) }
+        ensures keys { OnOk result (All (IsKey (state_of self.now)) keys.new.items) }
+        ensures order { OnOk result (IsSorted (key_cmp (state_of self.now)) keys.new.items) }
+        ensures rises { OnOk result (Rises (state_of self.now) keys.new.items) }
+        ensures kept { OnErr result (keys.new.items ≡ keys.old.items) }
+    {
+        if self.are_sorted(keys) {
+            return Ok(());
+        }
+        if self.are_told(keys) {
+            sort_told(keys)?;
+        } else {
+            self.sort_untold(keys);
+        }
+        Ok(())
+    }
+
+    /// How many keys at the front have the values of the first in the columns that are compared.
+    pub fn run_len(&self, keys: &[Key]) -> usize
+        requires keys { All (IsKey (state_of self.now)) keys.now }
+        ensures within { result ≤ length keys.now }
+        ensures some { 0 < length keys.now → 0 < result }
+        ensures alike { (d : Key) → All (λ k. key_values (state_of self.now) k ≡ key_values (state_of self.now) (slice_index_or keys.now 0 d)) (take result keys.now) }
+        ensures ends { (d : Key) → result < length keys.now
+            → key_values (state_of self.now) (slice_index_or keys.now result d) ≢ key_values (state_of self.now) (slice_index_or keys.now 0 d) }
+    {
+        let Some(first) = keys.first() else {
+            return 0;
+        };
+        'keys: for (len, key) in keys.iter().enumerate() {
+            if self.compare_values(key, first).is_ne() {
+                return len;
+            }
+        }
+        keys.len()
+    }
+}

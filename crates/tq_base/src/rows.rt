@@ -1,0 +1,147 @@
+//! Rows of one width, side by side in one list of values, each with the period at which it is valid.
+
+ghost use Rattle.std.specs.Prelude.{◌≡◌, ◌++◌, ◌∷◌, [], ◌<◌, ◌≤◌, List, All, IfOk, OnErr, OnOk, length, map, slice_index_or, take};
+ghost use Rattle.tq_base.specs.declared.fragment.Fragment.{Fragment};
+
+use crate::period::Period;
+use crate::value::Value;
+use std::alloc::{AllocError, Global};
+use std::marker::Model;
+
+/// The most rows of one list, so that a row's number has 32 bits.
+const MAX_ROWS: usize = 4_294_967_295;
+
+// Copies of the values go to the end of the list, or some of them where a growth was refused.
+fn push_copies(values: &mut Vec<Value>, row: &[Value]) -> Result<(), AllocError>
+    ensures added { OnOk result (values.new.items ≡ values.old.items ++ row.now) }
+    ensures kept { take (length values.old.items) values.new.items ≡ values.old.items }
+{
+    'row: for value in row {
+        values.push(value.try_copy()?)?;
+    }
+    Ok(())
+}
+
+// Copies of the values go to the end of the list. Where a growth was refused it is as before.
+fn add_copies(values: &mut Vec<Value>, row: &[Value]) -> Result<(), AllocError>
+    ensures added { OnOk result (values.new.items ≡ values.old.items ++ row.now) }
+    ensures err { OnErr result (values.new.items ≡ values.old.items) }
+{
+    let len = values.len();
+    let added = push_copies(values, row);
+    if added.is_err() {
+        values.truncate(len);
+    }
+    added
+}
+
+/// Rows of one width in the order of the pushes, each with the period at which it is valid; seen as their
+/// width and their list.
+#[derive(Drop, Debug)]
+pub struct Rows {
+    width: usize,
+    values: Vec<Value>,
+    periods: Vec<Period>,
+}
+
+impl Model for Rows {
+    ghost use Rattle.std.specs.Prelude.{◌≡◌, ◌≤◌, ◌*◌, length};
+    ghost use Rattle.tq_base.specs.RowLists.{RowList, rows_from};
+
+    ghost Value = { RowList };
+
+    ghost view = { λ r. record { width = r.width; items = rows_from r.width r.values.items r.periods.items } };
+
+    ghost invariant = { λ r. (length r.values.items ≡ length r.periods.items * r.width) × (length r.periods.items ≤ 4294967295) };
+}
+
+impl Rows {
+    /// No rows.
+    pub fn new(alloc: Global, width: usize) -> Rows
+        ensures width { result.width ≡ width }
+        ensures rows { result.items ≡ [] }
+    {
+        Rows {
+            width,
+            values: Vec::new(alloc),
+            periods: Vec::new(alloc),
+        }
+    }
+
+    /// How many values each row has.
+    pub fn width(&self) -> usize
+        ensures width { result ≡ self.now.width }
+        ensures rows { All (λ (row : Fragment). length row.values ≡ self.now.width) self.now.items }
+    {
+        self.width
+    }
+
+    /// How many rows there are.
+    pub fn len(&self) -> usize
+        ensures len { result ≡ length self.now.items }
+        ensures few { result ≤ 4294967295 }
+    {
+        self.periods.len()
+    }
+
+    /// The periods of the rows.
+    pub fn periods(&self) -> &[Period]
+        ensures { result.now ≡ map (λ (row : Fragment). row.period) self.now.items }
+    {
+        self.periods.as_slice()
+    }
+
+    /// When the row is valid.
+    pub fn period(&self, row: usize) -> Period
+        requires { row < length self.now.items }
+        ensures { (d : Fragment) → result ≡ (slice_index_or self.now.items row d).period }
+    {
+        self.periods()[row]
+    }
+
+    /// The values of the row.
+    pub fn values(&self, row: usize) -> &[Value]
+        requires { row < length self.now.items }
+        ensures { (d : Fragment) → result.now ≡ (slice_index_or self.now.items row d).values }
+    {
+        let values = self.values.as_slice();
+        let start = row * self.width;
+        &values[start..start + self.width]
+    }
+
+    /// Adds a row of these values, which are moved out of their list. `AllocError` where a growth was
+    /// refused or there are 2^32 - 1 rows: then all is as before.
+    pub fn push(&mut self, row: &mut Vec<Value>, period: Period) -> Result<(), AllocError>
+        requires { length row.old.items ≡ self.old.width }
+        ensures width { self.new.width ≡ self.old.width }
+        ensures pushed { OnOk result (self.new.items ≡ self.old.items ++ record { values = row.old.items; period = period } ∷ []) }
+        ensures emptied { OnOk result (row.new.items ≡ []) }
+        ensures err { OnErr result (self.new ≡ self.old) }
+        ensures kept { OnErr result (row.new.items ≡ row.old.items) }
+    {
+        if self.periods.len() >= MAX_ROWS {
+            return Err(AllocError);
+        }
+        self.periods.reserve(1)?;
+        self.values.append(row)?;
+        self.periods.push_reserved(period);
+        Ok(())
+    }
+
+    /// Adds a row of copies of these values. `AllocError` where a growth was refused or there are 2^32 - 1
+    /// rows: then all is as before.
+    pub fn push_copy(&mut self, row: &[Value], period: Period) -> Result<(), AllocError>
+        requires { length row.now ≡ self.old.width }
+        ensures width { self.new.width ≡ self.old.width }
+        ensures pushed { OnOk result (self.new.items ≡ self.old.items ++ record { values = row.now; period = period } ∷ []) }
+        ensures err { OnErr result (self.new ≡ self.old) }
+    {
+        if self.periods.len() >= MAX_ROWS {
+            return Err(AllocError);
+        }
+        self.periods.reserve(1)?;
+        add_copies(&mut self.values, row)?;
+        self.periods.push_reserved(period);
+        Ok(())
+    }
+}

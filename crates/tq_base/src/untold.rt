@@ -1,0 +1,287 @@
+//! Sorting of keys whose first ranks do not tell all that is compared: keys of one rank get the rank of what comes
+//! next, which is the next column or what follows the common beginning of their texts, and are sorted by that.
+
+ghost use Rattle.std.specs.Prelude.{◌≡◌, ◌≢◌, ◌<◌, ◌≤◌, All, IsPermutation, IsSorted, length, map, slice_index_or, take};
+ghost use Rattle.std.specs.Bool.{OnTrue};
+ghost use Rattle.tq_base.specs.declared.sides.Key.{Key};
+ghost use Rattle.tq_base.specs.KeySides.{state_of};
+ghost use Rattle.tq_base.specs.Keys.{first_rank, value_at, BeginsWithBytes};
+ghost use Rattle.tq_base.specs.Ranks.{value_rank, HasBytes};
+ghost use Rattle.tq_base.specs.Untold.{first_text, from_cmp, rank_cmp, ranked, text_of, value_after, values_from, with_rank, IsRanked, RunsDone, SameOrder, Share};
+ghost use Rattle.tq_base.specs.ValueOrder.{value_cmp};
+
+use crate::keys::{compare_told, rank_tells};
+use crate::rank::{compare_after, rank_after, text_after};
+use crate::sides::{Key, Sides};
+use crate::value::Value;
+use std::cmp::Ordering;
+
+// How often the ranks of one key are taken anew: what they do not tell then is read.
+const LEVELS: u32 = 256;
+
+// Runs of fewer keys are sorted by comparisons.
+const SHORT_RUN: usize = 16;
+
+// The rank of the value in the column, or of its text from the offset on.
+fn rank_there(row: &[Value], column: u32, offset: usize) -> u128
+    ensures rank { result ≡ value_rank (value_after offset (value_at row.now column)) }
+    ensures bytes { HasBytes (value_after offset (value_at row.now column)) }
+{
+    let zero = Value::int(0);
+    let value = row.get(column as usize).unwrap_or(&zero);
+    rank_after(value, offset)
+}
+
+// The text in the column from the offset on, none where there is no text.
+fn text_there(row: &[Value], column: u32, offset: usize) -> &[u8]
+    ensures { result.now ≡ text_of (value_after offset (value_at row.now column)) }
+{
+    match row.get(column as usize) {
+        Some(value) => text_after(value, offset),
+        None => &[],
+    }
+}
+
+// How the values in the two columns stand to each other, texts from the offset on.
+fn compare_there(
+    one: &[Value],
+    column: u32,
+    other: &[Value],
+    other_column: u32,
+    offset: usize,
+) -> Ordering
+    ensures { result ≡ value_cmp (value_after offset (value_at one.now column)) (value_after offset (value_at other.now other_column)) }
+{
+    let zero = Value::int(0);
+    let left = one.get(column as usize).unwrap_or(&zero);
+    let right = other.get(other_column as usize).unwrap_or(&zero);
+    compare_after(left, right, offset)
+}
+
+// How many bytes at the front of the two texts are the same.
+fn common_len(one: &[u8], other: &[u8]) -> usize
+    ensures within { result ≤ length one.now }
+    ensures same { take result one.now ≡ take result other.now }
+{
+    let len = one.len().min(other.len());
+    let are_same = one[..len] == other[..len];
+    if are_same {
+        return len;
+    }
+    'bytes: for place in 0..len {
+        if one[place] != other[place] {
+            return place;
+        }
+    }
+    len
+}
+
+// How many keys at the front have the rank.
+fn rank_run_len(keys: &[Key], rank: u128) -> usize
+    ensures within { result ≤ length keys.now }
+    ensures alike { All (λ k. k.rank ≡ rank) (take result keys.now) }
+    ensures ends { (d : Key) → result < length keys.now → (slice_index_or keys.now result d).rank ≢ rank }
+{
+    'keys: for (len, key) in keys.iter().enumerate() {
+        if key.rank != rank {
+            return len;
+        }
+    }
+    keys.len()
+}
+
+// Sorts by the ranks. Where these are in order already, all stay as they are.
+fn sort_by_rank(keys: &mut [Key])
+    ensures same { IsPermutation keys.old keys.new }
+    ensures order { IsSorted rank_cmp keys.new }
+{
+    if keys.is_sorted_by(|one, other| one.rank.cmp(&other.rank).is_le()) {
+        return;
+    }
+    keys.sort_unstable_by(|one, other| compare_told(one, other));
+}
+
+// Gives all keys this rank.
+fn set_ranks(keys: &mut [Key], rank: u128)
+    ensures { keys.new ≡ map (with_rank rank) keys.old }
+{
+    'keys: for key in keys.iter_mut() {
+        key.rank = rank;
+    }
+}
+
+impl<'a> Sides<'a> {
+    // The rank of what the key has from there on, 0 where there is nothing.
+    fn rank_from(&self, key: &Key, place: usize, offset: usize) -> u128
+        ensures rank { result ≡ first_rank (values_from (state_of self.now) place offset key.now) }
+        ensures bytes { BeginsWithBytes (values_from (state_of self.now) place offset key.now) }
+    {
+        let columns = self.columns(key.side);
+        if place >= columns.len() {
+            return 0;
+        }
+        rank_there(self.values(key), columns[place], offset)
+    }
+
+    // The text that the key has there, from the offset on.
+    fn text_from(&self, key: &Key, place: usize, offset: usize) -> &'a [u8]
+        ensures { result.now ≡ first_text (values_from (state_of self.now) place offset key.now) }
+    {
+        let columns = self.columns(key.side);
+        if place >= columns.len() {
+            return &[];
+        }
+        text_there(self.values(key), columns[place], offset)
+    }
+
+    // How what two keys have from there on stands to each other, and then their starts.
+    fn compare_rest(&self, place: usize, offset: usize, one: &Key, other: &Key) -> Ordering
+        ensures { result ≡ from_cmp (state_of self.now) place offset one.now other.now }
+    {
+        let (columns, other_columns) = (self.columns(one.side), self.columns(other.side));
+        if place >= columns.len() {
+            return one.start.cmp(&other.start);
+        }
+        let (row, other_row) = (self.values(one), self.values(other));
+        let order = compare_there(row, columns[place], other_row, other_columns[place], offset);
+        if order.is_ne() {
+            return order;
+        }
+        order
+            .then(self.compare_from(place + 1, one, other))
+            .then(one.start.cmp(&other.start))
+    }
+
+    // Gives each key the rank of what it has from there on.
+    fn rank_keys(&self, keys: &mut [Key], place: usize, offset: usize)
+        ensures keys { keys.new ≡ map (ranked (state_of self.now) place offset) keys.old }
+        ensures ranks { All (IsRanked (state_of self.now) place offset) keys.new }
+    {
+        'keys: for key in keys.iter_mut() {
+            key.rank = self.rank_from(key, place, offset);
+        }
+    }
+
+    // How many bytes the texts of all keys have in common there.
+    fn shared_len(&self, keys: &[Key], place: usize, offset: usize) -> usize
+        ensures { Share (state_of self.now) place offset result keys.now }
+    {
+        let Some(first) = keys.first() else {
+            return 0;
+        };
+        let text = self.text_from(first, place, offset);
+        let mut len = text.len();
+        'keys: for key in keys {
+            len = common_len(&text[..len], self.text_from(key, place, offset));
+        }
+        len
+    }
+
+    // From where on keys of one rank are to be compared.
+    fn next_place(&self, rank: u128, run: &[Key], place: usize, offset: usize) -> (usize, usize)
+        requires alike { All (λ k. k.rank ≡ rank) run.now }
+        requires ranks { All (IsRanked (state_of self.now) place offset) run.now }
+        ensures { SameOrder (state_of self.now) place offset result.0 result.1 run.now }
+    {
+        if place >= self.left_columns.len() {
+            return (place, offset);
+        }
+        if rank_tells(rank) {
+            return (place + 1, 0);
+        }
+        if run.len() < SHORT_RUN {
+            return (place, offset);
+        }
+        match offset.checked_add(self.shared_len(run, place, offset)) {
+            Some(next) => (place, next),
+            None => (place, offset),
+        }
+    }
+
+    // Whether so many keys of one rank are ranked anew at the next place, and not sorted by comparisons.
+    fn are_ranked_anew(&self, levels: u32, len: usize, next: usize, is_further: bool) -> bool
+        ensures { OnTrue result (0 < levels) }
+    {
+        levels > 0 && is_further && len >= SHORT_RUN && next < self.left_columns.len()
+    }
+
+    // Sorts the keys by comparisons of what they have from there on.
+    fn sort_read(&self, keys: &mut [Key], place: usize, offset: usize)
+        ensures same { IsPermutation keys.old keys.new }
+        ensures order { IsSorted (from_cmp (state_of self.now) place offset) keys.new }
+    {
+        if place >= self.left_columns.len() {
+            keys.sort_unstable_by(|one, other| one.start.cmp(&other.start));
+        } else {
+            keys.sort_unstable_by(|one, other| self.compare_rest(place, offset, one, other));
+        }
+    }
+
+    // Sorts keys of one rank by what they have from there on. The levels bound how often ranks are taken anew.
+    #[cycle(untold)]
+    fn sort_run(&self, levels: u32, rank: u128, run: &mut [Key], place: usize, offset: usize)
+        requires alike { All (λ k. k.rank ≡ rank) run.old }
+        requires ranks { All (IsRanked (state_of self.now) place offset) run.old }
+        ensures same { IsPermutation run.old run.new }
+        ensures order { IsSorted (from_cmp (state_of self.now) place offset) run.new }
+    {
+        if run.len() < 2 {
+            return;
+        }
+        let (next, next_offset) = self.next_place(rank, run, place, offset);
+        let is_further = next > place || next_offset > offset;
+        if self.are_ranked_anew(levels, run.len(), next, is_further) {
+            self.rank_keys(run, next, next_offset);
+            self.sort_ranked(levels - 1, run, next, next_offset);
+            set_ranks(run, rank);
+        } else {
+            self.sort_read(run, next, next_offset);
+        }
+    }
+
+    // Sorts the first run of equal ranks from the start on, and says where it ends.
+    #[cycle(untold)]
+    fn sort_next(
+        &self,
+        levels: u32,
+        keys: &mut [Key],
+        start: usize,
+        place: usize,
+        offset: usize,
+    ) -> usize
+        requires ranks { All (IsRanked (state_of self.now) place offset) keys.old }
+        requires done { RunsDone (state_of self.now) place offset keys.old start }
+        requires some { start < length keys.old }
+        ensures same { IsPermutation keys.old keys.new }
+        ensures done { RunsDone (state_of self.now) place offset keys.new result }
+        ensures further { start < result }
+    {
+        let rank = keys[start].rank;
+        let end = start + rank_run_len(&keys[start..], rank);
+        self.sort_run(levels, rank, &mut keys[start..end], place, offset);
+        end
+    }
+
+    // Sorts keys that have the ranks of what they have from there on by these, and then each run of equal ranks.
+    #[cycle(untold)]
+    fn sort_ranked(&self, levels: u32, keys: &mut [Key], place: usize, offset: usize)
+        requires { All (IsRanked (state_of self.now) place offset) keys.old }
+        ensures same { IsPermutation keys.old keys.new }
+        ensures order { IsSorted (from_cmp (state_of self.now) place offset) keys.new }
+    {
+        sort_by_rank(keys);
+        let mut start = 0;
+        'runs: while start < keys.len() {
+            start = self.sort_next(levels, keys, start, place, offset);
+        }
+    }
+
+    // Sorts keys whose first ranks do not tell all that is compared.
+    pub(crate) fn sort_untold(&self, keys: &mut Vec<Key>)
+        requires { All (IsRanked (state_of self.now) 0 0) keys.old.items }
+        ensures same { IsPermutation keys.old.items keys.new.items }
+        ensures order { IsSorted (from_cmp (state_of self.now) 0 0) keys.new.items }
+    {
+        self.sort_ranked(LEVELS, keys.as_mut_slice(), 0, 0);
+    }
+}

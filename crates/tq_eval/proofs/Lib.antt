@@ -1,0 +1,15 @@
+pub mod ExistLemmas
+pub mod AnswerLemmas
+pub mod KeptLemmas
+pub mod RowLemmas
+pub mod HistoryLemmas
+pub mod BagLemmas
+pub mod RunningLemmas
+pub mod SourceLemmas
+pub mod TableLemmas
+pub mod GroupBags
+pub mod GroupingLemmas
+pub mod HeldNumbers
+pub mod ItemLemmas
+pub mod NumberLemmas
+pub mod CarriedLemmas

@@ -1,0 +1,163 @@
+-- Numbers of 64 signed bits: those of tables of rows, and what is made of them.
+use Rattle.std.proofs.Common.{◌≡◌, ℕ, zero, suc, ◌<◌, Bool, true, false, cond, List, [], ◌∷◌, ◌++◌, map, length, get_or, Option, refl, sym, ap, subst, arith}
+use Rattle.std.specs.Prelude.{All, FitsSigned, pos, filter}
+use Rattle.std.specs.Int.{w64}
+use Rattle.std.proofs.lemmas.Bool.Decides.{nat_tests}
+use Rattle.std.proofs.lemmas.Int.{fits_signed_from_abs}
+use Rattle.std.proofs.lemmas.List.Concat.{flat_map-cons}
+use Rattle.std.proofs.lemmas.List.Elements.{All-append, All-cons, All-filter, All-map, All-tail, All-weaker}
+use Rattle.std.proofs.lemmas.List.Sums.{sum_by-cons}
+use Rattle.tq_base.specs.declared.value.Value.{Value}
+use Rattle.tq_base.specs.declared.fragment.Fragment.{Fragment}
+use Rattle.tq_base.specs.declared.period.Period.{Period}
+use Rattle.tq_base.specs.Fragments.{at, occurrences}
+use Rattle.tq_base.specs.Periods.{holds}
+use Rattle.tq_base.specs.ValueOrder.{eq_from_same}
+use Rattle.tq_event.specs.Tables.{rows_in}
+use Rattle.tq_ops.specs.declared.condition.Test.{Test}
+use Rattle.tq_ops.specs.Conditions.{value_at}
+use Rattle.tq_ops.specs.Ordinary.{HasInside, IsEmptyOutside, admits, product, projection, selection}
+use Rattle.tq_agg.specs.Grouping.{AreSummable, Row, number_of}
+use Rattle.tq_eval.specs.TableAnswers.{AreAllNumbers}
+use Rattle.tq_eval.specs.Answers.{in_tables, lists_at}
+use Rattle.tq_eval.specs.Ordinary.{product_of}
+use Rattle.tq_eval.specs.Running.{AreNumbers}
+use Rattle.tq_eval.proofs.BagLemmas.{is_it, one_if, split}
+
+abbrev pub IsNumber : Value → Type 0
+IsNumber value = FitsSigned w64 (number_of value)
+
+-- what holds of the first, and of the others
+pub first_of : {X : Type 0} (P : X → Type 0) (x : X) (xs : List X) → All P (x ∷ xs) → P x
+first_of P x xs all = all 0 x (omega arith)
+
+pub others_of : {X : Type 0} (P : X → Type 0) (x : X) (xs : List X) → All P (x ∷ xs) → All P xs
+others_of P x xs all = All-tail P x xs all
+
+pub none_of : {X : Type 0} (P : X → Type 0) → All P []
+none_of P k d less = absurd (omega (arith, less))
+
+-- ---- rows of a table
+
+abbrev HaveNumbers : List Fragment → Type 0
+HaveNumbers rows = All (λ (row : Fragment). AreNumbers row.values) rows
+
+table_has : (tables : List (List Fragment)) (table : ℕ) → AreAllNumbers tables → HaveNumbers (rows_in tables table)
+table_has [] table all = none_of (λ (row : Fragment). AreNumbers row.values)
+table_has (rows ∷ tables) zero all = first_of HaveNumbers rows tables all
+table_has (rows ∷ tables) (suc table) all = table_has tables table (others_of HaveNumbers rows tables all)
+
+valid_have : (tables : List (List Fragment)) (table t : ℕ) → AreAllNumbers tables → All AreNumbers (at (rows_in tables table) t)
+valid_have tables table t all =
+    All-map AreNumbers (λ (row : Fragment). row.values) (filter (λ (row : Fragment). holds row.period t) (rows_in tables table))
+    (All-filter (λ (row : Fragment). holds row.period t) (λ (row : Fragment). AreNumbers row.values) (rows_in tables table) (table_has tables table all))
+
+-- ---- rows of the sources' product
+
+pairs_have : (row : Row) (right : List Row) → AreNumbers row → All AreNumbers right → All AreNumbers (map (λ r. row ++ r) right)
+pairs_have row [] is all = none_of AreNumbers
+pairs_have row (r ∷ right) is all =
+    All-cons AreNumbers (row ++ r) (map (λ r. row ++ r) right) (All-append IsNumber row r is (first_of AreNumbers r right all)) (pairs_have row right is (others_of AreNumbers r right all))
+
+product_has : (left right : List Row) → All AreNumbers left → All AreNumbers right → All AreNumbers (product left right)
+product_has [] right on_left on_right = none_of AreNumbers
+product_has (row ∷ left) right on_left on_right =
+    subst (All AreNumbers) (sym (flat_map-cons (λ l. map (λ r. l ++ r) right) row left))
+    (All-append AreNumbers (map (λ r. row ++ r) right) (product left right) (pairs_have row right (first_of AreNumbers row left on_left) on_right)
+    (product_has left right (others_of AreNumbers row left on_left) on_right))
+
+products_have : (tables : List (List Fragment)) (t : ℕ) (numbers : List ℕ) → AreAllNumbers tables → All AreNumbers (product_of (lists_at (in_tables tables) t numbers))
+products_have tables t [] all = All-cons AreNumbers [] [] (none_of IsNumber) (none_of AreNumbers)
+products_have tables t (table ∷ []) all = valid_have tables table t all
+products_have tables t (table ∷ next ∷ numbers) all =
+    product_has (at (rows_in tables table) t) (product_of (lists_at (in_tables tables) t (next ∷ numbers))) (valid_have tables table t all) (products_have tables t (next ∷ numbers) all)
+
+-- ---- fragments
+
+pub in_both : (rows found : List Row) (v : Row) → occurrences found v ≡ occurrences rows v → 0 < occurrences found v → All AreNumbers rows → AreNumbers v
+in_both rows found v same some all =
+    let s = split rows v (omega (arith, same, some)) in
+    middle s.before s.after (subst (All AreNumbers) s.is all)
+  where
+    middle : (before after : List Row) → All AreNumbers (before ++ v ∷ after) → AreNumbers v
+    middle [] after all = first_of AreNumbers v after all
+    middle (row ∷ before) after all = middle before after (others_of AreNumbers row (before ++ v ∷ after) all)
+
+starts_inside : (f : Fragment) → holds f.period f.period.start ≡ true
+starts_inside f = let ordered : f.period.start < f.period.end = f.period.ordered in grind (arith, nat_tests)
+
+-- a fragment's values stand among those valid at its start
+pub stands : (out : List Fragment) (k : ℕ) (d : Fragment) → k < length out → 0 < occurrences (at out (get_or out k d).period.start) (get_or out k d).values
+stands [] k d less = absurd (omega (arith, less))
+stands (f ∷ out) zero d less = by_start (holds f.period f.period.start) (starts_inside f)
+  where
+    by_start : (b : Bool) → b ≡ true → 0 < occurrences (map (λ (g : Fragment). g.values) (cond b (f ∷ filter (λ (g : Fragment). holds g.period f.period.start) out) (filter (λ (g : Fragment). holds g.period f.period.start) out))) f.values
+    by_start true is = omega (arith, sum_by-cons (is_it f.values) f.values (at out f.period.start), ap one_if (eq_from_same f.values f.values refl))
+    by_start false is = cc
+stands (f ∷ out) (suc k) d less = by_first (holds f.period (get_or out k d).period.start) (stands out k d (omega (arith, less)))
+  where
+    t : ℕ
+    t = (get_or out k d).period.start
+
+    by_first : (b : Bool) → 0 < occurrences (at out t) (get_or out k d).values
+        → 0 < occurrences (map (λ (g : Fragment). g.values) (cond b (f ∷ filter (λ (g : Fragment). holds g.period t) out) (filter (λ (g : Fragment). holds g.period t) out))) (get_or out k d).values
+    by_first true some = omega (arith, some, sum_by-cons (is_it (get_or out k d).values) f.values (at out t))
+    by_first false some = some
+
+-- what holds of all rows valid at some instant holds of each fragment
+fragments_have : (out : List Fragment) (rows : ℕ → List Row) → ((t : ℕ) (v : Row) → occurrences (at out t) v ≡ occurrences (rows t) v) → ((t : ℕ) → All AreNumbers (rows t))
+    → All (λ (f : Fragment). AreNumbers f.values) out
+fragments_have out rows same all k d less =
+    let f : Fragment = get_or out k d in
+    in_both (rows f.period.start) (at out f.period.start) f.values (same f.period.start f.values) (stands out k d less) (all f.period.start)
+
+zero_fits : FitsSigned w64 (pos 0)
+zero_fits = fits_signed_from_abs w64 (pos 0) (omega arith)
+
+number_at : (row : Row) (place : ℕ) → AreNumbers row → IsNumber (value_at row place)
+number_at [] place all = zero_fits
+number_at (value ∷ row) zero all = first_of IsNumber value row all
+number_at (value ∷ row) (suc place) all = number_at row place (others_of IsNumber value row all)
+
+summable : (places : List ℕ) (row : Row) → AreNumbers row → AreSummable places row
+summable [] row all = none_of (λ place. IsNumber (value_at row place))
+summable (place ∷ places) row all = All-cons (λ p. IsNumber (value_at row p)) place places (number_at row place all) (summable places row all)
+
+fragments_sum : (places : List ℕ) (out : List Fragment) → All (λ (f : Fragment). AreNumbers f.values) out → All (λ (f : Fragment). AreSummable places f.values) out
+fragments_sum places out = All-weaker (λ (f : Fragment). AreNumbers f.values) (λ (f : Fragment). AreSummable places f.values) (λ f is. summable places f.values is) out
+
+passing_have : (tables : List (List Fragment)) (t : ℕ) (numbers : List ℕ) (test : Option Test) → AreAllNumbers tables → All AreNumbers (selection test (product_of (lists_at (in_tables tables) t numbers)))
+passing_have tables t numbers test all = All-filter (admits test) AreNumbers (product_of (lists_at (in_tables tables) t numbers)) (products_have tables t numbers all)
+
+-- the values of the rows that pass can be summed
+pub whole_sums : (tables : List (List Fragment)) (numbers : List ℕ) (test : Option Test) (places : List ℕ) (out : List Fragment)
+    → ((t : ℕ) (v : Row) → occurrences (at out t) v ≡ occurrences (selection test (product_of (lists_at (in_tables tables) t numbers))) v)
+    → AreAllNumbers tables → All (λ (f : Fragment). AreSummable places f.values) out
+whole_sums tables numbers test places out same all =
+    fragments_sum places out (fragments_have out (λ t. selection test (product_of (lists_at (in_tables tables) t numbers))) same (λ t. passing_have tables t numbers test all))
+
+projected_numbers : (places : List ℕ) (row : Row) → AreNumbers row → AreNumbers (projection places row)
+projected_numbers [] row all = none_of IsNumber
+projected_numbers (place ∷ places) row all = All-cons IsNumber (value_at row place) (projection places row) (number_at row place all) (projected_numbers places row all)
+
+projected_have : (places : List ℕ) (rows : List Row) → All AreNumbers rows → All AreNumbers (map (projection places) rows)
+projected_have places rows all =
+    All-map AreNumbers (projection places) rows (All-weaker AreNumbers (λ row. AreNumbers (projection places row)) (λ row is. projected_numbers places row is) rows all)
+
+-- and what is shown of those in a window
+pub shown_sums : (tables : List (List Fragment)) (window : Period) (numbers : List ℕ) (test : Option Test) (shown places : List ℕ) (out : List Fragment)
+    → HasInside window out (λ t v. occurrences (map (projection shown) (selection test (product_of (lists_at (in_tables tables) t numbers)))) v) → IsEmptyOutside window out
+    → AreAllNumbers tables → All (λ (f : Fragment). AreSummable places f.values) out
+shown_sums tables window numbers test shown places out inside outside all =
+    fragments_sum places out (fragments_have out (λ t. within (holds window t) t) (λ t v. same t v (holds window t) refl) (λ t. have t (holds window t)))
+  where
+    within : Bool → ℕ → List Row
+    within b t = cond b (map (projection shown) (selection test (product_of (lists_at (in_tables tables) t numbers)))) []
+
+    same : (t : ℕ) (v : Row) (b : Bool) → holds window t ≡ b → occurrences (at out t) v ≡ occurrences (within b t) v
+    same t v true is = inside t v is
+    same t v false is = ap (λ l. occurrences l v) (outside t is)
+
+    have : (t : ℕ) (b : Bool) → All AreNumbers (within b t)
+    have t true = projected_have shown (selection test (product_of (lists_at (in_tables tables) t numbers))) (passing_have tables t numbers test all)
+    have t false = none_of AreNumbers

@@ -1,0 +1,5 @@
+pub mod Ordinary
+pub mod Answers
+pub mod Rows
+pub mod Running
+pub mod TableAnswers

@@ -1,0 +1,50 @@
+//! Laws of answers.
+
+ghost use Rattle.tq_eval.specs.Answers.{AnswersAgree, AnswersAreUnique, AnswersExist, AnswersStay};
+ghost use Rattle.tq_eval.specs.TableAnswers.{NumbersAreHeld, TablesAnswer};
+
+use tq_base::laws::{layers_are_unique, layers_exist};
+use tq_event::laws::prefixes_agree;
+use tq_plan::laws::plans_stand;
+
+/// A statement has one answer at most over a catalogue, a history and a count of its events.
+pub fn answers_are_unique()
+    ensures { AnswersAreUnique }
+{
+    layers_are_unique();
+}
+
+/// A plan has an answer over every history, as of every count of its events.
+pub fn answers_exist()
+    ensures { AnswersExist }
+{
+    layers_exist();
+}
+
+/// Whatever is valid as often in the tables that a plan reads gives it the same answer.
+pub fn answers_agree()
+    ensures { AnswersAgree }
+{
+    plans_stand();
+}
+
+/// Events that come later change no answer as of the events before them.
+pub fn answers_stay()
+    ensures { AnswersStay }
+{
+    prefixes_agree();
+    answers_agree();
+}
+
+/// Tables that hold what a history holds give a plan the answer that the history gives it, in whatever
+/// order their rows stand.
+pub fn tables_answer()
+    ensures { TablesAnswer }
+{
+    answers_agree();
+}
+
+/// The numbers of tables that hold what a history holds are those of its events.
+pub fn numbers_are_held()
+    ensures { NumbersAreHeld }
+{}

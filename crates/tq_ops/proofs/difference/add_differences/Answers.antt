@@ -1,0 +1,80 @@
+use Rattle.std.proofs.Common.{◌≡◌, ◌≢◌, ℕ, ◌+◌, ◌-◌, ◌<◌, ◌≤◌, Bool, true, false, cond, List, length, take, drop, get_or, map, refl, sym, ap, ◌∙◌, subst, arith, length-drop}
+use Rattle.std.specs.Prelude.{All}
+use Rattle.std.proofs.lemmas.List.{length-map, take_all, take_rest}
+use Rattle.std.proofs.lemmas.List.Elements.{All-drop, All-take}
+use Rattle.tq_base.specs.declared.value.Value.{Value}
+use Rattle.tq_base.specs.declared.sides.Key.{Key}
+use Rattle.tq_base.specs.declared.sides.Side.TheVariants.{Left, Right}
+use Rattle.tq_base.specs.Fragments.{copies}
+use Rattle.tq_base.specs.Keys.{held, key_row, key_values, Held, IsKey}
+use Rattle.tq_base.specs.KeySides.{state_of}
+use Rattle.tq_base.specs.Periods.{holds}
+use Rattle.tq_ops.specs.Differences.{side_copies, AddsDifference, AreOfValues}
+use Rattle.tq_ops.proofs.Turns.{adds_run, group_is, side_counts}
+use Rattle.tq_ops.proofs.difference.add_differences.Goals as goal
+
+pub run_len-requires : goal.run_len-requires
+run_len-requires c = record {
+  keys = subst (All (IsKey (state_of c.args.sides.now))) (sym (take_rest c.args.keys.now c.groups.start)) (All-drop (IsKey (state_of c.args.sides.now)) c.groups.start c.args.keys.now c.requires.keys.each);
+}
+
+pub add_difference-requires : goal.add_difference-requires
+add_difference-requires c =
+    let s = state_of c.args.sides.now in
+    let keys = c.args.keys.now in
+    let start = c.groups.start in
+    let len = c.run_len.result in
+    let group : take (start + len - start) (drop start keys) ≡ take len (drop start keys) = ap (λ n. take n (drop start keys)) (let same : start + len - start ≡ len = omega arith in same) in
+    let fits : All (λ (k : Key). length (key_row s k).values ≡ c.groups.out.width) keys = λ k d lt. c.requires.fit k d lt ∙ sym c.groups.invariant.width in
+    record {
+      fit = subst (All (λ (k : Key). length (key_row s k).values ≡ c.groups.out.width)) (sym group)
+          (All-take (λ (k : Key). length (key_row s k).values ≡ c.groups.out.width) len (drop start keys) (All-drop (λ (k : Key). length (key_row s k).values ≡ c.groups.out.width) start keys fits));
+    }
+
+pub groups-smaller : goal.groups-smaller
+groups-smaller c =
+    let keys = c.args.keys.now in
+    let start = c.groups.start in
+    let some : 0 < length (take (length keys - start) (drop start keys)) = omega (arith, ap length (take_rest keys start), length-drop start keys, c.groups-test.true) in
+    let more : 0 < c.run_len.result = c.run_len.ensures.some some in
+    omega (arith, more, c.groups-test.true)
+
+pub groups-preserved : goal.groups-preserved
+groups-preserved c =
+    let s = state_of c.args.sides.now in
+    let f = held s in
+    let keys = c.args.keys.now in
+    let start = c.groups.start in
+    let len = c.run_len.result in
+    let out = c.groups.out.items in
+    let new = c.add_difference.new.out.items in
+    let window = c.args.window.now in
+    let part : take (length keys - start) (drop start keys) ≡ drop start keys = take_rest keys start in
+    let within : len ≤ length (drop start keys) = subst (λ (l : List Key). len ≤ length l) part c.run_len.ensures.within in
+    let alike : (d : Key) → All (λ k. key_values s k ≡ key_values s (get_or (drop start keys) 0 d)) (take len (drop start keys)) =
+    subst (λ (l : List Key). (d : Key) → All (λ k. key_values s k ≡ key_values s (get_or l 0 d)) (take len l)) part c.run_len.ensures.alike in
+    let ends : (d : Key) → len < length (drop start keys) → key_values s (get_or (drop start keys) len d) ≢ key_values s (get_or (drop start keys) 0 d) =
+    subst (λ (l : List Key). (d : Key) → len < length l → key_values s (get_or l len d) ≢ key_values s (get_or l 0 d)) part c.run_len.ensures.ends in
+    let cut : take (start + len - start) (drop start keys) ≡ take len (drop start keys) = ap (λ n. take n (drop start keys)) (let same : start + len - start ≡ len = omega arith in same) in
+    let group : map f (take (start + len - start) (drop start keys)) ≡ take len (drop start (map f keys)) =
+    ap (map f) cut ∙ sym (group_is s keys c.requires.whole start len c.groups-test.true within alike ends) in
+    let adds : (v : List Value) → AreOfValues v (take len (drop start (map f keys))) → AddsDifference window (take len (drop start (map f keys))) v out new =
+    subst (λ (l : List Held). (v : List Value) → AreOfValues v l → AddsDifference window l v out new) group c.in_ok-add_difference.ensures.rows in
+    record {
+      width = c.in_ok-add_difference.ensures.width ∙ c.groups.invariant.width;
+      grouping = adds_run s keys c.requires.whole start len c.groups-test.true within alike ends window out new c.requires.keys.rising adds c.groups.invariant.grouping;
+    }
+
+inside : (b : Bool) {l r n : ℕ} (left right : ℕ) → n ≡ l - r → l ≡ cond b left 0 → r ≡ cond b right 0 → n ≡ cond b (left - right) 0
+inside true left right is of_l of_r = omega (arith, is, of_l, of_r)
+inside false left right is of_l of_r = omega (arith, is, of_l, of_r)
+
+pub returns-clause-counted : goal.returns-clause-counted
+returns-clause-counted c t v =
+    let s = state_of c.args.sides.now in
+    let keys = c.args.keys.now in
+    let window = c.args.window.now in
+    let all : take c.groups.start (map (held s) keys) ≡ map (held s) keys = take_all c.groups.start (map (held s) keys) (omega (arith, c.groups-test.false, length-map keys (held s))) in
+    inside (holds window t) (copies s.left v t) (copies s.right v t) (c.groups.invariant.grouping.counted t v)
+    (ap (λ l. side_copies window Left l v t) all ∙ side_counts s window keys c.requires.keys t v Left s.left refl)
+    (ap (λ l. side_copies window Right l v t) all ∙ side_counts s window keys c.requires.keys t v Right s.right refl)

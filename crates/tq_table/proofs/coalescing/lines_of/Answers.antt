@@ -1,0 +1,54 @@
+use Rattle.std.proofs.Common.{◌≡◌, ◌≢◌, ◌+◌, ◌-◌, ◌<◌, ◌≤◌, List, ap, ◌∙◌, subst, arith, drop, take, get_or, length, map}
+use Rattle.std.specs.Prelude.{All}
+use Rattle.std.specs.List.{range_with_len}
+use Rattle.std.proofs.lemmas.List.{drop_all, drop-drop, length-drop, take_rest}
+use Rattle.std.proofs.lemmas.List.Elements.{All-drop}
+use Rattle.tq_base.specs.declared.value.Value.{Value}
+use Rattle.tq_base.specs.Groups.{grouping_ends, Grouping}
+use Rattle.tq_base.specs.Keys.{key_row, key_values, SidesState}
+use Rattle.tq_base.specs.Layering.{AddsLayers}
+use Rattle.tq_table.specs.Lines.{line_of}
+use Rattle.tq_table.proofs.KeyGroups.{all_whole, grouping_starts, end_key, takes_group, AreWhole}
+use Rattle.tq_table.proofs.coalescing.lines_of.Goals as goal
+
+pub groups-init : goal.groups-init
+groups-init c =
+    let rows = c.args.rows.now.items in
+    let keys = c.in_ok-keys.keys.items in
+    let s : SidesState = record { left = rows; right = rows; left_columns = c.deref.result.now; right_columns = c.deref-2.result.now } in
+    let columns : s.left_columns ≡ range_with_len 0 c.args.rows.now.width = c.deref.ensures.value ∙ c.in_ok-columns.ensures ∙ ap (range_with_len 0) c.width.ensures.width in
+    let are_whole : AreWhole s keys = all_whole s c.args.rows.now.width keys columns c.width.ensures.rows c.in_ok-keys.ensures.keys c.in_ok-keys.ensures.left in
+    record {
+      within = omega arith;
+      grouping = rw c.in_ok-table.ensures.items (grouping_starts s rows keys c.in_ok-keys.ensures.rows are_whole c.in_ok-keys.ensures.rises);
+    }
+
+pub groups-preserved : goal.groups-preserved
+groups-preserved c =
+    let rows = c.args.rows.now.items in
+    let keys = c.in_ok-keys.keys.items in
+    let s : SidesState = record { left = rows; right = rows; left_columns = c.deref.result.now; right_columns = c.deref-2.result.now } in
+    let columns : s.left_columns ≡ range_with_len 0 c.args.rows.now.width = c.deref.ensures.value ∙ c.in_ok-columns.ensures ∙ ap (range_with_len 0) c.width.ensures.width in
+    let are_whole : AreWhole s keys = all_whole s c.args.rows.now.width keys columns c.width.ensures.rows c.in_ok-keys.ensures.keys c.in_ok-keys.ensures.left in
+    let start = c.groups.start in
+    let len = c.run_len.result in
+    let rest = drop start keys in
+    let table = map (line_of rows) c.groups.table.items in
+    let new = map (line_of rows) c.add_layers.new.table.items in
+    let run_within : len ≤ length rest = rw (c.deref-in-groups.ensures.value, take_rest keys start) at c.run_len.ensures.within in
+    let alike : All (λ k. key_values s k ≡ key_values s (get_or rest 0 end_key)) (take len rest) = rw (c.deref-in-groups.ensures.value, take_rest keys start) at (c.run_len.ensures.alike end_key) in
+    let ends : len < length rest → key_values s (get_or rest len end_key) ≢ key_values s (get_or rest 0 end_key) = rw (c.deref-in-groups.ensures.value, take_rest keys start) at (c.run_len.ensures.ends end_key) in
+    let len_is : start + len - start ≡ len = omega arith in
+    let adds : (u : List Value) → All (λ k. (key_row s k).values ≡ u) (take len rest) → AddsLayers u (map (key_row s) (take len rest)) table new =
+    rw (c.deref-in-groups-2.ensures.value, len_is) at c.in_ok-add_layers.ensures in
+    record {
+      within = omega (arith, run_within, length-drop start keys, c.groups.invariant.within);
+      grouping = subst (λ l. Grouping rows (map (key_row s) l) new) (drop-drop len start keys)
+          (takes_group s rest len (All-drop (λ k. key_values s k ≡ (key_row s k).values) start keys are_whole) rows table new c.groups.invariant.grouping alike ends adds);
+    }
+
+pub returns : goal.returns
+returns c =
+    let keys = c.in_ok-keys.keys.items in
+    let done : length keys ≤ c.groups.start = omega (arith, c.groups-test.false, c.len-in-groups.ensures) in
+    grouping_ends c.args.rows.now.items (map (line_of c.args.rows.now.items) c.groups.table.items) (rw (drop_all c.groups.start keys done) at c.groups.invariant.grouping)
