@@ -6,7 +6,6 @@ ghost use Rattle.tq_base.specs.declared.fragment.Fragment.{Fragment};
 ghost use Rattle.tq_ops.specs.Conditions.{value_at};
 ghost use Rattle.tq_agg.specs.Grouping.{number_of};
 
-use crate::adding::add_row;
 use std::alloc::{AllocError, Global};
 use std::test::Fail;
 use tq_agg::{count_all, group_count_sum};
@@ -26,11 +25,14 @@ fn add_pair(
     period: Period,
     rows: &mut Rows,
 ) -> Result<(), Fail>
+    requires { rows.old.width ≡ 2 }
+    ensures width { rows.new.width ≡ 2 }
     ensures small { OnOk result (All (λ (row : Fragment). (place : ℕ) → FitsSigned w64 (number_of (value_at row.values place))) rows.old.items
         → All (λ (row : Fragment). (place : ℕ) → FitsSigned w64 (number_of (value_at row.values place))) rows.new.items) }
 {
     let text = Value::text(alloc, content)?;
-    add_row(rows, &[text, Value::int(number)], period)
+    rows.push_copy(&[text, Value::int(number)], period)?;
+    Ok(())
 }
 
 // Rows of a text and a number each.
