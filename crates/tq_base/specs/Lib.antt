@@ -12,6 +12,7 @@ pub mod Names
 pub mod Numbers
 pub mod Periods
 pub mod Ranks
+pub mod Results
 pub mod RowLists
 pub mod Sweep
 pub mod Untold

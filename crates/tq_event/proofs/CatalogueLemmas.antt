@@ -20,10 +20,11 @@ use Rattle.tq_base.specs.Contents.{Int, Text}
 use Rattle.tq_base.specs.Catalogues.{Fit, IsCatalogue, IsOfKind, IsTable}
 use Rattle.tq_base.specs.Names.{folded_name}
 use Rattle.tq_base.specs.Numbers.{int_of, is_numeral, natural_up_to}
+use Rattle.tq_base.specs.Results.{and_then}
 use Rattle.tq_event.specs.Entries.{Entry}
 use Rattle.tq_event.specs.declared.fault.LoadFaultKind.TheVariants.{BadHeader, DuplicateName, FieldCount, NotUtf8, TextTooLong, TooManyColumns, TooManyTables}
 use Rattle.tq_event.specs.declared.file.TableFile.{TableFile}
-use Rattle.tq_event.specs.Loading.{Contents, and_then, at_record, kind_of, make_column, column_of, columns_after, columns_of, contents_after, contents_of, csv_records, entries_after, entry_of, first_header, has_column, has_table, header_of, is_marked_twice, is_period_header, is_text, next_columns, next_contents, next_name, number_value, period_fields, period_of, table_contents, table_name, value_fields, value_of, values_after}
+use Rattle.tq_event.specs.Loading.{Contents, at_record, kind_of, make_column, column_of, columns_after, columns_of, contents_after, contents_of, csv_records, entries_after, entry_of, first_header, has_column, has_table, header_of, is_marked_twice, is_period_header, is_text, next_columns, next_contents, next_name, number_value, period_fields, period_of, table_contents, table_name, value_fields, value_of, values_after}
 use Rattle.tq_event.specs.Laws.{HasFoldedNames, IsFoldedName}
 use Rattle.tq_event.proofs.LoadedLemmas.{all_entries, at_record_passed, entry_is_of, passed}
 

@@ -8,11 +8,12 @@ use Rattle.tq_base.specs.declared.catalogue.Column.{Column}
 use Rattle.tq_base.specs.declared.period.TheConstants.{FOREVER}
 use Rattle.tq_base.specs.declared.value.Value.{Value}
 use Rattle.tq_base.specs.Numbers.{bound_of, instant_of}
+use Rattle.tq_base.specs.Results.{and_then}
 use Rattle.tq_event.specs.Entries.{Entry}
 use Rattle.tq_event.specs.declared.fault.LoadFaultKind.{LoadFaultKind}
 use Rattle.tq_event.specs.declared.fault.LoadFaultKind.TheVariants.{FieldCount, TooManyEvents, BadPeriod}
 use Rattle.tq_event.specs.declared.file.TableFile.{TableFile}
-use Rattle.tq_event.specs.Loading.{Contents, and_then, at_record, columns_of, contents_after, contents_of, csv_records, entries_after, entry_of, event_count, make_period, next_contents, next_entries, next_name, period_fields, period_of, table_contents, value_fields, values_after}
+use Rattle.tq_event.specs.Loading.{Contents, at_record, columns_of, contents_after, contents_of, csv_records, entries_after, entry_of, event_count, make_period, next_contents, next_entries, next_name, period_fields, period_of, table_contents, value_fields, values_after}
 
 -- a check that was passed
 pub record Passed {A B E : Type 0} (r : Result A E) (next : A → Result B E) (b : B) : Type 0 where

@@ -16,6 +16,7 @@ use Rattle.tq_base.specs.declared.catalogue.Schema.{Schema}
 use Rattle.tq_base.specs.declared.period.TheConstants.{FOREVER}
 use Rattle.tq_base.specs.Names.{folded_name}
 use Rattle.tq_base.specs.Numbers.{int_of, instant_of, bound_of}
+use Rattle.tq_base.specs.Results.{and_then}
 use Rattle.tq_event.specs.declared.event.Event.{Event}
 use Rattle.tq_event.specs.declared.event.Event.TheVariants.{Start, End}
 use Rattle.tq_event.specs.Entries.{Entry}
@@ -42,11 +43,6 @@ begins_with_mark (a ∷ b ∷ c ∷ rest) = is_bom a b c
 
 abbrev pub is_marked_twice : List ℕ → Bool
 is_marked_twice bytes = begins_with_mark bytes && begins_with_mark (strip_bom bytes)
-
--- what follows a check: nothing after a fault
-abbrev pub and_then : {A B E : Type 0} → Result A E → (A → Result B E) → Result B E
-and_then (Err fault) next = Err fault
-and_then (Ok value) next = next value
 
 -- ---- the header
 

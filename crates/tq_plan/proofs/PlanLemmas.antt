@@ -9,7 +9,7 @@ use Rattle.std.proofs.lemmas.List.Folds.{list_all-append, list_any-append}
 use Rattle.tq_base.specs.declared.catalogue.Kind.{Kind}
 use Rattle.tq_base.specs.declared.catalogue.Kind.TheVariants as kind
 use Rattle.tq_base.specs.declared.catalogue.Catalogue.{Catalogue}
-use Rattle.tq_event.specs.Loading.{and_then}
+use Rattle.tq_base.specs.Results.{and_then}
 use Rattle.tq_sql.specs.declared.statement.ColumnRef.{ColumnRef}
 use Rattle.tq_sql.specs.declared.statement.What.{What}
 use Rattle.tq_sql.specs.declared.statement.What.TheVariants as what

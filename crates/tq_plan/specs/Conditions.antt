@@ -4,7 +4,7 @@ use Rattle.std.specs.Prelude.{Bool, true, false, if◌then◌else◌, List, Opti
 use Rattle.tq_base.specs.declared.catalogue.Kind.{Kind}
 use Rattle.tq_base.specs.declared.catalogue.Kind.TheVariants as kind
 use Rattle.tq_base.specs.Contents as value
-use Rattle.tq_event.specs.Loading.{and_then}
+use Rattle.tq_base.specs.Results.{and_then}
 use Rattle.tq_ops.specs.declared.condition.Operand.{Operand}
 use Rattle.tq_ops.specs.declared.condition.Operand.TheVariants as operand
 use Rattle.tq_ops.specs.declared.condition.Compare.{Compare}

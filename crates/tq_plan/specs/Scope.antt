@@ -8,7 +8,7 @@ use Rattle.tq_base.specs.declared.catalogue.Column.{Column}
 use Rattle.tq_base.specs.declared.catalogue.Schema.{Schema}
 use Rattle.tq_base.specs.declared.catalogue.Catalogue.{Catalogue}
 use Rattle.tq_base.specs.Catalogues.{table_number}
-use Rattle.tq_event.specs.Loading.{and_then}
+use Rattle.tq_base.specs.Results.{and_then}
 use Rattle.tq_sql.specs.declared.statement.ColumnRef.{ColumnRef}
 use Rattle.tq_sql.specs.declared.statement.SourceRef.{SourceRef}
 use Rattle.tq_plan.specs.declared.fault.PlanFault.{PlanFault}
