@@ -15,7 +15,7 @@ use Rattle.tq_core.specs.declared.step.Reply.{Reply}
 use Rattle.tq_core.specs.declared.step.Reply.TheVariants.{Done, Length, Answer, TooNew, Piece, Order, Refused}
 use Rattle.tq_core.specs.Machine.{FinishesFrom, IsRun, IsStep, Machine, PieceRun, claimed, next_piece, with_published, with_run, with_seen}
 use Rattle.tq_core.specs.Runs.{ClaimsInOrder, FinishesWhole, GivesEach, ListsEach, claimant_of, claimants, claimants_given, gives_piece, is_answer, is_claim, opened, piece_of, pieces_from, pieces_given, pieces_of}
-use Rattle.tq_core.proofs.HistoryLemmas.{eqb-same, get_set_other, get_set_same}
+use Rattle.tq_core.proofs.ListLemmas.{eqb-same, get_set_other, get_set_same}
 use Rattle.tq_core.proofs.StepCases.{by_cases}
 
 -- ---- lists

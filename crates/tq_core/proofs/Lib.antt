@@ -1,5 +1,5 @@
 mod ClaimLemmas
-mod HistoryLemmas
+mod ListLemmas
 mod RunLemmas
 mod StepCases
 mod StepLemmas

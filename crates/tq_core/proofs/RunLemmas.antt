@@ -11,11 +11,11 @@ use Rattle.tq_core.specs.declared.step.Step.{Step}
 use Rattle.tq_core.specs.declared.step.Step.TheVariants.{Publish, Ask}
 use Rattle.tq_core.specs.declared.step.Reply.{Reply}
 use Rattle.tq_core.specs.declared.step.Reply.TheVariants.{Answer, TooNew, Refused}
-use Rattle.tq_core.specs.History.{Recorded}
+use Rattle.tq_event.specs.Recorded.{Recorded}
 use Rattle.tq_core.specs.World.{IsWorld, machine_of}
 use Rattle.tq_core.specs.Machine.{AsksFrom, IsRun, IsStep, Machine, PieceRun}
 use Rattle.tq_core.specs.Runs.{AnswersAgree, AnswersOverLast, AsksUpToShown, HasNoPublish, IsAnswer, PublishesUpToLast, done_events, event_of, greatest_shown, is_done, length_of, shows_to}
-use Rattle.tq_core.proofs.HistoryLemmas.{eqb-same, get_set_other, get_set_same}
+use Rattle.tq_core.proofs.ListLemmas.{eqb-same, get_set_other, get_set_same}
 use Rattle.tq_core.proofs.StepCases.{by_cases}
 
 -- no more was seen, and no greater length was left, than is published

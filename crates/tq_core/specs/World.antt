@@ -1,7 +1,7 @@
 -- How a world keeps the state of the core machine, and what holds of it between any two steps.
 use Rattle.std.specs.Prelude.{ℕ, ◌≤◌, ◌<◌, List, length, take, drop, All, slice_index}
 use Rattle.tq_base.specs.Catalogues.{IsCatalogue}
-use Rattle.tq_core.specs.History.{Recorded}
+use Rattle.tq_event.specs.Recorded.{Recorded}
 use Rattle.tq_core.specs.Machine.{Machine, PieceRun}
 
 -- the first events of the history are the published ones, the others are pending

@@ -7,11 +7,9 @@
 //! `specs/Machine.antt`, and an answer depends on its count of events alone, wherever it stands.
 #![tactic(auto)]
 
-mod history;
 pub mod laws;
 mod oracle;
 mod pieces;
-mod starts;
 mod step;
 mod world;
 

@@ -6,14 +6,13 @@ ghost use Rattle.tq_core.specs.World.{Rise};
 ghost use Rattle.tq_core.specs.Runs.{AnswersAgree, AnswersOverLast, AsksUpToShown, ClaimsInOrder, FinishesWhole, PublishesUpToLast};
 ghost use Rattle.tq_core.specs.Machine.{Appends, Asks, AsksFittingly, Claims, Enters, Finishes, IsRun, IsRunBefore, IsStep, Learns, Publishes, first_machine};
 
-use crate::history::History;
 use crate::oracle::Oracle;
 use crate::pieces::Pieces;
 use crate::step::{Reply, Step};
 use std::alloc::{AllocError, Global};
 use std::marker::Model;
 use tq_base::Catalogue;
-use tq_event::{Event, MAX_EVENTS};
+use tq_event::{Event, History, MAX_EVENTS};
 
 // The most workers of a run of pieces.
 const MAX_WORKERS: u32 = 16;

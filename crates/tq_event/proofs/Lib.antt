@@ -7,6 +7,7 @@ pub mod LoadedLemmas
 pub mod MarkLemmas
 pub mod PlacingLemmas
 pub mod RecordLemmas
+pub mod RecordedLemmas
 pub mod SortLemmas
 pub mod HeldLemmas
 pub mod TableLemmas

@@ -3,8 +3,9 @@
 //! `load` reads a file of CSV and gives the catalogue and the one list of events that its records
 //! make, ordered by time, or the first fault in the order of tables, records and checks. `load_tables`
 //! gives the catalogue and, for each table, its rows with their periods in the order of their records,
-//! or that same fault. What a history means, the rows of a table as of its first n events and the
-//! values valid at an instant, stands in `specs/`.
+//! or that same fault. `History` takes events one by one, each just where it may follow. What a history
+//! means, the rows of a table as of its first n events and the values valid at an instant, stands in
+//! `specs/`.
 #![tactic(auto)]
 
 mod entry;
@@ -12,14 +13,17 @@ mod event;
 mod fault;
 mod file;
 mod header;
+mod history;
 pub mod laws;
 mod loading;
 mod mark;
 mod order;
 mod reading;
 mod records;
+mod starts;
 
 pub use event::Event;
 pub use fault::{LoadFault, LoadFaultKind};
 pub use file::{Loaded, TableFile, Tables};
+pub use history::History;
 pub use loading::{MAX_EVENTS, MAX_TABLES, load, load_tables};

@@ -1,9 +1,20 @@
-use Rattle.std.proofs.Common.{◌≡◌, ◌∙◌, ◌∷◌, ◌++◌, [], false, take, refl, arith}
+use Rattle.std.proofs.Common.{◌≡◌, ◌∙◌, ℕ, List, ◌∷◌, ◌++◌, [], false, take, drop, refl, sym, ap, arith}
+use Rattle.std.proofs.lemmas.List.{take-append-drop}
 use Rattle.std.proofs.lemmas.Option.{slice_get_read}
+use Rattle.tq_base.specs.declared.catalogue.Catalogue.{Catalogue}
+use Rattle.tq_event.specs.declared.event.Event.{Event}
+use Rattle.tq_event.specs.History.{IsHistory}
 use Rattle.tq_core.specs.World.{machine_of}
-use Rattle.tq_core.proofs.HistoryLemmas.{history_take}
 use Rattle.tq_core.proofs.StepLemmas.{ask_answered}
 use Rattle.tq_core.proofs.world.World.ask.Goals as goal
+
+history_take : (c : Catalogue) (n : ℕ) (es : List Event) → IsHistory c es → IsHistory c (take n es)
+history_take c n es history before event after is =
+    history before event (after ++ drop n es) (sym (take-append-drop n es) ∙ ap (λ l. l ++ drop n es) is ∙ appended before event after (drop n es))
+  where
+    appended : (xs : List Event) (x : Event) (ys zs : List Event) → (xs ++ x ∷ ys) ++ zs ≡ xs ++ x ∷ (ys ++ zs)
+    appended [] x ys zs = refl
+    appended (w ∷ xs) x ys zs = ap (λ l. w ∷ l) (appended xs x ys zs)
 
 pub answer-requires-clause-history : goal.answer-requires-clause-history
 answer-requires-clause-history g c =

@@ -1,11 +1,10 @@
 -- The rows that can still end, event by event, and histories one event longer.
-use Rattle.std.proofs.Common.{◌≡◌, ◌≢◌, ℕ, zero, suc, ◌+◌, ◌<◌, ◌≤◌, ◌==◌, ◌&&◌, Bool, true, false, if◌then◌else◌, List, [], ◌∷◌, ◌++◌, Option, Some, None, length, take, drop, get_or, map, slice_get, slice_set, nat_lt, replicate, refl, sym, ap, subst, ◌∙◌, ◌⊎◌, inl, inr, arith}
+use Rattle.std.proofs.Common.{◌≡◌, ◌≢◌, ℕ, zero, suc, ◌+◌, ◌<◌, ◌≤◌, ◌==◌, ◌&&◌, Bool, true, false, if◌then◌else◌, List, [], ◌∷◌, ◌++◌, Option, Some, None, length, get_or, map, slice_get, slice_set, nat_lt, refl, sym, ap, subst, ◌∙◌, ◌⊎◌, inl, inr, arith}
 use Rattle.std.specs.Prelude.{All, Contains, IsSomeAnd}
 use Rattle.std.specs.Option.{option_map}
 use Rattle.std.proofs.lemmas.Bool.{eqb-true}
 use Rattle.std.proofs.lemmas.Bool.Decides.{nat_tests}
 use Rattle.std.proofs.lemmas.Option.{get_or_from_slice_get, slice_get-get_or, slice_get-map, slice_get_within}
-use Rattle.std.proofs.lemmas.List.{take-append-drop}
 use Rattle.std.proofs.lemmas.List.Elements.{All-push, All-tail}
 use Rattle.std.proofs.Math.Seq.{take-length}
 use Rattle.tq_base.specs.declared.catalogue.Catalogue.{Catalogue}
@@ -16,10 +15,8 @@ use Rattle.tq_base.specs.declared.value.Value.{Value}
 use Rattle.tq_event.specs.declared.event.Event.{Event}
 use Rattle.tq_event.specs.declared.event.Event.TheVariants.{Start, End}
 use Rattle.tq_event.specs.History.{CanHappen, IsAdmissible, IsHistory, IsOpenBefore, Row, end_of, rows_from, time_of}
-use Rattle.tq_core.specs.History.{AreStarts, CanEnd, after_event, noted, open_start, open_starts, table_of}
-
-pub eqb-same : (n : ℕ) → (n == n) ≡ true
-eqb-same n = grind (arith, nat_tests)
+use Rattle.tq_event.specs.Recorded.{AreStarts, CanEnd, after_event, noted, open_start, open_starts, table_of}
+use Rattle.tq_event.proofs.HistoryLemmas.{eqb-same}
 
 eqb-other : (a b : ℕ) → a ≢ b → (a == b) ≡ false
 eqb-other a b other = by (a == b) refl
@@ -179,23 +176,7 @@ history_push c es e history fits before event after is =
       | inr w ↦ history before event w.0 w.1
     ]
 
-pub history_take : (c : Catalogue) (n : ℕ) (es : List Event) → IsHistory c es → IsHistory c (take n es)
-history_take c n es history before event after is =
-    history before event (after ++ drop n es) (sym (take-append-drop n es) ∙ ap (λ l. l ++ drop n es) is ∙ appended before event after (drop n es))
-  where
-    appended : (xs : List Event) (x : Event) (ys zs : List Event) → (xs ++ x ∷ ys) ++ zs ≡ xs ++ x ∷ (ys ++ zs)
-    appended [] x ys zs = refl
-    appended (w ∷ xs) x ys zs = ap (λ l. w ∷ l) (appended xs x ys zs)
-
-pub history_nil : (c : Catalogue) → IsHistory c []
-history_nil c [] event after is = absurd (cc)
-history_nil c (b ∷ before) event after is = absurd (cc)
-
 -- ---- which ends are admissible
-
--- the rows of the table, of which so many are known
-abbrev known_starts : ℕ → ℕ → List Event → Bool → Option (List (Option ℕ))
-known_starts t tables es b = if b then Some (open_starts t 0 es) else None
 
 abbrev OpenBefore : ℕ → Option ℕ → Type 0
 OpenBefore at start = IsSomeAnd start (λ from. from < at)
@@ -304,23 +285,6 @@ starts_after tables es e starts are less = record {
         get_set_other starts u t new (λ same. let wrong : true ≡ false = sym (eqb-same u) ∙ ap (λ n. u == n) (sym same) ∙ is in cc)
         ∙ are.each t
         ∙ ap (λ l. if nat_lt t tables then Some l else None) (sym (starts_other t 0 es e is))
-
-pub no_events : (tables : ℕ) → AreStarts tables [] (replicate tables [])
-no_events tables = record {
-  each = λ t. at_place tables t;
-  finite = λ k d less. absurd (omega (arith, less));
-}
-  where
-    lt-suc : (t n : ℕ) → nat_lt (suc t) (suc n) ≡ nat_lt t n
-    lt-suc t n = grind (arith, nat_tests)
-
-    none : List (Option ℕ)
-    none = []
-
-    at_place : (n t : ℕ) → slice_get (replicate n none) t ≡ (if nat_lt t n then Some none else None)
-    at_place zero t = ap (λ b. if b then Some none else None) (let past : false ≡ nat_lt t 0 = grind (arith, nat_tests) in past)
-    at_place (suc n) zero = ap (λ b. if b then Some none else None) (let first : true ≡ nat_lt 0 (suc n) = grind (arith, nat_tests) in first)
-    at_place (suc n) (suc t) = at_place n t ∙ ap (λ b. if b then Some none else None) (sym (lt-suc t n))
 
 pub table_within : (c : Catalogue) (es : List Event) (e : Event) (starts : List (List (Option ℕ))) → AreStarts (length c.tables) es starts → IsAdmissible c es e → table_of e < length starts
 table_within c es e starts are fits = slice_get_within starts (table_of e) (open_starts (table_of e) 0 es) (are.each (table_of e) ∙ ap (λ b. if b then Some (open_starts (table_of e) 0 es) else None) (known e fits.1))

@@ -1,8 +1,8 @@
 use Rattle.std.proofs.Common.{◌≡◌, ◌∷◌, ◌++◌, [], length, subst, refl}
 use Rattle.tq_event.specs.History.{IsAdmissible}
-use Rattle.tq_core.specs.History.{noted}
-use Rattle.tq_core.proofs.HistoryLemmas.{history_push, starts_after, table_within}
-use Rattle.tq_core.proofs.history.History.append.Goals as goal
+use Rattle.tq_event.specs.Recorded.{noted}
+use Rattle.tq_event.proofs.RecordedLemmas.{history_push, starts_after, table_within}
+use Rattle.tq_event.proofs.history.History.append.Goals as goal
 
 pub note-requires : goal.note-requires
 note-requires c =

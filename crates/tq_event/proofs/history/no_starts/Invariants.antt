@@ -1,5 +1,5 @@
 use Rattle.std.proofs.Common.{◌≡◌, [], replicate}
-use Rattle.tq_core.proofs.history.no_starts.Given as goal
+use Rattle.tq_event.proofs.history.no_starts.Given as goal
 
 abbrev pub invariant-tables : goal.invariant-tables
 invariant-tables l = record {

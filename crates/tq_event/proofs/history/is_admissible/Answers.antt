@@ -1,7 +1,7 @@
 use Rattle.std.proofs.Common.{length, subst, sym}
 use Rattle.tq_event.specs.History.{CanHappen, IsNotBefore}
-use Rattle.tq_core.proofs.HistoryLemmas.{end_possible, possible_end}
-use Rattle.tq_core.proofs.history.is_admissible.Goals as goal
+use Rattle.tq_event.proofs.RecordedLemmas.{end_possible, possible_end}
+use Rattle.tq_event.proofs.history.is_admissible.Goals as goal
 
 pub returns-in-End-clause-admissible : goal.returns-in-End-clause-admissible
 returns-in-End-clause-admissible c = (

@@ -3,13 +3,13 @@
 ghost use Rattle.std.specs.Prelude.{◌≡◌, ◌↔◌, ◌<◌, ◌∷◌, ◌++◌, [], IsTrue, IfOk, OnOk, OnErr, if◌then◌else◌, length, replicate};
 ghost use Rattle.tq_base.specs.declared.period.TheConstants.{FOREVER};
 ghost use Rattle.tq_event.specs.History.{IsAdmissible, IsHistory, IsNotBefore, time_of};
-ghost use Rattle.tq_core.specs.History.{AreStarts, CanEnd, HasTable, after_event, noted, table_of};
+ghost use Rattle.tq_event.specs.Recorded.{AreStarts, CanEnd, HasTable, after_event, noted, table_of};
 
+use crate::event::Event;
 use crate::starts::Starts;
 use std::alloc::{AllocError, Global};
 use std::marker::Model;
 use tq_base::{Catalogue, Instant, Values};
-use tq_event::Event;
 
 /// A catalogue and the events of a history over it, in order.
 #[derive(Drop, Debug)]
@@ -20,7 +20,7 @@ pub struct History {
 }
 
 impl Model for History {
-    ghost use Rattle.tq_core.specs.History.{Recorded, IsRecorded};
+    ghost use Rattle.tq_event.specs.Recorded.{Recorded, IsRecorded};
 
     ghost Value = { Recorded };
 
