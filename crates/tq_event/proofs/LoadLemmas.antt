@@ -27,9 +27,6 @@ module _ (limit table : ℕ) (before : List Entry) (bytes : List ℕ) where
   pub columns_none : is_marked_twice bytes ≡ false → csv_records bytes ≡ [] → columns_of bytes ≡ Err BadHeader
   columns_none marked split = rw (marked, split) refl
 
-  pub columns_marked : is_marked_twice bytes ≡ true → columns_of bytes ≡ Err BadHeader
-  columns_marked marked = rw marked refl
-
   pub read_ok : (columns : List Column) (entries : List Entry) → columns_of bytes ≡ Ok columns
       → entries_after limit table columns 2 before (drop 1 (csv_records bytes)) ≡ Ok entries → table_contents limit table before bytes ≡ Ok (columns, entries)
   read_ok columns entries e f = rw (e, f) refl
