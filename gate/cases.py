@@ -99,7 +99,7 @@ STATEMENT_FAULTS = [
     ("SELECT name FROM emp", "UnexpectedToken", 0),
     ("", "UnexpectedToken", 0),
     ("VALIDTIME SELECT name FROM", "UnexpectedToken", 26),
-    ("VALIDTIME SELECT a.k FROM a, b, c", "UnexpectedToken", 30),
+    ("VALIDTIME SELECT a.k FROM a, b, c, d, e", "UnexpectedToken", 36),
     ("VALIDTIME SELECT name FROM emp WHERE " + 33 * "(", "TooDeep", 69),
     ("VALIDTIME SELECT name FROM emp WHERE " + 33 * "NOT ", "TooDeep", 165),
 ]
@@ -111,6 +111,7 @@ PLAN_FAULTS = [
     ("SELECT x.name FROM emp", "UnknownColumn"),
     ("SELECT name FROM emp x, emp y", "AmbiguousColumn"),
     ("SELECT emp.name FROM emp, emp", "DuplicateAlias"),
+    ("SELECT a.k FROM emp a, emp b, emp c, emp a", "DuplicateAlias"),
     ("SELECT name FROM emp WHERE name = 3", "TypeMismatch"),
     ("SELECT age FROM emp WHERE name = 3", "TypeMismatch"),
     ("SELECT name, COUNT(*) FROM emp", "NotGrouped"),

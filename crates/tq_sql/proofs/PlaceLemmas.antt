@@ -4,7 +4,7 @@ use Rattle.std.specs.Prelude.{Option, Some, None, Ok, Err}
 use Rattle.std.specs.Str.{is_utf8}
 use Rattle.tq_base.specs.Names.{folded_name}
 use Rattle.tq_base.specs.Numbers.{int_of}
-use Rattle.tq_sql.specs.Limits.{most_sources}
+use Rattle.tq_sql.specs.declared.columns.TheConstants.{MAX_SOURCES}
 use Rattle.tq_sql.specs.declared.cursor.Refusal.{Refusal}
 use Rattle.tq_sql.specs.declared.cursor.Refusal.TheVariants.{TooDeep, Unexpected}
 use Rattle.tq_sql.specs.declared.statement.ColumnRef.{ColumnRef}
@@ -142,7 +142,7 @@ source_steady =
 
 sources_steady : IsSteady sources_at
 unfolding sources_at
-sources_steady = few_steady k.Comma source_at (most_sources - 1) source_steady
+sources_steady = few_steady k.Comma source_at (MAX_SOURCES - 1) source_steady
 
 columns_steady : IsSteady columns_at
 unfolding columns_at

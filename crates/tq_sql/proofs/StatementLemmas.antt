@@ -1,7 +1,7 @@
 -- The readers of queries and of whole statements.
 use Rattle.std.proofs.Common.{◌≡◌, ◌≢◌, ◌≤◌, inl, inr, ℕ, ◌-◌, Bool, true, false, ◌||◌, List, [], ◌∷◌, ◌++◌, length, refl, ap, sym, ◌∙◌, subst, append_assoc}
 use Rattle.std.specs.Prelude.{Option, Ok, Err}
-use Rattle.tq_sql.specs.Limits.{most_sources}
+use Rattle.tq_sql.specs.declared.columns.TheConstants.{MAX_SOURCES}
 use Rattle.tq_sql.specs.declared.cursor.Refusal.{Refusal}
 use Rattle.tq_sql.specs.declared.statement.ColumnRef.{ColumnRef}
 use Rattle.tq_sql.specs.declared.statement.Cond.{Cond}
@@ -67,13 +67,13 @@ comma_ends_source : source_goes k.Comma ≡ false
 unfolding same_kind
 comma_ends_source = refl
 
-pub sources_sound : (ts rest : List Token) (ss : List SourceRef) → sources_at ts ≡ Ok (ss, rest) → (front : List Token) × (ts ≡ front ++ rest) × Listed k.Comma IsSource front ss × (length ss ≤ most_sources)
+pub sources_sound : (ts rest : List Token) (ss : List SourceRef) → sources_at ts ≡ Ok (ss, rest) → (front : List Token) × (ts ≡ front ++ rest) × Listed k.Comma IsSource front ss × (length ss ≤ MAX_SOURCES)
 unfolding sources_at
-sources_sound ts rest ss e = few_sound k.Comma comma_real IsSource source_goes source_at source_reader comma_ends_source (most_sources - 1) ts rest ss e
+sources_sound ts rest ss e = few_sound k.Comma comma_real IsSource source_goes source_at source_reader comma_ends_source (MAX_SOURCES - 1) ts rest ss e
 
-sources_complete : (front rest : List Token) (ss : List SourceRef) → Listed k.Comma IsSource front ss → length ss ≤ most_sources → sources_goes (kind_at rest) ≡ false → sources_at (front ++ rest) ≡ Ok (ss, rest)
+sources_complete : (front rest : List Token) (ss : List SourceRef) → Listed k.Comma IsSource front ss → length ss ≤ MAX_SOURCES → sources_goes (kind_at rest) ≡ false → sources_at (front ++ rest) ≡ Ok (ss, rest)
 unfolding sources_at
-sources_complete front rest ss is few stop = few_complete k.Comma comma_real IsSource source_goes source_at source_reader comma_ends_source (most_sources - 1) front rest ss is few stop
+sources_complete front rest ss is few stop = few_complete k.Comma comma_real IsSource source_goes source_at source_reader comma_ends_source (MAX_SOURCES - 1) front rest ss is few stop
 
 -- ---- queries
 
@@ -125,7 +125,7 @@ query_sound ts rest q e =
     let P : Query → Type 0 = λ z. IsQuery front z in
     (front, whole, subst P same.0 (record { spelled = (s.2, (a.0, f.0 ∷ (b.0 ++ (c.0 ++ d.0)), refl, a.2, (f.2, (b.0, c.0 ++ d.0, refl, b.2, (c.0, d.0, refl, c.2, d.2))))); few_sources = b.3 }))
 
-query_parts : (s f : Token) (a b c d rest : List Token) (q : Query) → s.kind ≡ k.Select → Listed k.Comma IsItem a q.items → f.kind ≡ k.From → Listed k.Comma IsSource b q.sources → length q.sources ≤ most_sources
+query_parts : (s f : Token) (a b c d rest : List Token) (q : Query) → s.kind ≡ k.Select → Listed k.Comma IsItem a q.items → f.kind ≡ k.From → Listed k.Comma IsSource b q.sources → length q.sources ≤ MAX_SOURCES
     → Optional (After k.Where IsCondition) c q.cond → IsGroup d q.group → query_goes (kind_at rest) ≡ false → query_at (s ∷ (a ++ (f ∷ (b ++ (c ++ (d ++ rest)))))) ≡ Ok (q, rest)
 unfolding query_at
 query_parts s f a b c d rest q is_s is_a is_f is_b few is_c is_d stop =
@@ -142,7 +142,7 @@ query_parts s f a b c d rest q is_s is_a is_f is_b few is_c is_d stop =
     rw (one, two, three, four, five, six) refl
 
 query_from : (s : Token) (a u rest : List Token) (q : Query) → s.kind ≡ k.Select → Listed k.Comma IsItem a q.items
-    → After k.From (Pair (Listed k.Comma IsSource) (Pair (Optional (After k.Where IsCondition)) IsGroup)) u (q.sources, (q.cond, q.group)) → length q.sources ≤ most_sources → query_goes (kind_at rest) ≡ false
+    → After k.From (Pair (Listed k.Comma IsSource) (Pair (Optional (After k.Where IsCondition)) IsGroup)) u (q.sources, (q.cond, q.group)) → length q.sources ≤ MAX_SOURCES → query_goes (kind_at rest) ≡ false
     → query_at (s ∷ (a ++ (u ++ rest))) ≡ Ok (q, rest)
 query_from s a [] rest q is_s is_a is few stop = absurd is
 query_from s a (f ∷ u) rest q is_s is_a is few stop =

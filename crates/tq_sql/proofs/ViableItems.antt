@@ -5,7 +5,7 @@ use Rattle.std.specs.Str.{is_utf8}
 use Rattle.std.proofs.lemmas.Str.{IsUtf8-nil, is_utf8-from_IsUtf8}
 use Rattle.tq_base.specs.Names.{folded_name, is_reserved}
 use Rattle.tq_base.specs.Numbers.{int_of}
-use Rattle.tq_sql.specs.Limits.{most_sources}
+use Rattle.tq_sql.specs.declared.columns.TheConstants.{MAX_SOURCES}
 use Rattle.tq_sql.specs.declared.cursor.Refusal.{Refusal}
 use Rattle.tq_sql.specs.declared.cursor.Refusal.TheVariants.{Unexpected}
 use Rattle.tq_sql.specs.declared.statement.ColumnRef.{ColumnRef}
@@ -233,11 +233,11 @@ source_open = wider (Pair IsName (Optional IsAlias)) IsSource (name_at >>= (λ t
     (λ t. shaped_open (Optional IsAlias) source_alias_at (λ a. of_source t a) source_alias_open) ([], None, refl))
 
 abbrev pub FewSources : List Token → List SourceRef → Type 0
-FewSources ts ss = Listed k.Comma IsSource ts ss × (length ss ≤ most_sources)
+FewSources ts ss = Listed k.Comma IsSource ts ss × (length ss ≤ MAX_SOURCES)
 
 pub sources_open : IsOpen FewSources sources_at
 unfolding sources_at
-sources_open = few_begun k.Comma comma_real IsSource source_at (most_sources - 1) source_reader.sound source_open
+sources_open = few_begun k.Comma comma_real IsSource source_at (MAX_SOURCES - 1) source_reader.sound source_open
 
 pub columns_open : IsOpen (Listed k.Comma IsColumn) columns_at
 unfolding columns_at

@@ -5,9 +5,9 @@ use Rattle.std.specs.Borrow.{Bor}
 use Rattle.std.specs.Str.{is_utf8}
 use Rattle.tq_base.specs.Names.{folded_name}
 use Rattle.tq_base.specs.Numbers.{int_of}
+use Rattle.tq_sql.specs.declared.columns.TheConstants.{MAX_SOURCES}
 use Rattle.tq_sql.specs.declared.cursor.Refusal.{Refusal}
 use Rattle.tq_sql.specs.declared.cursor.Refusal.TheVariants.{Memory, TooDeep, Unexpected}
-use Rattle.tq_sql.specs.Limits.{most_sources}
 use Rattle.tq_sql.specs.declared.statement.ColumnRef.{ColumnRef}
 use Rattle.tq_sql.specs.declared.statement.Cond.{Cond}
 use Rattle.tq_sql.specs.declared.statement.Cond.TheVariants as cond
@@ -168,7 +168,7 @@ source_at = do
   pure (record { table = t; alias = a })
 
 unfoldable pub sources_at : Reader (List SourceRef)
-sources_at = listed_up_to k.Comma source_at (most_sources - 1)
+sources_at = listed_up_to k.Comma source_at (MAX_SOURCES - 1)
 
 unfoldable pub columns_at : Reader (List ColumnRef)
 columns_at = listed k.Comma column_at

@@ -16,7 +16,7 @@ use Rattle.std.specs.Prelude.{◌≡◌, ◌⊎◌, ℕ, zero, suc, ◌≤◌, L
 use Rattle.std.specs.Str.{is_utf8}
 use Rattle.tq_base.specs.Names.{folded_name}
 use Rattle.tq_base.specs.Numbers.{int_of}
-use Rattle.tq_sql.specs.Limits.{most_sources}
+use Rattle.tq_sql.specs.declared.columns.TheConstants.{MAX_SOURCES}
 use Rattle.tq_sql.specs.declared.statement.ColumnRef.{ColumnRef}
 use Rattle.tq_sql.specs.declared.statement.Cond.{Cond}
 use Rattle.tq_sql.specs.declared.statement.Cond.TheVariants as cond
@@ -175,7 +175,7 @@ IsGroup ts (c ∷ cs) = After k.Group (After k.By (Listed k.Comma IsColumn)) ts 
 -- query = SELECT item {, item} FROM source {, source} [WHERE or] [GROUP BY column {, column}]
 pub record IsQuery (ts : List Token) (q : Query) : Type 0 where
   pub spelled : After k.Select (Pair (Listed k.Comma IsItem) (After k.From (Pair (Listed k.Comma IsSource) (Pair (Optional (After k.Where IsCondition)) IsGroup)))) ts (q.items, (q.sources, (q.cond, q.group)))
-  pub few_sources : length q.sources ≤ most_sources
+  pub few_sources : length q.sources ≤ MAX_SOURCES
 
 -- nothing, or a semicolon
 abbrev pub IsEnd : Rule (Unit {0})

@@ -3,7 +3,6 @@ pub mod Descent
 pub mod Faults
 pub mod Grammar
 pub mod Laws
-pub mod Limits
 pub mod Reading
 pub mod Tokens
 pub mod Told

@@ -124,7 +124,7 @@ fn source(alloc: Global, cursor: &mut Cursor<'_>) -> Result<SourceRef, Refusal>
 }
 
 /// The most sources of a query.
-pub const MAX_SOURCES: usize = 2;
+pub const MAX_SOURCES: usize = 4;
 
 /// Reads `source {, source}`, at most `MAX_SOURCES` of them.
 #[tactic(auto, unfolding(crate::specs::Descent::sources_at))]

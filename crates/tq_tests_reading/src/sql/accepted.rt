@@ -42,6 +42,14 @@ fn each_construct_is_read(rt: HostRuntime) -> Result<(), Fail> {
             "VALIDTIME SELECT x.name, y.name FROM emp AS x, emp AS y WHERE (x.dept = y.dept AND x.name < y.name)",
         ),
         (
+            "VALIDTIME SELECT a.k FROM a, b, c",
+            "VALIDTIME SELECT a.k FROM a, b, c",
+        ),
+        (
+            "VALIDTIME SELECT k FROM a, b AS x, c y, d WHERE x.k = y.k EXCEPT ALL SELECT k FROM a, b, c, d;",
+            "VALIDTIME SELECT k FROM a, b AS x, c AS y, d WHERE x.k = y.k EXCEPT ALL SELECT k FROM a, b, c, d",
+        ),
+        (
             "VALIDTIME SELECT v FROM l EXCEPT ALL SELECT v FROM r",
             "VALIDTIME SELECT v FROM l EXCEPT ALL SELECT v FROM r",
         ),

@@ -13,7 +13,12 @@ fn a_statement_stops_at_its_first_unexpected_token(rt: HostRuntime) {
     for (text, at) in [
         (b"SELECT name FROM emp".as_slice(), 0),
         (b"VALIDTIME SELECT name FROM", 26),
-        (b"VALIDTIME SELECT a.k FROM a, b, c", 30),
+        (b"VALIDTIME SELECT a.k FROM a, b, c, d, e", 36),
+        (b"VALIDTIME SELECT a FROM t, u, v, w,", 34),
+        (
+            b"VALIDTIME SELECT a FROM t EXCEPT ALL SELECT a FROM t, u, v, w, x",
+            61,
+        ),
         (b"", 0),
         (b"   ", 3),
         (b"VALIDTIME ", 10),
