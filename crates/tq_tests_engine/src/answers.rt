@@ -201,6 +201,33 @@ fn colleagues_are_joined_while_both_are_there(rt: HostRuntime) -> Result<(), Fai
 }
 
 #[test]
+fn three_and_four_sources_are_joined(rt: HostRuntime) -> Result<(), Fail> {
+    assert_answers(
+        &rt,
+        &[(b"emp", EMP)],
+        b"VALIDTIME SELECT x.name, y.name, z.name FROM emp x, emp y, emp z WHERE x.name < y.name AND y.name < z.name",
+        b"name,name,name,from,to\nann,bob,cat,15,25\n",
+    )?;
+    assert_answers(
+        &rt,
+        &[(b"emp", EMP)],
+        b"VALIDTIME SELECT COUNT(*) FROM emp a, emp b, emp c, emp d",
+        b"count,from,to\n0,0,5\n1,5,10\n1,30,forever\n16,10,15\n16,25,30\n81,15,25\n",
+    )?;
+    assert_answers(
+        &rt,
+        &[
+            (b"a", b"k:int,from,to\n1,0,9\n2,0,9\n"),
+            (b"b", b"k:int,v:text,from,to\n1,x,2,8\n2,y,2,8\n"),
+            (b"c", b"k:int,w:int,from,to\n1,10,0,5\n1,20,5,7\n2,30,0,3\n"),
+            (b"d", b"k:int,from,to\n30,1,forever\n20,6,forever\n"),
+        ],
+        b"VALIDTIME SELECT v, w, d.k FROM a, b, c, d WHERE a.k = b.k AND b.k = c.k AND w = d.k",
+        b"v,w,k,from,to\nx,20,20,6,7\ny,30,30,2,3\n",
+    )
+}
+
+#[test]
 fn a_difference_counts_duplicates(rt: HostRuntime) -> Result<(), Fail> {
     assert_answers(
         &rt,
@@ -336,6 +363,10 @@ fn a_statement_without_a_meaning_is_refused(rt: HostRuntime) -> Result<(), Fail>
             b"VALIDTIME SELECT name FROM emp x, emp y",
             PlanFault::AmbiguousColumn,
         ),
+        (
+            b"VALIDTIME SELECT a.k FROM emp a, emp b, emp c, emp a",
+            PlanFault::DuplicateAlias,
+        ),
     ] {
         assert_refuses(&rt, &[(b"emp", EMP)], statement, AnswerFault::Plan(fault))?;
     }
@@ -390,6 +421,19 @@ fn files_come_before_the_statement_and_it_before_its_plan(rt: HostRuntime) -> Re
         at: 29,
     });
     assert_refuses(&rt, &[(b"emp", EMP)], b"VALIDTIME SELECT age FROM b ,", sql)
+}
+
+#[test]
+fn a_fifth_source_is_refused_at_its_comma(rt: HostRuntime) -> Result<(), Fail> {
+    assert_refuses(
+        &rt,
+        &[(b"emp", EMP)],
+        b"VALIDTIME SELECT a.k FROM a, b, c, d, e",
+        AnswerFault::Sql(SqlFault {
+            kind: SqlFaultKind::UnexpectedToken,
+            at: 36,
+        }),
+    )
 }
 
 // Takes at most so many bytes a call, and fails at one of its calls. It counts its calls.

@@ -1,13 +1,20 @@
-// Statements over small tables, tried instant by instant against answers worked by hand.
+// Statements over small tables, tried instant by instant: the definition against answers worked by hand, and
+// answers of random statements against the definition.
+
+ghost use Rattle.std.specs.Prelude.{All, IfOk};
+ghost use Rattle.tq_plan.specs.Standing.{IsPlan};
+ghost use Rattle.tq_eval.specs.Running.{Fits};
 
 mod counts;
 mod histories;
+mod random;
 mod rows;
 
 use std::alloc::{AllocError, Global};
 use std::process::Abort;
 use std::test::Fail;
-use tq_base::{FOREVER, Items, Seen, Values};
+use tq_base::{FOREVER, Items, Seen, Value};
+use tq_event::laws::loaded_is_history;
 use tq_event::{Loaded, MAX_EVENTS, TableFile, load};
 use tq_plain::rows_at;
 use tq_plan::{Plan, plan};
@@ -42,17 +49,21 @@ fn files_of(alloc: Global, tables: &[(&[u8], &[u8])]) -> Result<Vec<TableFile>, 
     Ok(files)
 }
 
-fn asked(alloc: Global, tables: &[(&[u8], &[u8])], statement: &str) -> Result<Question, Fail> {
+fn asked(alloc: Global, tables: &[(&[u8], &[u8])], statement: &str) -> Result<Question, Fail>
+    ensures fit { IfOk result (λ question. All (Fits question.loaded.catalogue) question.loaded.events) }
+    ensures plan { IfOk result (λ question. IsPlan question.plan) }
+{
     let loaded = load(alloc, files_of(alloc, tables)?, MAX_EVENTS)?;
+    loaded_is_history();
     let statement = read(alloc, statement.as_bytes())?;
     let plan = plan(alloc, &loaded.catalogue, &statement)?;
     Ok(Question { loaded, plan })
 }
 
 // The values of a row, divided by commas.
-fn line_of(alloc: Global, row: &Values) -> Result<String, AllocError> {
+fn line_of(alloc: Global, row: &[Value]) -> Result<String, AllocError> {
     let mut line = String::new(alloc);
-    for (place, value) in row.get().iter().enumerate() {
+    for (place, value) in row.iter().enumerate() {
         if place > 0 {
             line.push(',')?;
         }
@@ -70,7 +81,7 @@ fn lines_at(alloc: Global, question: &Question, n: u32, instant: u64) -> Result<
     let rows = rows_at(alloc, events, n, &question.plan, instant)?;
     let mut lines = Vec::new(alloc);
     for row in &rows {
-        lines.push(line_of(alloc, row)?)?;
+        lines.push(line_of(alloc, row.get())?)?;
     }
     lines.sort()?;
     Ok(lines)

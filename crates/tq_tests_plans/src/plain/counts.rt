@@ -37,6 +37,23 @@ fn a_count_of_all_rows_is_there_at_each_instant(rt: HostRuntime) -> Result<(), F
 }
 
 #[test]
+fn rows_of_four_sources_are_counted(rt: HostRuntime) -> Result<(), Fail> {
+    assert_answer(
+        &rt,
+        &[(b"emp", EMP)],
+        "VALIDTIME SELECT COUNT(*) FROM emp a, emp b, emp c, emp d",
+        &[
+            ("0", 0, 5),
+            ("1", 5, 10),
+            ("1", 30, FOREVER),
+            ("16", 10, 15),
+            ("16", 25, 30),
+            ("81", 15, 25),
+        ],
+    )
+}
+
+#[test]
 fn no_rows_are_counted_as_none(rt: HostRuntime) -> Result<(), Fail> {
     assert_answer(
         &rt,

@@ -68,6 +68,16 @@ fn a_table_is_joined_with_itself(rt: HostRuntime) -> Result<(), Fail> {
     )
 }
 
+#[test]
+fn three_rows_of_a_table_are_joined(rt: HostRuntime) -> Result<(), Fail> {
+    assert_answer(
+        &rt,
+        &[(b"emp", EMP)],
+        "VALIDTIME SELECT x.name, y.name, z.name FROM emp x, emp y, emp z WHERE x.name < y.name AND y.name < z.name",
+        &[("ann,bob,cat", 15, 25)],
+    )
+}
+
 // The rows that docs/semantics.md works out.
 #[test]
 fn the_worked_rows_of_one_instant(rt: HostRuntime) -> Result<(), Fail> {

@@ -157,6 +157,10 @@ fn groups_of_several_sources_are_counted_and_summed(rt: HostRuntime) -> Result<(
                 b"VALIDTIME SELECT amount, name, SUM(amount) FROM pay, staff GROUP BY name, amount",
                 b"amount,name,sum,from,to\n7,ann,7,12,30\n7,bob,7,15,25\n",
             ),
+            (
+                b"VALIDTIME SELECT t.name, COUNT(*), SUM(amount) FROM staff s, pay, staff t WHERE s.id < t.id AND s.name = who GROUP BY t.name",
+                b"name,count,sum,from,to\nbob,1,7,15,25\n",
+            ),
         ],
     )
 }

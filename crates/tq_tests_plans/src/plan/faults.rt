@@ -16,6 +16,10 @@ fn a_table_that_is_not_there_is_refused(rt: HostRuntime) -> Result<(), Fail> {
             (b"VALIDTIME SELECT name FROM boss", UnknownTable),
             (b"VALIDTIME SELECT name FROM emp, boss", UnknownTable),
             (b"VALIDTIME SELECT name FROM emp boss, boss", UnknownTable),
+            (
+                b"VALIDTIME SELECT x.name FROM emp x, emp y, emp z, boss",
+                UnknownTable,
+            ),
         ],
     )?;
     assert_accepted(&rt, &[b"VALIDTIME SELECT NAME FROM Emp"])
@@ -57,6 +61,10 @@ fn a_column_of_two_sources_is_ambiguous(rt: HostRuntime) -> Result<(), Fail> {
                 b"VALIDTIME SELECT x.name FROM emp x, emp y WHERE name = 'ann'",
                 AmbiguousColumn,
             ),
+            (
+                b"VALIDTIME SELECT z.name FROM emp x, emp y, emp z, emp GROUP BY z.name, dept",
+                AmbiguousColumn,
+            ),
         ],
     )?;
     assert_accepted(
@@ -64,6 +72,7 @@ fn a_column_of_two_sources_is_ambiguous(rt: HostRuntime) -> Result<(), Fail> {
         &[
             b"VALIDTIME SELECT x.name, y.name FROM emp x, emp y",
             b"VALIDTIME SELECT x.dept, emp.dept FROM emp x, emp",
+            b"VALIDTIME SELECT x.dept, emp.dept, y.name, z.emp FROM emp x, emp, emp y, emp z",
         ],
     )
 }
@@ -84,6 +93,14 @@ fn an_alias_stands_for_one_source(rt: HostRuntime) -> Result<(), Fail> {
             ),
             (
                 b"VALIDTIME SELECT emp.name FROM emp AS emp, emp",
+                DuplicateAlias,
+            ),
+            (
+                b"VALIDTIME SELECT a.k FROM emp a, emp b, emp c, emp a",
+                DuplicateAlias,
+            ),
+            (
+                b"VALIDTIME SELECT a.name FROM emp a, emp b, emp B, boss",
                 DuplicateAlias,
             ),
         ],

@@ -92,6 +92,25 @@ fn a_join_of_two_tables_is_grouped_and_summed(rt: HostRuntime) -> Result<(), Fai
 }
 
 #[test]
+fn the_places_of_four_sources_go_on_over_all_of_them(rt: HostRuntime) -> Result<(), Fail> {
+    let plan = planned(
+        rt.alloc(),
+        &[(b"emp", EMP), (b"pay", PAY), (b"short", SHORT)],
+        b"VALIDTIME SELECT f.name, amount, a, e.dept FROM emp e, short, pay, emp f WHERE a = f.emp",
+    )?;
+    assert_eq!(rt; plan.left.tables.get(), [0, 2, 1, 0].as_slice());
+    assert_eq!(rt;
+        plan.left.outputs.get(),
+        [Column(8), Column(6), Column(3), Column(2)].as_slice()
+    );
+    let Some(test) = &plan.left.test else {
+        return Err("a condition".into());
+    };
+    assert!(rt; compares(test, 3, Compare::Eq, 7));
+    Ok(())
+}
+
+#[test]
 fn both_sides_of_a_difference_have_numbers_of_their_own(rt: HostRuntime) -> Result<(), Fail> {
     let plan = planned(
         rt.alloc(),
