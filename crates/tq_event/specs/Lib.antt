@@ -2,6 +2,8 @@ pub mod Entries
 pub mod History
 pub mod Laws
 pub mod Loading
+pub mod Opening
 pub mod Reading
 pub mod Recorded
 pub mod Tables
+pub mod Versions

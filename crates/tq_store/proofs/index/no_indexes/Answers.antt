@@ -1,0 +1,25 @@
+use Rattle.std.proofs.Common.{◌∷◌, [], ◌∙◌, ℕ, length, length-append, ap, subst, sym, arith}
+use Rattle.std.specs.Prelude.{All}
+use Rattle.std.proofs.lemmas.List.Elements.{All-push, All-get_or}
+use Rattle.std.proofs.lemmas.Option.{get_or_from_slice_get, slice_get_within}
+use Rattle.tq_store.specs.declared.index.Index.{Index}
+use Rattle.tq_store.specs.Index.{IsIndexOf}
+use Rattle.tq_store.proofs.index.no_indexes.Goals as goal
+
+pub tables-preserved : goal.tables-preserved
+tables-preserved c =
+    let items = c.in_ok-push.ensures.items in
+    let len = length-append c.tables.indexes.items (c.in_ok-new.field-0 ∷ []) in
+    let before = c.tables.invariant.len in
+    let Good = λ (index : Index). (table : ℕ) → IsIndexOf [] table index in
+    record {
+      len = ap length items ∙ omega (arith, len, before);
+      each = subst (All Good) (sym items) (All-push Good c.tables.indexes.items c.in_ok-new.field-0 c.tables.invariant.each c.in_ok-new.ensures);
+    }
+
+pub returns-clause-indexes : goal.returns-clause-indexes
+returns-clause-indexes c = record {
+  each = λ table index here.
+      let kept = All-get_or (λ index. (table : ℕ) → IsIndexOf [] table index) c.tables.indexes.items table index (slice_get_within c.tables.indexes.items table index here) c.tables.invariant.each in
+      subst (IsIndexOf [] table) (get_or_from_slice_get c.tables.indexes.items table index index here) (kept table);
+}

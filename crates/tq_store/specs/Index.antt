@@ -1,0 +1,97 @@
+-- The tree of a table, and the events of its rows: what holds of them by the events so far. This project's own.
+use Rattle.std.specs.Prelude.{◌≡◌, ◌≢◌, ℕ, ◌+◌, ◌<◌, ◌≤◌, List, map, length, slice_get, true, Option, Some, None, IsSomeAnd, IfSome, FitsSigned}
+use Rattle.std.specs.Int.{w64}
+use Rattle.std.specs.List.Sorted.{IsNonDecreasingBy}
+use Rattle.std.specs.Option.{option_map}
+use Rattle.tq_base.specs.declared.catalogue.Catalogue.{Catalogue}
+use Rattle.tq_base.specs.declared.period.TheConstants.{FOREVER}
+use Rattle.tq_event.specs.declared.event.Event.{Event}
+use Rattle.tq_event.specs.declared.event.Event.TheVariants.{Start, End}
+use Rattle.tq_event.specs.History.{IsHistory, time_of}
+use Rattle.tq_event.specs.Versions.{Ending, Life, row_lives}
+use Rattle.tq_mvbt.specs.NodeState.{NodeState}
+use Rattle.tq_mvbt.specs.Points.{now}
+use Rattle.tq_mvbt.specs.TreeState.{HasLife, TreeState, lives_of}
+use Rattle.tq_store.specs.declared.index.Index.{Index}
+use Rattle.tq_store.specs.declared.index.RowEvents.{RowEvents}
+use Rattle.tq_store.specs.Keys.{key_of, tree_key}
+
+-- the first version at which a row that so ends is dead
+abbrev pub dead_of : Option Ending → ℕ
+dead_of None = now
+dead_of (Some e) = e.event + 1
+
+-- the events of a row
+abbrev pub events_of : Life → RowEvents
+events_of l = record { start = l.start; end = option_map (λ e. e.event) l.ending }
+
+-- the row, ended by the event of this number
+abbrev pub ended : ℕ → RowEvents → RowEvents
+ended number row = record row { end = Some number }
+
+-- a row's key has 64 signed bits, and the row ends later than it starts, if it ends
+pub record IsRowLife (l : Life) : Type 0 where
+  pub key : FitsSigned w64 (key_of l.values)
+  pub finite : l.from < FOREVER
+  pub lasts : IfSome l.ending (λ e. (l.from < e.at) × (l.start < e.event))
+  pub ends : IfSome l.ending (λ e. e.at < FOREVER)
+
+-- the key is that of one of these rows
+pub record IsKeyOf (lives : List Life) (key : ℕ) : Type 0 where
+  pub row : ℕ
+  pub life : Life
+  pub stands : slice_get lives row ≡ Some life
+  pub same : key ≡ tree_key life.values row
+
+-- a tree has just the keys of these rows, each at the versions of the row's life
+pub record HasRows (lives : List Life) (count version : ℕ) (nodes : List NodeState) : Type 0 where
+  pub each : (row : ℕ) (l : Life) → slice_get lives row ≡ Some l → HasLife nodes (tree_key l.values row) (l.start + 1) (dead_of l.ending)
+  pub only : (k v : ℕ) → lives_of nodes k v ≡ true → IsKeyOf lives k
+  pub begun : (row : ℕ) (l : Life) → slice_get lives row ≡ Some l → l.start < version
+  pub rows : (row : ℕ) (l : Life) → slice_get lives row ≡ Some l → IsRowLife l
+  pub up_to : version ≤ count
+  pub few : length lives ≤ count
+
+-- the tree and the rows are those of the table by these events
+pub record IsIndexOf (events : List Event) (table : ℕ) (index : Index) : Type 0 where
+  pub rows : index.rows.items ≡ map events_of (row_lives events table)
+  pub tree : HasRows (row_lives events table) (length events) index.tree.version index.tree.nodes
+
+-- they are the indexes of the tables of their numbers
+pub record AreIndexes (events : List Event) (indexes : List Index) : Type 0 where
+  pub each : (table : ℕ) (index : Index) → slice_get indexes table ≡ Some index → IsIndexOf events table index
+
+-- a history with its indexes
+pub record IsDb (catalogue : Catalogue) (events : List Event) (indexes : List Index) : Type 0 where
+  pub history : IsHistory catalogue events
+  pub ordered : IsNonDecreasingBy time_of events
+  pub few : length events ≤ 16777216
+  pub tables : length indexes ≡ length catalogue.tables
+  pub indexed : AreIndexes events indexes
+
+-- ---- one more event
+
+-- the row of the table is open, and started before the instant
+abbrev pub IsOpenAt : List Event → ℕ → ℕ → ℕ → Type 0
+IsOpenAt events table row at = IsSomeAnd (slice_get (row_lives events table) row) (λ (l : Life). (l.ending ≡ None) × (l.from < at))
+
+-- the same of a row of one of so many tables
+abbrev pub CanEnd : ℕ → List Event → ℕ → ℕ → ℕ → Type 0
+CanEnd tables events table row at = (table < tables) × IsOpenAt events table row at
+
+-- what an index asks of an event: a key of 64 signed bits, or an open row
+abbrev pub CanTake : List Event → Event → Type 0
+CanTake events (Start t v at) = FitsSigned w64 (key_of v) × (at < FOREVER)
+CanTake events (End t r at) = IsOpenAt events t r at × (at < FOREVER)
+
+-- the key begins to live at the version
+pub record Begins (old new : TreeState) (key version : ℕ) : Type 0 where
+  pub version_is : new.version ≡ version
+  pub life : HasLife new.nodes key version now
+  pub others : (k v : ℕ) → k ≢ key → lives_of new.nodes k v ≡ lives_of old.nodes k v
+
+-- the key is dead from the version on
+pub record Ends (old new : TreeState) (key version : ℕ) : Type 0 where
+  pub version_is : new.version ≡ version
+  pub life : (born : ℕ) → HasLife old.nodes key born now → HasLife new.nodes key born version
+  pub others : (k v : ℕ) → k ≢ key → lives_of new.nodes k v ≡ lives_of old.nodes k v

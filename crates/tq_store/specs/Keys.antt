@@ -1,0 +1,20 @@
+-- Keys of rows, and the keys under which a tree has them: by the key, then by the number of the row. This project's
+-- own.
+use Rattle.std.specs.Prelude.{ℕ, ℤ, pos, negsuc, ◌+◌, ◌-◌, ◌*◌, ◌^◌, min, List, [], ◌∷◌}
+use Rattle.tq_base.specs.declared.value.Value.{Value}
+use Rattle.tq_base.specs.Contents.{Int, Text}
+
+-- the key of a row of these values: the first one, which is a number
+abbrev pub key_of : List Value → ℤ
+key_of [] = pos 0
+key_of (Int n ∷ values) = n
+key_of (Text t ∷ values) = pos 0
+
+-- a number of 64 signed bits, counted from the least of them
+abbrev pub shifted : ℤ → ℕ
+shifted (pos n) = 2 ^ 63 + min n (2 ^ 63 - 1)
+shifted (negsuc n) = 2 ^ 63 - 1 - n
+
+-- the key that the tree has for a row of these values and this number
+abbrev pub tree_key : List Value → ℕ → ℕ
+tree_key values row = shifted (key_of values) * 4294967296 + row

@@ -1,0 +1,29 @@
+-- Each row of a window comes from one part of any cut.
+use Rattle.std.specs.Prelude.{◌≡◌, ℕ, List, slice_get, Some}
+use Rattle.tq_base.specs.declared.period.Period.{Period}
+use Rattle.tq_event.specs.declared.event.Event.{Event}
+use Rattle.tq_event.specs.History.{Row}
+use Rattle.tq_scan.specs.declared.window.Part.{Part}
+use Rattle.tq_scan.specs.declared.window.Window.{Window}
+use Rattle.tq_scan.specs.Cuts.{AreTiles}
+use Rattle.tq_scan.specs.Windows.{whole_of}
+use Rattle.tq_store.specs.declared.key.KeyRange.{KeyRange}
+use Rattle.tq_store.specs.Rows.{IsPartRow, window_part}
+
+-- the row is one of one of the parts, and of no other
+pub record IsRowOfOne (history : List Event) (n table : ℕ) (range : KeyRange) (period : Period) (parts : List Part) (row : Row) : Type 0 where
+  pub place : ℕ
+  pub part : Part
+  pub stands : slice_get parts place ≡ Some part
+  pub is : IsPartRow history n table range period part row
+  pub only : (i : ℕ) (p : Part) → slice_get parts i ≡ Some p → IsPartRow history n table range period p row → i ≡ place
+
+-- each row of all of a window is one of one part, and the parts have no others
+pub record EachRowInOnePart (history : List Event) (n table : ℕ) (range : KeyRange) (period : Period) (parts : List Part) : Type 0 where
+  pub one : (row : Row) → IsPartRow history n table range period (window_part history n range period) row → IsRowOfOne history n table range period parts row
+  pub all : (i : ℕ) (p : Part) (row : Row) → slice_get parts i ≡ Some p → IsPartRow history n table range period p row → IsPartRow history n table range period (window_part history n range period) row
+
+-- so it is of parts that tile the window
+abbrev pub RowsComeOnce : Type 0
+RowsComeOnce = (history : List Event) (n table : ℕ) (range : KeyRange) (period : Period) (w : Window) (parts : List Part)
+    → whole_of w ≡ window_part history n range period → AreTiles w parts → EachRowInOnePart history n table range period parts

@@ -1,0 +1,5 @@
+pub mod Keys
+pub mod Index
+pub mod Rows
+pub mod Stored
+pub mod Laws

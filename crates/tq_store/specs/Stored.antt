@@ -1,0 +1,67 @@
+-- What the events tell of a row whose start and end they are. This project's own.
+use Rattle.std.specs.Prelude.{ℕ, ◌%◌, ◌<◌, ◌&&◌, not, is_some, Bool, false, List, [], length, slice_get, slice_index_or, nat_lt, if◌then◌else◌, Option, Some, None, IsSomeAnd, IfSome, ⊤}
+use Rattle.std.specs.Option.{option_map_or}
+use Rattle.std.specs.Ordering.{eq_by_cmp}
+use Rattle.tq_base.specs.declared.period.TheConstants.{FOREVER}
+use Rattle.tq_base.specs.declared.value.Value.{Value}
+use Rattle.tq_base.specs.ValueOrder.{values_cmp}
+use Rattle.tq_event.specs.declared.event.Event.{Event}
+use Rattle.tq_event.specs.declared.event.Event.TheVariants.{Start, End}
+use Rattle.tq_event.specs.History.{Row, time_of}
+use Rattle.tq_store.specs.declared.index.RowEvents.{RowEvents}
+use Rattle.tq_store.specs.declared.row.Row as declared
+
+-- the row that is handed out
+abbrev pub seen : declared.Row → Row
+seen r = record { number = r.row; values = r.values; from = r.period.start; to = r.period.end }
+
+abbrev pub values_in : Event → List Value
+values_in (Start t v at) = v
+values_in (End t r at) = []
+
+-- the values that the event of this number starts a row of
+abbrev pub values_at : List Event → ℕ → List Value
+values_at events number = option_map_or values_in (slice_get events number) []
+
+-- the time of the event of this number
+abbrev pub time_at : List Event → ℕ → ℕ
+time_at events number = option_map_or time_of (slice_get events number) 0
+
+-- the event starts a row
+abbrev pub IsStart : Event → Type 0
+IsStart (Start t v at) = ⊤
+IsStart (End t r at) = ⊥
+
+-- these are the numbers of an event that starts a row, and of a later one that ends it
+pub record IsStored (events : List Event) (row : RowEvents) : Type 0 where
+  pub starts : IsSomeAnd (slice_get events row.start) IsStart
+  pub within : IfSome row.end (λ e. e < length events)
+  pub lasts : IfSome row.end (λ e. time_at events row.start < time_at events e)
+
+-- when a row ends by the first n events, if the event of this number ends it
+abbrev pub end_as_of : List Event → ℕ → Option ℕ → ℕ
+end_as_of events n None = FOREVER
+end_as_of events n (Some e) = if nat_lt e n then time_at events e else FOREVER
+
+-- the row of this number as of the first n events
+abbrev pub stored_row : List Event → ℕ → ℕ → RowEvents → Row
+stored_row events n number row =
+    record { number = number; values = values_at events row.start; from = time_at events row.start; to = end_as_of events n row.end }
+
+-- the key is that of a row
+abbrev pub IsReadable : List Event → List RowEvents → ℕ → Type 0
+IsReadable events rows key = IsSomeAnd (slice_get rows (key % 4294967296)) (IsStored events)
+
+-- the row of the key as of the first n events
+abbrev pub row_of_key : List Event → List RowEvents → ℕ → ℕ → Row
+row_of_key events rows n key =
+    stored_row events n (key % 4294967296) (slice_index_or rows (key % 4294967296) (record { start = 0; end = None }))
+
+-- whether the event starts a row of these values before the instant
+abbrev pub starts_like : List Value → ℕ → Event → Bool
+starts_like values at (Start t v from) = nat_lt from at && eq_by_cmp values_cmp v values
+starts_like values at (End t r ended) = false
+
+-- whether the row is open, started before the instant, and has these values
+abbrev pub open_like : List Event → List Value → ℕ → RowEvents → Bool
+open_like events values at row = option_map_or (λ e. not (is_some row.end) && starts_like values at e) (slice_get events row.start) false

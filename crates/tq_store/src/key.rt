@@ -1,0 +1,72 @@
+//! Keys of rows, and the keys under which a tree has them.
+
+ghost use Rattle.std.specs.Prelude.{◌≡◌, ◌≤ℤ◌, ◌+◌, ◌*◌, ◌<◌, ◌^◌, IsSome, IfSome, ◌↔◌};
+ghost use Rattle.tq_store.specs.Keys.{key_of, shifted, tree_key};
+
+use tq_base::{Seen, Values};
+
+/// How far the numbers of 64 signed bits go beyond 0: 2^63.
+const SPAN: i128 = 0x8000_0000_0000_0000;
+
+/// How many tree keys there are for each key, one for each number that a row can have.
+pub(crate) const ROWS: u128 = 4_294_967_296;
+
+/// The keys from `low` to `high`, both among them.
+#[derive(Clone, Copy, PartialEq, Eq, Debug)]
+pub struct KeyRange {
+    pub low: i64,
+    pub high: i64,
+    ghost ordered: { low ≤ℤ high },
+}
+
+impl KeyRange {
+    /// The keys from the low to the high one; `None` where the low one is above the high one.
+    pub fn new(low: i64, high: i64) -> Option<KeyRange>
+        ensures valid { IsSome result ↔ (low ≤ℤ high) }
+        ensures low { IfSome result (λ r. r.low ≡ low) }
+        ensures high { IfSome result (λ r. r.high ≡ high) }
+    {
+        if low <= high {
+            Some(KeyRange { low, high })
+        } else {
+            None
+        }
+    }
+}
+
+// The number, from 0 on in place of the least number of 64 signed bits.
+fn shift(number: i128) -> u128
+    ensures value { result ≡ shifted number }
+    ensures small { result < 2 ^ 64 }
+{
+    (number.clamp(-SPAN, SPAN - 1) + SPAN) as u128
+}
+
+// The key, from 0 on in place of the least one.
+pub(crate) fn shift_key(key: i64) -> u128
+    ensures value { result ≡ shifted key }
+    ensures small { result < 2 ^ 64 }
+{
+    shift(i128::from(key))
+}
+
+// The key of a row of these values.
+fn key(values: &Values) -> i128
+    ensures { result ≡ key_of values.now }
+{
+    match values.get().first() {
+        Some(value) => match value.seen() {
+            Seen::Int(number) => number,
+            Seen::Text(_) => 0,
+        },
+        None => 0,
+    }
+}
+
+// The tree's key of the row of this number.
+pub(crate) fn row_key(values: &Values, row: u32) -> u128
+    ensures value { result ≡ tree_key values.now row }
+    ensures small { result < 2 ^ 96 }
+{
+    shift(key(values)) * ROWS + u128::from(row)
+}

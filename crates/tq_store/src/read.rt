@@ -1,0 +1,66 @@
+//! Reading a history: the version of an instant, and the rows of a tree's keys.
+
+ghost use Rattle.std.specs.Prelude.{◌≡◌, ◌≤◌, ◌<◌, ◌-◌, length, map, All, IfOk, FitsSigned};
+ghost use Rattle.std.specs.Int.{w64};
+ghost use Rattle.std.specs.List.Sorted.{IsNonDecreasingBy};
+ghost use Rattle.tq_base.specs.declared.period.TheConstants.{FOREVER};
+ghost use Rattle.tq_event.specs.History.{time_of};
+ghost use Rattle.tq_event.specs.Versions.{version_at};
+ghost use Rattle.tq_scan.specs.Windows.{whole_of};
+ghost use Rattle.tq_store.specs.Rows.{window_part};
+ghost use Rattle.tq_store.specs.Stored.{IsReadable, row_of_key, seen};
+
+use crate::index::RowEvents;
+use crate::key::{KeyRange, ROWS, shift_key};
+use crate::row::Row;
+use crate::stored::{read_row, time};
+use std::alloc::{AllocError, Global};
+use tq_base::Period;
+use tq_event::Event;
+use tq_scan::Window;
+
+// How many of the first n events are no later than the instant of this number.
+pub(crate) fn find_version(events: &[Event], n: u32, at: u64) -> u32
+    requires known { n ≤ length events.now }
+    requires ordered { IsNonDecreasingBy time_of events.now }
+    ensures value { result ≡ version_at events.now n at }
+    ensures within { result ≤ n }
+{
+    events[..n as usize].partition_point(|event| time(event).number() <= at) as u32
+}
+
+// The keys of the range at the versions of the period.
+pub(crate) fn make_window(events: &[Event], n: u32, range: &KeyRange, period: &Period) -> Window
+    requires known { n ≤ length events.now }
+    requires few { length events.now ≤ 16777216 }
+    requires ordered { IsNonDecreasingBy time_of events.now }
+    ensures window { whole_of result ≡ window_part events.now n range.now period.now }
+    ensures finite { period.now.start < FOREVER }
+    ensures low { FitsSigned w64 range.now.low }
+    ensures high { FitsSigned w64 range.now.high }
+{
+    let low = shift_key(range.low) * ROWS;
+    let high = (shift_key(range.high) + 1) * ROWS;
+    let first = find_version(events, n, period.start.number());
+    let last = find_version(events, n, period.end.number() - 1);
+    Window::new(low, high, first, last).unwrap()
+}
+
+// The rows of a tree's keys as of the first n events.
+pub(crate) fn read_rows(
+    alloc: Global,
+    events: &[Event],
+    rows: &[RowEvents],
+    keys: &[u128],
+    n: u32,
+) -> Result<Vec<Row>, AllocError>
+    requires { All (IsReadable events.now rows.now) keys.now }
+    ensures { IfOk result (λ found. map seen found.items ≡ map (row_of_key events.now rows.now n) keys.now) }
+{
+    let mut found = Vec::with_capacity(alloc, keys.len())?;
+    'keys: for key in keys {
+        let number = (*key % ROWS) as u32;
+        found.push(read_row(events, &rows[number as usize], number, n)?)?;
+    }
+    Ok(found)
+}

@@ -1,0 +1,82 @@
+//! What the events tell of a row whose start and end they are.
+
+ghost use Rattle.std.specs.Prelude.{◌≡◌, ◌<◌, length, slice_get, IsSomeAnd, IfSome, IfOk};
+ghost use Rattle.tq_base.specs.declared.period.TheConstants.{FOREVER};
+ghost use Rattle.tq_event.specs.History.{time_of};
+ghost use Rattle.tq_event.specs.Recorded.{table_of};
+ghost use Rattle.tq_store.specs.Stored.{IsStart, IsStored, end_as_of, seen, stored_row, time_at, values_at};
+
+use crate::index::RowEvents;
+use crate::row::Row;
+use std::alloc::AllocError;
+use tq_base::{Bound, FOREVER, Instant, Period, Values};
+use tq_event::Event;
+
+pub(crate) fn time(event: &Event) -> Instant
+    ensures { result ≡ time_of event.now }
+{
+    match event {
+        Event::Start { at, .. } => *at,
+        Event::End { at, .. } => *at,
+    }
+}
+
+pub(crate) fn table(event: &Event) -> u32
+    ensures { result ≡ table_of event.now }
+{
+    match event {
+        Event::Start { table, .. } => *table,
+        Event::End { table, .. } => *table,
+    }
+}
+
+// The values of the row that the event of this number starts.
+pub(crate) fn values(events: &[Event], start: u32) -> &Values
+    requires { IsSomeAnd (slice_get events.now start) IsStart }
+    ensures { result.now ≡ values_at events.now start }
+{
+    match &events[start as usize] {
+        Event::Start { values, .. } => values,
+        Event::End { .. } => unreachable!(),
+    }
+}
+
+// When the row ends by the first n events, or forever.
+fn end(events: &[Event], end: Option<u32>, n: u32) -> Bound
+    requires { IfSome end (λ e. e < length events.now) }
+    ensures { result ≡ end_as_of events.now n end }
+{
+    let number = match end {
+        Some(event) if event < n => time(&events[event as usize]).number(),
+        _ => FOREVER,
+    };
+    Bound::new(number).unwrap()
+}
+
+// When the row is valid as of the first n events.
+fn period(events: &[Event], row: &RowEvents, n: u32) -> Period
+    requires { IsStored events.now row.now }
+    ensures start { result.start ≡ time_at events.now row.now.start }
+    ensures end { result.end ≡ end_as_of events.now n row.now.end }
+{
+    let start = time(&events[row.start as usize]);
+    let end = end(events, row.end, n);
+    Period::new(start, end).unwrap()
+}
+
+// The row of this number as of the first n events.
+pub(crate) fn read_row(
+    events: &[Event],
+    row: &RowEvents,
+    number: u32,
+    n: u32,
+) -> Result<Row, AllocError>
+    requires { IsStored events.now row.now }
+    ensures { IfOk result (λ r. seen r ≡ stored_row events.now n number row.now) }
+{
+    Ok(Row {
+        row: number,
+        values: values(events, row.start).try_copy()?,
+        period: period(events, row, n),
+    })
+}
