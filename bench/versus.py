@@ -32,6 +32,9 @@ BEGINNING = "b" * 60
 # How many rows of one key a side has of which all pairs are summed.
 ONE_KEY = 4_000
 
+# How many rows each table has of which two and three are joined.
+CHAIN_ROWS = 100_000
+
 
 def read_options():
     parser = argparse.ArgumentParser()
@@ -43,7 +46,7 @@ def read_options():
 
 def files_read(tables, statement):
     """Of the files of tables, by their names, those that the statement reads."""
-    sources = statement.split(" FROM ", 1)[1]
+    sources = statement.split(" FROM ", 1)[1].replace(",", " ").split()
     return {name: path for name, path in tables.items() if name in sources}
 
 
@@ -136,6 +139,27 @@ def pairs_of_one_key(programs, folder):
     print(f"{pairs:>9,} pairs of one key {seconds:>8.2f} s {peak / pairs:>6,.0f} bytes a pair", flush=True)
 
 
+def chains_of_sources(programs, rows, folder):
+    """Prints how many times as long a join of three tables takes as one of two: unique keys, all rows valid at once."""
+    tables = {}
+    for name in ["a", "b", "c"]:
+        tables[name] = os.path.join(folder, f"{name}.csv")
+        with open(tables[name], "w", encoding="utf-8") as file:
+            file.write("k:int,n:int,from,to\n")
+            for i in range(rows):
+                file.write(f"{i * 7919 % rows},{i},{i % 10},forever\n")
+    times = []
+    for label, statement in {
+        "join of two": "VALIDTIME SELECT a.k, a.n, b.n FROM a, b WHERE a.k = b.k",
+        "join of three": "VALIDTIME SELECT a.k, b.n, c.n FROM a, b, c WHERE a.k = b.k AND b.k = c.k",
+    }.items():
+        measured = measure(programs[:1], tables, statement, folder)
+        lines = rows * len(files_read(tables, statement))
+        show(label, rows, measured, beyond_files(measured[0][1], tables, statement) / lines)
+        times.append(measured[0][0])
+    print(f"{'':<11}three: {times[1] / times[0]:.2f} times as long as two")
+
+
 def main():
     options = read_options()
     programs = [options.tq] + ([options.beside] if options.beside else [])
@@ -148,6 +172,7 @@ def main():
                 times[label][rows] = seconds
         long_beginnings(programs, max(options.rows), folder)
         pairs_of_one_key(programs, folder)
+        chains_of_sources(programs, CHAIN_ROWS, folder)
     for label, seconds in times.items():
         print(f"{label}: {growth(seconds)}")
 

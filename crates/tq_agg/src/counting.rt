@@ -19,7 +19,7 @@ use crate::edges::{Edges, edges_of, sweep_edges};
 use crate::summands::{Summand, summands_of};
 use crate::sweeping::{Group, Head, SweepRoom, sweep, sweep_room};
 use std::alloc::{AllocError, Global};
-use tq_base::{Key, Period, Rows, Side, Sides};
+use tq_base::{Key, Period, Relation, Rows, Side, Sides};
 
 // What one group after another is gone through in: where its rows end, and what it is swept in.
 #[derive(Drop)]
@@ -63,8 +63,9 @@ fn add_group(
         return Ok(());
     };
     fill_ends(sides, keys, window, &mut room.ends)?;
+    let row = sides.row(first);
     let head = Head {
-        row: sides.values(first),
+        row: &row,
         keys: sides.left_columns,
     };
     let group = Group {
@@ -81,7 +82,7 @@ fn add_group(
 /// summed numbers owe 64 signed bits. `AllocError` where a growth was refused.
 pub fn group_count_sum(
     alloc: Global,
-    rows: &Rows,
+    rows: &Relation<'_>,
     window: &Period,
     keys: &[u32],
     sums: &[u32],
@@ -94,8 +95,8 @@ pub fn group_count_sum(
 {
     let summands = summands_of(alloc, sums)?;
     let sides = Sides {
-        left: rows,
-        right: rows,
+        left: &*rows,
+        right: &*rows,
         left_columns: keys,
         right_columns: keys,
     };
@@ -116,7 +117,7 @@ pub fn group_count_sum(
 
 /// How many rows are valid, as it changes over the window: one row at each instant of it, with the
 /// number 0 where none is valid. `AllocError` where a growth was refused.
-pub fn count_all(alloc: Global, rows: &Rows, window: &Period) -> Result<Rows, AllocError>
+pub fn count_all(alloc: Global, rows: &Relation<'_>, window: &Period) -> Result<Rows, AllocError>
     ensures width { IfOk result (λ out. out.width ≡ 1) }
     ensures inside { IfOk result (λ out. HasInside window.now out.items (λ t v. occurrences (count_rows (at rows.now.items t)) v)) }
     ensures outside { IfOk result (λ out. IsEmptyOutside window.now out.items) }

@@ -9,9 +9,9 @@ ghost use Rattle.tq_agg.specs.Edges.{count_upto, AreEdges, IsAtFront};
 ghost use Rattle.tq_agg.specs.Totals.{added, held_weight, row_copies};
 
 use crate::bounds::bound_at;
-use crate::sweeping::{Head, add_row};
+use crate::sweeping::add_totals;
 use std::alloc::{AllocError, Global};
-use tq_base::{Bound, Period, Rows, Value};
+use tq_base::{Bound, Period, Relation, Rows, Value};
 
 // The bounds at which rows begin, and those at which they end.
 #[derive(Drop)]
@@ -21,19 +21,23 @@ pub(crate) struct Edges {
 }
 
 // Where the rows, cut to the window, begin and end, in order.
-pub(crate) fn edges_of(alloc: Global, rows: &Rows, window: &Period) -> Result<Edges, AllocError>
+pub(crate) fn edges_of(
+    alloc: Global,
+    rows: &Relation<'_>,
+    window: &Period,
+) -> Result<Edges, AllocError>
     ensures counts { IfOk result (λ edges. (t : ℕ) → count_upto edges.starts.items edges.ends.items t ≡ added (held_weight One window.now t) rows.now.items) }
     ensures starts { IfOk result (λ edges. AreEdges window.now edges.starts.items) }
     ensures ends { IfOk result (λ edges. AreEdges window.now edges.ends.items) }
 {
     let mut starts = Vec::new(alloc);
     let mut ends = Vec::new(alloc);
-    'rows: for row in 0..rows.len() {
-        let Some(period) = rows.period(row).overlap(window) else {
+    'rows: for period in rows.periods() {
+        let Some(shared) = period.overlap(window) else {
             continue;
         };
-        starts.push(bound_at(period.start))?;
-        ends.push(period.end)?;
+        starts.push(bound_at(shared.start))?;
+        ends.push(shared.end)?;
     }
     starts.sort_unstable();
     ends.sort_unstable();
@@ -93,11 +97,7 @@ fn add_count(
     ensures rows { OnOk result ((t : ℕ) (v : List Value) → copies out.new.items v t ≡ copies out.old.items v t
         + (if nat_le since t && nat_lt t until then row_copies [] ((pos begun -ℤ pos ended) ∷ []) v else 0)) }
 {
-    let head = Head {
-        row: &[],
-        keys: &[],
-    };
-    add_row(alloc, &head, &[left(begun, ended)], since, until, room, out)
+    add_totals(alloc, &[left(begun, ended)], since, until, room, out)
 }
 
 // How many rows are valid at each instant of the window, as rows of one number, goes to the end of the list.

@@ -6,7 +6,7 @@ ghost use Rattle.tq_agg.specs.Grouping.{number_of};
 ghost use Rattle.tq_agg.specs.Totals.{weight_of};
 
 use std::alloc::{AllocError, Global};
-use tq_base::{Seen, Value};
+use tq_base::{Row, Seen, Value};
 
 // What each row adds to a total: 1, or the number in the column, which is 0 for a text and where the row
 // has no such column.
@@ -26,17 +26,14 @@ fn number_of(value: &Value) -> i128
 }
 
 // What the row adds. Where it is counted alone its values are not looked at.
-pub(crate) fn weight(summand: Summand, row: &[Value]) -> i128
+pub(crate) fn weight(summand: Summand, row: &Row<'_>) -> i128
     ensures { result ≡ weight_of summand row.now }
 {
     let column = match summand {
         Summand::One => return 1,
         Summand::Column(column) => column,
     };
-    match row.get(column as usize) {
-        Some(value) => number_of(value),
-        None => 0,
-    }
+    number_of(row.at(column))
 }
 
 // The count of rows, then the sum of each column.

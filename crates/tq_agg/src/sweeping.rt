@@ -1,7 +1,7 @@
 //! The sweep over the starts and ends of a group: running totals, and a row wherever they change.
 
 ghost use Rattle.std.specs.List.Sorted.{IsNonDecreasingBy};
-ghost use Rattle.std.specs.Prelude.{◌≡◌, ◌++◌, ◌+◌, ◌<◌, ◌≤◌, ◌^◌, ◌&&◌, ℕ, pos, [], if◌then◌else◌, nat_le, nat_lt, length, map, take, All, IfOk, IsSortedByKey, List, OnOk};
+ghost use Rattle.std.specs.Prelude.{◌≡◌, ◌++◌, ◌+◌, ◌<◌, ◌≤◌, ◌^◌, ◌&&◌, ℕ, pos, [], if◌then◌else◌, nat_le, nat_lt, length, map, take, All, IsSortedByKey, List, OnOk};
 ghost use Rattle.std.specs.Ordering.{nat_cmp};
 ghost use Rattle.tq_base.specs.declared.value.Value.{Value};
 ghost use Rattle.tq_base.specs.declared.sides.Key.{Key};
@@ -10,7 +10,6 @@ ghost use Rattle.tq_base.specs.Fragments.{copies};
 ghost use Rattle.tq_base.specs.Keys.{key_row};
 ghost use Rattle.tq_base.specs.KeySides.{state_of};
 ghost use Rattle.tq_base.specs.Periods.{holds};
-ghost use Rattle.tq_ops.specs.Conditions.{value_at};
 ghost use Rattle.tq_ops.specs.Ordinary.{projection};
 ghost use Rattle.tq_agg.specs.declared.bounds.End.{End};
 ghost use Rattle.tq_agg.specs.Totals.{added, end_key, has_rows, key_weight, row_copies, shown_copies, totals_of, totals_upto, AreSmallEnds, AreSmallKeys};
@@ -19,13 +18,13 @@ use crate::bounds::{End, bound_at, ends_by, first_bound, starts_by};
 use crate::summands::{Summand, weight};
 use std::alloc::{AllocError, Global};
 use std::mem;
-use tq_base::{Bound, Instant, Key, Period, Rows, Sides, Value};
+use tq_base::{Bound, Instant, Key, Period, Row, Rows, Sides, Value};
 
 // What stands before the totals in the rows of a group: the values of one of its rows in the key
 // columns.
 #[derive(Clone, Copy)]
 pub(crate) struct Head<'a> {
-    pub(crate) row: &'a [Value],
+    pub(crate) row: &'a Row<'a>,
     pub(crate) keys: &'a [u32],
 }
 
@@ -71,7 +70,7 @@ fn added_keys(summand: Summand, sides: &Sides<'_>, keys: &[Key]) -> i128
 {
     let mut total: i128 = 0;
     'keys: for key in keys {
-        total += weight(summand, sides.values(key));
+        total += weight(summand, &sides.row(key));
     }
     total
 }
@@ -89,7 +88,7 @@ fn added_ends(summand: Summand, sides: &Sides<'_>, ends: &[End]) -> i128
             row: end.row,
             side: end.side,
         };
-        total += weight(summand, sides.values(&key));
+        total += weight(summand, &sides.row(&key));
     }
     total
 }
@@ -136,28 +135,10 @@ fn fill_totals(
     Ok(())
 }
 
-// The value in the column.
-fn copied_at(row: &[Value], column: u32) -> Result<Value, AllocError>
-    ensures { IfOk result (λ value. value ≡ value_at row.now column) }
+// The totals go to the end of the list.
+fn push_totals(alloc: Global, totals: &[i128], values: &mut Vec<Value>) -> Result<(), AllocError>
+    ensures { OnOk result (values.new.items ≡ values.old.items ++ map Int totals.now) }
 {
-    match row.get(column as usize) {
-        Some(value) => value.try_copy(),
-        None => Ok(Value::int(0)),
-    }
-}
-
-// The values of the key, then the totals, go to the end of the list.
-fn join_row(
-    alloc: Global,
-    head: &Head<'_>,
-    totals: &[i128],
-    values: &mut Vec<Value>,
-) -> Result<(), AllocError>
-    ensures { OnOk result (values.new.items ≡ values.old.items ++ projection head.now.keys.now head.now.row.now ++ map Int totals.now) }
-{
-    'keys: for key in head.keys {
-        values.push(copied_at(head.row, *key)?)?;
-    }
     'totals: for total in totals {
         values.push(Value::number(alloc, *total)?)?;
     }
@@ -174,9 +155,37 @@ fn has_rows(totals: &[i128]) -> bool
     }
 }
 
-// A row of the totals from the one bound to the other, if there are instants between, goes to the end of
-// the list. The room is empty before and after.
-pub(crate) fn add_row(
+// A row of the values in the room, then the totals, from the one bound to the other, if there are instants
+// between, goes to the end of the list. The room is empty after.
+pub(crate) fn add_totals(
+    alloc: Global,
+    totals: &[i128],
+    since: Bound,
+    until: Bound,
+    room: &mut Vec<Value>,
+    out: &mut Rows,
+) -> Result<(), AllocError>
+    requires { out.old.width ≡ length room.old.items + length totals.now }
+    ensures emptied { OnOk result (room.new.items ≡ []) }
+    ensures width { out.new.width ≡ out.old.width }
+    ensures rows { OnOk result ((t : ℕ) (v : List Value) → copies out.new.items v t ≡ copies out.old.items v t
+        + (if nat_le since t && nat_lt t until then row_copies room.old.items totals.now v else 0)) }
+{
+    let Some(start) = Instant::new(since.number()) else {
+        room.clear();
+        return Ok(());
+    };
+    let Some(period) = Period::new(start, until) else {
+        room.clear();
+        return Ok(());
+    };
+    push_totals(alloc, totals, room)?;
+    out.push(room, period)
+}
+
+// A row of the key and the totals from the one bound to the other, if there are instants between, goes to the
+// end of the list. The room is empty before and after.
+fn add_row(
     alloc: Global,
     head: &Head<'_>,
     totals: &[i128],
@@ -192,14 +201,8 @@ pub(crate) fn add_row(
     ensures rows { OnOk result ((t : ℕ) (v : List Value) → copies out.new.items v t ≡ copies out.old.items v t
         + (if nat_le since t && nat_lt t until then row_copies (projection head.now.keys.now head.now.row.now) totals.now v else 0)) }
 {
-    let Some(start) = Instant::new(since.number()) else {
-        return Ok(());
-    };
-    let Some(period) = Period::new(start, until) else {
-        return Ok(());
-    };
-    join_row(alloc, head, totals, room)?;
-    out.push(room, period)
+    head.row.show(head.keys, room)?;
+    add_totals(alloc, totals, since, until, room, out)
 }
 
 // The same where the totals count any row.

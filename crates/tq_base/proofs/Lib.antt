@@ -3,6 +3,7 @@ pub mod Existence
 pub mod KeyLemmas
 pub mod NameLemmas
 pub mod NumberLemmas
+pub mod RelationLemmas
 pub mod RowListLemmas
 pub mod Runs
 pub mod Unique

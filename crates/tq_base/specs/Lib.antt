@@ -10,8 +10,10 @@ pub mod Layering
 pub mod Layers
 pub mod Names
 pub mod Numbers
+pub mod Parts
 pub mod Periods
 pub mod Ranks
+pub mod Relations
 pub mod Results
 pub mod RowLists
 pub mod Sweep

@@ -1,4 +1,4 @@
-//! Keys: rows of one or two lists, each stood for by 32 bytes, by which they are sorted and parted into runs of
+//! Keys: rows of one or two relations, each stood for by 32 bytes, by which they are sorted and parted into runs of
 //! equal values.
 
 ghost use Rattle.std.specs.Prelude.{◌≡◌, ◌≢◌, ◌<◌, ◌≤◌, ◌++◌, All, IsPermutation, IsSorted, OnErr, OnOk, drop, length, map, slice_index_or, take, true};
@@ -7,14 +7,13 @@ ghost use Rattle.std.specs.Option.{option_copied};
 ghost use Rattle.tq_base.specs.declared.sides.Key.{Key};
 ghost use Rattle.tq_base.specs.KeySides.{state_of};
 ghost use Rattle.tq_base.specs.Keys.{columns_on, first_rank, held, held_on, is_within, key_cmp, key_row, key_values, no_row, rank_tells, rows_on, told_cmp, value_at, value_key_cmp, within, AreTold, BeginsWithBytes, IsKey, Rises};
-ghost use Rattle.tq_base.specs.Ranks.{value_rank, HasBytes};
 ghost use Rattle.tq_base.specs.ValueOrder.{value_cmp, values_cmp};
 
 use crate::period::{Bound, Instant, Period};
 use crate::rank::rank_of;
-use crate::rows::Rows;
+use crate::relation::Relation;
+use crate::row::Row;
 use crate::sides::{Key, Side, Sides};
-use crate::value::Value;
 use std::alloc::{AllocError, Global};
 use std::cmp::Ordering;
 
@@ -28,35 +27,10 @@ const LONG_RUN: usize = 1024;
 
 // How the values in the two columns stand to each other; a column that a row does not have counts as the
 // number 0.
-fn compare_at(one: &[Value], column: u32, other: &[Value], other_column: u32) -> Ordering
+fn compare_at(one: &Row<'_>, column: u32, other: &Row<'_>, other_column: u32) -> Ordering
     ensures { result ≡ value_cmp (value_at one.now column) (value_at other.now other_column) }
 {
-    let zero = Value::int(0);
-    let left = one.get(column as usize).unwrap_or(&zero);
-    let right = other.get(other_column as usize).unwrap_or(&zero);
-    left.compare(right)
-}
-
-// The rank of the value in the column.
-fn rank_in(row: &[Value], column: u32) -> u128
-    ensures rank { result ≡ value_rank (value_at row.now column) }
-    ensures bytes { HasBytes (value_at row.now column) }
-{
-    let zero = Value::int(0);
-    let value = row.get(column as usize).unwrap_or(&zero);
-    rank_of(value)
-}
-
-// The values of a row, none where there is no such row.
-fn values_in(rows: &Rows, row: u32) -> &[Value]
-    ensures { result.now ≡ (slice_index_or rows.now.items row no_row).values }
-{
-    let row = row as usize;
-    if row < rows.len() {
-        rows.values(row)
-    } else {
-        &[]
-    }
+    one.at(column).compare(other.at(other_column))
 }
 
 // The first instant alone.
@@ -69,7 +43,7 @@ fn first_period() -> Period
 }
 
 // The period of a row, the first instant where there is no such row.
-fn period_in(rows: &Rows, row: u32) -> Period
+fn period_in(rows: &Relation<'_>, row: u32) -> Period
     ensures { result ≡ (slice_index_or rows.now.items row no_row).period }
 {
     match rows.periods().get(row as usize) {
@@ -150,13 +124,13 @@ fn sort_told(keys: &mut Vec<Key>) -> Result<(), AllocError>
 }
 
 impl<'a> Sides<'a> {
-    /// The values of the row that the key stands for.
-    pub fn values(&self, key: &Key) -> &'a [Value]
-        ensures { result.now ≡ (key_row (state_of self.now) key.now).values }
+    /// The row that the key stands for.
+    pub fn row(&self, key: &Key) -> Row<'a>
+        ensures { result ≡ (key_row (state_of self.now) key.now).values }
     {
         match key.side {
-            Side::Left => values_in(self.left, key.row),
-            Side::Right => values_in(self.right, key.row),
+            Side::Left => self.left.row(key.row as usize),
+            Side::Right => self.right.row(key.row as usize),
         }
     }
 
@@ -171,7 +145,7 @@ impl<'a> Sides<'a> {
     }
 
     // The rows of the side.
-    fn rows(&self, side: Side) -> &Rows
+    fn rows(&self, side: Side) -> &Relation<'a>
         ensures { result.now.items ≡ rows_on (state_of self.now) side }
     {
         match side {
@@ -195,10 +169,10 @@ impl<'a> Sides<'a> {
     pub(crate) fn compare_from(&self, first: usize, one: &Key, other: &Key) -> Ordering
         ensures { result ≡ values_cmp (drop first (key_values (state_of self.now) one.now)) (drop first (key_values (state_of self.now) other.now)) }
     {
-        let (row, columns) = (self.values(one), self.columns(one.side));
-        let (other_row, other_columns) = (self.values(other), self.columns(other.side));
+        let (row, columns) = (self.row(one), self.columns(one.side));
+        let (other_row, other_columns) = (self.row(other), self.columns(other.side));
         'places: for place in first..columns.len() {
-            let order = compare_at(row, columns[place], other_row, other_columns[place]);
+            let order = compare_at(&row, columns[place], &other_row, other_columns[place]);
             if order.is_ne() {
                 return order;
             }
@@ -228,12 +202,12 @@ impl<'a> Sides<'a> {
     }
 
     // The rank of the first value of the row that is compared, 0 where none is.
-    fn rank_at(&self, side: Side, row: &[Value]) -> u128
+    fn rank_at(&self, side: Side, row: &Row<'_>) -> u128
         ensures rank { result ≡ first_rank (map (value_at row.now) (columns_on (state_of self.now) side)) }
         ensures bytes { BeginsWithBytes (map (value_at row.now) (columns_on (state_of self.now) side)) }
     {
         match self.columns(side) {
-            [first, ..] => rank_in(row, *first),
+            [first, ..] => rank_of(row.at(*first)),
             [] => 0,
         }
     }
@@ -247,7 +221,7 @@ impl<'a> Sides<'a> {
     {
         let rows = self.rows(side);
         let place = row as usize;
-        let rank = self.rank_at(side, rows.values(place));
+        let rank = self.rank_at(side, &rows.row(place));
         let start = rows.periods()[place].start.number();
         Key {
             rank,

@@ -1,5 +1,6 @@
 //! The vocabulary of valid-time tables: instants, bounds and periods; names, values and the rows
-//! that they make; tables of a catalogue; fragments, which are values with a period.
+//! that they make; relations, which name rows of such lists; tables of a catalogue; fragments, which are
+//! values with a period.
 //!
 //! What the rest of the project says of tables over time is said in the words of this crate's
 //! `specs/`: which values are valid at an instant, how many copies of them, and the layers of such a
@@ -13,8 +14,11 @@ mod keys;
 pub mod laws;
 mod name;
 mod number;
+mod parts;
 mod period;
 mod rank;
+mod relation;
+mod row;
 mod rows;
 mod short_text;
 mod sides;
@@ -29,6 +33,8 @@ pub use name::{MAX_NAME, Name, RESERVED, fold_name, is_name, is_reserved, is_sam
 pub use number::{read_bound, read_instant, read_int, read_natural};
 pub use period::{Bound, FOREVER, Instant, Period};
 pub use rank::rank_of;
+pub use relation::{Line, Pair, Relation};
+pub use row::Row;
 pub use rows::Rows;
 pub use sides::{Key, Side, Sides, all_columns};
 pub use value::{Seen, Text, Value};

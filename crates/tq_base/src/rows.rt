@@ -9,7 +9,7 @@ use std::alloc::{AllocError, Global};
 use std::marker::Model;
 
 /// The most rows of one list, so that a row's number has 32 bits.
-const MAX_ROWS: usize = 4_294_967_295;
+pub(crate) const MAX_ROWS: usize = 4_294_967_295;
 
 // Copies of the values go to the end of the list, or some of them where a growth was refused.
 fn push_copies(values: &mut Vec<Value>, row: &[Value]) -> Result<(), AllocError>

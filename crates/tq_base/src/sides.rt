@@ -1,12 +1,12 @@
-//! What is sorted: rows of one or two lists, each stood for by a key.
+//! What is sorted: rows of one or two relations, each stood for by a key.
 
 ghost use Rattle.std.specs.Prelude.{◌≡◌, IfOk, length};
 ghost use Rattle.std.specs.List.{range_with_len};
 
-use crate::rows::Rows;
+use crate::relation::Relation;
 use std::alloc::{AllocError, Global};
 
-/// On which side of a join or a difference a row stands. Where there is one list, it is the left one.
+/// On which side of a join or a difference a row stands. Where there is one relation, it is the left one.
 #[derive(Clone, Copy, PartialEq, Eq, Debug)]
 pub enum Side {
     Left,
@@ -22,11 +22,11 @@ pub struct Key {
     pub side: Side,
 }
 
-/// The rows of two lists, and as many columns of each, by which rows are compared.
+/// The rows of two relations, and as many columns of each, by which rows are compared.
 #[derive(Clone, Copy)]
 pub struct Sides<'a> {
-    pub left: &'a Rows,
-    pub right: &'a Rows,
+    pub left: &'a Relation<'a>,
+    pub right: &'a Relation<'a>,
     pub left_columns: &'a [u32],
     pub right_columns: &'a [u32],
     ghost same: { length left_columns.now ≡ length right_columns.now },

@@ -12,8 +12,8 @@ ghost use Rattle.tq_base.specs.ValueOrder.{value_cmp};
 
 use crate::keys::{compare_told, rank_tells};
 use crate::rank::{compare_after, rank_after, text_after};
+use crate::row::Row;
 use crate::sides::{Key, Sides};
-use crate::value::Value;
 use std::cmp::Ordering;
 
 // How often the ranks of one key are taken anew: what they do not tell then is read.
@@ -23,39 +23,31 @@ const LEVELS: u32 = 256;
 const SHORT_RUN: usize = 16;
 
 // The rank of the value in the column, or of its text from the offset on.
-fn rank_there(row: &[Value], column: u32, offset: usize) -> u128
+fn rank_there(row: &Row<'_>, column: u32, offset: usize) -> u128
     ensures rank { result ≡ value_rank (value_after offset (value_at row.now column)) }
     ensures bytes { HasBytes (value_after offset (value_at row.now column)) }
 {
-    let zero = Value::int(0);
-    let value = row.get(column as usize).unwrap_or(&zero);
-    rank_after(value, offset)
+    rank_after(row.at(column), offset)
 }
 
 // The text in the column from the offset on, none where there is no text.
-fn text_there(row: &[Value], column: u32, offset: usize) -> &[u8]
+fn text_there<'a>(row: &Row<'a>, column: u32, offset: usize) -> &'a [u8]
     ensures { result.now ≡ text_of (value_after offset (value_at row.now column)) }
 {
-    match row.get(column as usize) {
-        Some(value) => text_after(value, offset),
-        None => &[],
-    }
+    text_after(row.at(column), offset)
 }
 
 // How the values in the two columns stand to each other, texts from the offset on.
 fn compare_there(
-    one: &[Value],
+    one: &Row<'_>,
     column: u32,
-    other: &[Value],
+    other: &Row<'_>,
     other_column: u32,
     offset: usize,
 ) -> Ordering
     ensures { result ≡ value_cmp (value_after offset (value_at one.now column)) (value_after offset (value_at other.now other_column)) }
 {
-    let zero = Value::int(0);
-    let left = one.get(column as usize).unwrap_or(&zero);
-    let right = other.get(other_column as usize).unwrap_or(&zero);
-    compare_after(left, right, offset)
+    compare_after(one.at(column), other.at(other_column), offset)
 }
 
 // How many bytes at the front of the two texts are the same.
@@ -120,7 +112,7 @@ impl<'a> Sides<'a> {
         if place >= columns.len() {
             return 0;
         }
-        rank_there(self.values(key), columns[place], offset)
+        rank_there(&self.row(key), columns[place], offset)
     }
 
     // The text that the key has there, from the offset on.
@@ -131,7 +123,7 @@ impl<'a> Sides<'a> {
         if place >= columns.len() {
             return &[];
         }
-        text_there(self.values(key), columns[place], offset)
+        text_there(&self.row(key), columns[place], offset)
     }
 
     // How what two keys have from there on stands to each other, and then their starts.
@@ -142,8 +134,14 @@ impl<'a> Sides<'a> {
         if place >= columns.len() {
             return one.start.cmp(&other.start);
         }
-        let (row, other_row) = (self.values(one), self.values(other));
-        let order = compare_there(row, columns[place], other_row, other_columns[place], offset);
+        let (row, other_row) = (self.row(one), self.row(other));
+        let order = compare_there(
+            &row,
+            columns[place],
+            &other_row,
+            other_columns[place],
+            offset,
+        );
         if order.is_ne() {
             return order;
         }

@@ -3,7 +3,9 @@ use Rattle.std.specs.Prelude.{◌≡◌, ℕ, List, length, Err}
 use Rattle.tq_base.specs.declared.catalogue.Catalogue.{Catalogue}
 use Rattle.tq_event.specs.declared.file.Loaded.{Loaded}
 use Rattle.tq_event.specs.declared.file.TableFile.{TableFile}
+use Rattle.tq_event.specs.declared.file.Tables.{Tables}
 use Rattle.tq_event.specs.Loading.{IsLoaded, contents_of}
+use Rattle.tq_event.specs.Tables.{AreLoaded}
 use Rattle.tq_eval.specs.Answers.{IsAnswer}
 use Rattle.tq_plan.specs.Plans.{plan_of}
 use Rattle.tq_sql.specs.declared.fault.SqlFault.{SqlFault}
@@ -21,6 +23,11 @@ pub record HasAnswer (files : List TableFile) (bytes : List ℕ) (table : Table)
   pub statement : Statement
   pub makes : Makes bytes statement
   pub is_answer : IsAnswer loaded.catalogue statement loaded.events (length loaded.events) table
+
+-- the tables are those of the files, and the statement is the one that the bytes make
+pub record IsAsked (files : List TableFile) (bytes : List ℕ) (tables : Tables) (statement : Statement) : Type 0 where
+  pub loaded : AreLoaded files 16777216 tables
+  pub makes : Makes bytes statement
 
 -- files and a statement have one answer at most
 abbrev pub AnswersAreUnique : Type 0

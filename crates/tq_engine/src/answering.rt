@@ -3,19 +3,20 @@
 ghost use Rattle.std.specs.Prelude.{◌≡◌, ◌≢◌, ◌≤◌, ℕ, Err, IfErr, IfOk, List, OnOk, length};
 ghost use Rattle.std.specs.Io.KnownBytes.{Appends};
 ghost use Rattle.tq_event.specs.declared.event.Event.{Event as AnyEvent};
+ghost use Rattle.tq_event.specs.declared.file.TableFile.{TableFile as AnyFile};
 ghost use Rattle.tq_event.specs.Tables.{HoldsRows, lists_of};
 ghost use Rattle.tq_table.specs.Sink.{AppendsPrefix, one_more};
 ghost use Rattle.tq_table.specs.Text.{text_of};
 ghost use Rattle.tq_table.specs.declared.table.Table.{Table as AnyTable};
-ghost use Rattle.tq_engine.specs.Answers.{HasAnswer, IsFault, IsStatementFault};
+ghost use Rattle.tq_engine.specs.Answers.{HasAnswer, IsAsked, IsFault, IsStatementFault};
 ghost use Rattle.tq_eval.specs.Answers.{IsAnswer};
 ghost use Rattle.tq_eval.specs.TableAnswers.{AreAllNumbers};
 
 use std::alloc::{AllocError, Global};
 use std::io::Write;
 use thiserror::Error;
-use tq_eval::answer_tables;
 use tq_eval::laws::{numbers_are_held, tables_answer};
+use tq_eval::{answer_tables, detached};
 use tq_event::laws::{loaded_is_history, tables_are_loaded};
 use tq_event::{LoadFault, LoadFaultKind, MAX_EVENTS, TableFile, Tables, load_tables};
 use tq_plan::{PlanFault, plan};
@@ -93,12 +94,33 @@ impl From<AllocError> for AnswerFault {
     }
 }
 
+// What is asked: the tables of the files, and the statement that the bytes make.
+#[derive(Drop)]
+struct Question {
+    tables: Tables,
+    statement: Statement,
+}
+
+// What the files and the bytes ask. A file's bytes are let go once its table is loaded.
+fn asked(alloc: Global, files: Vec<TableFile>, bytes: &[u8]) -> Result<Question, AnswerFault>
+    ensures asked { IfOk result (λ question. IsAsked files.items bytes.now question.tables question.statement) }
+    ensures numbers { IfOk result (λ question. AreAllNumbers (lists_of question.tables.rows)) }
+    ensures fault { IfErr result (IsFault files.items bytes.now) }
+{
+    let tables = load_tables(alloc, files, MAX_EVENTS)?;
+    tables_are_loaded();
+    loaded_is_history();
+    numbers_are_held();
+    let statement = read(alloc, bytes)?;
+    Ok(Question { tables, statement })
+}
+
 // The answer of a statement over tables: that over any history of which they hold all.
-fn answer_statement(
+fn answer_statement<'a>(
     alloc: Global,
-    tables: &Tables,
+    tables: &'a Tables,
     statement: &Statement,
-) -> Result<Table, AnswerFault>
+) -> Result<Table<'a>, AnswerFault>
     requires numbers { AreAllNumbers (lists_of tables.now.rows) }
     ensures answer { (history : List AnyEvent) → ((table : ℕ) → HoldsRows (lists_of tables.now.rows) history (length history) table)
         → IfOk result (IsAnswer tables.now.catalogue statement.now history (length history)) }
@@ -110,18 +132,28 @@ fn answer_statement(
     Ok(table)
 }
 
+// The answer to what files and bytes ask.
+fn answered<'a>(alloc: Global, question: &'a Question) -> Result<Table<'a>, AnswerFault>
+    requires numbers { AreAllNumbers (lists_of question.now.tables.rows) }
+    ensures answer { (files : List AnyFile) (bytes : List ℕ) → IsAsked files bytes question.now.tables question.now.statement → IfOk result (HasAnswer files bytes) }
+    ensures fault { (files : List AnyFile) (bytes : List ℕ) → IsAsked files bytes question.now.tables question.now.statement → IfErr result (IsFault files bytes) }
+{
+    answer_statement(alloc, &question.tables, &question.statement)
+}
+
 /// The answer of the statement that the bytes make, over the tables of the files. A file's bytes are let go
 /// once its table is loaded.
-pub fn answer(alloc: Global, files: Vec<TableFile>, bytes: &[u8]) -> Result<Table, AnswerFault>
+pub fn answer<'b>(
+    alloc: Global,
+    files: Vec<TableFile>,
+    bytes: &[u8],
+) -> Result<Table<'b>, AnswerFault>
     ensures answer { IfOk result (HasAnswer files.items bytes.now) }
     ensures fault { IfErr result (IsFault files.items bytes.now) }
 {
-    let tables = load_tables(alloc, files, MAX_EVENTS)?;
-    tables_are_loaded();
-    loaded_is_history();
-    numbers_are_held();
-    let statement = read(alloc, bytes)?;
-    answer_statement(alloc, &tables, &statement)
+    let question = asked(alloc, files, bytes)?;
+    let table = answered(alloc, &question)?;
+    Ok(detached(alloc, table)?)
 }
 
 /// Writes the text of the answer of the statement that the bytes make, over the tables of the files.
@@ -142,7 +174,8 @@ pub fn answer_bytes<W: Write>(
     ensures failed { result ≡ Err AnswerFault.Write → sink.new.failed ≡ one_more sink.old.failed }
     ensures fault { IfErr result (λ fault. fault ≢ AnswerFault.Write → IsFault files.items bytes.now fault × (sink.new ≡ sink.old)) }
 {
-    let table = answer(alloc, files, bytes)?;
+    let question = asked(alloc, files, bytes)?;
+    let table = answered(alloc, &question)?;
     match write_table(alloc, &table, sink) {
         Ok(()) => Ok(()),
         Err(WriteFault::Write) => Err(AnswerFault::Write),

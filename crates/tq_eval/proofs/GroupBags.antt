@@ -9,7 +9,8 @@ use Rattle.tq_base.specs.ValueOrder.{eq_from_same, same_from_eq}
 use Rattle.tq_ops.specs.Conditions.{value_at}
 use Rattle.tq_ops.specs.Ordinary.{projection}
 use Rattle.tq_agg.specs.Grouping.{Row, each_once, first_row, group_row, grouped_rows, number_of, same_row, sum_at}
-use Rattle.tq_eval.proofs.BagLemmas.{SameCounts, is_it, one_if, same_filtered, same_lengths, same_mapped, split}
+use Rattle.tq_eval.specs.Sources.{SameCounts}
+use Rattle.tq_eval.proofs.BagLemmas.{is_it, one_if, same_filtered, same_lengths, same_mapped, split}
 
 -- ---- each row once
 

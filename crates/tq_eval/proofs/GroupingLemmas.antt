@@ -12,13 +12,13 @@ use Rattle.tq_base.specs.declared.period.Period.{Period}
 use Rattle.tq_base.specs.Fragments.{at, occurrences}
 use Rattle.tq_base.specs.Periods.{holds}
 use Rattle.tq_ops.specs.Conditions.{value_at}
-use Rattle.tq_ops.specs.Ordinary.{HasInside, projection, selection}
+use Rattle.tq_ops.specs.Ordinary.{HasInside, product_of, projection, selection}
 use Rattle.tq_agg.specs.Grouping.{Row, count_rows, first_row, group_row, grouped_by, grouped_rows, sum_at}
 use Rattle.tq_plan.specs.declared.plans.Output.{Output}
 use Rattle.tq_plan.specs.declared.plans.Output.TheVariants.{Column, Count, Sum}
 use Rattle.tq_plan.specs.declared.plans.QueryPlan.{QueryPlan}
-use Rattle.tq_eval.specs.Answers.{in_tables, lists_at, times_in}
-use Rattle.tq_eval.specs.Ordinary.{alone_or_together, groups, ordinary, output_value, product_of}
+use Rattle.tq_eval.specs.Answers.{lists_at, times_in, ValidRows}
+use Rattle.tq_eval.specs.Ordinary.{alone_or_together, groups, ordinary, output_value}
 use Rattle.tq_plan.specs.Standing.{is_aggregate, items_stand, may_stand, no_group}
 use Rattle.tq_plan.specs.Plans.{is_groupable}
 use Rattle.tq_eval.specs.Running.{item_places, number_in, summed_places}
@@ -183,13 +183,13 @@ ordinary_counted query lists none counted stand = by_group query.group refl
 -- ---- fragments
 
 -- the items of groups of the rows that pass
-pub grouped_inside : (tables : List (List Fragment)) (query : QueryPlan) (window : Period) (passed out : List Fragment) → no_group query.group ≡ false → items_stand query ≡ true
-    → HasInside window passed (λ t v. occurrences (selection query.test (product_of (lists_at (in_tables tables) t query.tables))) v)
+pub grouped_inside : (valid : ValidRows) (query : QueryPlan) (window : Period) (passed out : List Fragment) → no_group query.group ≡ false → items_stand query ≡ true
+    → HasInside window passed (λ t v. occurrences (selection query.test (product_of (lists_at valid t query.tables))) v)
     → HasInside window out (λ t v. occurrences (map (projection (item_places query.group (length query.group + 1) query.outputs)) (grouped_rows query.group (summed_places query.outputs) (at passed t))) v)
-    → HasInside window out (λ t v. times_in (in_tables tables) query v t)
-grouped_inside tables query window passed out some stand on_passed on_out t v inside =
+    → HasInside window out (λ t v. times_in valid query v t)
+grouped_inside valid query window passed out some stand on_passed on_out t v inside =
     let places = item_places query.group (length query.group + 1) query.outputs in
-    let lists = lists_at (in_tables tables) t query.tables in
+    let lists = lists_at valid t query.tables in
     let rows = selection query.test (product_of lists) in
     let sums = summed_places query.outputs in
     on_out t v inside
@@ -197,17 +197,13 @@ grouped_inside tables query window passed out some stand on_passed on_out t v in
     ∙ ap (λ l. occurrences l v) (ordinary_grouped query lists some stand)
 
 -- the items of the count of as many rows as pass
-pub counted_inside : (tables : List (List Fragment)) (query : QueryPlan) (window : Period) (counted out : List Fragment) → no_group query.group ≡ true → list_any is_aggregate query.outputs ≡ true → items_stand query ≡ true
-    → ((t : ℕ) → IsTrue (holds window t) → length (at counted t) ≡ length (selection query.test (product_of (lists_at (in_tables tables) t query.tables))))
+pub counted_inside : (valid : ValidRows) (query : QueryPlan) (window : Period) (counted out : List Fragment) → no_group query.group ≡ true → list_any is_aggregate query.outputs ≡ true → items_stand query ≡ true
+    → ((t : ℕ) → IsTrue (holds window t) → length (at counted t) ≡ length (selection query.test (product_of (lists_at valid t query.tables))))
     → HasInside window out (λ t v. occurrences (map (projection (item_places query.group (length query.group + 1) query.outputs)) (count_rows (at counted t))) v)
-    → HasInside window out (λ t v. times_in (in_tables tables) query v t)
-counted_inside tables query window counted out none aggregate stand as_many on_out t v inside =
+    → HasInside window out (λ t v. times_in valid query v t)
+counted_inside valid query window counted out none aggregate stand as_many on_out t v inside =
     let shown = item_places query.group (length query.group + 1) query.outputs in
-    let lists = lists_at (in_tables tables) t query.tables in
+    let lists = lists_at valid t query.tables in
     on_out t v inside
     ∙ ap (λ n. occurrences (map (projection shown) ((Int (pos n) ∷ []) ∷ [])) v) (as_many t inside)
     ∙ ap (λ l. occurrences l v) (ordinary_counted query lists none aggregate stand)
-
--- as many rows as pass are shown
-pub as_many_shown : (places : List ℕ) (shown rows : List Row) → ((v : Row) → occurrences shown v ≡ occurrences (map (projection places) rows) v) → length shown ≡ length rows
-as_many_shown places shown rows same = same_lengths shown (map (projection places) rows) same ∙ length-map rows (projection places)

@@ -12,4 +12,3 @@ pub mod GroupingLemmas
 pub mod HeldNumbers
 pub mod ItemLemmas
 pub mod NumberLemmas
-pub mod CarriedLemmas

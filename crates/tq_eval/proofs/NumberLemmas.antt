@@ -16,11 +16,10 @@ use Rattle.tq_base.specs.ValueOrder.{eq_from_same}
 use Rattle.tq_event.specs.Tables.{rows_in}
 use Rattle.tq_ops.specs.declared.condition.Test.{Test}
 use Rattle.tq_ops.specs.Conditions.{value_at}
-use Rattle.tq_ops.specs.Ordinary.{HasInside, IsEmptyOutside, admits, product, projection, selection}
+use Rattle.tq_ops.specs.Ordinary.{HasInside, IsEmptyOutside, admits, product, product_of, selection}
 use Rattle.tq_agg.specs.Grouping.{AreSummable, Row, number_of}
-use Rattle.tq_eval.specs.TableAnswers.{AreAllNumbers}
-use Rattle.tq_eval.specs.Answers.{in_tables, lists_at}
-use Rattle.tq_eval.specs.Ordinary.{product_of}
+use Rattle.tq_eval.specs.TableAnswers.{AreAllNumbers, AreValidNumbers}
+use Rattle.tq_eval.specs.Answers.{in_tables, lists_at, ValidRows}
 use Rattle.tq_eval.specs.Running.{AreNumbers}
 use Rattle.tq_eval.proofs.BagLemmas.{is_it, one_if, split}
 
@@ -37,7 +36,7 @@ others_of P x xs all = All-tail P x xs all
 pub none_of : {X : Type 0} (P : X → Type 0) → All P []
 none_of P k d less = absurd (omega (arith, less))
 
--- ---- rows of a table
+-- ---- rows of tables
 
 abbrev HaveNumbers : List Fragment → Type 0
 HaveNumbers rows = All (λ (row : Fragment). AreNumbers row.values) rows
@@ -47,8 +46,9 @@ table_has [] table all = none_of (λ (row : Fragment). AreNumbers row.values)
 table_has (rows ∷ tables) zero all = first_of HaveNumbers rows tables all
 table_has (rows ∷ tables) (suc table) all = table_has tables table (others_of HaveNumbers rows tables all)
 
-valid_have : (tables : List (List Fragment)) (table t : ℕ) → AreAllNumbers tables → All AreNumbers (at (rows_in tables table) t)
-valid_have tables table t all =
+-- what is valid in tables of such numbers
+pub tables_have : (tables : List (List Fragment)) → AreAllNumbers tables → AreValidNumbers (in_tables tables)
+tables_have tables all table t =
     All-map AreNumbers (λ (row : Fragment). row.values) (filter (λ (row : Fragment). holds row.period t) (rows_in tables table))
     (All-filter (λ (row : Fragment). holds row.period t) (λ (row : Fragment). AreNumbers row.values) (rows_in tables table) (table_has tables table all))
 
@@ -66,11 +66,11 @@ product_has (row ∷ left) right on_left on_right =
     (All-append AreNumbers (map (λ r. row ++ r) right) (product left right) (pairs_have row right (first_of AreNumbers row left on_left) on_right)
     (product_has left right (others_of AreNumbers row left on_left) on_right))
 
-products_have : (tables : List (List Fragment)) (t : ℕ) (numbers : List ℕ) → AreAllNumbers tables → All AreNumbers (product_of (lists_at (in_tables tables) t numbers))
-products_have tables t [] all = All-cons AreNumbers [] [] (none_of IsNumber) (none_of AreNumbers)
-products_have tables t (table ∷ []) all = valid_have tables table t all
-products_have tables t (table ∷ next ∷ numbers) all =
-    product_has (at (rows_in tables table) t) (product_of (lists_at (in_tables tables) t (next ∷ numbers))) (valid_have tables table t all) (products_have tables t (next ∷ numbers) all)
+products_have : (valid : ValidRows) (t : ℕ) (numbers : List ℕ) → AreValidNumbers valid → All AreNumbers (product_of (lists_at valid t numbers))
+products_have valid t [] all = All-cons AreNumbers [] [] (none_of IsNumber) (none_of AreNumbers)
+products_have valid t (table ∷ []) all = all table t
+products_have valid t (table ∷ next ∷ numbers) all =
+    product_has (valid table t) (product_of (lists_at valid t (next ∷ numbers))) (all table t) (products_have valid t (next ∷ numbers) all)
 
 -- ---- fragments
 
@@ -126,38 +126,23 @@ summable (place ∷ places) row all = All-cons (λ p. IsNumber (value_at row p))
 fragments_sum : (places : List ℕ) (out : List Fragment) → All (λ (f : Fragment). AreNumbers f.values) out → All (λ (f : Fragment). AreSummable places f.values) out
 fragments_sum places out = All-weaker (λ (f : Fragment). AreNumbers f.values) (λ (f : Fragment). AreSummable places f.values) (λ f is. summable places f.values is) out
 
-passing_have : (tables : List (List Fragment)) (t : ℕ) (numbers : List ℕ) (test : Option Test) → AreAllNumbers tables → All AreNumbers (selection test (product_of (lists_at (in_tables tables) t numbers)))
-passing_have tables t numbers test all = All-filter (admits test) AreNumbers (product_of (lists_at (in_tables tables) t numbers)) (products_have tables t numbers all)
+passing_have : (valid : ValidRows) (t : ℕ) (numbers : List ℕ) (test : Option Test) → AreValidNumbers valid → All AreNumbers (selection test (product_of (lists_at valid t numbers)))
+passing_have valid t numbers test all = All-filter (admits test) AreNumbers (product_of (lists_at valid t numbers)) (products_have valid t numbers all)
 
--- the values of the rows that pass can be summed
-pub whole_sums : (tables : List (List Fragment)) (numbers : List ℕ) (test : Option Test) (places : List ℕ) (out : List Fragment)
-    → ((t : ℕ) (v : Row) → occurrences (at out t) v ≡ occurrences (selection test (product_of (lists_at (in_tables tables) t numbers))) v)
-    → AreAllNumbers tables → All (λ (f : Fragment). AreSummable places f.values) out
-whole_sums tables numbers test places out same all =
-    fragments_sum places out (fragments_have out (λ t. selection test (product_of (lists_at (in_tables tables) t numbers))) same (λ t. passing_have tables t numbers test all))
-
-projected_numbers : (places : List ℕ) (row : Row) → AreNumbers row → AreNumbers (projection places row)
-projected_numbers [] row all = none_of IsNumber
-projected_numbers (place ∷ places) row all = All-cons IsNumber (value_at row place) (projection places row) (number_at row place all) (projected_numbers places row all)
-
-projected_have : (places : List ℕ) (rows : List Row) → All AreNumbers rows → All AreNumbers (map (projection places) rows)
-projected_have places rows all =
-    All-map AreNumbers (projection places) rows (All-weaker AreNumbers (λ row. AreNumbers (projection places row)) (λ row is. projected_numbers places row is) rows all)
-
--- and what is shown of those in a window
-pub shown_sums : (tables : List (List Fragment)) (window : Period) (numbers : List ℕ) (test : Option Test) (shown places : List ℕ) (out : List Fragment)
-    → HasInside window out (λ t v. occurrences (map (projection shown) (selection test (product_of (lists_at (in_tables tables) t numbers)))) v) → IsEmptyOutside window out
-    → AreAllNumbers tables → All (λ (f : Fragment). AreSummable places f.values) out
-shown_sums tables window numbers test shown places out inside outside all =
+-- the values of the rows that pass in a window can be summed
+pub passing_sums : (valid : ValidRows) (window : Period) (numbers : List ℕ) (test : Option Test) (places : List ℕ) (out : List Fragment)
+    → HasInside window out (λ t v. occurrences (selection test (product_of (lists_at valid t numbers))) v) → IsEmptyOutside window out
+    → AreValidNumbers valid → All (λ (f : Fragment). AreSummable places f.values) out
+passing_sums valid window numbers test places out inside outside all =
     fragments_sum places out (fragments_have out (λ t. within (holds window t) t) (λ t v. same t v (holds window t) refl) (λ t. have t (holds window t)))
   where
     within : Bool → ℕ → List Row
-    within b t = cond b (map (projection shown) (selection test (product_of (lists_at (in_tables tables) t numbers)))) []
+    within b t = cond b (selection test (product_of (lists_at valid t numbers))) []
 
     same : (t : ℕ) (v : Row) (b : Bool) → holds window t ≡ b → occurrences (at out t) v ≡ occurrences (within b t) v
     same t v true is = inside t v is
     same t v false is = ap (λ l. occurrences l v) (outside t is)
 
     have : (t : ℕ) (b : Bool) → All AreNumbers (within b t)
-    have t true = projected_have shown (selection test (product_of (lists_at (in_tables tables) t numbers))) (passing_have tables t numbers test all)
+    have t true = passing_have valid t numbers test all
     have t false = none_of AreNumbers

@@ -9,15 +9,16 @@ use Rattle.std.proofs.lemmas.List.Sums.{sum_by-append, sum_by-cons}
 use Rattle.tq_base.specs.Contents.{Int}
 use Rattle.tq_base.specs.Fragments.{occurrences}
 use Rattle.tq_base.specs.Periods.{holds}
-use Rattle.tq_ops.specs.Ordinary.{admits, product, projection, selection}
+use Rattle.tq_ops.specs.Ordinary.{admits, product, product_of, projection, selection}
 use Rattle.tq_agg.specs.Grouping.{Row, grouped_rows}
 use Rattle.tq_plan.specs.declared.plans.Plan.{Plan}
 use Rattle.tq_plan.specs.declared.plans.QueryPlan.{QueryPlan}
 use Rattle.tq_eval.specs.Answers.{lists_at, right_tables, tables_read, times_at, times_in, times_in_right, AnswersAgree, ValidRows}
-use Rattle.tq_eval.specs.Ordinary.{ordinary, product_of}
+use Rattle.tq_eval.specs.Ordinary.{ordinary}
 use Rattle.tq_plan.specs.Standing.{is_aggregate, items_stand, no_group, IsPlan, PlansStand}
 use Rattle.tq_eval.specs.Running.{item_places, output_place, summed_places}
-use Rattle.tq_eval.proofs.BagLemmas.{SameCounts, is_it, same_filtered, same_lengths, same_mapped, same_products, same_sums}
+use Rattle.tq_eval.specs.Sources.{AreAlike, SameCounts}
+use Rattle.tq_eval.proofs.BagLemmas.{is_it, same_filtered, same_lengths, same_mapped, same_products, same_sums}
 use Rattle.tq_eval.proofs.GroupBags.{same_groups}
 use Rattle.tq_eval.proofs.GroupingLemmas.{ordinary_counted, ordinary_grouped}
 use Rattle.tq_eval.proofs.RunningLemmas.{no_places, ordinary_alone}
@@ -38,14 +39,7 @@ same_left : (a b right : List Row) → SameCounts a b → SameCounts (product a 
 same_left a b right same v =
     counted_product a right v ∙ same_sums (λ l. occurrences (map (λ r. l ++ r) right) v) a b same ∙ sym (counted_product b right v)
 
--- the lists are alike, one by one
-abbrev AreAlike : List (List Row) → List (List Row) → Type 0
-AreAlike [] [] = Unit {0}
-AreAlike [] (b ∷ ys) = ⊥
-AreAlike (a ∷ xs) [] = ⊥
-AreAlike (a ∷ xs) (b ∷ ys) = SameCounts a b × AreAlike xs ys
-
-same_product_of : (xs ys : List (List Row)) → AreAlike xs ys → SameCounts (product_of xs) (product_of ys)
+pub same_product_of : (xs ys : List (List Row)) → AreAlike xs ys → SameCounts (product_of xs) (product_of ys)
 same_product_of [] [] alike v = refl
 same_product_of [] (b ∷ ys) alike v = absurd alike
 same_product_of (a ∷ xs) [] alike v = absurd alike

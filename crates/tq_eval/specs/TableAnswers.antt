@@ -6,12 +6,16 @@ use Rattle.tq_event.specs.Tables.{HoldsRows}
 use Rattle.tq_table.specs.declared.table.Table.{Table}
 use Rattle.tq_plan.specs.declared.plans.Plan.{Plan}
 use Rattle.tq_plan.specs.Standing.{IsPlan}
-use Rattle.tq_eval.specs.Answers.{tables_read, IsPlanAnswer, IsTablesAnswer}
+use Rattle.tq_eval.specs.Answers.{tables_read, IsPlanAnswer, IsTablesAnswer, ValidRows}
 use Rattle.tq_eval.specs.Running.{AreNumbers, HasNumbers}
 
 -- the numbers of all rows are of 64 signed bits
 abbrev pub AreAllNumbers : List (List Fragment) → Type 0
 AreAllNumbers tables = All (λ rows. All (λ (row : Fragment). AreNumbers row.values) rows) tables
+
+-- and so are those of all rows that are valid at some instant
+abbrev pub AreValidNumbers : ValidRows → Type 0
+AreValidNumbers valid = (table t : ℕ) → All AreNumbers (valid table t)
 
 -- ---- laws
 

@@ -9,7 +9,8 @@ mod answering;
 mod grouping;
 mod histories;
 pub mod laws;
-mod rows;
+mod snapshot;
 mod sources;
 
-pub use answering::{answer_list, answer_tables};
+pub use answering::{answer_list, answer_over, answer_tables, detached};
+pub use snapshot::{Snapshot, TablesOfRows};

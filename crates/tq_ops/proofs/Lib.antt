@@ -1,10 +1,12 @@
 pub mod Conditions
 pub mod Counting
 pub mod Cutting
-pub mod Projecting
 pub mod Selecting
+pub mod Standing
 pub mod Sweeping
+pub mod Bags
 pub mod Changing
+pub mod Following
 pub mod Grouping
 pub mod Linking
 pub mod Meeting

@@ -1,5 +1,5 @@
 -- Difference, one group of rows of equal values at a time: what changes the count of a group, and when.
-use Rattle.std.specs.Prelude.{◌≡◌, ℕ, ◌-◌, ◌++◌, ◌&&◌, not, List, All, IsPermutation, count_by, map, nat_le}
+use Rattle.std.specs.Prelude.{◌≡◌, ◌<◌, ℕ, ◌-◌, ◌++◌, ◌&&◌, not, List, All, IsPermutation, count_by, length, map, nat_le}
 use Rattle.std.specs.Ordering.{eq_by_cmp}
 use Rattle.tq_base.specs.ValueOrder.{values_cmp}
 use Rattle.tq_base.specs.declared.value.Value.{Value}
@@ -8,8 +8,10 @@ use Rattle.tq_base.specs.declared.fragment.Fragment.{Fragment}
 use Rattle.tq_base.specs.declared.sides.Side.{Side}
 use Rattle.tq_base.specs.declared.sides.Side.TheVariants.{Left, Right}
 use Rattle.tq_base.specs.Keys.{held as held_key, held_on, is_same_side, overlapping, Held, IsKey, Rises, SidesState}
+use Rattle.tq_base.specs.declared.relation.Line.{Line}
 use Rattle.tq_base.specs.declared.sides.Key.{Key}
 use Rattle.tq_base.specs.Periods.{holds}
+use Rattle.tq_base.specs.Relations.{line_of}
 use Rattle.tq_base.specs.Layering.{held, rows_of}
 use Rattle.tq_ops.specs.declared.difference.Change.{Change}
 
@@ -43,6 +45,14 @@ pub record AddsDifference (window : Period) (group : List Held) (v : List Value)
   pub periods : List Period
   pub counted : (t : ℕ) → held periods t ≡ side_held window Left group t - side_held window Right group t
   pub added : new ≡ old ++ rows_of v periods
+
+-- the rows of the left that the lines name, each at the line's period
+abbrev pub lines_made : SidesState → List Line → List Fragment
+lines_made s lines = map (line_of s.left) lines
+
+-- each line names a row of the left
+abbrev pub AreLines : SidesState → List Line → Type 0
+AreLines s lines = All (λ (line : Line). line.row < length s.left) lines
 
 -- the keys of all rows of both sides that overlap the window, in order
 pub record AreKeysOfBoth (s : SidesState) (window : Period) (keys : List Key) : Type 0 where

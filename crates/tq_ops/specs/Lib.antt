@@ -1,5 +1,6 @@
 pub mod Conditions
 pub mod Differences
+pub mod Folds
 pub mod Joins
 pub mod Known
 pub mod Links

@@ -1,5 +1,5 @@
 -- The ordinary operators over lists of rows, after SQL over bags.
-use Rattle.std.specs.Prelude.{◌≡◌, ℕ, IsTrue, Bool, true, false, List, [], ◌++◌, map, filter, Option, Some, None}
+use Rattle.std.specs.Prelude.{◌≡◌, ℕ, IsTrue, Bool, true, false, List, [], ◌∷◌, ◌++◌, map, filter, Option, Some, None}
 use Rattle.std.specs.List.{flat_map}
 use Rattle.tq_base.specs.declared.value.Value.{Value}
 use Rattle.tq_base.specs.declared.period.Period.{Period}
@@ -21,6 +21,12 @@ selection test rows = filter (admits test) rows
 -- each row of the left followed by each row of the right (FROM left, right)
 abbrev pub product : List (List Value) → List (List Value) → List (List Value)
 product left right = flat_map (λ l. map (λ r. l ++ r) right) left
+
+-- each row of the first list followed by each row of the next, and so on (FROM)
+abbrev pub product_of : List (List (List Value)) → List (List Value)
+product_of [] = [] ∷ []
+product_of (rows ∷ []) = rows
+product_of (rows ∷ next ∷ lists) = product rows (product_of (next ∷ lists))
 
 -- the values at the places, in the order of the places (SELECT)
 abbrev pub projection : List ℕ → List Value → List Value

@@ -1,23 +1,25 @@
 //! Difference: the rows of each list of values are counted up and down along the time line.
 
-ghost use Rattle.std.specs.Prelude.{◌≡◌, ℕ, ◌+◌, ◌-◌, ◌<◌, ◌↔◌, [], if◌then◌else◌, length, map, All, IfOk, IfSome, IsSome, IsTrue, true, List, OnOk, IsSortedByKey};
+ghost use Rattle.std.specs.Prelude.{◌≡◌, ℕ, ◌+◌, ◌-◌, ◌<◌, ◌↔◌, [], true, false, if◌then◌else◌, length, map, All, IfOk, IfSome, IsNone, IsSome, IsTrue, List, OnOk, IsSortedByKey};
+ghost use Rattle.std.specs.List.{Contains};
 ghost use Rattle.std.specs.Ordering.{nat_cmp};
 ghost use Rattle.tq_base.specs.declared.value.Value.{Value};
-ghost use Rattle.tq_base.specs.declared.fragment.Fragment.{Fragment};
+ghost use Rattle.tq_base.specs.declared.relation.Line.{Line};
 ghost use Rattle.tq_base.specs.declared.sides.Side.TheVariants.{Left, Right};
 ghost use Rattle.tq_base.specs.Fragments.{copies};
-ghost use Rattle.tq_base.specs.Keys.{held as held_key, is_same_side, key_row, key_values};
+ghost use Rattle.tq_base.specs.Keys.{held as held_key, is_same_side, key_row, key_values, IsKey};
 ghost use Rattle.tq_base.specs.KeySides.{state_of};
 ghost use Rattle.tq_base.specs.Layering.{held};
 ghost use Rattle.tq_base.specs.Periods.{holds};
+ghost use Rattle.tq_base.specs.Relations.{line_of};
 ghost use Rattle.tq_ops.specs.declared.difference.Change.{Change};
-ghost use Rattle.tq_ops.specs.Differences.{falls_upto, rises_upto, side_held, AddsDifference, AreKeysOfBoth, AreOfValues, IsEven};
+ghost use Rattle.tq_ops.specs.Differences.{falls_upto, lines_made, rises_upto, side_held, AddsDifference, AreKeysOfBoth, AreLines, AreOfValues, IsEven};
 ghost use Rattle.tq_ops.specs.Ordinary.{HasInside, IsEmptyOutside};
 
 use crate::gathering::gathered;
 use crate::selection::select;
 use std::alloc::{AllocError, Global};
-use tq_base::{Bound, Instant, Key, Period, Rows, Side, Sides, all_columns};
+use tq_base::{Bound, Instant, Key, Line, Period, Relation, Side, Sides, all_columns};
 
 // From the bound on there is one row more, or one row less, that is not taken away.
 #[derive(Clone, Copy)]
@@ -114,16 +116,30 @@ fn swept(alloc: Global, changes: &[Change]) -> Result<Vec<Period>, AllocError>
     Ok(made)
 }
 
-// Whether all rows of the group are of the left, or all of the right.
-fn are_alone(group: &[Key], left: bool) -> bool
-    ensures { IsTrue result → All (λ k. is_same_side Left k.side ≡ left) group.now }
+// Whether all rows of the group are of the left.
+fn are_left(group: &[Key]) -> bool
+    ensures { IsTrue result → All (λ k. is_same_side Left k.side ≡ true) group.now }
 {
     'keys: for key in group {
-        if is_left(key.side) != left {
+        if !is_left(key.side) {
             return false;
         }
     }
     true
+}
+
+// The first row of the group that is of the left, if one is.
+fn first_left(group: &[Key]) -> Option<Key>
+    ensures left { IfSome result (λ key. is_same_side Left key.side ≡ true) }
+    ensures stands { IfSome result (λ key. Contains group.now key) }
+    ensures none { IsNone result → All (λ k. is_same_side Left k.side ≡ false) group.now }
+{
+    'keys: for key in group {
+        if is_left(key.side) {
+            return Some(*key);
+        }
+    }
+    None
 }
 
 // The rows of a group of the left, cut to the window, go to the end of the list.
@@ -131,48 +147,53 @@ fn add_cut(
     sides: &Sides<'_>,
     group: &[Key],
     window: &Period,
-    out: &mut Rows,
+    lines: &mut Vec<Line>,
 ) -> Result<(), AllocError>
     requires left { All (λ k. is_same_side Left k.side ≡ true) group.now }
-    requires fit { All (λ k. length (key_row (state_of sides.now) k).values ≡ out.old.width) group.now }
-    ensures width { out.new.width ≡ out.old.width }
-    ensures rows { OnOk result ((v : List Value) → AreOfValues v (map (held_key (state_of sides.now)) group.now) → AddsDifference window.now (map (held_key (state_of sides.now)) group.now) v out.old.items out.new.items) }
+    requires keys { All (IsKey (state_of sides.now)) group.now }
+    ensures within { OnOk result (AreLines (state_of sides.now) lines.old.items → AreLines (state_of sides.now) lines.new.items) }
+    ensures rows { OnOk result ((v : List Value) → AreOfValues v (map (held_key (state_of sides.now)) group.now)
+        → AddsDifference window.now (map (held_key (state_of sides.now)) group.now) v (lines_made (state_of sides.now) lines.old.items) (lines_made (state_of sides.now) lines.new.items)) }
 {
     'rows: for key in group {
         let Some(period) = sides.period(key).overlap(window) else {
             continue;
         };
-        out.push_copy(sides.values(key), period)?;
+        lines.push(Line {
+            row: key.row,
+            period,
+        })?;
     }
     Ok(())
 }
 
-// The difference of a group of rows of equal values goes to the end of the list. Where one side alone has
-// such rows, no count has to be kept.
+// The difference of a group of rows of equal values goes to the end of the list: its first row of the left,
+// once for each period that is left over. Where one side alone has such rows, no count has to be kept.
 fn add_difference(
     alloc: Global,
     sides: &Sides<'_>,
     group: &[Key],
     window: &Period,
-    out: &mut Rows,
+    lines: &mut Vec<Line>,
 ) -> Result<(), AllocError>
-    requires fit { All (λ k. length (key_row (state_of sides.now) k).values ≡ out.old.width) group.now }
-    ensures width { out.new.width ≡ out.old.width }
-    ensures rows { OnOk result ((v : List Value) → AreOfValues v (map (held_key (state_of sides.now)) group.now) → AddsDifference window.now (map (held_key (state_of sides.now)) group.now) v out.old.items out.new.items) }
+    requires keys { All (IsKey (state_of sides.now)) group.now }
+    ensures within { OnOk result (AreLines (state_of sides.now) lines.old.items → AreLines (state_of sides.now) lines.new.items) }
+    ensures rows { OnOk result ((v : List Value) → AreOfValues v (map (held_key (state_of sides.now)) group.now)
+        → AddsDifference window.now (map (held_key (state_of sides.now)) group.now) v (lines_made (state_of sides.now) lines.old.items) (lines_made (state_of sides.now) lines.new.items)) }
 {
-    let Some(first) = group.first() else {
+    let Some(first) = first_left(group) else {
         return Ok(());
     };
-    if are_alone(group, false) {
-        return Ok(());
-    }
-    if are_alone(group, true) {
-        return add_cut(sides, group, window, out);
+    if are_left(group) {
+        return add_cut(sides, group, window, lines);
     }
     let changes = changes_of(alloc, sides, group, window)?;
     let periods = swept(alloc, &changes)?;
     'periods: for period in &periods {
-        out.push_copy(sides.values(first), *period)?;
+        lines.push(Line {
+            row: first.row,
+            period: *period,
+        })?;
     }
     Ok(())
 }
@@ -192,41 +213,38 @@ fn add_differences(
     sides: &Sides<'_>,
     keys: &[Key],
     window: &Period,
-    out: &mut Rows,
+    lines: &mut Vec<Line>,
 ) -> Result<(), AllocError>
     requires keys { AreKeysOfBoth (state_of sides.now) window.now keys.now }
     requires whole { All (λ k. key_values (state_of sides.now) k ≡ (key_row (state_of sides.now) k).values) keys.now }
-    requires fit { All (λ k. length (key_row (state_of sides.now) k).values ≡ out.old.width) keys.now }
-    requires empty { out.old.items ≡ [] }
-    ensures width { out.new.width ≡ out.old.width }
-    ensures counted { OnOk result ((t : ℕ) (v : List Value) → copies out.new.items v t
+    requires empty { lines.old.items ≡ [] }
+    ensures within { OnOk result (AreLines (state_of sides.now) lines.new.items) }
+    ensures counted { OnOk result ((t : ℕ) (v : List Value) → copies (lines_made (state_of sides.now) lines.new.items) v t
         ≡ (if holds window.now t then copies sides.now.left.now.items v t - copies sides.now.right.now.items v t else 0)) }
 {
     let mut start = 0;
     'groups: while start < keys.len() {
         let end = start + sides.run_len(&keys[start..]);
-        add_difference(alloc, sides, &keys[start..end], window, out)?;
+        add_difference(alloc, sides, &keys[start..end], window, lines)?;
         start = end;
     }
     Ok(())
 }
 
-/// Each row of the left as often as it stands there more often than on the right, at each instant of
-/// the window. `AllocError` where a growth was refused.
-pub fn except_all(
+// The numbers of the rows that are left over of the left, each with a period, where both sides have one width.
+fn lines_left<'a>(
     alloc: Global,
-    left: &Rows,
-    right: &Rows,
+    left: &'a Relation<'a>,
+    right: &'a Relation<'a>,
     window: &Period,
-) -> Result<Rows, AllocError>
-    ensures width { IfOk result (λ out. out.width ≡ left.now.width) }
-    ensures inside { IfOk result (λ out. HasInside window.now out.items (λ t v. copies left.now.items v t - copies right.now.items v t)) }
-    ensures outside { IfOk result (λ out. IsEmptyOutside window.now out.items) }
+) -> Result<Vec<Line>, AllocError>
+    requires { right.now.width ≡ left.now.width }
+    ensures within { IfOk result (λ lines. All (λ (line : Line). line.row < length left.now.items) lines.items) }
+    ensures inside { IfOk result (λ lines. HasInside window.now (map (line_of left.now.items) lines.items) (λ t v. copies left.now.items v t - copies right.now.items v t)) }
+    ensures outside { IfOk result (λ lines. IsEmptyOutside window.now (map (line_of left.now.items) lines.items)) }
 {
-    if left.width() != right.width() {
-        return select(alloc, left, window, None);
-    }
     let columns = all_columns(alloc, left.width())?;
+    right.width();
     let sides = Sides {
         left,
         right,
@@ -234,7 +252,26 @@ pub fn except_all(
         right_columns: &columns,
     };
     let keys = sorted_keys(alloc, &sides, window)?;
-    let mut out = Rows::new(alloc, left.width());
-    add_differences(alloc, &sides, &keys, window, &mut out)?;
-    Ok(out)
+    let mut lines = Vec::new(alloc);
+    add_differences(alloc, &sides, &keys, window, &mut lines)?;
+    Ok(lines)
+}
+
+/// Each row of the left as often as it stands there more often than on the right, at each instant of
+/// the window. No value is copied. `AllocError` where a growth was refused.
+pub fn except_all<'a>(
+    alloc: Global,
+    left: Relation<'a>,
+    right: &Relation<'_>,
+    window: &Period,
+) -> Result<Relation<'a>, AllocError>
+    ensures width { IfOk result (λ out. out.width ≡ left.entry.width) }
+    ensures inside { IfOk result (λ out. HasInside window.now out.items (λ t v. copies left.entry.items v t - copies right.now.items v t)) }
+    ensures outside { IfOk result (λ out. IsEmptyOutside window.now out.items) }
+{
+    if left.width() != right.width() {
+        return select(alloc, left, window, None);
+    }
+    let lines = lines_left(alloc, &left, right, window)?;
+    left.pick(alloc, &lines)
 }

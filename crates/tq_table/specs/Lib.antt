@@ -1,5 +1,4 @@
 pub mod Apart
-pub mod Lines
 pub mod Sink
 pub mod Text
 pub mod Writing

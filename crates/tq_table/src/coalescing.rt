@@ -1,6 +1,6 @@
 // Coalescing: the periods of each group of equal values are layered by themselves.
 
-ghost use Rattle.std.specs.Prelude.{◌≡◌, All, IfOk, IsPermutation, List, OnOk, map};
+ghost use Rattle.std.specs.Prelude.{◌≡◌, ◌<◌, All, IfOk, IsPermutation, List, OnOk, length, map};
 ghost use Rattle.std.specs.Bool.{OnTrue};
 ghost use Rattle.tq_base.specs.declared.value.Value.{Value};
 ghost use Rattle.tq_base.specs.Fragments.{copies};
@@ -8,13 +8,13 @@ ghost use Rattle.tq_base.specs.Keys.{key_row, IsKey, Rises};
 ghost use Rattle.tq_base.specs.KeySides.{state_of};
 ghost use Rattle.tq_base.specs.Layers.{IsLayers};
 ghost use Rattle.tq_base.specs.Layering.{AddsLayers};
+ghost use Rattle.tq_base.specs.Relations.{line_of};
 ghost use Rattle.tq_table.specs.Apart.{AreApart};
-ghost use Rattle.tq_table.specs.Lines.{line_of};
 
 use crate::layering::layered;
-use crate::lines::{Line, Lines};
+use crate::lines::Lines;
 use std::alloc::{AllocError, Global};
-use tq_base::{Key, Period, Rows, Side, Sides, all_columns};
+use tq_base::{Key, Line, Period, Relation, Side, Sides, all_columns};
 
 // The periods of the rows.
 fn periods_of(alloc: Global, sides: &Sides<'_>, group: &[Key]) -> Result<Vec<Period>, AllocError>
@@ -42,8 +42,10 @@ fn add_layers(
     group: &[Key],
     table: &mut Vec<Line>,
 ) -> Result<(), AllocError>
-    requires { All (λ k. k.side ≡ Side.Left) group.now }
-    ensures { OnOk result ((v : List Value) → All (λ k. (key_row (state_of sides.now) k).values ≡ v) group.now
+    requires left { All (λ k. k.side ≡ Side.Left) group.now }
+    requires stand { All (λ k. k.row < length sides.now.left.now.items) group.now }
+    ensures within { OnOk result (All (λ line. line.row < length sides.now.left.now.items) table.old.items → All (λ line. line.row < length sides.now.left.now.items) table.new.items) }
+    ensures layers { OnOk result ((v : List Value) → All (λ k. (key_row (state_of sides.now) k).values ≡ v) group.now
         → AddsLayers v (map (key_row (state_of sides.now)) group.now) (map (line_of sides.now.left.now.items) table.old.items) (map (line_of sides.now.left.now.items) table.new.items)) }
 {
     if stand_apart(sides, group) {
@@ -83,13 +85,14 @@ fn sorted_keys(alloc: Global, sides: &Sides<'_>) -> Result<Vec<Key>, AllocError>
 }
 
 // The lines of the layers of the rows.
-fn lines_of(alloc: Global, rows: &Rows) -> Result<Vec<Line>, AllocError>
-    ensures { IfOk result (λ lines. IsLayers (copies rows.now.items) (map (line_of rows.now.items) lines.items)) }
+fn lines_of(alloc: Global, rows: &Relation<'_>) -> Result<Vec<Line>, AllocError>
+    ensures within { IfOk result (λ lines. All (λ line. line.row < length rows.now.items) lines.items) }
+    ensures layers { IfOk result (λ lines. IsLayers (copies rows.now.items) (map (line_of rows.now.items) lines.items)) }
 {
     let columns = all_columns(alloc, rows.width())?;
     let sides = Sides {
-        left: rows,
-        right: rows,
+        left: &*rows,
+        right: &*rows,
         left_columns: &columns,
         right_columns: &columns,
     };
@@ -108,9 +111,9 @@ fn lines_of(alloc: Global, rows: &Rows) -> Result<Vec<Line>, AllocError>
 /// each maximal run of instants at which at least so many copies are valid, in order of the values,
 /// then of the start, then of the end. No value is moved or copied. `AllocError` where a growth was
 /// refused.
-pub fn coalesce(alloc: Global, rows: Rows) -> Result<Lines, AllocError>
-    ensures { IfOk result (IsLayers (copies rows.items)) }
+pub fn coalesce<'a>(alloc: Global, rows: Relation<'a>) -> Result<Lines<'a>, AllocError>
+    ensures { IfOk result (IsLayers (copies rows.entry.items)) }
 {
     let lines = lines_of(alloc, &rows)?;
-    Ok(Lines::of(rows, lines))
+    Ok(Lines::of(rows.pick(alloc, &lines)?))
 }

@@ -1,62 +1,48 @@
-// Lines: rows, some of them again, each at a period of its own.
+// Lines: the rows of an answer, in their order.
 
-ghost use Rattle.std.specs.Prelude.{◌≡◌, ◌<◌, length, map, slice_index_or};
+ghost use Rattle.std.specs.Prelude.{◌≡◌, ◌<◌, IfOk, length, slice_index_or};
 ghost use Rattle.tq_base.specs.declared.fragment.Fragment.{Fragment};
-ghost use Rattle.tq_table.specs.Lines.{line_of};
+ghost use Rattle.tq_base.specs.Relations.{values_at_number};
 
+use std::alloc::{AllocError, Global};
 use std::marker::Model;
-use tq_base::{Period, Rows, Value};
+use tq_base::{Period, Relation, Row};
 
-/// The number of a row, and when it is valid.
-#[derive(Clone, Copy, Debug)]
-pub struct Line {
-    pub row: u32,
-    pub period: Period,
-}
-
-/// Rows with a period each, which name the rows whose values they have; seen as their list.
+/// Rows with a period each, whose values stand where they stood; seen as their list.
 #[derive(Drop, Debug)]
-pub struct Lines {
-    rows: Rows,
-    lines: Vec<Line>,
+pub struct Lines<'a> {
+    rows: Relation<'a>,
 }
 
-impl Model for Lines {
-    ghost use Rattle.std.specs.Prelude.{List, map};
+impl<'a> Model for Lines<'a> {
+    ghost use Rattle.std.specs.Prelude.{List};
     ghost use Rattle.tq_base.specs.declared.fragment.Fragment.{Fragment};
-    ghost use Rattle.tq_table.specs.Lines.{line_of};
 
     ghost Value = { List Fragment };
 
-    ghost view = { λ l. map (line_of l.rows.items) l.lines.items };
+    ghost view = { λ l. l.rows.items };
 }
 
-impl Lines {
-    /// These lines of the rows. A number that is no row's stands for a row without values.
-    pub fn of(rows: Rows, lines: Vec<Line>) -> Lines
-        ensures { result ≡ map (line_of rows.items) lines.items }
+impl<'a> Lines<'a> {
+    /// The rows as they stand.
+    pub fn of(rows: Relation<'a>) -> Lines<'a>
+        ensures { result ≡ rows.entry.items }
     {
-        Lines { rows, lines }
+        Lines { rows }
     }
 
     /// How many lines there are.
     pub fn len(&self) -> usize
         ensures { result ≡ length self.now }
     {
-        self.lines.len()
+        self.rows.len()
     }
 
-    /// The values of the line.
-    pub fn values(&self, line: usize) -> &[Value]
-        requires { line < length self.now }
-        ensures { (d : Fragment) → result.now ≡ (slice_index_or self.now line d).values }
+    /// The values of the line, none where there is no such line.
+    pub fn row(&self, line: usize) -> Row<'_>
+        ensures { result ≡ values_at_number self.now line }
     {
-        let row = self.lines[line].row as usize;
-        if row < self.rows.len() {
-            self.rows.values(row)
-        } else {
-            &[]
-        }
+        self.rows.row(line)
     }
 
     /// When the line is valid.
@@ -64,6 +50,15 @@ impl Lines {
         requires { line < length self.now }
         ensures { (d : Fragment) → result ≡ (slice_index_or self.now line d).period }
     {
-        self.lines[line].period
+        self.rows.period(line)
+    }
+
+    /// The same lines, their values copied, so that nothing is lent. `AllocError` where a growth was refused.
+    pub fn detached<'b>(&self, alloc: Global) -> Result<Lines<'b>, AllocError>
+        ensures { IfOk result (λ lines. lines ≡ self.now) }
+    {
+        Ok(Lines {
+            rows: self.rows.detached(alloc)?,
+        })
     }
 }

@@ -5,7 +5,7 @@ use tq_base::{Items, Name};
 
 /// A table: the names of its columns, and its rows, each with as many values.
 #[derive(Drop, Debug)]
-pub struct Table {
+pub struct Table<'a> {
     pub columns: Items<Name>,
-    pub rows: Lines,
+    pub rows: Lines<'a>,
 }

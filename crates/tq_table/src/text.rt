@@ -14,7 +14,7 @@ use csv::{ByteRecord, Writer, WriterBuilder};
 use itoa::Buffer;
 use std::alloc::{AllocError, Global};
 use std::io::Write;
-use tq_base::{Bound, FOREVER, Name, Period, Seen, Value};
+use tq_base::{Bound, FOREVER, Name, Period, Row, Seen, Value};
 
 fn push_value(record: &mut ByteRecord, value: &Value) -> Result<(), AllocError>
     requires { partial_of record.old ≡ [] }
@@ -51,12 +51,12 @@ fn fill_header(record: &mut ByteRecord, columns: &[Name]) -> Result<(), AllocErr
 }
 
 // Makes the record that of a row.
-fn fill_row(record: &mut ByteRecord, values: &[Value], period: Period) -> Result<(), AllocError>
-    ensures { OnOk result (fields_of record.new ≡ row_fields (record { values = values.now; period = period })) }
+fn fill_row(record: &mut ByteRecord, row: &Row<'_>, period: Period) -> Result<(), AllocError>
+    ensures { OnOk result (fields_of record.new ≡ row_fields (record { values = row.now; period = period })) }
 {
     record.clear();
-    for value in values {
-        push_value(record, value)?;
+    'values: for place in 0..row.len() {
+        push_value(record, row.value(place))?;
     }
     let start = period.start.number();
     record.push_field(Buffer::new().format(start).as_bytes())?;
@@ -79,7 +79,7 @@ fn write_line(writer: &mut Writer<Vec<u8>>, record: &ByteRecord) -> Result<(), A
 /// `AllocError` where a growth was refused. Not inlined, so that the writer's buffers leave the stack
 /// with it.
 #[inline(never)]
-pub fn table_text(alloc: Global, table: &Table) -> Result<Vec<u8>, AllocError>
+pub fn table_text(alloc: Global, table: &Table<'_>) -> Result<Vec<u8>, AllocError>
     ensures { IfOk result (λ text. text.items ≡ text_of table.now) }
 {
     let mut writer = WriterBuilder::new()
@@ -89,7 +89,7 @@ pub fn table_text(alloc: Global, table: &Table) -> Result<Vec<u8>, AllocError>
     fill_header(&mut record, table.columns.get())?;
     write_line(&mut writer, &record)?;
     'rows: for row in 0..table.rows.len() {
-        fill_row(&mut record, table.rows.values(row), table.rows.period(row))?;
+        fill_row(&mut record, &table.rows.row(row), table.rows.period(row))?;
         write_line(&mut writer, &record)?;
     }
     match writer.into_inner() {
@@ -102,7 +102,7 @@ pub fn table_text(alloc: Global, table: &Table) -> Result<Vec<u8>, AllocError>
 /// prefix then went out; `OutOfMemory` writes nothing.
 pub fn write_table<W: Write>(
     alloc: Global,
-    table: &Table,
+    table: &Table<'_>,
     sink: &mut Sink<W>,
 ) -> Result<(), WriteFault>
     ensures whole { OnOk result (Appends (W.contents sink.old.writer) (W.contents sink.new.writer) (text_of table.now)) }

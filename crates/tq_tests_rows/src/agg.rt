@@ -6,9 +6,9 @@ ghost use Rattle.tq_base.specs.declared.fragment.Fragment.{Fragment};
 ghost use Rattle.tq_ops.specs.Conditions.{value_at};
 ghost use Rattle.tq_agg.specs.Grouping.{number_of};
 
+use crate::operated::{counted, grouped};
 use std::alloc::{AllocError, Global};
 use std::test::Fail;
-use tq_agg::{count_all, group_count_sum};
 use tq_base::{Bound, FOREVER, Fragment, Instant, Period, Rows, Seen, Value, Values};
 
 fn period(start: u64, end: u64) -> Result<Period, Fail> {
@@ -100,7 +100,7 @@ fn counts_each_department(rt: HostRuntime) -> Result<(), Fail> {
             ("toys", 3, 12, 20),
         ],
     )?;
-    let out = group_count_sum(rt.alloc(), &rows, &period(0, FOREVER)?, &[0], &[])?;
+    let out = grouped(rt.alloc(), &rows, &period(0, FOREVER)?, &[0], &[])?;
     assert_eq!(rt;
         shown(rt.alloc(), &out)?.as_str(),
         "food,1,5,1000000000000 toys,1,10,12 toys,1,20,30 toys,2,12,20 "
@@ -112,7 +112,7 @@ fn counts_each_department(rt: HostRuntime) -> Result<(), Fail> {
 fn sums_pass_64_bits(rt: HostRuntime) -> Result<(), Fail> {
     let most = i64::MAX;
     let rows = pairs(rt.alloc(), &[("a", most, 0, 9), ("b", most, 4, 6)])?;
-    let out = group_count_sum(rt.alloc(), &rows, &period(0, FOREVER)?, &[], &[1, 0])?;
+    let out = grouped(rt.alloc(), &rows, &period(0, FOREVER)?, &[], &[1, 0])?;
     assert_eq!(rt;
         shown(rt.alloc(), &out)?.as_str(),
         "1,9223372036854775807,0,0,4 1,9223372036854775807,0,6,9 2,18446744073709551614,0,4,6 "
@@ -123,7 +123,7 @@ fn sums_pass_64_bits(rt: HostRuntime) -> Result<(), Fail> {
 #[test]
 fn no_rows_make_no_group(rt: HostRuntime) -> Result<(), Fail> {
     let none = Rows::new(rt.alloc(), 2);
-    let out = group_count_sum(rt.alloc(), &none, &period(0, FOREVER)?, &[], &[])?;
+    let out = grouped(rt.alloc(), &none, &period(0, FOREVER)?, &[], &[])?;
     assert!(rt; out.len() == 0);
     Ok(())
 }
@@ -131,7 +131,7 @@ fn no_rows_make_no_group(rt: HostRuntime) -> Result<(), Fail> {
 #[test]
 fn no_rows_are_counted_as_0(rt: HostRuntime) -> Result<(), Fail> {
     let none = Rows::new(rt.alloc(), 2);
-    let out = count_all(rt.alloc(), &none, &period(3, 8)?)?;
+    let out = counted(rt.alloc(), &none, &period(3, 8)?)?;
     assert_eq!(rt; shown(rt.alloc(), &out)?.as_str(), "0,3,8 ");
     Ok(())
 }
@@ -147,12 +147,12 @@ fn rows_are_counted_inside_the_window(rt: HostRuntime) -> Result<(), Fail> {
             ("d", 1, 50, 60),
         ],
     )?;
-    let out = count_all(rt.alloc(), &rows, &period(5, 35)?)?;
+    let out = counted(rt.alloc(), &rows, &period(5, 35)?)?;
     assert_eq!(rt;
         shown(rt.alloc(), &out)?.as_str(),
         "0,20,30 1,5,20 1,30,35 "
     );
-    let out = group_count_sum(rt.alloc(), &rows, &period(40, 50)?, &[0], &[1])?;
+    let out = grouped(rt.alloc(), &rows, &period(40, 50)?, &[0], &[1])?;
     assert!(rt; out.len() == 0);
     Ok(())
 }
@@ -163,7 +163,7 @@ fn rows_that_meet_leave_no_cut(rt: HostRuntime) -> Result<(), Fail> {
         rt.alloc(),
         &[("a", 7, 0, 10), ("a", 7, 10, 20), ("a", 8, 20, 30)],
     )?;
-    let out = group_count_sum(rt.alloc(), &rows, &period(0, FOREVER)?, &[0], &[1])?;
+    let out = grouped(rt.alloc(), &rows, &period(0, FOREVER)?, &[0], &[1])?;
     assert_eq!(rt;
         shown(rt.alloc(), &out)?.as_str(),
         "a,1,7,0,20 a,1,8,20,30 "
@@ -177,9 +177,9 @@ fn keys_of_one_prefix_are_two_groups(rt: HostRuntime) -> Result<(), Fail> {
         rt.alloc(),
         &[("ab", 1, 0, 9), ("a", 1, 0, 9), ("ab", 2, 0, 9)],
     )?;
-    let out = group_count_sum(rt.alloc(), &rows, &period(0, FOREVER)?, &[0], &[])?;
+    let out = grouped(rt.alloc(), &rows, &period(0, FOREVER)?, &[0], &[])?;
     assert_eq!(rt; shown(rt.alloc(), &out)?.as_str(), "a,1,0,9 ab,2,0,9 ");
-    let out = group_count_sum(rt.alloc(), &rows, &period(0, FOREVER)?, &[0, 1], &[])?;
+    let out = grouped(rt.alloc(), &rows, &period(0, FOREVER)?, &[0, 1], &[])?;
     assert_eq!(rt;
         shown(rt.alloc(), &out)?.as_str(),
         "a,1,1,0,9 ab,1,1,0,9 ab,2,1,0,9 "
@@ -200,7 +200,7 @@ fn keys_that_begin_alike_are_groups_of_their_own(rt: HostRuntime) -> Result<(), 
             ("sixteen bytes ..a", 1, 4, 9),
         ],
     )?;
-    let out = group_count_sum(rt.alloc(), &rows, &period(0, FOREVER)?, &[0], &[])?;
+    let out = grouped(rt.alloc(), &rows, &period(0, FOREVER)?, &[0], &[])?;
     assert_eq!(rt;
         shown(rt.alloc(), &out)?.as_str(),
         "sixteen bytes ..,1,0,9 sixteen bytes ..\0,1,0,9 sixteen bytes ..a,1,0,9 sixteen bytes ..b,1,0,4 sixteen bytes ..b,2,4,9 "

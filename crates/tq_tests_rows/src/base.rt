@@ -4,6 +4,7 @@ mod keys;
 mod orders;
 mod ranks;
 mod readers;
+mod relations;
 mod rows;
 mod tables;
 

@@ -9,6 +9,8 @@ mod agg;
 #[cfg(test)]
 mod base;
 #[cfg(test)]
+mod operated;
+#[cfg(test)]
 mod ops;
 #[cfg(test)]
 mod table;

@@ -7,8 +7,8 @@ mod text;
 use crate::adding::add_row;
 use std::alloc::{AllocError, Global};
 use std::test::Fail;
-use tq_base::{Bound, Instant, Items, Period, Rows, Value, fold_name};
-use tq_table::{Line, Lines, Table, table_text};
+use tq_base::{Bound, Instant, Items, Period, Relation, Rows, Value, fold_name};
+use tq_table::{Lines, Table, coalesce, table_text};
 
 fn text_value(alloc: Global, content: &str) -> Result<Value, AllocError> {
     Value::text(alloc, content)
@@ -34,7 +34,7 @@ fn text_rows(alloc: Global, told: &[(&str, u64, u64)]) -> Result<Rows, Fail> {
 }
 
 // The text of a table of one column.
-fn written(alloc: Global, name: &[u8], rows: Lines) -> Result<String, Fail> {
+fn written(alloc: Global, name: &[u8], rows: Lines<'_>) -> Result<String, Fail> {
     let name = fold_name(alloc, name)?.ok_or("no name")?;
     let table = Table {
         columns: Items::of(vec![in alloc; name]?),
@@ -44,13 +44,11 @@ fn written(alloc: Global, name: &[u8], rows: Lines) -> Result<String, Fail> {
 }
 
 // Each row once, in the order of the rows.
-fn lines(alloc: Global, rows: Rows) -> Result<Lines, Fail> {
-    let mut lines = Vec::new(alloc);
-    for (number, period) in rows.periods().iter().enumerate() {
-        lines.push(Line {
-            row: u32::try_from(number).ok().ok_or("so many rows")?,
-            period: *period,
-        })?;
-    }
-    Ok(Lines::of(rows, lines))
+fn lines<'a>(alloc: Global, rows: Rows) -> Result<Lines<'a>, Fail> {
+    Ok(Lines::of(Relation::made(alloc, rows)?))
+}
+
+// The layers of the rows.
+fn coalesced<'a>(alloc: Global, rows: Rows) -> Result<Lines<'a>, Fail> {
+    Ok(coalesce(alloc, Relation::made(alloc, rows)?)?)
 }

@@ -323,12 +323,15 @@ fn random_statement(alloc: Global, draws: &mut Draws, sources: u64) -> Result<St
 // ---- answers
 
 // The rows of the table that are valid at the instant, in order.
-fn valid_lines(alloc: Global, table: &Table, instant: u64) -> Result<Vec<String>, AllocError> {
+fn valid_lines(alloc: Global, table: &Table<'_>, instant: u64) -> Result<Vec<String>, AllocError> {
     let mut lines = Vec::new(alloc);
+    let mut values = Vec::new(alloc);
     for line in 0..table.rows.len() {
         let period = table.rows.period(line);
         if period.start.number() <= instant && instant < period.end.number() {
-            lines.push(line_of(alloc, table.rows.values(line))?)?;
+            values.clear();
+            table.rows.row(line).show_all(&mut values)?;
+            lines.push(line_of(alloc, &values)?)?;
         }
     }
     lines.sort()?;

@@ -4,6 +4,7 @@ ghost use Rattle.std.specs.Prelude.{◌≡◌, All, IfOk, OnOk};
 ghost use Rattle.tq_base.specs.declared.fragment.Fragment.{Fragment};
 ghost use Rattle.tq_event.specs.Tables.{lists_of};
 ghost use Rattle.tq_eval.specs.Running.{AreNumbers};
+ghost use Rattle.tq_plan.specs.Standing.{IsPlan};
 ghost use Rattle.tq_eval.specs.TableAnswers.{AreAllNumbers};
 
 use super::planned;
@@ -12,6 +13,7 @@ use std::process::Abort;
 use std::test::Fail;
 use tq_base::{Bound, FOREVER, Instant, Period, Rows, Value};
 use tq_eval::answer_tables;
+use tq_plan::Plan;
 use tq_table::table_text;
 
 // A number and a text, from when until when.
@@ -66,6 +68,15 @@ fn tables(alloc: Global, told: &[&[Told<'_>]]) -> Result<Vec<Rows>, Fail>
     Ok(tables)
 }
 
+// The text of the plan's answer over the tables.
+fn answered(alloc: Global, tables: &[Rows], plan: &Plan) -> Result<Vec<u8>, Fail>
+    requires numbers { AreAllNumbers (lists_of tables.now) }
+    requires plan { IsPlan plan.now }
+{
+    let table = answer_tables(alloc, tables, plan)?;
+    Ok(table_text(alloc, &table)?)
+}
+
 // Sees that each statement over the tables `staff` and `pay` has its answer.
 fn assert_answered(
     rt: &(impl Abort + AllocGlobal),
@@ -80,9 +91,8 @@ fn assert_answered(
     )?;
     for (statement, wanted) in answers {
         let plan = planned(rt.alloc(), &[(b"staff", STAFF), (b"pay", PAY)], statement)?;
-        let table = answer_tables(rt.alloc(), &tables, &plan)?;
         assert_eq!(rt;
-            table_text(rt.alloc(), &table)?.as_slice(),
+            answered(rt.alloc(), &tables, &plan)?.as_slice(),
             *wanted,
             "{statement:?}"
         );

@@ -1,8 +1,10 @@
 // Conditions, short and long.
 
-use super::{both, compare, either, negated, number, text};
+use super::{both, compare, either, negated, number, period, text};
+use crate::adding::add_row;
+use std::alloc::Global;
 use std::test::Fail;
-use tq_base::{Value, Values};
+use tq_base::{Relation, Rows, Value, Values};
 use tq_ops::{Compare, Operand, Test};
 
 #[test]
@@ -69,23 +71,30 @@ fn long_chains_need_no_deep_recursion(rt: HostRuntime) -> Result<(), Fail> {
     Ok(())
 }
 
+// Whether the test may pass of a row in which the number 5 stands at the place.
+fn may_pass(alloc: Global, test: &Test, place: usize) -> Result<bool, Fail> {
+    let mut rows = Rows::new(alloc, 1);
+    add_row(&mut rows, &[Value::int(5)], period(0, 1)?)?;
+    let relation = Relation::of(alloc, &rows)?;
+    Ok(test.may_pass(&relation.row(0), place))
+}
+
 #[test]
 fn a_part_of_a_row_decides_what_speaks_of_it_alone(rt: HostRuntime) -> Result<(), Fail> {
     let alloc = rt.alloc();
-    let part = [Value::int(5)];
     let second = |op: Compare, wanted: i64| compare(Operand::Column(1), op, number(wanted));
     let links = compare(Operand::Column(0), Compare::Eq, Operand::Column(1));
-    assert_eq!(rt; second(Compare::Eq, 5).may_pass(&part, 1), true);
-    assert_eq!(rt; second(Compare::Ne, 5).may_pass(&part, 1), false);
-    assert_eq!(rt; second(Compare::Ne, 5).may_pass(&part, 0), true);
-    assert_eq!(rt; second(Compare::Ne, 5).may_pass(&part, 2), true);
-    assert_eq!(rt; links.may_pass(&part, 1), true);
+    assert_eq!(rt; may_pass(alloc, &second(Compare::Eq, 5), 1)?, true);
+    assert_eq!(rt; may_pass(alloc, &second(Compare::Ne, 5), 1)?, false);
+    assert_eq!(rt; may_pass(alloc, &second(Compare::Ne, 5), 0)?, true);
+    assert_eq!(rt; may_pass(alloc, &second(Compare::Ne, 5), 2)?, true);
+    assert_eq!(rt; may_pass(alloc, &links, 1)?, true);
     let fails = both(alloc, links, second(Compare::Gt, 5))?;
-    assert_eq!(rt; fails.may_pass(&part, 1), false);
+    assert_eq!(rt; may_pass(alloc, &fails, 1)?, false);
     let holds = negated(alloc, fails)?;
-    assert_eq!(rt; holds.may_pass(&part, 1), true);
-    assert_eq!(rt; negated(alloc, holds)?.may_pass(&part, 1), false);
+    assert_eq!(rt; may_pass(alloc, &holds, 1)?, true);
+    assert_eq!(rt; may_pass(alloc, &negated(alloc, holds)?, 1)?, false);
     let either_one = either(alloc, second(Compare::Lt, 5), second(Compare::Gt, 5))?;
-    assert_eq!(rt; either_one.may_pass(&part, 1), false);
+    assert_eq!(rt; may_pass(alloc, &either_one, 1)?, false);
     Ok(())
 }

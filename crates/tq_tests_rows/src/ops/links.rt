@@ -1,10 +1,11 @@
 // Joins by conditions that part both sides, wholly or in part.
 
 use super::{both, compare, either, negated, number, numbers, pairs, period, shown};
+use crate::operated::joined;
 use std::alloc::Global;
 use std::test::Fail;
 use tq_base::{FOREVER, Rows};
-use tq_ops::{Compare, Operand, Test, join};
+use tq_ops::{Compare, Operand, Test};
 
 // A number and a letter each, on either side.
 fn lefts(alloc: Global) -> Result<Rows, Fail> {
@@ -36,22 +37,22 @@ fn columns(one: u32, op: Compare, other: u32) -> Test {
 }
 
 // The rows that both sides make.
-fn joined(alloc: Global, test: &Test) -> Result<String, Fail> {
+fn linked(alloc: Global, test: &Test) -> Result<String, Fail> {
     let all = period(0, FOREVER)?;
-    let out = join(alloc, &lefts(alloc)?, &rights(alloc)?, &all, Some(test))?;
+    let out = joined(alloc, &lefts(alloc)?, &rights(alloc)?, &all, Some(test))?;
     shown(alloc, &out)
 }
 
 #[test]
 fn not_different_is_equal(rt: HostRuntime) -> Result<(), Fail> {
     let alloc = rt.alloc();
-    let equal = joined(alloc, &columns(0, Compare::Eq, 2))?;
+    let equal = linked(alloc, &columns(0, Compare::Eq, 2))?;
     assert_eq!(rt;
         equal.as_str(),
         "0,a,0,b,0,9 1,a,1,a,0,9 1,b,1,a,0,9 2,b,2,a,0,9 2,b,2,b,0,9 "
     );
     let test = negated(alloc, columns(2, Compare::Ne, 0))?;
-    assert_eq!(rt; joined(alloc, &test)?.as_str(), equal.as_str());
+    assert_eq!(rt; linked(alloc, &test)?.as_str(), equal.as_str());
     let test = negated(
         alloc,
         either(
@@ -60,7 +61,7 @@ fn not_different_is_equal(rt: HostRuntime) -> Result<(), Fail> {
             negated(alloc, columns(3, Compare::Eq, 1))?,
         )?,
     )?;
-    assert_eq!(rt; joined(alloc, &test)?.as_str(), "1,a,1,a,0,9 2,b,2,b,0,9 ");
+    assert_eq!(rt; linked(alloc, &test)?.as_str(), "1,a,1,a,0,9 2,b,2,b,0,9 ");
     Ok(())
 }
 
@@ -73,7 +74,7 @@ fn different_or_equal_parts_nothing(rt: HostRuntime) -> Result<(), Fail> {
         columns(1, Compare::Eq, 3),
     )?;
     assert_eq!(rt;
-        joined(alloc, &negated(alloc, test)?)?.as_str(),
+        linked(alloc, &negated(alloc, test)?)?.as_str(),
         "0,a,2,b,0,9 1,a,0,b,0,9 1,a,2,b,0,9 1,b,2,a,0,9 2,b,1,a,0,9 "
     );
     let test = both(
@@ -82,7 +83,7 @@ fn different_or_equal_parts_nothing(rt: HostRuntime) -> Result<(), Fail> {
         columns(1, Compare::Eq, 3),
     )?;
     assert_eq!(rt;
-        joined(alloc, &negated(alloc, negated(alloc, test)?)?)?.as_str(),
+        linked(alloc, &negated(alloc, negated(alloc, test)?)?)?.as_str(),
         "1,a,1,a,0,9 2,b,2,b,0,9 "
     );
     Ok(())
@@ -97,7 +98,7 @@ fn links_beside_parts_of_one_side(rt: HostRuntime) -> Result<(), Fail> {
         compare(Operand::Column(2), Compare::Eq, number(2)),
     )?;
     let test = both(alloc, columns(0, Compare::Eq, 2), one_side)?;
-    assert_eq!(rt; joined(alloc, &test)?.as_str(), "2,b,2,a,0,9 2,b,2,b,0,9 ");
+    assert_eq!(rt; linked(alloc, &test)?.as_str(), "2,b,2,a,0,9 2,b,2,b,0,9 ");
     let test = both(
         alloc,
         test,
@@ -106,13 +107,13 @@ fn links_beside_parts_of_one_side(rt: HostRuntime) -> Result<(), Fail> {
             compare(Operand::Column(0), Compare::Le, Operand::Column(1)),
         )?,
     )?;
-    assert_eq!(rt; joined(alloc, &test)?.as_str(), "");
+    assert_eq!(rt; linked(alloc, &test)?.as_str(), "");
     let test = both(
         alloc,
         columns(0, Compare::Eq, 2),
         compare(number(1), Compare::Eq, number(2)),
     )?;
-    assert_eq!(rt; joined(alloc, &test)?.as_str(), "");
+    assert_eq!(rt; linked(alloc, &test)?.as_str(), "");
     Ok(())
 }
 
@@ -124,7 +125,7 @@ fn links_beside_parts_of_both_sides(rt: HostRuntime) -> Result<(), Fail> {
         columns(0, Compare::Eq, 2),
         columns(1, Compare::Lt, 3),
     )?;
-    assert_eq!(rt; joined(alloc, &test)?.as_str(), "0,a,0,b,0,9 ");
+    assert_eq!(rt; linked(alloc, &test)?.as_str(), "0,a,0,b,0,9 ");
     let test = both(
         alloc,
         columns(0, Compare::Eq, 2),
@@ -135,7 +136,7 @@ fn links_beside_parts_of_both_sides(rt: HostRuntime) -> Result<(), Fail> {
         )?,
     )?;
     assert_eq!(rt;
-        joined(alloc, &test)?.as_str(),
+        linked(alloc, &test)?.as_str(),
         "0,a,0,b,0,9 1,a,1,a,0,9 1,b,1,a,0,9 2,b,2,a,0,9 2,b,2,b,0,9 "
     );
     Ok(())
@@ -152,17 +153,17 @@ fn columns_that_no_row_has_are_0(rt: HostRuntime) -> Result<(), Fail> {
         columns(0, Compare::Eq, 1),
         columns(2, Compare::Eq, 3),
     )?;
-    let out = join(alloc, &left, &right, &all, Some(&link))?;
+    let out = joined(alloc, &left, &right, &all, Some(&link))?;
     assert_eq!(rt; shown(alloc, &out)?.as_str(), "0,0,2,4 7,7,2,4 ");
     let missing = both(
         alloc,
         columns(0, Compare::Eq, 1),
         compare(Operand::Column(2), Compare::Gt, number(0)),
     )?;
-    let out = join(alloc, &left, &right, &all, Some(&missing))?;
+    let out = joined(alloc, &left, &right, &all, Some(&missing))?;
     assert_eq!(rt; shown(alloc, &out)?.as_str(), "");
     let far = columns(0, Compare::Eq, 5);
-    let out = join(alloc, &left, &right, &all, Some(&far))?;
+    let out = joined(alloc, &left, &right, &all, Some(&far))?;
     assert_eq!(rt; shown(alloc, &out)?.as_str(), "0,0,2,4 0,7,2,4 ");
     Ok(())
 }

@@ -1,10 +1,9 @@
 // Rows that overlap, meet, nest or stand twice.
 
-use super::{period, text_rows, written};
+use super::{coalesced, period, text_rows, written};
 use crate::adding::add_row;
 use std::test::Fail;
 use tq_base::{FOREVER, Rows, Value};
-use tq_table::coalesce;
 
 #[test]
 fn coalesces_meeting_rows(rt: HostRuntime) -> Result<(), Fail> {
@@ -14,7 +13,7 @@ fn coalesces_meeting_rows(rt: HostRuntime) -> Result<(), Fail> {
         ("bob", 15, 25),
         ("ann", 20, 30),
     ];
-    let table = coalesce(rt.alloc(), text_rows(rt.alloc(), &names)?)?;
+    let table = coalesced(rt.alloc(), text_rows(rt.alloc(), &names)?)?;
     let text = written(rt.alloc(), b"name", table)?;
     assert_eq!(rt;
         text.as_str(),
@@ -31,7 +30,7 @@ fn counts_the_copies_at_each_instant(rt: HostRuntime) -> Result<(), Fail> {
         [("x", 4, 9), ("x", 4, 5), ("x", 3, 4), ("x", 0, 4)].as_slice(),
         [("x", 0, 9), ("x", 3, 5)].as_slice(),
     ] {
-        let table = coalesce(rt.alloc(), text_rows(rt.alloc(), rows)?)?;
+        let table = coalesced(rt.alloc(), text_rows(rt.alloc(), rows)?)?;
         let text = written(rt.alloc(), b"v", table)?;
         assert_eq!(rt; text.as_str(), "v,from,to\nx,0,9\nx,3,5\n");
     }
@@ -45,7 +44,7 @@ fn keeps_each_of_many_equal_rows(rt: HostRuntime) -> Result<(), Fail> {
         let end = if place < 29 { 2 } else { FOREVER };
         add_row(&mut rows, &[Value::int(7)], period(1, end)?)?;
     }
-    let text = written(rt.alloc(), b"k", coalesce(rt.alloc(), rows)?)?;
+    let text = written(rt.alloc(), b"k", coalesced(rt.alloc(), rows)?)?;
     let short = "7,1,2\n".repeat(rt.alloc(), 29)?;
     let long = "7,1,forever\n".repeat(rt.alloc(), 4)?;
     let want = format!(in rt.alloc(); "k,from,to\n{short}{long}")?;
@@ -55,7 +54,7 @@ fn keeps_each_of_many_equal_rows(rt: HostRuntime) -> Result<(), Fail> {
 
 #[test]
 fn no_rows_are_a_table(rt: HostRuntime) -> Result<(), Fail> {
-    let table = coalesce(rt.alloc(), Rows::new(rt.alloc(), 1))?;
+    let table = coalesced(rt.alloc(), Rows::new(rt.alloc(), 1))?;
     assert_eq!(rt; written(rt.alloc(), b"k", table)?.as_str(), "k,from,to\n");
     Ok(())
 }
@@ -72,7 +71,7 @@ fn rows_stand_in_the_order_of_their_values(rt: HostRuntime) -> Result<(), Fail> 
     ] {
         add_row(&mut rows, &[Value::int(number)], period(0, 3)?)?;
     }
-    let text = written(rt.alloc(), b"k", coalesce(rt.alloc(), rows)?)?;
+    let text = written(rt.alloc(), b"k", coalesced(rt.alloc(), rows)?)?;
     assert_eq!(rt;
         text.as_str(),
         "k,from,to

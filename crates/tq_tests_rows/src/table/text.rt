@@ -66,7 +66,7 @@ fn column(alloc: Global, name: &[u8]) -> Result<Name, Fail> {
 }
 
 // A table of two columns and one row.
-fn ann(alloc: Global) -> Result<Table, Fail> {
+fn ann<'a>(alloc: Global) -> Result<Table<'a>, Fail> {
     let mut rows = Rows::new(alloc, 2);
     rows.push_copy(&[text_value(alloc, "ann")?, Value::int(1)], period(10, 20)?)?;
     Ok(Table {

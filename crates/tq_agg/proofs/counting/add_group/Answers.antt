@@ -63,8 +63,8 @@ returns-clause-rows c =
     let ends_rise = ends_in_order window ends c.in_ok-fill_ends.ensures.sorted (ends_within s window keys ends same) in
     on_ok_weaker c.sweep.result
     (λ rows k alike t v.
-    let of_k : projection columns c.values.result.now ≡ k =
-    ap (projection columns) c.values.ensures ∙ ap (λ (x : Key). key_of columns (key_row s x)) (item.3.1 first)
+    let of_k : projection columns c.row-row.result ≡ k =
+    ap (projection columns) c.row-row.ensures ∙ ap (λ (x : Key). key_of columns (key_row s x)) (item.3.1 first)
     ∙ ap (key_of columns) (sym (get_or-map (key_row s) keys 0 first no_row item.3.0)) ∙ alike 0 no_row (omega (arith, item.3.0, length-map keys (key_row s))) in
     let totals : totals_upto s window summands keys c.deref.result.now t ≡ totals_held summands window (map (key_row s) keys) t =
     ap (λ l. totals_upto s window summands keys l t) c.deref.ensures.value

@@ -12,7 +12,7 @@ overflow_add-total c =
     let ends = c.args.ends.now in
     let fits = more_fits (λ (e : End). key_weight (state_of c.args.sides.now) c.args.summand (end_key e)) ends c.ends.end-index c.end-item.result c.requires c.ends-test.true (omega arith) c.end-item.is in
     let weighs = c.weight-total.ensures in
-    let values = ap (weight_of c.args.summand) c.values.ensures in
+    let values = ap (weight_of c.args.summand) c.row.ensures in
     omega (arith, ints, fits, weighs, values, c.ends.invariant)
 
 pub ends-preserved : goal.ends-preserved
@@ -21,5 +21,5 @@ ends-preserved c =
     let fits = more_fits (λ (e : End). key_weight (state_of c.args.sides.now) c.args.summand (end_key e)) ends c.ends.end-index c.end-item.result c.requires c.ends-test.true (omega arith) c.end-item.is in
     let step = added-step (λ (e : End). key_weight (state_of c.args.sides.now) c.args.summand (end_key e)) ends c.ends.end-index c.end-item.result c.ends-test.true c.end-item.is in
     let weighs = c.weight-total.ensures in
-    let values = ap (weight_of c.args.summand) c.values.ensures in
+    let values = ap (weight_of c.args.summand) c.row.ensures in
     omega (arith, ints, fits, step, weighs, values, c.ends.invariant)

@@ -17,7 +17,7 @@ overflow_add-total c =
     let lt = c.keys-test.true in
     let fits = more_fits w keys i k c.requires lt (omega arith) (get_or_default keys i no_key k lt) in
     let weighs = c.weight-total.ensures in
-    let values = ap (weight_of c.args.summand) c.values.ensures in
+    let values = ap (weight_of c.args.summand) c.row.ensures in
     omega (arith, ints, fits, weighs, values, c.keys.invariant)
 
 pub keys-preserved : goal.keys-preserved
@@ -30,5 +30,5 @@ keys-preserved c =
     let fits = more_fits w keys i k c.requires lt (omega arith) (get_or_default keys i no_key k lt) in
     let step = added-step w keys i k lt (get_or_default keys i no_key k lt) in
     let weighs = c.weight-total.ensures in
-    let values = ap (weight_of c.args.summand) c.values.ensures in
+    let values = ap (weight_of c.args.summand) c.row.ensures in
     omega (arith, ints, fits, step, weighs, values, c.keys.invariant)

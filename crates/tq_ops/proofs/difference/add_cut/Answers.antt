@@ -1,13 +1,15 @@
-use Rattle.std.proofs.Common.{◌≡◌, ◌<◌, ◌++◌, ◌∷◌, [], List, true, length, get_or, map, refl, sym, ap, ◌∙◌, subst, arith}
+use Rattle.std.proofs.Common.{◌≡◌, ◌<◌, true, length, get_or, map, refl, sym, ap, ◌∙◌, subst, arith}
 use Rattle.std.proofs.lemmas.List.{get_or-map, length-map, take_all}
 use Rattle.std.proofs.lemmas.List.Elements.{All-map}
-use Rattle.tq_base.specs.declared.value.Value.{Value}
+use Rattle.tq_base.specs.declared.relation.Line.{Line}
 use Rattle.tq_base.specs.declared.sides.Key.{Key}
 use Rattle.tq_base.specs.declared.sides.Side.TheVariants.{Left}
 use Rattle.tq_base.specs.Keys.{held, is_same_side, Held}
 use Rattle.tq_base.specs.KeySides.{state_of}
 use Rattle.tq_base.specs.Periods.{IsOverlap, Overlap}
 use Rattle.tq_ops.proofs.Changing.{adds_all, cut_on, cut_past, nothing_cut, Cut}
+use Rattle.tq_ops.proofs.Standing.{is_left, line_added, more_lines, stands_left}
+use Rattle.tq_ops.specs.Differences.{lines_made}
 use Rattle.tq_ops.proofs.difference.add_cut.Goals as goal
 
 abbrev no_key : Key
@@ -15,38 +17,43 @@ no_key = record { rank = 0; start = 0; row = 0; side = Left }
 
 pub rows-init : goal.rows-init
 rows-init c = record {
-  width = refl;
-  cut = λ v alike. nothing_cut c.args.window.now v c.args.out.now.items;
+  within = λ are. are;
+  cut = λ v alike. nothing_cut c.args.window.now v (lines_made (state_of c.args.sides.now) c.args.lines.now.items);
 }
 
 pub rows-preserved-in_default : goal.rows-preserved-in_default
 rows-preserved-in_default c =
-    let f = held (state_of c.args.sides.now) in
+    let s = state_of c.args.sides.now in
+    let f = held s in
     let k = get_or c.args.group.now c.rows.key-index no_key in
     let lt : c.rows.key-index < length (map f c.args.group.now) = omega (arith, c.rows-test.true, length-map c.args.group.now f) in
     let is : f k ≡ get_or (map f c.args.group.now) c.rows.key-index (f k) = sym (get_or-map f c.args.group.now c.rows.key-index no_key (f k) c.rows-test.true) in
     let same : c.period.result ≡ (f k).row.period = c.period.ensures in
     record {
-      width = c.rows.invariant.width;
+      within = c.rows.invariant.within;
       cut = λ v alike.
-          cut_past c.args.window.now (map f c.args.group.now) c.rows.key-index (f k) lt is v c.args.out.now.items c.rows.out.items
+          cut_past c.args.window.now (map f c.args.group.now) c.rows.key-index (f k) lt is v (lines_made s c.args.lines.now.items) (lines_made s c.rows.lines.items)
           (λ inside. let some = c.in_default.ensures.some.1 (subst (λ p. Overlap p c.args.window.now) (sym same) inside) in cc) (c.rows.invariant.cut v alike);
     }
 
 pub rows-preserved : goal.rows-preserved
 rows-preserved c =
-    let f = held (state_of c.args.sides.now) in
+    let s = state_of c.args.sides.now in
+    let f = held s in
     let k = get_or c.args.group.now c.rows.key-index no_key in
     let lt : c.rows.key-index < length (map f c.args.group.now) = omega (arith, c.rows-test.true, length-map c.args.group.now f) in
     let is : f k ≡ get_or (map f c.args.group.now) c.rows.key-index (f k) = sym (get_or-map f c.args.group.now c.rows.key-index no_key (f k) c.rows-test.true) in
     let same : c.period.result ≡ (f k).row.period = c.period.ensures in
     let overlap = subst (λ p. IsOverlap p c.args.window.now c.in-Some.period) same c.in-Some.ensures.value in
+    let of = c.requires.left c.rows.key-index no_key c.rows-test.true in
+    let left = is_left k.side of in
+    let line : Line = record { row = k.row; period = c.in-Some.period } in
     record {
-      width = c.in_ok-push_copy.ensures.width ∙ c.rows.invariant.width;
+      within = λ are. more_lines s c.rows.lines.items c.push.new.self.items line c.in_ok-push.ensures.items (stands_left s k (c.requires.keys c.rows.key-index no_key c.rows-test.true) left) (c.rows.invariant.within are);
       cut = λ v alike.
-          cut_on c.args.window.now (map f c.args.group.now) c.rows.key-index (f k) lt is c.in-Some.period v c.args.out.now.items c.rows.out.items c.push_copy.new.self.items
-          overlap (c.requires.left c.rows.key-index no_key c.rows-test.true) (ap (λ (r : Held). r.row.values) is ∙ alike c.rows.key-index (f k) lt)
-          (c.in_ok-push_copy.ensures.pushed ∙ ap (λ (u : List Value). c.rows.out.items ++ (record { values = u; period = c.in-Some.period }) ∷ []) c.values.ensures) (c.rows.invariant.cut v alike);
+          cut_on c.args.window.now (map f c.args.group.now) c.rows.key-index (f k) lt is c.in-Some.period v (lines_made s c.args.lines.now.items) (lines_made s c.rows.lines.items) (lines_made s c.push.new.self.items)
+          overlap of (ap (λ (r : Held). r.row.values) is ∙ alike c.rows.key-index (f k) lt)
+          (line_added s c.rows.lines.items c.push.new.self.items line k c.in_ok-push.ensures.items left refl) (c.rows.invariant.cut v alike);
     }
 
 pub returns-clause-rows : goal.returns-clause-rows
@@ -54,5 +61,5 @@ returns-clause-rows c v alike =
     let f = held (state_of c.args.sides.now) in
     let rows = map f c.args.group.now in
     let all = take_all c.rows.key-index rows (omega (arith, c.rows-test.false, length-map c.args.group.now f)) in
-    let w = subst (λ l. Cut c.args.window.now l v c.args.out.now.items c.rows.out.items) all (c.rows.invariant.cut v alike) in
-    adds_all c.args.window.now rows v c.args.out.now.items c.rows.out.items w.periods (All-map (λ (r : Held). is_same_side Left r.side ≡ true) f c.args.group.now c.requires.left) w.counted w.added
+    let w = subst (λ l. Cut c.args.window.now l v (lines_made (state_of c.args.sides.now) c.args.lines.now.items) (lines_made (state_of c.args.sides.now) c.rows.lines.items)) all (c.rows.invariant.cut v alike) in
+    adds_all c.args.window.now rows v (lines_made (state_of c.args.sides.now) c.args.lines.now.items) (lines_made (state_of c.args.sides.now) c.rows.lines.items) w.periods (All-map (λ (r : Held). is_same_side Left r.side ≡ true) f c.args.group.now c.requires.left) w.counted w.added

@@ -6,10 +6,10 @@ use Rattle.tq_base.specs.declared.value.Value.{Value}
 use Rattle.tq_base.specs.declared.sides.Key.{Key}
 use Rattle.tq_base.specs.declared.sides.Side.TheVariants.{Left, Right}
 use Rattle.tq_base.specs.Fragments.{copies}
-use Rattle.tq_base.specs.Keys.{held, key_row, key_values, Held, IsKey}
+use Rattle.tq_base.specs.Keys.{held, key_values, Held, IsKey}
 use Rattle.tq_base.specs.KeySides.{state_of}
 use Rattle.tq_base.specs.Periods.{holds}
-use Rattle.tq_ops.specs.Differences.{side_copies, AddsDifference, AreOfValues}
+use Rattle.tq_ops.specs.Differences.{lines_made, side_copies, AddsDifference, AreOfValues}
 use Rattle.tq_ops.proofs.Turns.{adds_run, group_is, side_counts}
 use Rattle.tq_ops.proofs.difference.add_differences.Goals as goal
 
@@ -25,10 +25,8 @@ add_difference-requires c =
     let start = c.groups.start in
     let len = c.run_len.result in
     let group : take (start + len - start) (drop start keys) ≡ take len (drop start keys) = ap (λ n. take n (drop start keys)) (let same : start + len - start ≡ len = omega arith in same) in
-    let fits : All (λ (k : Key). length (key_row s k).values ≡ c.groups.out.width) keys = λ k d lt. c.requires.fit k d lt ∙ sym c.groups.invariant.width in
     record {
-      fit = subst (All (λ (k : Key). length (key_row s k).values ≡ c.groups.out.width)) (sym group)
-          (All-take (λ (k : Key). length (key_row s k).values ≡ c.groups.out.width) len (drop start keys) (All-drop (λ (k : Key). length (key_row s k).values ≡ c.groups.out.width) start keys fits));
+      keys = subst (All (IsKey s)) (sym group) (All-take (IsKey s) len (drop start keys) (All-drop (IsKey s) start keys c.requires.keys.each));
     }
 
 pub groups-smaller : goal.groups-smaller
@@ -46,8 +44,8 @@ groups-preserved c =
     let keys = c.args.keys.now in
     let start = c.groups.start in
     let len = c.run_len.result in
-    let out = c.groups.out.items in
-    let new = c.add_difference.new.out.items in
+    let out = lines_made s c.groups.lines.items in
+    let new = lines_made s c.add_difference.new.lines.items in
     let window = c.args.window.now in
     let part : take (length keys - start) (drop start keys) ≡ drop start keys = take_rest keys start in
     let within : len ≤ length (drop start keys) = subst (λ (l : List Key). len ≤ length l) part c.run_len.ensures.within in
@@ -61,7 +59,7 @@ groups-preserved c =
     let adds : (v : List Value) → AreOfValues v (take len (drop start (map f keys))) → AddsDifference window (take len (drop start (map f keys))) v out new =
     subst (λ (l : List Held). (v : List Value) → AreOfValues v l → AddsDifference window l v out new) group c.in_ok-add_difference.ensures.rows in
     record {
-      width = c.in_ok-add_difference.ensures.width ∙ c.groups.invariant.width;
+      within = c.in_ok-add_difference.ensures.within c.groups.invariant.within;
       grouping = adds_run s keys c.requires.whole start len c.groups-test.true within alike ends window out new c.requires.keys.rising adds c.groups.invariant.grouping;
     }
 

@@ -2,12 +2,13 @@ use Rattle.std.proofs.Common.{◌≡◌, ◌≢◌, ◌+◌, ◌-◌, ◌<◌, �
 use Rattle.std.specs.Prelude.{All}
 use Rattle.std.specs.List.{range_with_len}
 use Rattle.std.proofs.lemmas.List.{drop_all, drop-drop, length-drop, take_rest}
-use Rattle.std.proofs.lemmas.List.Elements.{All-drop}
+use Rattle.std.proofs.lemmas.List.Elements.{All-drop, All-nil}
 use Rattle.tq_base.specs.declared.value.Value.{Value}
+use Rattle.tq_base.specs.declared.relation.Line.{Line}
 use Rattle.tq_base.specs.Groups.{grouping_ends, Grouping}
 use Rattle.tq_base.specs.Keys.{key_row, key_values, SidesState}
 use Rattle.tq_base.specs.Layering.{AddsLayers}
-use Rattle.tq_table.specs.Lines.{line_of}
+use Rattle.tq_base.specs.Relations.{line_of}
 use Rattle.tq_table.proofs.KeyGroups.{all_whole, grouping_starts, end_key, takes_group, AreWhole}
 use Rattle.tq_table.proofs.coalescing.lines_of.Goals as goal
 
@@ -20,6 +21,7 @@ groups-init c =
     let are_whole : AreWhole s keys = all_whole s c.args.rows.now.width keys columns c.width.ensures.rows c.in_ok-keys.ensures.keys c.in_ok-keys.ensures.left in
     record {
       within = omega arith;
+      stand = rw c.in_ok-table.ensures.items (All-nil (λ (line : Line). line.row < length rows));
       grouping = rw c.in_ok-table.ensures.items (grouping_starts s rows keys c.in_ok-keys.ensures.rows are_whole c.in_ok-keys.ensures.rises);
     }
 
@@ -40,15 +42,16 @@ groups-preserved c =
     let ends : len < length rest → key_values s (get_or rest len end_key) ≢ key_values s (get_or rest 0 end_key) = rw (c.deref-in-groups.ensures.value, take_rest keys start) at (c.run_len.ensures.ends end_key) in
     let len_is : start + len - start ≡ len = omega arith in
     let adds : (u : List Value) → All (λ k. (key_row s k).values ≡ u) (take len rest) → AddsLayers u (map (key_row s) (take len rest)) table new =
-    rw (c.deref-in-groups-2.ensures.value, len_is) at c.in_ok-add_layers.ensures in
+    rw (c.deref-in-groups-2.ensures.value, len_is) at c.in_ok-add_layers.ensures.layers in
     record {
       within = omega (arith, run_within, length-drop start keys, c.groups.invariant.within);
+      stand = c.in_ok-add_layers.ensures.within c.groups.invariant.stand;
       grouping = subst (λ l. Grouping rows (map (key_row s) l) new) (drop-drop len start keys)
           (takes_group s rest len (All-drop (λ k. key_values s k ≡ (key_row s k).values) start keys are_whole) rows table new c.groups.invariant.grouping alike ends adds);
     }
 
-pub returns : goal.returns
-returns c =
+pub returns-clause-layers : goal.returns-clause-layers
+returns-clause-layers c =
     let keys = c.in_ok-keys.keys.items in
     let done : length keys ≤ c.groups.start = omega (arith, c.groups-test.false, c.len-in-groups.ensures) in
     grouping_ends c.args.rows.now.items (map (line_of c.args.rows.now.items) c.groups.table.items) (rw (drop_all c.groups.start keys done) at c.groups.invariant.grouping)

@@ -1,14 +1,16 @@
 -- The rows are those in the table, as layers, and those whose keys are to come.
-use Rattle.std.proofs.Common.{◌-◌, ◌≤◌, length, map, drop}
+use Rattle.std.proofs.Common.{◌-◌, ◌≤◌, ◌<◌, All, length, map, drop}
+use Rattle.tq_base.specs.declared.relation.Line.{Line}
 use Rattle.tq_base.specs.Groups.{Grouping}
 use Rattle.tq_base.specs.Keys.{key_row}
 use Rattle.tq_base.specs.KeySides.{state_of}
-use Rattle.tq_table.specs.Lines.{line_of}
+use Rattle.tq_base.specs.Relations.{line_of}
 use Rattle.tq_table.proofs.coalescing.lines_of.Given as goal
 
 abbrev pub invariant-groups : goal.invariant-groups
 invariant-groups l = record {
   within : l.start ≤ length l.keys.items;
+  stand : All (λ (line : Line). line.row < length l.fn.rows.items) l.table.items;
   grouping : Grouping l.fn.rows.items (map (key_row (state_of l.sides)) (drop l.start l.keys.items)) (map (line_of l.fn.rows.items) l.table.items);
 }
 

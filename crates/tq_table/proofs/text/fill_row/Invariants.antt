@@ -3,8 +3,8 @@ use Rattle.csv.specs.Records.{fields_of, partial_of}
 use Rattle.tq_table.specs.Text.{value_field}
 use Rattle.tq_table.proofs.text.fill_row.Given as goal
 
-abbrev pub invariant-loop-value : goal.invariant-loop-value
-invariant-loop-value l = record {
-  fields : fields_of l.record ≡ map value_field (take l.value-index l.values);
+abbrev pub invariant-values : goal.invariant-values
+invariant-values l = record {
+  fields : fields_of l.record ≡ map value_field (take l.place l.row);
   partial : partial_of l.record ≡ [];
 }

@@ -15,9 +15,9 @@ returns-then-place-columns-clause-bytes c =
 pub returns-clause-rank : goal.returns-clause-rank
 returns-clause-rank c =
     c.rank_there.ensures.rank
-    ∙ ap first_rank (sym (from_at (state_of c.args.self.now) c.args.key.now c.values.result.now c.columns-columns.result.now c.args.place (get_or c.columns-columns.result.now c.args.place 0) c.args.offset c.values.ensures c.columns-columns.ensures.columns c.if-place-columns.false refl))
+    ∙ ap first_rank (sym (from_at (state_of c.args.self.now) c.args.key.now c.row.result c.columns-columns.result.now c.args.place (get_or c.columns-columns.result.now c.args.place 0) c.args.offset c.row.ensures c.columns-columns.ensures.columns c.if-place-columns.false refl))
 
 pub returns-clause-bytes : goal.returns-clause-bytes
 returns-clause-bytes c =
-    subst BeginsWithBytes (sym (from_at (state_of c.args.self.now) c.args.key.now c.values.result.now c.columns-columns.result.now c.args.place (get_or c.columns-columns.result.now c.args.place 0) c.args.offset c.values.ensures c.columns-columns.ensures.columns c.if-place-columns.false refl))
+    subst BeginsWithBytes (sym (from_at (state_of c.args.self.now) c.args.key.now c.row.result c.columns-columns.result.now c.args.place (get_or c.columns-columns.result.now c.args.place 0) c.args.offset c.row.ensures c.columns-columns.ensures.columns c.if-place-columns.false refl))
     c.rank_there.ensures.bytes

@@ -11,4 +11,4 @@ returns-then-place-columns c =
 pub returns : goal.returns
 returns c =
     c.text_there.ensures
-    ∙ ap first_text (sym (from_at (state_of c.args.self.now) c.args.key.now c.values.result.now c.columns-columns.result.now c.args.place (get_or c.columns-columns.result.now c.args.place 0) c.args.offset c.values.ensures c.columns-columns.ensures.columns c.if-place-columns.false refl))
+    ∙ ap first_text (sym (from_at (state_of c.args.self.now) c.args.key.now c.row.result c.columns-columns.result.now c.args.place (get_or c.columns-columns.result.now c.args.place 0) c.args.offset c.row.ensures c.columns-columns.ensures.columns c.if-place-columns.false refl))

@@ -1,0 +1,24 @@
+-- Relations as they are seen: rows of other lists, by their numbers. This project's own.
+use Rattle.std.specs.Prelude.{ℕ, List, ◌++◌, map, slice_index_or}
+use Rattle.tq_base.specs.declared.value.Value.{Value}
+use Rattle.tq_base.specs.declared.fragment.Fragment.{Fragment}
+use Rattle.tq_base.specs.declared.relation.Line.{Line}
+use Rattle.tq_base.specs.declared.relation.Pair.{Pair}
+use Rattle.tq_base.specs.Keys.{no_row, value_at}
+
+-- the values of the row of this number, none where there is no such row
+abbrev pub values_at_number : List Fragment → ℕ → List Value
+values_at_number rows number = (slice_index_or rows number no_row).values
+
+-- the values of the row of the line's number, at the line's period
+abbrev pub line_of : List Fragment → Line → Fragment
+line_of rows line = record { values = values_at_number rows line.row; period = line.period }
+
+-- the values of the pair's left row, then those of its right one, at the pair's period
+abbrev pub pair_of : List Fragment → List Fragment → Pair → Fragment
+pair_of left right pair =
+    record { values = values_at_number left pair.left ++ values_at_number right pair.right; period = pair.period }
+
+-- of the row the values in the columns; a column that it does not have counts as the number 0
+abbrev pub projected : List ℕ → Fragment → Fragment
+projected columns row = record { values = map (value_at row.values) columns; period = row.period }

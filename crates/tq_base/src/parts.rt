@@ -1,0 +1,126 @@
+// What a relation is made of: sources of rows, and where the values of a column stand.
+
+ghost use Rattle.std.specs.Prelude.{◌≡◌, ◌<◌, ℕ, IfOk, OnOk, length, map, pos, slice_index_or};
+ghost use Rattle.tq_base.specs.Contents.{Int};
+ghost use Rattle.tq_base.specs.Parts.{cell, number_at, part_values, rows_at, source_list};
+ghost use Rattle.tq_base.specs.Relations.{values_at_number};
+
+use crate::rows::Rows;
+use crate::value::Value;
+use std::alloc::{AllocError, Global};
+
+// Rows, lent or made.
+#[derive(Drop, Debug)]
+pub(crate) enum Source<'a> {
+    Lent(&'a Rows),
+    Made(Rows),
+}
+
+// Rows of a source: all of them as they stand, or those of these numbers.
+#[derive(Drop, Debug)]
+pub(crate) struct Part<'a> {
+    pub(crate) source: Source<'a>,
+    pub(crate) numbers: Option<Vec<u32>>,
+}
+
+// Where the values of a column stand: in which part, and in which column there.
+#[derive(Clone, Copy, Debug)]
+pub(crate) struct Place {
+    pub(crate) part: u32,
+    pub(crate) column: u32,
+}
+
+// The values of the row, none where there is no such row.
+fn values_in(rows: &Rows, number: u32) -> &[Value]
+    ensures { result.now ≡ values_at_number rows.now.items number }
+{
+    let number = number as usize;
+    if number < rows.len() {
+        rows.values(number)
+    } else {
+        &[]
+    }
+}
+
+// The numbers at these places, 0 where there is none.
+fn numbers_at(alloc: Global, numbers: &[u32], places: &[u32]) -> Result<Vec<u32>, AllocError>
+    ensures { IfOk result (λ chosen. chosen.items ≡ map (λ place. slice_index_or numbers.now place 0) places.now) }
+{
+    let mut chosen = Vec::with_capacity(alloc, places.len())?;
+    'places: for place in places {
+        chosen.push(numbers.get(*place as usize).copied().unwrap_or(0))?;
+    }
+    Ok(chosen)
+}
+
+// The numbers in its source of the part's rows at these places.
+fn numbers_of(
+    alloc: Global,
+    numbers: &Option<Vec<u32>>,
+    places: &[u32],
+) -> Result<Vec<u32>, AllocError>
+    ensures { IfOk result (λ chosen. chosen.items ≡ map (number_at numbers.now) places.now) }
+{
+    match numbers {
+        None => places.to_vec(alloc),
+        Some(numbers) => numbers_at(alloc, numbers, places),
+    }
+}
+
+impl Source<'_> {
+    // The rows.
+    pub(crate) fn rows(&self) -> &Rows
+        ensures { result.now ≡ source_list self.now }
+    {
+        match self {
+            Source::Lent(rows) => rows,
+            Source::Made(rows) => rows,
+        }
+    }
+}
+
+impl Part<'_> {
+    // The number in its source of the row at the place.
+    fn number(&self, place: u32) -> u32
+        ensures { result ≡ number_at self.now.numbers place }
+    {
+        match &self.numbers {
+            None => place,
+            Some(numbers) => numbers.get(place as usize).copied().unwrap_or(0),
+        }
+    }
+
+    // The values of the row at the place.
+    pub(crate) fn values(&self, place: u32) -> &[Value]
+        ensures { result.now ≡ part_values self.now place }
+    {
+        values_in(self.source.rows(), self.number(place))
+    }
+
+    // The rows at these places take the place of the rows. Where a growth was refused they stay.
+    pub(crate) fn renumber(&mut self, alloc: Global, places: &[u32]) -> Result<(), AllocError>
+        ensures { OnOk result ((k : ℕ) → k < length places.now → part_values self.new k ≡ part_values self.old (slice_index_or places.now k 0)) }
+    {
+        self.numbers = Some(numbers_of(alloc, &self.numbers, places)?);
+        Ok(())
+    }
+}
+
+// The value of the column in the row at the place; one that stands nowhere is the number 0.
+pub(crate) fn value_in<'a>(
+    parts: &'a [Part<'a>],
+    column: &Option<Place>,
+    place: u32,
+    zero: &'a Value,
+) -> &'a Value
+    requires { zero.now ≡ Int (pos 0) }
+    ensures { result.now ≡ cell (rows_at parts.now place) column.now }
+{
+    let Some(at) = column else {
+        return zero;
+    };
+    let Some(part) = parts.get(at.part as usize) else {
+        return zero;
+    };
+    part.values(place).get(at.column as usize).unwrap_or(zero)
+}

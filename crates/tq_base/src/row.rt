@@ -1,0 +1,98 @@
+//! A row that is lent: its values, wherever they stand.
+
+ghost use Rattle.std.specs.Prelude.{◌≡◌, ◌++◌, OnOk, length, map, pos};
+ghost use Rattle.tq_base.specs.Contents.{Int};
+ghost use Rattle.tq_base.specs.Keys.{value_at};
+ghost use Rattle.tq_base.specs.Parts.{cells, rows_at};
+
+use crate::parts::{Part, Place, value_in};
+use crate::value::Value;
+use std::alloc::AllocError;
+use std::marker::Model;
+
+/// The values of a row of a relation, lent; seen as their list.
+#[derive(Drop)]
+pub struct Row<'a> {
+    parts: &'a [Part<'a>],
+    columns: &'a [Option<Place>],
+    place: u32,
+    zero: &'a Value,
+}
+
+impl<'a> Model for Row<'a> {
+    ghost use Rattle.std.specs.Prelude.{◌≡◌, List, pos};
+    ghost use Rattle.tq_base.specs.declared.value.Value.{Value as OneValue};
+    ghost use Rattle.tq_base.specs.Contents.{Int};
+    ghost use Rattle.tq_base.specs.Parts.{cells, rows_at};
+
+    ghost Value = { List OneValue };
+
+    ghost view = { λ r. cells (rows_at r.parts.now r.place) r.columns.now };
+
+    ghost invariant = { λ r. r.zero.now ≡ Int (pos 0) };
+}
+
+impl<'a> Row<'a> {
+    // The row at the place.
+    pub(crate) fn of(
+        parts: &'a [Part<'a>],
+        columns: &'a [Option<Place>],
+        place: u32,
+        zero: &'a Value,
+    ) -> Row<'a>
+        requires { zero.now ≡ Int (pos 0) }
+        ensures { result ≡ cells (rows_at parts.now place) columns.now }
+    {
+        Row {
+            parts,
+            columns,
+            place,
+            zero,
+        }
+    }
+
+    /// How many values the row has.
+    pub fn len(&self) -> usize
+        ensures { result ≡ length self.now }
+    {
+        self.columns.len()
+    }
+
+    /// The value at the place, counted from 0; one that the row does not have counts as the number 0.
+    pub fn value(&self, place: usize) -> &'a Value
+        ensures { result.now ≡ value_at self.now place }
+    {
+        match self.columns.get(place) {
+            Some(column) => value_in(self.parts, column, self.place, self.zero),
+            None => self.zero,
+        }
+    }
+
+    /// The value in the column, numbered from 0; a column that the row does not have counts as the number 0.
+    pub fn at(&self, column: u32) -> &'a Value
+        ensures { result.now ≡ value_at self.now column }
+    {
+        self.value(column as usize)
+    }
+
+    /// Copies of the values in the columns go to the end of the list. `AllocError` where a growth was refused.
+    pub fn show(&self, columns: &[u32], room: &mut Vec<Value>) -> Result<(), AllocError>
+        ensures { OnOk result (room.new.items ≡ room.old.items ++ map (value_at self.now) columns.now) }
+    {
+        'columns: for column in columns {
+            room.push(self.at(*column).try_copy()?)?;
+        }
+        Ok(())
+    }
+
+    /// Copies of all values go to the end of the list. `AllocError` where a growth was refused.
+    pub fn show_all(&self, room: &mut Vec<Value>) -> Result<(), AllocError>
+        ensures { OnOk result (room.new.items ≡ room.old.items ++ self.now) }
+    {
+        'columns: for column in self.columns {
+            let value = value_in(self.parts, column, self.place, self.zero);
+            room.push(value.try_copy()?)?;
+        }
+        Ok(())
+    }
+}
