@@ -1,13 +1,15 @@
 -- The index of a table after one more event, and which rows it tells to be open.
-use Rattle.std.proofs.Common.{◌≡◌, ◌≢◌, ℕ, zero, suc, ◌+◌, ◌*◌, ◌<◌, ◌≤◌, ◌==◌, Bool, true, false, List, [], ◌∷◌, ◌++◌, Option, Some, None, length, map, slice_get, slice_set, refl, sym, ap, subst, ◌∙◌, ◌⊎◌, inl, inr, arith, rules, length-append}
-use Rattle.std.specs.Prelude.{IfSome, IsSomeAnd, FitsSigned, OnOk, OnErr, Result, Ok, Err, is_some}
-use Rattle.std.specs.Option.{option_map}
+use Rattle.std.proofs.Common.{◌≡◌, ◌≢◌, ℕ, zero, suc, ◌+◌, ◌*◌, ◌<◌, ◌≤◌, ◌==◌, ◌&&◌, not, Bool, true, false, List, [], ◌∷◌, ◌++◌, Option, Some, None, length, map, slice_get, slice_set, refl, sym, ap, subst, ◌∙◌, ◌⊎◌, inl, inr, arith, rules, length-append}
+use Rattle.std.specs.Prelude.{◌||◌, IfSome, IsSomeAnd, FitsSigned, OnOk, OnErr, Result, Ok, Err, is_some}
+use Rattle.std.specs.Option.{option_map, option_map_or}
+use Rattle.std.specs.Ordering.{eq_by_cmp, nat_cmp}
 use Rattle.std.specs.Int.{w64}
 use Rattle.std.proofs.lemmas.Bool.{eqb-true}
 use Rattle.std.proofs.lemmas.Option.{slice_get-map, slice_get_within, slice_get_past}
 use Rattle.std.proofs.lemmas.List.{map-append}
 use Rattle.tq_base.specs.declared.period.TheConstants.{FOREVER}
 use Rattle.tq_base.specs.declared.value.Value.{Value}
+use Rattle.tq_base.specs.ValueOrder.{values_cmp}
 use Rattle.tq_event.specs.declared.event.Event.{Event}
 use Rattle.tq_event.specs.declared.event.Event.TheVariants.{Start, End}
 use Rattle.tq_event.specs.Recorded.{table_of}
@@ -19,7 +21,9 @@ use Rattle.tq_mvbt.specs.TreeState.{HasLife, TreeState, lives_of}
 use Rattle.tq_store.specs.declared.index.Index.{Index}
 use Rattle.tq_store.specs.declared.index.RowEvents.{RowEvents}
 use Rattle.tq_store.specs.Keys.{key_of, shifted, tree_key}
-use Rattle.tq_store.specs.Index.{AreIndexes, Begins, Ends, HasRows, IsIndexOf, IsKeyOf, IsOpenAt, IsRowLife, dead_of, events_of}
+use Rattle.tq_store.specs.Index.{AreIndexes, Begins, Ends, HasRows, IsIndexOf, IsKeyOf, IsOpenAt, IsRowLife, dead_of, events_of, is_open_at, is_open_of}
+use Rattle.tq_store.specs.Open.{HasSame, has}
+use Rattle.tq_store.proofs.OpenRowsLemmas.{and-false, and-yes, number_other, number_same, or-false}
 use Rattle.tq_store.proofs.LifeLemmas.{IsTold, StandsAt, ended_at, eqb-other, eqb-same, lives_end, lives_other, lives_start, lives_told}
 
 -- ---- lists
@@ -226,6 +230,56 @@ never_lived ls c version nodes v small has at = by (lives_of nodes (tree_key v (
         let less : one.row < length ls = slice_get_within ls one.row one.life one.stands in
         absurd (other_key v one.life.values (length ls) one.row few (omega (arith, less, few)) (λ same. omega (arith, less, same)) one.same)
 
+-- ---- open rows
+
+get_push_other : {X : Type 0} → (xs : List X) (y : X) (i : ℕ) → i ≢ length xs → slice_get (xs ++ y ∷ []) i ≡ slice_get xs i
+get_push_other [] y zero other = absurd (other refl)
+get_push_other [] y (suc i) other = refl
+get_push_other (x ∷ xs) y zero other = refl
+get_push_other (x ∷ xs) y (suc i) other = get_push_other xs y i (λ same. other (ap suc same))
+
+-- whether the rows of a list with one more row are open
+open_push : (ls : List Life) (l : Life) (v : List Value) (r : ℕ) → is_open_at (ls ++ l ∷ []) v r ≡ (is_open_at ls v r || (is_open_of v l && eq_by_cmp nat_cmp (length ls) r))
+open_push ls l v r = by (r == length ls) refl
+  where
+    last : is_open_at (ls ++ l ∷ []) v (length ls) ≡ (is_open_at ls v (length ls) || (is_open_of v l && eq_by_cmp nat_cmp (length ls) (length ls)))
+    last =
+        ap (λ o. option_map_or (is_open_of v) o false) (get_last ls l) ∙ sym (and-yes (is_open_of v l))
+        ∙ sym (ap (λ b. is_open_of v l && b) (number_same (length ls)))
+        ∙ sym (ap (λ o. option_map_or (is_open_of v) o false || (is_open_of v l && eq_by_cmp nat_cmp (length ls) (length ls))) (slice_get_past ls (length ls) (omega arith)))
+
+    by : (b : Bool) → (r == length ls) ≡ b → is_open_at (ls ++ l ∷ []) v r ≡ (is_open_at ls v r || (is_open_of v l && eq_by_cmp nat_cmp (length ls) r))
+    by true is = subst (λ n. is_open_at (ls ++ l ∷ []) v n ≡ (is_open_at ls v n || (is_open_of v l && eq_by_cmp nat_cmp (length ls) n))) (sym (eqb-true r (length ls) is)) last
+    by false is =
+        let other : r ≢ length ls = λ same. let wrong : true ≡ false = sym (eqb-same r) ∙ ap (λ n. r == n) same ∙ is in cc in
+        ap (λ o. option_map_or (is_open_of v) o false) (get_push_other ls l r other) ∙ sym (or-false (is_open_at ls v r))
+        ∙ sym (ap (λ b. is_open_at ls v r || b) (ap (λ b. is_open_of v l && b) (number_other (length ls) r (λ same. other (sym same))) ∙ and-false (is_open_of v l)))
+
+shut : (a e : Bool) → ((a && e) && not (e && true)) ≡ false
+shut true true = refl
+shut true false = refl
+shut false true = refl
+shut false false = refl
+
+-- whether the rows of a list are open of which one ended
+open_set : (ls : List Life) (i : ℕ) (l new : Life) (v : List Value) (r : ℕ) → slice_get ls i ≡ Some l → is_open_of v new ≡ false
+    → is_open_at (slice_set ls i new) v r ≡ (is_open_at ls v r && not (eq_by_cmp values_cmp l.values v && eq_by_cmp nat_cmp i r))
+open_set ls i l new v r stands ended = by (r == i) refl
+  where
+    here : is_open_at (slice_set ls i new) v i ≡ (is_open_at ls v i && not (eq_by_cmp values_cmp l.values v && eq_by_cmp nat_cmp i i))
+    here =
+        ap (λ o. option_map_or (is_open_of v) o false) (get_set_same ls i new (slice_get_within ls i l stands)) ∙ ended
+        ∙ sym (shut (not (is_some l.ending)) (eq_by_cmp values_cmp l.values v))
+        ∙ sym (ap (λ b. is_open_of v l && not (eq_by_cmp values_cmp l.values v && b)) (number_same i))
+        ∙ sym (ap (λ o. option_map_or (is_open_of v) o false && not (eq_by_cmp values_cmp l.values v && eq_by_cmp nat_cmp i i)) stands)
+
+    by : (b : Bool) → (r == i) ≡ b → is_open_at (slice_set ls i new) v r ≡ (is_open_at ls v r && not (eq_by_cmp values_cmp l.values v && eq_by_cmp nat_cmp i r))
+    by true is = subst (λ n. is_open_at (slice_set ls i new) v n ≡ (is_open_at ls v n && not (eq_by_cmp values_cmp l.values v && eq_by_cmp nat_cmp i n))) (sym (eqb-true r i is)) here
+    by false is =
+        let other : r ≢ i = λ same. let wrong : true ≡ false = sym (eqb-same r) ∙ ap (λ n. r == n) same ∙ is in cc in
+        ap (λ o. option_map_or (is_open_of v) o false) (get_set_other ls i r new other) ∙ sym (and-yes (is_open_at ls v r))
+        ∙ sym (ap (λ b. is_open_at ls v r && not b) (ap (λ b. eq_by_cmp values_cmp l.values v && b) (number_other i r (λ same. other (sym same))) ∙ and-false (eq_by_cmp values_cmp l.values v)))
+
 -- ---- the index of a table
 
 length_push : {X : Type 0} → (xs : List X) (x : X) → length (xs ++ x ∷ []) ≡ length xs + 1
@@ -240,14 +294,19 @@ rows_counted es t index is = ap length is.rows ∙ mapped (row_lives es t)
 
 pub index_start : (es : List Event) (t : ℕ) (v : List Value) (at : ℕ) (old new : Index) → length es < 16777216 → IsIndexOf es t old → FitsSigned w64 (key_of v) → at < FOREVER
     → new.rows.items ≡ old.rows.items ++ record { start = length es; end = None } ∷ [] → Begins old.tree new.tree (tree_key v (length old.rows.items)) (length es + 1)
+    → ((w : List Value) (r : ℕ) → has new.opened w r ≡ (has old.opened w r || (eq_by_cmp values_cmp v w && eq_by_cmp nat_cmp (length old.rows.items) r)))
     → IsIndexOf (es ++ Start t v at ∷ []) t new
-index_start es t v at old new small is fits less rows begins = record {
+index_start es t v at old new small is fits less rows begins opened = record {
   rows = rows ∙ ap (λ r. r ++ record { start = length es; end = None } ∷ []) is.rows ∙ sym (map-append events_of (row_lives es t) (l ∷ [])) ∙ sym (ap (map events_of) more);
   tree = subst (λ ls. HasRows ls (length (es ++ Start t v at ∷ [])) new.tree.version new.tree.nodes) (sym more)
       (subst (λ c. HasRows (row_lives es t ++ l ∷ []) c new.tree.version new.tree.nodes) (sym (length_push es (Start t v at)))
       (begun_rows (row_lives es t) (length es) old.tree new.tree l small is.tree
       (subst (λ n. Begins old.tree new.tree (tree_key v n) (length es + 1)) (rows_counted es t old is) begins) refl refl
       (record { key = fits; finite = less; lasts = tt; ends = tt })));
+  opened = λ w r.
+      opened w r ∙ ap (λ b. b || (eq_by_cmp values_cmp v w && eq_by_cmp nat_cmp (length old.rows.items) r)) (is.opened w r)
+      ∙ ap (λ n. is_open_at (row_lives es t) w r || (eq_by_cmp values_cmp v w && eq_by_cmp nat_cmp n r)) (rows_counted es t old is)
+      ∙ sym (open_push (row_lives es t) l w r) ∙ sym (ap (λ ls. is_open_at ls w r) more);
 }
   where
     l : Life
@@ -259,13 +318,17 @@ index_start es t v at old new small is fits less rows begins = record {
 pub index_end : (es : List Event) (t row at : ℕ) (old new : Index) (l : Life) → length es < 16777216 → IsIndexOf es t old → at < FOREVER
     → slice_get (row_lives es t) row ≡ Some l → l.ending ≡ None → l.from < at
     → new.rows.items ≡ slice_set old.rows.items row (record { start = l.start; end = Some (length es) }) → Ends old.tree new.tree (tree_key l.values row) (length es + 1)
+    → ((w : List Value) (r : ℕ) → has new.opened w r ≡ (has old.opened w r && not (eq_by_cmp values_cmp l.values w && eq_by_cmp nat_cmp row r)))
     → IsIndexOf (es ++ End t row at ∷ []) t new
-index_end es t row at old new l small is finite stands none less rows ends = record {
+index_end es t row at old new l small is finite stands none less rows ends opened = record {
   rows = rows ∙ ap (λ r. slice_set r row (record { start = l.start; end = Some (length es) })) is.rows ∙ sym (map_set events_of (row_lives es t) row (ended_at (length es) at l)) ∙ sym (ap (map events_of) more);
   tree = subst (λ ls. HasRows ls (length (es ++ End t row at ∷ [])) new.tree.version new.tree.nodes) (sym more)
       (subst (λ c. HasRows (slice_set (row_lives es t) row (ended_at (length es) at l)) c new.tree.version new.tree.nodes) (sym (length_push es (End t row at)))
       (ended_rows (row_lives es t) (length es) row at old.tree new.tree l small is.tree stands none ends
       (record { key = good.key; finite = good.finite; lasts = (less, earlier); ends = finite })));
+  opened = λ w r.
+      opened w r ∙ ap (λ b. b && not (eq_by_cmp values_cmp l.values w && eq_by_cmp nat_cmp row r)) (is.opened w r)
+      ∙ sym (open_set (row_lives es t) row l (ended_at (length es) at l) w r stands refl) ∙ sym (ap (λ ls. is_open_at ls w r) more);
 }
   where
     good : IsRowLife l
@@ -282,18 +345,24 @@ index_other es t e index is other = record {
   rows = is.rows ∙ sym (ap (map events_of) same);
   tree = subst (λ ls. HasRows ls (length (es ++ e ∷ [])) index.tree.version index.tree.nodes) (sym same)
       (subst (λ c. HasRows (row_lives es t) c index.tree.version index.tree.nodes) (sym (length_push es e)) (same_rows (row_lives es t) (length es) index.tree.version index.tree.nodes is.tree));
+  opened = λ w r. is.opened w r ∙ sym (ap (λ ls. is_open_at ls w r) same);
 }
   where
     same : row_lives (es ++ e ∷ []) t ≡ row_lives es t
     same = lives_other t 0 0 es e other
 
 -- an index that is seen as another one
-pub index_like : (es : List Event) (t : ℕ) (old new : Index) → new.tree ≡ old.tree → new.rows.items ≡ old.rows.items → IsIndexOf es t old → IsIndexOf es t new
-index_like es t old new tree rows is = record { rows = rows ∙ is.rows; tree = subst (λ (s : TreeState). HasRows (row_lives es t) (length es) s.version s.nodes) (sym tree) is.tree }
+pub index_like : (es : List Event) (t : ℕ) (old new : Index) → new.tree ≡ old.tree → new.rows.items ≡ old.rows.items → HasSame old.opened new.opened → IsIndexOf es t old → IsIndexOf es t new
+index_like es t old new tree rows open_like is = record {
+  rows = rows ∙ is.rows;
+  tree = subst (λ (s : TreeState). HasRows (row_lives es t) (length es) s.version s.nodes) (sym tree) is.tree;
+  opened = λ w r. open_like w r ∙ is.opened w r;
+}
 
 -- no event
-pub index_none : (t : ℕ) (index : Index) → index.rows.items ≡ [] → index.tree.version ≡ 0 → ((k v : ℕ) → lives_of index.tree.nodes k v ≡ false) → IsIndexOf [] t index
-index_none t index rows version none = record {
+pub index_none : (t : ℕ) (index : Index) → index.rows.items ≡ [] → index.tree.version ≡ 0 → ((k v : ℕ) → lives_of index.tree.nodes k v ≡ false)
+    → ((w : List Value) (r : ℕ) → has index.opened w r ≡ false) → IsIndexOf [] t index
+index_none t index rows version none shut_all = record {
   rows = rows;
   tree = record {
     each = λ row l stands. absurd (cc);
@@ -303,6 +372,7 @@ index_none t index rows version none = record {
     up_to = omega (arith, version);
     few = omega arith;
   };
+  opened = shut_all;
 }
 
 -- ---- the indexes of all tables
@@ -344,6 +414,12 @@ end_stands es t row l e stands is =
     let told = subst (λ o. IfSome o (λ (x : Ending). StandsAt es 0 x.event (End t row x.at))) is (row_told es t row l stands).ending in
     ap (slice_get es) (let number = told.number_is in omega (arith, number)) ∙ told.event_is
 
+-- no open row has the number of the next one
+pub not_yet_open : (es : List Event) (t : ℕ) (index : Index) → IsIndexOf es t index → (w : List Value) → has index.opened w (length index.rows.items) ≡ false
+not_yet_open es t index is w =
+    is.opened w (length index.rows.items)
+    ∙ ap (λ o. option_map_or (is_open_of w) o false) (slice_get_past (row_lives es t) (length index.rows.items) (let len = rows_counted es t index is in omega (arith, len)))
+
 -- ---- results
 
 pub on_ok : {T E : Type 0} → (r : Result T E) {P Q : Type 0} → OnOk r P → (P → Q) → OnOk r Q
@@ -357,6 +433,14 @@ on_err (Err e) is step = step is
 pub on_both : {T E : Type 0} → (r : Result T E) {P Q R : Type 0} → OnOk r P → OnOk r Q → (P → Q → R) → OnOk r R
 on_both (Ok x) p q step = step p q
 on_both (Err e) p q step = p
+
+pub on_three : {T E : Type 0} → (r : Result T E) {P Q R S : Type 0} → OnOk r P → OnOk r Q → OnOk r R → (P → Q → R → S) → OnOk r S
+on_three (Ok x) p q s step = step p q s
+on_three (Err e) p q s step = p
+
+pub on_three_err : {T E : Type 0} → (r : Result T E) {P Q R S : Type 0} → OnErr r P → OnErr r Q → OnErr r R → (P → Q → R → S) → OnErr r S
+on_three_err (Ok x) p q s step = p
+on_three_err (Err e) p q s step = step p q s
 
 pub on_both_err : {T E : Type 0} → (r : Result T E) {P Q R : Type 0} → OnErr r P → OnErr r Q → (P → Q → R) → OnErr r R
 on_both_err (Ok x) p q step = p

@@ -5,4 +5,5 @@ pub mod VersionLemmas
 pub mod KeyLemmas
 pub mod RowLemmas
 pub mod PartLemmas
+pub mod OpenRowsLemmas
 pub mod OpenLemmas

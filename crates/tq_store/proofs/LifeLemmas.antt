@@ -281,3 +281,27 @@ lives_told t next k row i (Start u v at ∷ es) l numbered stands =
         subst (IsTold t row k (Start u v at ∷ es)) life_is (told (eqb-true u t is) (omega (arith, numbered)))
     by true is (suc j) numbered here same later = later_told t row k es (Start u v at) l (later j (omega (arith, numbered)) here)
     by false is i numbered here same later = later_told t row k es (Start u v at) l (same here)
+
+-- ---- a later row starts later
+
+pub starts_rise : (t next k i j : ℕ) (es : List Event) (l m : Life) → i < j → slice_get (row_lives_from t next k es) i ≡ Some l → slice_get (row_lives_from t next k es) j ≡ Some m → l.start < m.start
+starts_rise t next k i j [] l m less here there = absurd (cc)
+starts_rise t next k i j (End u s at ∷ es) l m less here there = starts_rise t next (k + 1) i j es l m less here there
+starts_rise t next k i j (Start u v at ∷ es) l m less here there =
+    by (u == t) i j less here there (λ x y. starts_rise t next (k + 1) i j es l m less x y) (λ a b lt x y. starts_rise t (next + 1) (k + 1) a b es l m lt x y)
+  where
+    by : (b : Bool) (i j : ℕ) → i < j
+        → slice_get (if b then life_at t next k v at es ∷ row_lives_from t (next + 1) (k + 1) es else row_lives_from t next (k + 1) es) i ≡ Some l
+        → slice_get (if b then life_at t next k v at es ∷ row_lives_from t (next + 1) (k + 1) es else row_lives_from t next (k + 1) es) j ≡ Some m
+        → (slice_get (row_lives_from t next (k + 1) es) i ≡ Some l → slice_get (row_lives_from t next (k + 1) es) j ≡ Some m → l.start < m.start)
+        → ((a b : ℕ) → a < b → slice_get (row_lives_from t (next + 1) (k + 1) es) a ≡ Some l → slice_get (row_lives_from t (next + 1) (k + 1) es) b ≡ Some m → l.start < m.start)
+        → l.start < m.start
+    by true i zero less here there same later = absurd (omega (arith, less))
+    by true zero (suc j) less here there same later =
+        let life_is : life_at t next k v at es ≡ l = cc in
+        let begin : k ≡ l.start = ap (λ (y : Life). y.start) life_is in
+        let told = (lives_told t (next + 1) (k + 1) (next + 1 + j) j es m refl there).start in
+        let number = told.number_is in
+        omega (arith, begin, number)
+    by true (suc i) (suc j) less here there same later = later i j (omega (arith, less)) here there
+    by false i j less here there same later = same here there

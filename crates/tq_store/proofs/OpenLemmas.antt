@@ -1,25 +1,31 @@
 -- The first open row of some values, in the rows of an index and in those of the table.
-use Rattle.std.proofs.Common.{◌≡◌, ℕ, suc, ◌+◌, ◌<◌, ◌==◌, ◌&&◌, not, Bool, true, false, cond, if◌then◌else◌, List, [], ◌∷◌, Option, Some, None, length, slice_get, nat_lt, refl, sym, ap, subst, ◌∙◌, arith, rules}
-use Rattle.std.specs.Prelude.{IfSome, is_some, position}
-use Rattle.std.specs.List.{position_or_len}
+use Rattle.std.proofs.Common.{◌≡◌, ℕ, zero, suc, ◌+◌, ◌<◌, ◌≤◌, ◌==◌, ◌&&◌, not, Bool, true, false, cond, if◌then◌else◌, List, [], ◌∷◌, Option, Some, None, length, slice_get, nat_lt, take, inl, inr, refl, sym, ap, subst, ◌∙◌, arith, rules}
+use Rattle.std.specs.Prelude.{IfSome, IsSomeAnd, is_some, position}
+use Rattle.std.specs.List.{position_from, position_or_len}
+use Rattle.std.specs.List.Sorted.{IsNonDecreasingBy}
 use Rattle.std.specs.Option.{option_map, option_map_or}
 use Rattle.std.specs.Ordering.{eq_by_cmp}
 use Rattle.std.proofs.lemmas.List.Recursion.{is_position_or_len}
+use Rattle.std.proofs.lemmas.Bool.{cases_lt}
 use Rattle.std.proofs.lemmas.Bool.Decides.{nat_tests}
-use Rattle.std.proofs.lemmas.Option.{slice_get-map, slice_get_within}
+use Rattle.std.proofs.lemmas.Iterator.Adapters.{position_from-zero}
+use Rattle.std.proofs.lemmas.List.{take_all}
+use Rattle.std.proofs.lemmas.Option.{get_or_from_slice_get, slice_get-map, slice_get_within}
 use Rattle.tq_base.specs.declared.period.TheConstants.{FOREVER}
 use Rattle.tq_base.specs.declared.value.Value.{Value}
 use Rattle.tq_base.specs.ValueOrder.{values_cmp}
 use Rattle.tq_event.specs.declared.event.Event.{Event}
 use Rattle.tq_event.specs.declared.event.Event.TheVariants.{Start, End}
-use Rattle.tq_event.specs.History.{rows_of}
+use Rattle.tq_event.specs.History.{Row, end_of, rows_from, rows_of, time_of}
 use Rattle.tq_event.specs.Opening.{is_open_like, open_row}
 use Rattle.tq_event.specs.Versions.{Ending, Life, row_lives}
 use Rattle.tq_store.specs.declared.index.Index.{Index}
-use Rattle.tq_store.specs.Index.{IsIndexOf, events_of}
-use Rattle.tq_store.specs.Stored.{open_like, starts_like}
-use Rattle.tq_store.proofs.LifeLemmas.{as_of, end_by, eqb-other, eqb-same, known_by, rows_known}
-use Rattle.tq_store.proofs.IndexLemmas.{end_stands, start_stands}
+use Rattle.tq_store.specs.declared.index.RowEvents.{RowEvents}
+use Rattle.tq_store.specs.Index.{IsIndexOf, IsOpenAt, events_of, is_open_of}
+use Rattle.tq_store.specs.Open.{has}
+use Rattle.tq_store.specs.Stored.{ends_row, open_like, starts_like, starts_of}
+use Rattle.tq_store.proofs.LifeLemmas.{and-true, as_of, end_by, eqb-other, eqb-same, known_by, rows_known, starts_rise}
+use Rattle.tq_store.proofs.IndexLemmas.{end_stands, kept_row, known_row, start_stands}
 
 -- ---- positions
 
@@ -88,3 +94,208 @@ module _ (es : List Event) (t : ℕ) (index : Index) (is : IsIndexOf es t index)
 
   pub open_row_is : position (open_like es values at) index.rows.items ≡ open_row es t values at
   open_row_is = same_position (open_like es values at) (is_open_like values at) index.rows.items (rows_of es (length es) t) alike
+
+-- ---- the first position
+
+place_first : {X : Type 0} (p : X → Bool) (xs : List X) (i : ℕ) (x : X) → slice_get xs i ≡ Some x → p x ≡ true → ((k : ℕ) (y : X) → k < i → slice_get xs k ≡ Some y → p y ≡ false) → place_of p xs ≡ i
+unfolding place_of
+place_first p [] i x here passes before = absurd (cc)
+place_first p (y ∷ ys) zero x here passes before =
+    let some : Some y ≡ Some x = here in
+    let same : y ≡ x = cc in
+    ap (λ b. cond b 0 (1 + place_of p ys)) (ap p same ∙ passes)
+place_first p (y ∷ ys) (suc i) x here passes before =
+    let first : p y ≡ false = before 0 y (omega arith) refl in
+    let later : place_of p ys ≡ i = place_first p ys i x here passes (λ k z less there. before (suc k) z (omega (arith, less)) there) in
+    let more : 1 + i ≡ suc i = omega arith in
+    ap (λ b. cond b 0 (1 + place_of p ys)) first ∙ ap (λ n. 1 + n) later ∙ more
+
+place_none : {X : Type 0} (p : X → Bool) (xs : List X) → ((k : ℕ) (y : X) → slice_get xs k ≡ Some y → p y ≡ false) → place_of p xs ≡ length xs
+unfolding place_of
+place_none p [] none = refl
+place_none p (y ∷ ys) none =
+    let first : p y ≡ false = none 0 y refl in
+    let later : place_of p ys ≡ length ys = place_none p ys (λ k z there. none (suc k) z there) in
+    let more : 1 + length ys ≡ suc (length ys) = omega arith in
+    ap (λ b. cond b 0 (1 + place_of p ys)) first ∙ ap (λ n. 1 + n) later ∙ more
+
+not_less : (a b : ℕ) → b ≤ a → nat_lt a b ≡ false
+not_less a b le = search (rules, nat_tests, le)
+
+position_first : {X : Type 0} (p : X → Bool) (xs : List X) (i : ℕ) (x : X) → slice_get xs i ≡ Some x → p x ≡ true → ((k : ℕ) (y : X) → k < i → slice_get xs k ≡ Some y → p y ≡ false) → position p xs ≡ Some i
+position_first p xs i x here passes before =
+    ap (λ n. cond (nat_lt n (length xs)) (Some n) None) (sym (place_is p xs) ∙ place_first p xs i x here passes before)
+    ∙ ap (λ b. cond b (Some i) None) (less_is i (length xs) (slice_get_within xs i x here))
+
+position_none : {X : Type 0} (p : X → Bool) (xs : List X) → ((k : ℕ) (y : X) → slice_get xs k ≡ Some y → p y ≡ false) → position p xs ≡ None
+position_none p xs none =
+    ap (λ n. cond (nat_lt n (length xs)) (Some n) None) (sym (place_is p xs) ∙ place_none p xs none)
+    ∙ ap (λ b. cond b (Some (length xs)) None) (not_less (length xs) (length xs) (omega arith))
+
+-- ---- the first open row of the values
+
+no_ending : (o : Option Ending) → not (is_some (option_map (λ (e : Ending). e.event) o)) ≡ true → o ≡ None
+no_ending None is = refl
+no_ending (Some e) is = absurd (cc)
+
+not_ended : (o : Option Ending) → not (is_some o) ≡ true → o ≡ None
+not_ended None is = refl
+not_ended (Some e) is = absurd (cc)
+
+-- the row is open, and has these values
+record IsOpenOf (es : List Event) (t row : ℕ) (values : List Value) : Type 0 where
+  life : Life
+  stands : slice_get (row_lives es t) row ≡ Some life
+  none : life.ending ≡ None
+  like : eq_by_cmp values_cmp life.values values ≡ true
+
+-- a later row starts no earlier
+from_rises : (es : List Event) (t i j : ℕ) (l m : Life) → IsNonDecreasingBy time_of es → i ≤ j → slice_get (row_lives es t) i ≡ Some l → slice_get (row_lives es t) j ≡ Some m → l.from ≤ m.from
+from_rises es t i j l m ordered le here there = elim (cases_lt i j) [
+  | inl less ↦
+      let d : Event = Start t m.values m.from in
+      let rise = starts_rise t 0 0 i j es l m less here there in
+      let last = slice_get_within es m.start d (start_stands es t j m there) in
+      let times = ordered l.start m.start d (omega (arith, rise)) last in
+      let first_is = ap time_of (get_or_from_slice_get es l.start (Start t l.values l.from) d (start_stands es t i l here)) in
+      let last_is = ap time_of (get_or_from_slice_get es m.start d d (start_stands es t j m there)) in
+      omega (arith, times, first_is, last_is)
+  | inr past ↦
+      let same : i ≡ j = omega (arith, le, past) in
+      let both : Some l ≡ Some m = sym here ∙ ap (slice_get (row_lives es t)) same ∙ there in
+      let life_is : l ≡ m = cc in
+      let from_is = ap (λ (x : Life). x.from) life_is in
+      omega (arith, from_is)
+]
+
+module _ (es : List Event) (t : ℕ) (index : Index) (is : IsIndexOf es t index) (values : List Value) (at : ℕ) where
+  open_of : (row : ℕ) → has index.opened values row ≡ true → IsOpenOf es t row values
+  open_of row so = by (slice_get (row_lives es t) row) refl (sym (is.opened values row) ∙ so)
+    where
+      by : (o : Option Life) → slice_get (row_lives es t) row ≡ o → option_map_or (is_open_of values) o false ≡ true → IsOpenOf es t row values
+      by None stands here = absurd (cc)
+      by (Some l) stands here =
+          let both = and-true (not (is_some l.ending)) (eq_by_cmp values_cmp l.values values) here in
+          record { life = l; stands = stands; none = not_ended l.ending both.0; like = both.1 }
+
+  like_is : (row : ℕ) (l : Life) → slice_get (row_lives es t) row ≡ Some l → open_like es values at (events_of l) ≡ (not (is_some (events_of l).end) && (nat_lt l.from at && eq_by_cmp values_cmp l.values values))
+  like_is row l stands = ap (λ o. option_map_or (λ e. not (is_some (events_of l).end) && starts_like values at e) o false) (start_stands es t row l stands)
+
+  passes : (row : ℕ) (l : Life) → slice_get (row_lives es t) row ≡ Some l → l.ending ≡ None → l.from < at → eq_by_cmp values_cmp l.values values ≡ true → open_like es values at (events_of l) ≡ true
+  passes row l stands none less like =
+      like_is row l stands
+      ∙ ap (λ o. not (is_some (option_map (λ (e : Ending). e.event) o)) && (nat_lt l.from at && eq_by_cmp values_cmp l.values values)) none
+      ∙ ap (λ b. b && eq_by_cmp values_cmp l.values values) (less_is l.from at less) ∙ like
+
+  passed : (row : ℕ) (l : Life) → slice_get (row_lives es t) row ≡ Some l → open_like es values at (events_of l) ≡ true → (has index.opened values row ≡ true) × (l.from < at)
+  passed row l stands so =
+      let both = and-true (not (is_some (events_of l).end)) (nat_lt l.from at && eq_by_cmp values_cmp l.values values) (sym (like_is row l stands) ∙ so) in
+      let tests = and-true (nat_lt l.from at) (eq_by_cmp values_cmp l.values values) both.1 in
+      let none : l.ending ≡ None = no_ending l.ending both.0 in (
+        is.opened values row ∙ ap (λ o. option_map_or (is_open_of values) o false) stands
+        ∙ ap (λ o. not (is_some o) && eq_by_cmp values_cmp l.values values) none ∙ tests.1,
+        elim (cases_lt l.from at) [
+          | inl less ↦ less
+          | inr late ↦ absurd (let wrong : true ≡ false = sym tests.0 ∙ not_less l.from at late in cc)
+        ],
+      )
+
+  -- the row that passes is open, and its number is known
+  seen_open : (k : ℕ) (y : RowEvents) → slice_get index.rows.items k ≡ Some y → open_like es values at y ≡ true → has index.opened values k ≡ true
+  seen_open k y there so =
+      let known = known_row es t k index y is there in
+      (passed k known.life known.stands (sym (ap (open_like es values at) known.same) ∙ so)).0
+
+  pub first_is : (row : ℕ) → has index.opened values row ≡ true → ((r : ℕ) → has index.opened values r ≡ true → row ≤ r) → IsOpenAt es t row at → Some row ≡ open_row es t values at
+  first_is row so least open_there =
+      let o = open_of row so in
+      let here = subst (λ x. IsSomeAnd x (λ (l : Life). (l.ending ≡ None) × (l.from < at))) o.stands open_there in
+      sym (position_first (open_like es values at) index.rows.items row (events_of o.life) (kept_row es t row index o.life is o.stands)
+      (passes row o.life o.stands o.none here.1 o.like) before)
+      ∙ open_row_is es t index is values at
+    where
+      before : (k : ℕ) (y : RowEvents) → k < row → slice_get index.rows.items k ≡ Some y → open_like es values at y ≡ false
+      before k y less there = by (open_like es values at y) refl
+        where
+          by : (b : Bool) → open_like es values at y ≡ b → open_like es values at y ≡ false
+          by true passed_there = let from = least k (seen_open k y there passed_there) in absurd (omega (arith, from, less))
+          by false not_so = not_so
+
+  pub none_is : ((r : ℕ) → has index.opened values r ≡ false) → None ≡ open_row es t values at
+  none_is none = sym (position_none (open_like es values at) index.rows.items every) ∙ open_row_is es t index is values at
+    where
+      every : (k : ℕ) (y : RowEvents) → slice_get index.rows.items k ≡ Some y → open_like es values at y ≡ false
+      every k y there = by (open_like es values at y) refl
+        where
+          by : (b : Bool) → open_like es values at y ≡ b → open_like es values at y ≡ false
+          by true passed_there = absurd (let wrong : true ≡ false = sym (seen_open k y there passed_there) ∙ none k in cc)
+          by false not_so = not_so
+
+  pub late_is : (row : ℕ) → IsNonDecreasingBy time_of es → has index.opened values row ≡ true → ((r : ℕ) → has index.opened values r ≡ true → row ≤ r) → (IsOpenAt es t row at → ⊥) → None ≡ open_row es t values at
+  late_is row ordered so least late = sym (position_none (open_like es values at) index.rows.items every) ∙ open_row_is es t index is values at
+    where
+      o : IsOpenOf es t row values
+      o = open_of row so
+
+      from_at : at ≤ o.life.from
+      from_at = elim (cases_lt o.life.from at) [
+        | inl less ↦ absurd (late (subst (λ x. IsSomeAnd x (λ (l : Life). (l.ending ≡ None) × (l.from < at))) (sym o.stands) (o.none, less)))
+        | inr le ↦ le
+      ]
+
+      every : (k : ℕ) (y : RowEvents) → slice_get index.rows.items k ≡ Some y → open_like es values at y ≡ false
+      every k y there = by (open_like es values at y) refl
+        where
+          by : (b : Bool) → open_like es values at y ≡ b → open_like es values at y ≡ false
+          by true passed_there =
+              let known = known_row es t k index y is there in
+              let both = passed k known.life known.stands (sym (ap (open_like es values at) known.same) ∙ passed_there) in
+              let early = both.1 in
+              let rises = from_rises es t row k o.life known.life ordered (least k both.0) o.stands known.stands in
+              absurd (omega (arith, early, rises, from_at))
+          by false not_so = not_so
+
+-- ---- a walk over the events
+
+pub ended_here : (t row : ℕ) (e : Event) (es : List Event) → ends_row t row e ≡ true → time_of e < FOREVER → (end_of t row (e ∷ es) == FOREVER) ≡ false
+ended_here t row (Start u v a) es so finite = absurd (cc)
+ended_here t row (End u r a) es so finite = ap (λ b. (if b then a else end_of t row es) == FOREVER) so ∙ eqb-other a FOREVER (λ same. omega (arith, same, finite))
+
+pub ended_later : (t row : ℕ) (e : Event) (es : List Event) → ends_row t row e ≡ false → end_of t row (e ∷ es) ≡ end_of t row es
+ended_later t row (Start u v a) es not_so = refl
+ended_later t row (End u r a) es not_so = ap (λ b. if b then a else end_of t row es) not_so
+
+and_swap : (a b : Bool) → (a && b) ≡ (b && a)
+and_swap true true = refl
+and_swap true false = refl
+and_swap false true = refl
+and_swap false false = refl
+
+-- the first row from the next number on, by these events
+abbrev pub first_from : ℕ → ℕ → List Value → ℕ → List Event → Option ℕ
+first_from t row values at es = position_from (is_open_like values at) row (rows_from t row es)
+
+module _ (t : ℕ) (values : List Value) (at row : ℕ) where
+  pub skipped : (e : Event) (es : List Event) → starts_of t e ≡ false → first_from t row values at (e ∷ es) ≡ first_from t row values at es
+  skipped (Start u v a) es not_so =
+      ap (λ b. position_from (is_open_like values at) row (if b then record { number = row; values = v; from = a; to = end_of t row es } ∷ rows_from t (row + 1) es else rows_from t row es)) not_so
+  skipped (End u r a) es not_so = refl
+
+  begun : (u : ℕ) (v : List Value) (a : ℕ) (es : List Event) → (u == t) ≡ true
+      → first_from t row values at (Start u v a ∷ es) ≡ cond (starts_like values at (Start u v a) && end_of t row es == FOREVER) (Some row) (first_from t (row + 1) values at es)
+  begun u v a es so =
+      ap (λ b. position_from (is_open_like values at) row (if b then record { number = row; values = v; from = a; to = end_of t row es } ∷ rows_from t (row + 1) es else rows_from t row es)) so
+      ∙ ap (λ b. cond b (Some row) (first_from t (row + 1) values at es)) (and_swap (end_of t row es == FOREVER) (nat_lt a at && eq_by_cmp values_cmp v values))
+
+  pub taken : (e : Event) (es : List Event) → starts_of t e ≡ true → (starts_like values at e && end_of t row es == FOREVER) ≡ true → first_from t row values at (e ∷ es) ≡ Some row
+  taken (Start u v a) es so opens = begun u v a es so ∙ ap (λ b. cond b (Some row) (first_from t (row + 1) values at es)) opens
+  taken (End u r a) es so opens = absurd (cc)
+
+  pub passed_over : (e : Event) (es : List Event) → starts_of t e ≡ true → (starts_like values at e && end_of t row es == FOREVER) ≡ false → first_from t row values at (e ∷ es) ≡ first_from t (row + 1) values at es
+  passed_over (Start u v a) es so opens = begun u v a es so ∙ ap (λ b. cond b (Some row) (first_from t (row + 1) values at es)) opens
+  passed_over (End u r a) es so opens = absurd (cc)
+
+pub walked : (es : List Event) (t : ℕ) (values : List Value) (at : ℕ) → open_row es t values at ≡ first_from t 0 values at es
+walked es t values at =
+    ap (λ l. position (is_open_like values at) (rows_from t 0 l)) (take_all (length es) es (omega arith))
+    ∙ position_from-zero (is_open_like values at) (rows_from t 0 es)

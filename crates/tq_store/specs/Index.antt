@@ -1,10 +1,13 @@
 -- The tree of a table, and the events of its rows: what holds of them by the events so far. This project's own.
-use Rattle.std.specs.Prelude.{◌≡◌, ◌≢◌, ℕ, ◌+◌, ◌<◌, ◌≤◌, List, map, length, slice_get, true, Option, Some, None, IsSomeAnd, IfSome, FitsSigned}
+use Rattle.std.specs.Prelude.{◌≡◌, ◌≢◌, ℕ, ◌+◌, ◌<◌, ◌≤◌, ◌&&◌, not, is_some, Bool, List, map, length, slice_get, true, false, Option, Some, None, IsSomeAnd, IfSome, FitsSigned}
 use Rattle.std.specs.Int.{w64}
 use Rattle.std.specs.List.Sorted.{IsNonDecreasingBy}
-use Rattle.std.specs.Option.{option_map}
+use Rattle.std.specs.Option.{option_map, option_map_or}
+use Rattle.std.specs.Ordering.{eq_by_cmp}
 use Rattle.tq_base.specs.declared.catalogue.Catalogue.{Catalogue}
 use Rattle.tq_base.specs.declared.period.TheConstants.{FOREVER}
+use Rattle.tq_base.specs.declared.value.Value.{Value}
+use Rattle.tq_base.specs.ValueOrder.{values_cmp}
 use Rattle.tq_event.specs.declared.event.Event.{Event}
 use Rattle.tq_event.specs.declared.event.Event.TheVariants.{Start, End}
 use Rattle.tq_event.specs.History.{IsHistory, time_of}
@@ -15,6 +18,7 @@ use Rattle.tq_mvbt.specs.TreeState.{HasLife, TreeState, lives_of}
 use Rattle.tq_store.specs.declared.index.Index.{Index}
 use Rattle.tq_store.specs.declared.index.RowEvents.{RowEvents}
 use Rattle.tq_store.specs.Keys.{key_of, tree_key}
+use Rattle.tq_store.specs.Open.{has}
 
 -- the first version at which a row that so ends is dead
 abbrev pub dead_of : Option Ending → ℕ
@@ -24,6 +28,14 @@ dead_of (Some e) = e.event + 1
 -- the events of a row
 abbrev pub events_of : Life → RowEvents
 events_of l = record { start = l.start; end = option_map (λ e. e.event) l.ending }
+
+-- whether a row of this life is open and has these values
+abbrev pub is_open_of : List Value → Life → Bool
+is_open_of values l = not (is_some l.ending) && eq_by_cmp values_cmp l.values values
+
+-- whether the row of this number is
+abbrev pub is_open_at : List Life → List Value → ℕ → Bool
+is_open_at lives values row = option_map_or (is_open_of values) (slice_get lives row) false
 
 -- the row, ended by the event of this number
 abbrev pub ended : ℕ → RowEvents → RowEvents
@@ -52,10 +64,11 @@ pub record HasRows (lives : List Life) (count version : ℕ) (nodes : List NodeS
   pub up_to : version ≤ count
   pub few : length lives ≤ count
 
--- the tree and the rows are those of the table by these events
+-- the tree, the rows and the open ones among them are those of the table by these events
 pub record IsIndexOf (events : List Event) (table : ℕ) (index : Index) : Type 0 where
   pub rows : index.rows.items ≡ map events_of (row_lives events table)
   pub tree : HasRows (row_lives events table) (length events) index.tree.version index.tree.nodes
+  pub opened : (values : List Value) (row : ℕ) → has index.opened values row ≡ is_open_at (row_lives events table) values row
 
 -- they are the indexes of the tables of their numbers
 pub record AreIndexes (events : List Event) (indexes : List Index) : Type 0 where

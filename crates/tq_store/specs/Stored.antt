@@ -1,5 +1,5 @@
 -- What the events tell of a row whose start and end they are. This project's own.
-use Rattle.std.specs.Prelude.{ℕ, ◌%◌, ◌<◌, ◌&&◌, not, is_some, Bool, false, List, [], length, slice_get, slice_index_or, nat_lt, if◌then◌else◌, Option, Some, None, IsSomeAnd, IfSome, ⊤}
+use Rattle.std.specs.Prelude.{ℕ, ◌%◌, ◌<◌, ◌&&◌, ◌==◌, not, is_some, Bool, false, List, [], length, slice_get, slice_index_or, nat_lt, if◌then◌else◌, Option, Some, None, IsSomeAnd, IfSome, ⊤}
 use Rattle.std.specs.Option.{option_map_or}
 use Rattle.std.specs.Ordering.{eq_by_cmp}
 use Rattle.tq_base.specs.declared.period.TheConstants.{FOREVER}
@@ -61,6 +61,16 @@ row_of_key events rows n key =
 abbrev pub starts_like : List Value → ℕ → Event → Bool
 starts_like values at (Start t v from) = nat_lt from at && eq_by_cmp values_cmp v values
 starts_like values at (End t r ended) = false
+
+-- whether the event starts a row of the table
+abbrev pub starts_of : ℕ → Event → Bool
+starts_of table (Start t v at) = t == table
+starts_of table (End t r at) = false
+
+-- whether the event ends the row
+abbrev pub ends_row : ℕ → ℕ → Event → Bool
+ends_row table row (Start t v at) = false
+ends_row table row (End t r at) = t == table && r == row
 
 -- whether the row is open, started before the instant, and has these values
 abbrev pub open_like : List Event → List Value → ℕ → RowEvents → Bool

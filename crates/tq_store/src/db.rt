@@ -13,7 +13,6 @@ ghost use Rattle.tq_store.specs.Stored.{seen};
 
 use crate::index::{Index, no_indexes, take};
 use crate::key::KeyRange;
-use crate::opening::find_open;
 use crate::read::{find_version, make_window, read_rows};
 use crate::row::Row;
 use crate::stored::time;
@@ -159,7 +158,7 @@ impl Db {
         ensures { result ≡ open_row self.now.events table values.now at }
     {
         let index = &self.indexes[table as usize];
-        find_open(&self.events, &index.rows, values, at)
+        index.first_open(&self.events, table, values, at)
     }
 
     /// How many of the first n events are no later than the instant: the version of the tables that holds then.

@@ -1,14 +1,22 @@
-//! A table's rows as of every count of events: a tree of their keys, and the events that start and end each.
+//! A table's rows as of every count of events: a tree of their keys, the events that start and end each, and the
+//! open ones by their values.
 
-ghost use Rattle.std.specs.Prelude.{◌≡◌, ℕ, ◌+◌, ◌<◌, ◌≤◌, ◌++◌, ◌∷◌, [], true, false, length, slice_index_or, slice_set, ◌↔◌, IsTrue, IfOk, OnOk, OnErr};
+ghost use Rattle.std.specs.Prelude.{◌≡◌, ℕ, ◌+◌, ◌^◌, ◌<◌, ◌≤◌, ◌&&◌, ◌||◌, ◌++◌, ◌∷◌, [], true, false, not, length, List, slice_index_or, slice_set, ◌↔◌, IsTrue, IfOk, OnOk, OnErr};
+ghost use Rattle.std.specs.List.Sorted.{IsNonDecreasingBy};
+ghost use Rattle.std.specs.Ordering.{eq_by_cmp, nat_cmp};
+ghost use Rattle.tq_base.specs.declared.value.Value.{Value as OneValue};
+ghost use Rattle.tq_base.specs.ValueOrder.{values_cmp};
 ghost use Rattle.tq_mvbt.specs.TreeState.{lives_of};
 ghost use Rattle.tq_event.specs.History.{time_of};
+ghost use Rattle.tq_event.specs.Opening as opening;
 ghost use Rattle.tq_event.specs.Recorded.{table_of};
 ghost use Rattle.tq_store.specs.Keys.{tree_key};
 ghost use Rattle.tq_store.specs.Index.{AreIndexes, Begins, CanTake, Ends, IsIndexOf, IsOpenAt, ended};
+ghost use Rattle.tq_store.specs.Open.{HasSame, has};
 ghost use Rattle.tq_store.specs.Stored.{values_at};
 
 use crate::key::row_key;
+use crate::open::OpenRows;
 use crate::stored::{table, time, values};
 use std::alloc::{AllocError, Global};
 use tq_base::{Instant, Values};
@@ -22,11 +30,12 @@ pub struct RowEvents {
     pub end: Option<u32>,
 }
 
-/// The tree of a table, and the events of its rows by the rows' numbers.
+/// The tree of a table, the events of its rows by the rows' numbers, and its open rows.
 #[derive(Drop)]
 pub struct Index {
     pub tree: Tree,
     pub rows: Vec<RowEvents>,
+    pub opened: OpenRows,
 }
 
 impl Index {
@@ -37,7 +46,38 @@ impl Index {
         Ok(Index {
             tree: Tree::new(alloc)?,
             rows: Vec::new(alloc),
+            opened: OpenRows::new(alloc),
         })
+    }
+
+    // The key of a row of these values lives from the version on, and the row is open.
+    // Out of memory: all is as before.
+    fn begin(
+        &mut self,
+        key: u128,
+        version: u32,
+        values: &Values,
+        row: u32,
+    ) -> Result<(), AllocError>
+        requires later { self.old.tree.version < version }
+        requires small { version ≤ 16777216 }
+        requires key { key < 2 ^ 96 }
+        requires never { (v : ℕ) → lives_of self.old.tree.nodes key v ≡ false }
+        requires new { (v : List OneValue) → has self.old.opened v row ≡ false }
+        ensures rows { self.new.rows ≡ self.old.rows }
+        ensures tree { OnOk result (Begins self.old.tree self.new.tree key version) }
+        ensures opened { OnOk result ((v : List OneValue) (r : ℕ) → has self.new.opened v r ≡ (has self.old.opened v r || (eq_by_cmp values_cmp values.now v && eq_by_cmp nat_cmp row r))) }
+        ensures same_tree { OnErr result (self.new.tree ≡ self.old.tree) }
+        ensures same_opened { OnErr result (HasSame self.old.opened self.new.opened) }
+    {
+        self.opened.insert(values, row)?;
+        match self.tree.insert(key, version) {
+            Ok(()) => Ok(()),
+            Err(refused) => {
+                self.opened.remove(values, row);
+                Err(refused)
+            }
+        }
     }
 
     // A row of these values starts by the event of this number. Out of memory: all is as before.
@@ -46,14 +86,18 @@ impl Index {
         requires small { number < 16777216 }
         requires few { length self.old.rows.items ≤ number }
         requires never { (v : ℕ) → lives_of self.old.tree.nodes (tree_key values.now (length self.old.rows.items)) v ≡ false }
+        requires new { (v : List OneValue) → has self.old.opened v (length self.old.rows.items) ≡ false }
         ensures rows { OnOk result (self.new.rows.items ≡ self.old.rows.items ++ record { start = number; end = None } ∷ []) }
         ensures tree { OnOk result (Begins self.old.tree self.new.tree (tree_key values.now (length self.old.rows.items)) (number + 1)) }
+        ensures opened { OnOk result ((v : List OneValue) (r : ℕ) → has self.new.opened v r ≡ (has self.old.opened v r || (eq_by_cmp values_cmp values.now v && eq_by_cmp nat_cmp (length self.old.rows.items) r))) }
         ensures same_tree { OnErr result (self.new.tree ≡ self.old.tree) }
         ensures same_rows { OnErr result (self.new.rows.items ≡ self.old.rows.items) }
+        ensures same_opened { OnErr result (HasSame self.old.opened self.new.opened) }
     {
         self.rows.reserve(1)?;
-        let key = row_key(values, self.rows.len() as u32);
-        self.tree.insert(key, number + 1)?;
+        let row = self.rows.len() as u32;
+        let key = row_key(values, row);
+        self.begin(key, number + 1, values, row)?;
         self.rows.push_reserved(RowEvents {
             start: number,
             end: None,
@@ -69,8 +113,10 @@ impl Index {
         requires alive { lives_of self.old.tree.nodes (tree_key values.now row) self.old.tree.version ≡ true }
         ensures rows { OnOk result ((d : RowEvents) → self.new.rows.items ≡ slice_set self.old.rows.items row (ended number (slice_index_or self.old.rows.items row d))) }
         ensures tree { OnOk result (Ends self.old.tree self.new.tree (tree_key values.now row) (number + 1)) }
+        ensures opened { OnOk result ((v : List OneValue) (r : ℕ) → has self.new.opened v r ≡ (has self.old.opened v r && not (eq_by_cmp values_cmp values.now v && eq_by_cmp nat_cmp row r))) }
         ensures same_tree { OnErr result (self.new.tree ≡ self.old.tree) }
         ensures same_rows { OnErr result (self.new.rows.items ≡ self.old.rows.items) }
+        ensures same_opened { OnErr result (HasSame self.old.opened self.new.opened) }
     {
         let key = row_key(values, row);
         self.tree.delete(key, number + 1)?;
@@ -79,6 +125,7 @@ impl Index {
             start,
             end: Some(number),
         };
+        self.opened.remove(values, row);
         Ok(())
     }
 }
@@ -99,6 +146,30 @@ impl Index {
                 let start = self.rows[*row as usize].start;
                 self.end(number, *row, values(events, start))
             }
+        }
+    }
+
+    /// The number of the first open row of these values, if it started before the instant.
+    pub fn first_open(
+        &self,
+        events: &[Event],
+        table: u32,
+        values: &Values,
+        at: Instant,
+    ) -> Option<u32>
+        requires index { IsIndexOf events.now table self.now }
+        requires ordered { IsNonDecreasingBy time_of events.now }
+        ensures { result ≡ opening.open_row events.now table values.now at }
+    {
+        match self.opened.first(values) {
+            Some(row) => {
+                if self.is_open_before(events, table, row, at) {
+                    Some(row)
+                } else {
+                    None
+                }
+            }
+            None => None,
         }
     }
 

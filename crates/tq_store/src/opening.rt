@@ -1,14 +1,27 @@
-//! The open row of some values.
+//! The open row of some values in a list of events.
 
-ghost use Rattle.std.specs.Prelude.{◌≡◌, ◌<◌, ◌≤◌, IfSome, length, position};
-ghost use Rattle.tq_store.specs.Stored.{open_like, starts_like};
+ghost use Rattle.std.specs.Prelude.{◌≡◌, ◌≤◌, ◌<◌, ◌==◌, ◌&&◌, length};
+ghost use Rattle.tq_base.specs.declared.period.TheConstants.{FOREVER};
+ghost use Rattle.tq_event.specs.History.{end_of, time_of};
+ghost use Rattle.tq_event.specs.Opening as opening;
+ghost use Rattle.tq_store.specs.Stored.{ends_row, starts_like, starts_of};
 
-use crate::index::RowEvents;
+use crate::stored::time;
 use tq_base::{Instant, Values};
 use tq_event::Event;
 
+// Whether the event starts a row of the table.
+fn starts(event: &Event, table: u32) -> bool
+    ensures { result ≡ starts_of table event.now }
+{
+    match event {
+        Event::Start { table: of, .. } => *of == table,
+        Event::End { .. } => false,
+    }
+}
+
 // Whether the event starts a row of these values before the instant.
-fn starts(event: &Event, values: &Values, at: Instant) -> bool
+fn is_like(event: &Event, values: &Values, at: Instant) -> bool
     ensures { result ≡ starts_like values.now at event.now }
 {
     match event {
@@ -21,36 +34,63 @@ fn starts(event: &Event, values: &Values, at: Instant) -> bool
     }
 }
 
-// Whether the row is open, started before the instant, and has these values.
-fn is_open(events: &[Event], row: &RowEvents, values: &Values, at: Instant) -> bool
-    ensures { result ≡ open_like events.now values.now at row.now }
+// Whether the event ends the row.
+fn ends(event: &Event, table: u32, row: u32) -> bool
+    ensures ends { result ≡ ends_row table row event.now }
+    ensures finite { time_of event.now < FOREVER }
 {
-    match events.get(row.start as usize) {
-        Some(event) => row.end.is_none() && starts(event, values, at),
-        None => false,
+    let _time = time(event).number();
+    match event {
+        Event::Start { .. } => false,
+        Event::End {
+            table: of,
+            row: ended,
+            ..
+        } => *of == table && *ended == row,
     }
 }
 
-// The place of the first of the rows that is open, started before the instant, and has these values.
-fn open_place(events: &[Event], rows: &[RowEvents], values: &Values, at: Instant) -> Option<usize>
-    ensures value { result ≡ position (open_like events.now values.now at) rows.now }
-    ensures within { IfSome result (λ place. place < length rows.now) }
+// Whether none of the events ends the row.
+fn is_open(events: &[Event], table: u32, row: u32) -> bool
+    ensures { result ≡ (end_of table row events.now == FOREVER) }
 {
-    rows.iter().position(|row| is_open(events, row, values, at))
+    'events: for place in 0..events.len() {
+        if ends(&events[place], table, row) {
+            return false;
+        }
+    }
+    true
 }
 
-// The number of that row.
-pub(crate) fn find_open(
-    events: &[Event],
-    rows: &[RowEvents],
+// Whether the event starts a row of these values before the instant, and no later one ends the row.
+fn opens(
+    event: &Event,
+    later: &[Event],
+    table: u32,
+    row: u32,
     values: &Values,
     at: Instant,
-) -> Option<u32>
-    requires { length rows.now ≤ 16777216 }
-    ensures { result ≡ position (open_like events.now values.now at) rows.now }
+) -> bool
+    ensures { result ≡ (starts_like values.now at event.now && end_of table row later.now == FOREVER) }
 {
-    match open_place(events, rows, values, at) {
-        Some(place) => Some(place as u32),
-        None => None,
+    is_like(event, values, at) && is_open(later, table, row)
+}
+
+/// The number of the table's first row of these values that is open by all of the events and started before the
+/// instant. It goes through the events, and for each row of these values through those until it ends.
+pub fn open_row(events: &[Event], table: u32, values: &Values, at: Instant) -> Option<u32>
+    requires { length events.now ≤ 16777216 }
+    ensures { result ≡ opening.open_row events.now table values.now at }
+{
+    let mut row = 0;
+    'events: for place in 0..events.len() {
+        let event = &events[place];
+        if starts(event, table) {
+            if opens(event, &events[place + 1..], table, row, values, at) {
+                return Some(row);
+            }
+            row += 1;
+        }
     }
+    None
 }

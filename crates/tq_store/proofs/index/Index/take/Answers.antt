@@ -1,8 +1,10 @@
-use Rattle.std.proofs.Common.{◌≡◌, ◌++◌, ◌∷◌, ◌<◌, ◌+◌, ◌∙◌, [], length, subst, sym, ap, true, ℕ, List}
+use Rattle.std.proofs.Common.{◌≡◌, ◌&&◌, not, ◌++◌, ◌∷◌, ◌<◌, ◌+◌, ◌∙◌, [], length, subst, sym, ap, true, ℕ, List}
 use Rattle.std.specs.Prelude.{IsSomeAnd, slice_get, slice_index_or}
 use Rattle.std.specs.Option.{option_map_or}
+use Rattle.std.specs.Ordering.{eq_by_cmp, nat_cmp}
 use Rattle.std.proofs.lemmas.Option.{get_or_from_slice_get}
 use Rattle.tq_base.specs.declared.value.Value.{Value}
+use Rattle.tq_base.specs.ValueOrder.{values_cmp}
 use Rattle.tq_event.specs.declared.event.Event.{Event}
 use Rattle.tq_event.specs.declared.event.Event.TheVariants.{End}
 use Rattle.tq_event.specs.Recorded.{table_of}
@@ -11,8 +13,9 @@ use Rattle.tq_store.specs.declared.index.Index.{Index}
 use Rattle.tq_store.specs.declared.index.RowEvents.{RowEvents}
 use Rattle.tq_store.specs.Index.{CanTake, IsIndexOf, Ends, ended, events_of}
 use Rattle.tq_store.specs.Keys.{tree_key}
+use Rattle.tq_store.specs.Open.{has}
 use Rattle.tq_store.specs.Stored.{IsStart, values_at, values_in}
-use Rattle.tq_store.proofs.IndexLemmas.{IsOpenRow, index_end, index_start, on_both, open_row}
+use Rattle.tq_store.proofs.IndexLemmas.{IsOpenRow, index_end, index_like, index_start, not_yet_open, on_three, on_three_err, open_row}
 use Rattle.tq_store.proofs.index.Index.take.Goals as goal
 
 -- the row that an end ends
@@ -42,15 +45,15 @@ end-requires-clause-alive c =
     subst (λ v. lives_of c.args.self.now.tree.nodes (tree_key v c.in-End.row) c.args.self.now.tree.version ≡ true) (sym values) row.alive
 
 pub returns-in-Start-clause-ok : goal.returns-in-Start-clause-ok
-returns-in-Start-clause-ok c = on_both c.start.result c.start.ensures.rows c.start.ensures.tree (λ rows tree.
+returns-in-Start-clause-ok c = on_three c.start.result c.start.ensures.rows c.start.ensures.tree c.start.ensures.opened (λ rows tree opened.
     let es = c.args.events.now in
     let of_table = subst (λ e. IsIndexOf es (table_of e) c.args.self.now) c.in-Start.is c.requires.index in
     let can = subst (CanTake es) c.in-Start.is c.requires.can in
     subst (λ e. IsIndexOf (es ++ e ∷ []) (table_of e) c.start.new.self) (sym c.in-Start.is)
-    (index_start es c.in-Start.table c.in-Start.values c.in-Start.at c.args.self.now c.start.new.self c.requires.few of_table can.0 can.1 rows tree))
+    (index_start es c.in-Start.table c.in-Start.values c.in-Start.at c.args.self.now c.start.new.self c.requires.few of_table can.0 can.1 rows tree opened))
 
 pub returns-in-End-clause-ok : goal.returns-in-End-clause-ok
-returns-in-End-clause-ok c = on_both c.end.result c.end.ensures.rows c.end.ensures.tree (λ rows tree.
+returns-in-End-clause-ok c = on_three c.end.result c.end.ensures.rows c.end.ensures.tree c.end.ensures.opened (λ rows tree opened.
     let es = c.args.events.now in
     let row = ending_row es c.args.event.now c.in-End.table c.in-End.row c.in-End.at c.args.self.now c.in-End.is c.requires.few c.requires.index c.requires.can in
     let same = known es c.in-End.table c.in-End.row c.in-End.at c.args.self.now c.index.result.now row c.index.ensures in
@@ -61,4 +64,16 @@ returns-in-End-clause-ok c = on_both c.end.result c.end.ensures.rows c.end.ensur
     subst (λ e. IsIndexOf (es ++ e ∷ []) (table_of e) c.end.new.self) (sym c.in-End.is)
     (index_end es c.in-End.table c.in-End.row c.in-End.at c.args.self.now c.end.new.self row.life c.requires.few of_table can.1 row.stands row.none row.from
     (rows (events_of row.life) ∙ ap (λ (k : RowEvents). Rattle.std.specs.Prelude.slice_set c.args.self.now.rows.items c.in-End.row (ended (length es) k)) old_row)
-    (subst (λ v. Ends c.args.self.now.tree c.end.new.self.tree (tree_key v c.in-End.row) (length es + 1)) values tree)))
+    (subst (λ v. Ends c.args.self.now.tree c.end.new.self.tree (tree_key v c.in-End.row) (length es + 1)) values tree)
+    (subst (λ v. (w : List Value) (r : ℕ) → has c.end.new.self.opened w r ≡ (has c.args.self.now.opened w r && not (eq_by_cmp values_cmp v w && eq_by_cmp nat_cmp c.in-End.row r))) values opened)))
+
+pub start-requires-clause-new : goal.start-requires-clause-new
+start-requires-clause-new c = not_yet_open c.args.events.now (table_of c.args.event.now) c.args.self.now c.requires.index
+
+pub returns-in-Start-clause-err : goal.returns-in-Start-clause-err
+returns-in-Start-clause-err c = on_three_err c.start.result c.start.ensures.same_tree c.start.ensures.same_rows c.start.ensures.same_opened (λ tree rows same.
+    index_like c.args.events.now (table_of c.args.event.now) c.args.self.now c.start.new.self tree rows same c.requires.index)
+
+pub returns-in-End-clause-err : goal.returns-in-End-clause-err
+returns-in-End-clause-err c = on_three_err c.end.result c.end.ensures.same_tree c.end.ensures.same_rows c.end.ensures.same_opened (λ tree rows same.
+    index_like c.args.events.now (table_of c.args.event.now) c.args.self.now c.end.new.self tree rows same c.requires.index)
