@@ -1,5 +1,5 @@
 -- The first open row of some values, in the rows of an index and in those of the table.
-use Rattle.std.proofs.Common.{◌≡◌, ℕ, zero, suc, ◌+◌, ◌<◌, ◌≤◌, ◌==◌, ◌&&◌, not, Bool, true, false, cond, if◌then◌else◌, List, [], ◌∷◌, Option, Some, None, length, slice_get, nat_lt, take, inl, inr, refl, sym, ap, subst, ◌∙◌, arith, rules}
+use Rattle.std.proofs.Common.{◌≡◌, ℕ, zero, suc, ◌+◌, ◌<◌, ◌≤◌, ◌==◌, ◌&&◌, not, Bool, true, false, cond, if◌then◌else◌, List, [], ◌∷◌, Option, Some, None, length, slice_get, nat_lt, inl, inr, refl, sym, ap, subst, ◌∙◌, arith, rules}
 use Rattle.std.specs.Prelude.{IfSome, IsSomeAnd, is_some, position}
 use Rattle.std.specs.List.{position_from, position_or_len}
 use Rattle.std.specs.List.Sorted.{IsNonDecreasingBy}
@@ -16,7 +16,7 @@ use Rattle.tq_base.specs.declared.value.Value.{Value}
 use Rattle.tq_base.specs.ValueOrder.{values_cmp}
 use Rattle.tq_event.specs.declared.event.Event.{Event}
 use Rattle.tq_event.specs.declared.event.Event.TheVariants.{Start, End}
-use Rattle.tq_event.specs.History.{Row, end_of, rows_from, rows_of, time_of}
+use Rattle.tq_event.specs.History.{end_of, rows_from, rows_of, time_of}
 use Rattle.tq_event.specs.Opening.{is_open_like, open_row}
 use Rattle.tq_event.specs.Versions.{Ending, Life, row_lives}
 use Rattle.tq_store.specs.declared.index.Index.{Index}
@@ -193,7 +193,7 @@ module _ (es : List Event) (t : ℕ) (index : Index) (is : IsIndexOf es t index)
       let tests = and-true (nat_lt l.from at) (eq_by_cmp values_cmp l.values values) both.1 in
       let none : l.ending ≡ None = no_ending l.ending both.0 in (
         is.opened values row ∙ ap (λ o. option_map_or (is_open_of values) o false) stands
-        ∙ ap (λ o. not (is_some o) && eq_by_cmp values_cmp l.values values) none ∙ tests.1,
+            ∙ ap (λ o. not (is_some o) && eq_by_cmp values_cmp l.values values) none ∙ tests.1,
         elim (cases_lt l.from at) [
           | inl less ↦ less
           | inr late ↦ absurd (let wrong : true ≡ false = sym tests.0 ∙ not_less l.from at late in cc)

@@ -63,14 +63,7 @@ fn is_open(events: &[Event], table: u32, row: u32) -> bool
 }
 
 // Whether the event starts a row of these values before the instant, and no later one ends the row.
-fn opens(
-    event: &Event,
-    later: &[Event],
-    table: u32,
-    row: u32,
-    values: &Values,
-    at: Instant,
-) -> bool
+fn opens(event: &Event, later: &[Event], table: u32, row: u32, values: &Values, at: Instant) -> bool
     ensures { result ≡ (starts_like values.now at event.now && end_of table row later.now == FOREVER) }
 {
     is_like(event, values, at) && is_open(later, table, row)

@@ -1,5 +1,4 @@
 use Rattle.std.proofs.Common.{◌≡◌, ◌&&◌, not, ◌∙◌, ap, false, subst}
-use Rattle.std.specs.Prelude.{◌||◌}
 use Rattle.std.specs.Ordering.{eq_by_cmp, nat_cmp}
 use Rattle.tq_base.specs.ValueOrder.{values_cmp}
 use Rattle.tq_store.specs.Open.{has}

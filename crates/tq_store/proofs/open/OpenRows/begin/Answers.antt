@@ -1,4 +1,4 @@
-use Rattle.std.proofs.Common.{◌≡◌, ◌∙◌, Some, cond, true, ap, subst, sym, refl}
+use Rattle.std.proofs.Common.{◌≡◌, ◌∙◌, Some, cond, true, ap, subst, sym}
 use Rattle.std.specs.Prelude.{List}
 use Rattle.std.specs.BTreeMap.{get}
 use Rattle.std.specs.Ordering.{eq_by_cmp, nat_cmp}
