@@ -5,4 +5,6 @@
 #[cfg(test)]
 mod known;
 #[cfg(test)]
+mod opening;
+#[cfg(test)]
 mod random;

@@ -14,13 +14,13 @@ use tq_store::{Db, KeyRange, Row};
 
 /// A row as its events tell it.
 #[derive(Drop, Debug)]
-struct Plain {
-    table: u32,
-    row: u32,
-    key: i64,
-    from: u64,
+pub(crate) struct Plain {
+    pub(crate) table: u32,
+    pub(crate) row: u32,
+    pub(crate) key: i64,
+    pub(crate) from: u64,
     start: u32,
-    end: Option<(u32, u64)>,
+    pub(crate) end: Option<(u32, u64)>,
 }
 
 /// A row as of a count of events: its key, its number, and from when until when it is valid.
@@ -37,13 +37,13 @@ struct Question {
 
 /// A linear congruential generator.
 #[derive(Drop)]
-struct Draws {
-    state: u64,
+pub(crate) struct Draws {
+    pub(crate) state: u64,
 }
 
 impl Draws {
     // The next number below the limit.
-    fn next(&mut self, limit: u64) -> u64
+    pub(crate) fn next(&mut self, limit: u64) -> u64
         ensures { result < max limit 1 }
     {
         self.state = self
@@ -66,10 +66,10 @@ impl Draws {
 
 /// A history, beside its rows and the time of its last event.
 #[derive(Drop)]
-struct Known {
-    db: Db,
-    rows: Vec<Plain>,
-    last: u64,
+pub(crate) struct Known {
+    pub(crate) db: Db,
+    pub(crate) rows: Vec<Plain>,
+    pub(crate) last: u64,
 }
 
 impl Known {
@@ -80,7 +80,7 @@ impl Known {
     }
 
     // A row starts: it is taken where the instant is not below that of the last event.
-    fn start<R: Abort>(
+    pub(crate) fn start<R: Abort>(
         &mut self,
         rt: &R,
         alloc: Global,
@@ -115,7 +115,7 @@ impl Known {
     }
 
     // The row of this place ends: that is taken where it is open, and started before.
-    fn end<R: Abort>(&mut self, rt: &R, place: usize, at: u64) -> Result<(), Fail> {
+    pub(crate) fn end<R: Abort>(&mut self, rt: &R, place: usize, at: u64) -> Result<(), Fail> {
         assert!(rt; place < self.rows.len());
         let row = &self.rows[place];
         let event = Event::End {
@@ -242,7 +242,7 @@ fn check<R: Abort>(rt: &R, alloc: Global, known: &Known, draws: &mut Draws) -> R
 }
 
 // Two tables of one column of numbers.
-fn two_tables(alloc: Global) -> Result<Catalogue, Fail> {
+pub(crate) fn two_tables(alloc: Global) -> Result<Catalogue, Fail> {
     let mut files = Vec::new(alloc);
     for name in [b"a", b"b"] {
         files.push(TableFile {
