@@ -39,7 +39,7 @@ impl OpenRows {
         }
     }
 
-    // The row of these values, which no other is open of. Out of memory: the rows are as before.
+    // The row is open, the first one of its values. Out of memory: the rows are as before.
     fn begin(&mut self, values: &Values, row: u32) -> Result<(), AllocError>
         requires { (r : ℕ) → has self.old values.now r ≡ false }
         ensures ok { OnOk result ((v : List OneValue) (r : ℕ) → has self.new v r ≡ (has self.old v r || (eq_by_cmp values_cmp values.now v && eq_by_cmp nat_cmp row r))) }
