@@ -7,3 +7,5 @@ pub mod RowLemmas
 pub mod PartLemmas
 pub mod OpenRowsLemmas
 pub mod OpenLemmas
+pub mod CountLemmas
+pub mod ValidLemmas

@@ -3,4 +3,5 @@ pub mod Open
 pub mod Index
 pub mod Rows
 pub mod Stored
+pub mod Valid
 pub mod Laws

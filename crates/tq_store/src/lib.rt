@@ -15,6 +15,7 @@ mod opening;
 mod read;
 mod row;
 mod stored;
+mod valid;
 
 pub use db::Db;
 pub use key::KeyRange;

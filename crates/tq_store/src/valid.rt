@@ -1,0 +1,93 @@
+//! The rows of a table at the instants of a period, side by side in one list.
+
+ghost use Rattle.std.specs.Prelude.{◌≡◌, ◌≤◌, All, FitsSigned, IfOk, List, length, map};
+ghost use Rattle.std.specs.Int.{w64};
+ghost use Rattle.tq_base.specs.declared.fragment.Fragment.{Fragment};
+ghost use Rattle.tq_base.specs.declared.value.Value.{Value};
+ghost use Rattle.tq_store.specs.declared.row.Row as declared;
+ghost use Rattle.tq_store.specs.Keys.{key_of};
+ghost use Rattle.tq_store.specs.Valid.{AreValid, AreValidIn, AreWhole, HasKeyIn, fragment_of_row};
+
+use crate::db::Db;
+use crate::key::KeyRange;
+use crate::row::Row;
+use std::alloc::{AllocError, Global};
+use tq_arena::Meter;
+use tq_base::{Period, Rows};
+
+// The keys of 64 signed bits.
+fn all_keys() -> KeyRange
+    ensures { (v : List Value) → FitsSigned w64 (key_of v) → HasKeyIn result v }
+{
+    KeyRange::new(i64::MIN, i64::MAX).unwrap()
+}
+
+// The rows, of so many values each, side by side.
+fn side_by_side(alloc: Global, width: usize, rows: &[Row]) -> Result<Rows, AllocError>
+    requires { All (λ (row : declared.Row). length row.values ≡ width) rows.now }
+    ensures { IfOk result (λ out. out.items ≡ map fragment_of_row rows.now) }
+{
+    let mut out = Rows::new(alloc, width);
+    'rows: for row in rows {
+        out.push_copy(row.values.get(), row.period)?;
+    }
+    Ok(out)
+}
+
+// The rows of all of the window of the range and the period.
+fn whole_rows(
+    alloc: Global,
+    db: &Db,
+    n: u32,
+    table: u32,
+    range: &KeyRange,
+    period: &Period,
+) -> Result<Rows, AllocError>
+    requires { n ≤ length db.now.events }
+    ensures { IfOk result (λ rows. AreWhole db.now.events n table range.now period.now rows.items) }
+{
+    let _count = db.count();
+    let Some(schema) = db.catalogue().tables.get().get(table as usize) else {
+        return Ok(Rows::new(alloc, 0));
+    };
+    let window = db.window(n, table, range, period);
+    let mut meter = Meter::new();
+    let rows = db.rows_part(n, table, range, period, &window.whole(), &mut meter)?;
+    side_by_side(alloc, schema.columns.get().len(), &rows)
+}
+
+impl Db {
+    /// The rows of the table as of the first n events whose key lies in the range, as far as they are valid at
+    /// some instant of the period: at each of these instants those that are valid then. A table that is not
+    /// there has no rows. `AllocError` where a growth was refused.
+    pub fn rows_in(
+        &self,
+        alloc: Global,
+        n: u32,
+        table: u32,
+        range: &KeyRange,
+        period: &Period,
+    ) -> Result<Rows, AllocError>
+        requires { n ≤ length self.now.events }
+        ensures valid { IfOk result (λ rows. AreValidIn self.now.events n table range.now period.now rows.items) }
+        ensures keys { IfOk result (λ rows. All (λ (row : Fragment). HasKeyIn range.now row.values) rows.items) }
+    {
+        let _count = self.count();
+        whole_rows(alloc, self, n, table, range, period)
+    }
+
+    /// The same of all keys.
+    pub fn rows_over(
+        &self,
+        alloc: Global,
+        n: u32,
+        table: u32,
+        period: &Period,
+    ) -> Result<Rows, AllocError>
+        requires { n ≤ length self.now.events }
+        ensures { IfOk result (λ rows. AreValid self.now.events n table period.now rows.items) }
+    {
+        let _count = self.count();
+        whole_rows(alloc, self, n, table, &all_keys(), period)
+    }
+}
