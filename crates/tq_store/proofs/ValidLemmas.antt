@@ -1,6 +1,6 @@
 -- The rows of all of a window are valid at each instant of the period just as those of the definition are.
-use Rattle.std.proofs.Common.{◌≡◌, ◌≢◌, ℕ, zero, suc, ◌+◌, ◌-◌, ◌*◌, ◌<◌, ◌≤◌, ◌&&◌, max, min, Bool, true, false, List, [], ◌∷◌, ◌++◌, Option, Some, None, length, map, take, get_or, slice_get, nat_lt, nat_le, refl, sym, ap, subst, ◌∙◌, append_assoc, append-nil, arith, rules, count_by}
-use Rattle.std.specs.Prelude.{All, Contains, FitsSigned, IsSomeAnd, filter, if◌then◌else◌, ◌==◌}
+use Rattle.std.proofs.Common.{◌≡◌, ℕ, zero, suc, ◌+◌, ◌-◌, ◌*◌, ◌<◌, ◌≤◌, ◌&&◌, max, Bool, true, false, List, [], ◌∷◌, ◌++◌, Option, Some, None, length, map, take, get_or, slice_get, nat_lt, nat_le, refl, sym, ap, subst, ◌∙◌, append_assoc, append-nil, arith, rules, count_by}
+use Rattle.std.specs.Prelude.{All, Contains, FitsSigned, IsSomeAnd, if◌then◌else◌, ◌==◌}
 use Rattle.std.specs.Int.{w64}
 use Rattle.std.specs.Option.{option_map_or}
 use Rattle.std.specs.Ordering.{eq_by_cmp}
@@ -9,7 +9,7 @@ use Rattle.std.proofs.lemmas.Bool.Decides.{nat_tests}
 use Rattle.std.proofs.lemmas.List.{length-take}
 use Rattle.std.specs.Option.{option_map}
 use Rattle.std.proofs.lemmas.List.Elements.{All-map}
-use Rattle.std.proofs.lemmas.Option.{get_or_from_slice_get, slice_get-get_or, slice_get-map, slice_get_past, slice_get_read, slice_get_within}
+use Rattle.std.proofs.lemmas.Option.{get_or_from_slice_get, slice_get-get_or, slice_get-map, slice_get_past, slice_get_within}
 use Rattle.tq_base.specs.declared.catalogue.Catalogue.{Catalogue}
 use Rattle.tq_base.specs.declared.catalogue.Column.{Column}
 use Rattle.tq_base.specs.declared.catalogue.Schema.{Schema}
@@ -24,8 +24,7 @@ use Rattle.tq_event.specs.declared.event.Event.{Event}
 use Rattle.tq_event.specs.declared.event.Event.TheVariants.{Start, End}
 use Rattle.tq_event.specs.History.{IsHistory, Row, end_of, rows_from, rows_of, time_of, valid_at}
 use Rattle.tq_event.specs.Recorded.{HasTable}
-use Rattle.tq_event.specs.Versions.{Life, birth_of, row_lives, version_at}
-use Rattle.tq_scan.specs.Windows.{lies_in}
+use Rattle.tq_event.specs.Versions.{Life, birth_of, version_at}
 use Rattle.tq_store.specs.declared.key.KeyRange.{KeyRange}
 use Rattle.tq_store.specs.declared.row.Row as declared
 use Rattle.tq_store.specs.Keys.{key_of, shifted}

@@ -1,6 +1,7 @@
 //! Small tables, as of some counts of their events.
 
 mod asking;
+mod listed;
 
 pub(crate) use asking::{ask, ask_part};
 use std::alloc::{AllocError, Global};
