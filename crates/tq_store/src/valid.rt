@@ -57,9 +57,9 @@ fn whole_rows(
 }
 
 impl Db {
-    /// The rows of the table as of the first n events whose key lies in the range, as far as they are valid at
-    /// some instant of the period: at each of these instants those that are valid then. A table that is not
-    /// there has no rows. `AllocError` where a growth was refused.
+    /// Rows of the table as of the first n events whose key lies in the range: at each instant of the period those
+    /// that are valid then, at others any. A table that is not there has no rows. `AllocError` where a growth was
+    /// refused.
     pub fn rows_in(
         &self,
         alloc: Global,
