@@ -45,7 +45,7 @@ starts_in_order window keys rise = (
 )
   where
     no_key : Key
-    no_key = record { rank = 0; start = 0; row = 0; side = Left }
+    no_key = record { rank = 0; start = 0; row = 0; side = Left; begins = false }
 
 -- and so are the ends
 pub ends_in_order : (window : Period) (ends : List End) → IsSortedByKey (λ (e : End). e.at) nat_cmp ends → All (λ (e : End). (window.start ≤ e.at) × (e.at ≤ window.end)) ends

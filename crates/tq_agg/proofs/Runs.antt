@@ -21,7 +21,7 @@ use Rattle.tq_agg.specs.GroupKeys.{key_of, AreOfKey}
 use Rattle.tq_agg.proofs.Grouping.{IsRun, RiseByKey}
 
 abbrev pub no_key : Key
-no_key = record { rank = 0; start = 0; row = 0; side = Left }
+no_key = record { rank = 0; start = 0; row = 0; side = Left; begins = false }
 
 second_of : (r s : Ordering) → r ≡ Equal → is_lt (ordering_then r s) ≡ false → is_lt s ≡ false
 second_of Less s equal is = cc
@@ -56,12 +56,14 @@ module _ (rows : List Fragment) (columns : List ℕ) where
   held_rows (k ∷ keys) = ap (λ l. row_of k ∷ l) (held_rows keys)
 
   -- the rows of the sorted keys are those gathered, in an order
-  pub rows_same : (window : Period) (none keys sorted : List Key) → none ≡ [] → map (held groups_state) keys ≡ map (held groups_state) none ++ held_on Left (overlapping window rows) → IsPermutation keys sorted
+  pub rows_same : (window : Period) (none keys sorted : List Key) → none ≡ [] → map (held groups_state) keys ≡ map (held groups_state) none ++ held_on Left (overlapping window rows) → IsPermutation (map (held groups_state) keys) (map (held groups_state) sorted)
       → IsPermutation (overlapping window rows) (map row_of sorted)
   rows_same window none keys sorted is_none are same =
-      let all : map row_of keys ≡ overlapping window rows =
-      sym (held_rows keys) ∙ ap (map (λ (h : Held). h.row)) (are ∙ ap (λ l. map (held groups_state) l ++ held_on Left (overlapping window rows)) is_none) ∙ rows_held (overlapping window rows) in
-      subst (λ l. IsPermutation l (map row_of sorted)) all (IsPermutation-map row_of keys sorted same)
+      let row : Held → Fragment = λ (h : Held). h.row in
+      let all : map row (map (held groups_state) keys) ≡ overlapping window rows =
+      ap (map row) (are ∙ ap (λ l. map (held groups_state) l ++ held_on Left (overlapping window rows)) is_none) ∙ rows_held (overlapping window rows) in
+      subst (λ l. IsPermutation l (map row_of sorted)) all
+      (subst (IsPermutation (map row (map (held groups_state) keys))) (held_rows sorted) (IsPermutation-map row (map (held groups_state) keys) (map (held groups_state) sorted) same))
 
   -- the rows of sorted keys rise by their keys
   pub rows_rise : (sorted : List Key) → Rises groups_state sorted → RiseByKey columns (map row_of sorted)

@@ -34,7 +34,7 @@ key_weight sides s k = weight_of s (key_row sides k).values
 
 -- the key of the row that ends
 abbrev pub end_key : End → Key
-end_key e = record { rank = 0; start = 0; row = e.row; side = e.side }
+end_key e = record { rank = 0; start = 0; row = e.row; side = e.side; begins = false }
 
 -- what the rows of the keys add, without those of the ends
 abbrev pub total_of : SidesState → Summand → List Key → List End → ℤ

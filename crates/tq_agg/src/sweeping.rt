@@ -87,6 +87,7 @@ fn added_ends(summand: Summand, sides: &Sides<'_>, ends: &[End]) -> i128
             start: 0,
             row: end.row,
             side: end.side,
+            begins: false,
         };
         total += weight(summand, &sides.row(&key));
     }

@@ -1,5 +1,5 @@
 -- Keys that are compared, sorted and gathered.
-use Rattle.std.proofs.Common.{inl, inr, subst, ◌≡◌, ◌≢◌, ℕ, ◌+◌, ◌<◌, Bool, true, false, cond, List, [], ◌∷◌, ◌++◌, append_assoc, append-nil, length, take, drop, map, get_or, refl, sym, ap, ◌∙◌, arith}
+use Rattle.std.proofs.Common.{inl, inr, subst, ◌≡◌, ◌≢◌, ℕ, ◌+◌, ◌-◌, ◌<◌, nat_lt, ◌&&◌, ◌||◌, rules, Bool, true, false, cond, List, [], ◌∷◌, ◌++◌, append_assoc, append-nil, length, take, drop, map, get_or, refl, sym, ap, ◌∙◌, arith}
 use Rattle.std.specs.Prelude.{All, IsSorted, Option, Some, None}
 use Rattle.std.specs.Bool.{OnTrue}
 use Rattle.std.specs.Cmp.{IsTotalOrder, nat_cmp_total, on_total, then_total}
@@ -8,14 +8,15 @@ use Rattle.std.specs.Ordering.{is_le, is_lt, is_ne, nat_cmp, ordering_reverse, o
 use Rattle.std.specs.declared.cmp.Ordering.{Ordering}
 use Rattle.std.specs.declared.cmp.Ordering.TheVariants.{Less, Equal, Greater}
 use Rattle.std.proofs.lemmas.Bool.{cases_lt}
-use Rattle.std.proofs.lemmas.List.{drop_all, drop_more, get_or-map, get_or_default, length-map, map-append, take_more}
+use Rattle.std.proofs.lemmas.Bool.Decides.{nat_tests}
+use Rattle.std.proofs.lemmas.List.{drop_all, drop_more, get_or-map, get_or-take, get_or_default, length-map, length-take, map-append, take_more}
 use Rattle.std.proofs.lemmas.List.Elements.{filter-append, All-more}
 use Rattle.tq_base.specs.declared.value.Value.{Value}
 use Rattle.tq_base.specs.declared.period.Period.{Period}
 use Rattle.tq_base.specs.declared.fragment.Fragment.{Fragment}
 use Rattle.tq_base.specs.declared.sides.Key.{Key}
 use Rattle.tq_base.specs.declared.sides.Side.{Side}
-use Rattle.tq_base.specs.Keys.{columns_on, held, held_on, is_overlap, is_within, key_cmp, key_row, key_values, no_row, overlapping, rank_tells, rows_on, told_cmp, value_at, value_key_cmp, values_left, within, AreTold, Held, IsKey, SidesState}
+use Rattle.tq_base.specs.Keys.{begins_run, columns_on, held, held_on, is_overlap, is_within, key_cmp, key_row, key_values, no_row, overlapping, rank_tells, rows_on, told_cmp, value_at, value_key_cmp, values_left, within, AreMarked, AreTold, Held, IsKey, SidesState}
 use Rattle.tq_base.specs.KeyLaws.{alike, told}
 use Rattle.tq_base.specs.ValueOrder.{value_cmp, values_cmp}
 
@@ -141,22 +142,59 @@ module _ (s : SidesState) (keys : List Key) (are : All (IsKey s) keys) (first : 
   first_is = subst (IsKey s) (sym (is_first first)) (are 0 first some)
 
   -- a key that stands apart from the first has other values
-  pub stands_apart : (i : ℕ) (e : Key) → i < length keys → is_ne (value_key_cmp s (get_or keys i e) first) ≡ true → (d : Key) → key_values s (get_or keys i d) ≢ key_values s (get_or keys 0 d)
+  stands_apart : (i : ℕ) (e : Key) → i < length keys → is_ne (value_key_cmp s (get_or keys i e) first) ≡ true → (d : Key) → key_values s (get_or keys i d) ≢ key_values s (get_or keys 0 d)
   stands_apart i e less apart d same =
       let of_first : key_values s (get_or keys i e) ≡ key_values s first = ap (key_values s) (get_or_default keys i e d less) ∙ same ∙ ap (key_values s) (sym (is_first d)) in
       let equal : is_ne (value_key_cmp s (get_or keys i e) first) ≡ false = ap is_ne (alike s (get_or keys i e) first (are i e less) first_is of_first) in
       cc (equal, apart)
 
-  -- so it is not the first
-  pub later : (i : ℕ) (e : Key) → i < length keys → is_ne (value_key_cmp s (get_or keys i e) first) ≡ true → 0 < i
-  later i e less apart = elim (cases_lt 0 i) [
-    | inl after ↦ after
-    | inr none ↦ let zeroth : i ≡ 0 = omega (arith, none) in absurd (stands_apart i e less apart e (ap (λ n. key_values s (get_or keys n e)) zeroth))
-  ]
-
   -- one that does not has its values
-  pub run_more : (i : ℕ) (e : Key) → i < length keys → is_ne (value_key_cmp s (get_or keys i e) first) ≡ false
+  run_more : (i : ℕ) (e : Key) → i < length keys → is_ne (value_key_cmp s (get_or keys i e) first) ≡ false
       → All (λ (k : Key). key_values s k ≡ key_values s first) (take i keys) → All (λ (k : Key). key_values s k ≡ key_values s first) (take (i + 1) keys)
   run_more i e less tie before =
       All-more (λ (k : Key). key_values s k ≡ key_values s first) keys i e less before
       (told s (get_or keys i e) first (are i e less) first_is (equal_from (value_key_cmp s (get_or keys i e) first) tie))
+
+  -- a key that is marked has other values than the first, where all before it have those of the first
+  marked_apart : AreMarked s keys → (i : ℕ) (e : Key) → i < length keys → 0 < i → (get_or keys i e).begins ≡ true
+      → All (λ (k : Key). key_values s k ≡ key_values s first) (take i keys) → (d : Key) → key_values s (get_or keys i d) ≢ key_values s (get_or keys 0 d)
+  marked_apart marks i e less after begins before d same =
+      let next : i - 1 + 1 ≡ i = omega (arith, after) in
+      let last : key_values s (get_or keys (i - 1) e) ≡ key_values s first =
+      ap (key_values s) (sym (get_or-take i keys (i - 1) e (omega (arith, after)))) ∙ before (i - 1) e (omega (arith, after, less, length-take i keys)) in
+      let here : key_values s (get_or keys (i - 1 + 1) e) ≡ key_values s first =
+      ap (λ n. key_values s (get_or keys n e)) next ∙ ap (key_values s) (get_or_default keys i e d less) ∙ same ∙ ap (key_values s) (sym (is_first d)) in
+      marks (i - 1) e (omega (arith, after, less)) (ap (λ n. (get_or keys n e).begins) next ∙ begins) (last ∙ sym here)
+
+  -- the key at a place begins another run
+  pub begins_there : AreMarked s keys → (i : ℕ) (e : Key) → i < length keys → begins_run s i (get_or keys i e) first ≡ true
+      → All (λ (k : Key). key_values s k ≡ key_values s first) (take i keys) → (0 < i) × ((d : Key) → key_values s (get_or keys i d) ≢ key_values s (get_or keys 0 d))
+  begins_there marks i e less begins before = elim (cases_lt 0 i) [
+    | inl after ↦ (after, marked (get_or keys i e).begins refl after)
+    | inr none ↦ let zeroth : nat_lt 0 i ≡ false = search (rules, nat_tests, none) in absurd (cc (ap (λ b. b && ((get_or keys i e).begins || is_ne (value_key_cmp s (get_or keys i e) first))) (sym zeroth) ∙ begins))
+  ]
+    where
+      marked : (b : Bool) → (get_or keys i e).begins ≡ b → 0 < i → (d : Key) → key_values s (get_or keys i d) ≢ key_values s (get_or keys 0 d)
+      marked true is after = marked_apart marks i e less after is before
+      marked false is after =
+          let placed : nat_lt 0 i ≡ true = search (rules, nat_tests, after) in
+          stands_apart i e less
+          (sym (ap (λ b. b || is_ne (value_key_cmp s (get_or keys i e) first)) is)
+          ∙ sym (ap (λ b. b && ((get_or keys i e).begins || is_ne (value_key_cmp s (get_or keys i e) first))) placed) ∙ begins)
+
+  -- or it goes on with the run
+  pub goes_on_there : (i : ℕ) (e : Key) → i < length keys → begins_run s i (get_or keys i e) first ≡ false
+      → All (λ (k : Key). key_values s k ≡ key_values s first) (take i keys) → All (λ (k : Key). key_values s k ≡ key_values s first) (take (i + 1) keys)
+  goes_on_there i e less goes_on before = elim (cases_lt 0 i) [
+    | inl after ↦
+        let placed : nat_lt 0 i ≡ true = search (rules, nat_tests, after) in
+        unmarked (get_or keys i e).begins (sym (ap (λ b. b && ((get_or keys i e).begins || is_ne (value_key_cmp s (get_or keys i e) first))) placed) ∙ goes_on)
+    | inr none ↦
+        let zeroth : i ≡ 0 = omega (arith, none) in
+        All-more (λ (k : Key). key_values s k ≡ key_values s first) keys i e less before
+        (ap (λ n. key_values s (get_or keys n e)) zeroth ∙ ap (key_values s) (sym (is_first e)))
+  ]
+    where
+      unmarked : (b : Bool) → (b || is_ne (value_key_cmp s (get_or keys i e) first)) ≡ false → All (λ (k : Key). key_values s k ≡ key_values s first) (take (i + 1) keys)
+      unmarked true is = cc
+      unmarked false is = run_more i e less is before

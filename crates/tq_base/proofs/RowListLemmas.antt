@@ -56,6 +56,23 @@ push-rows_from width values row (first ∷ periods) period fill fits =
     let others : rows_from width (drop width values ++ row) (periods ++ period ∷ []) ≡ rows_from width (drop width values) periods ++ record { values = row; period = period } ∷ [] = push-rows_from width (drop width values) row periods period left fits in
     rw (values_stay, rest, others) refl
 
+-- values that are put behind the values, with their periods behind the periods, are the last rows
+pub append-rows_from : (width : ℕ) (values more : List Value) (periods later : List Period) → length values ≡ length periods * width → rows_from width (values ++ more) (periods ++ later) ≡ rows_from width values periods ++ rows_from width more later
+unfolding rows_from
+append-rows_from width [] more [] later fill = refl
+append-rows_from width (value ∷ values) more [] later fill = absurd (omega (arith, fill))
+append-rows_from width values more (first ∷ periods) later fill =
+    let inside : width ≤ length values = grind (arith, fill) in
+    let left : length (drop width values) ≡ length periods * width = grind (arith, length-drop width values, fill) in
+    let values_stay : take width (values ++ more) ≡ take width values = take-append-le width values more inside in
+    let rest : drop width (values ++ more) ≡ drop width values ++ more = drop-append-le width values more inside in
+    let others : rows_from width (drop width values ++ more) (periods ++ later) ≡ rows_from width (drop width values) periods ++ rows_from width more later = append-rows_from width (drop width values) more periods later left in
+    rw (values_stay, rest, others) refl
+
 -- the values of a row lie within those of all rows
 pub row_inside : (row rows width total : ℕ) → row < rows → total ≡ rows * width → row * width + width ≤ total
 row_inside row rows width total less fill = grind (arith, less, fill)
+
+-- as many values as two lists of rows have together
+pub fill_both : (values more rows others width : ℕ) → values ≡ rows * width → more ≡ others * width → values + more ≡ (rows + others) * width
+fill_both values more rows others width fill fills = grind (arith, fill, fills)

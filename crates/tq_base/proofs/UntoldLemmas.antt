@@ -10,16 +10,16 @@ use Rattle.std.proofs.lemmas.Bool.{cases_lt}
 use Rattle.std.proofs.lemmas.List.{append-nil, drop-drop, drop_all, get_or_default, get_or-append_right, get_or-drop, get_or-map, get_or-take, get_or_append_left, length-append, length-drop, length-map, length-take, map-append, take-take, take_all, take_more_set}
 use Rattle.std.proofs.lemmas.List.Edits.{map_over_more}
 use Rattle.std.proofs.lemmas.List.Elements.{All-drop, All-head, All-map, All-more, All-push, All-tail, All-take, All-weaker}
-use Rattle.std.proofs.lemmas.List.Sorted.{length_permutation, All-permutation, IsPermutation-map, IsPermutation-put_mid}
-use Rattle.std.proofs.lemmas.Slice.{take-put_mid}
+use Rattle.std.proofs.lemmas.List.Sorted.{length_permutation, All-permutation, IsPermutation-append_left, IsPermutation-append_right, IsPermutation-map}
+use Rattle.std.proofs.lemmas.Slice.{drop-put_mid, take-put_mid}
 use borrow.Rule.Slice.PartMut.{mid_of, post_of, put_mid, put_same}
 use Rattle.tq_base.specs.declared.value.Value.{Value}
 use Rattle.tq_base.specs.declared.sides.Key.{Key}
 use Rattle.tq_base.specs.declared.sides.Side.{Side}
 use Rattle.tq_base.specs.Contents.{Int, Text}
-use Rattle.tq_base.specs.Keys.{columns_on, first_rank, key_cmp, key_row, key_values, rank_tells, told_cmp, value_at, BeginsWithBytes, IsKey, SidesState}
+use Rattle.tq_base.specs.Keys.{columns_on, first_rank, key_cmp, key_row, held, key_values, rank_tells, told_cmp, value_at, AreMarked, BeginsWithBytes, IsKey, SidesState}
 use Rattle.tq_base.specs.KeyLaws.{as_values, less_from_rank, told_firsts}
-use Rattle.tq_base.specs.Untold.{first_text, from_cmp, rank_cmp, ranked, value_after, values_after, values_from, with_rank, IsRanked, RunsDone, SameOrder}
+use Rattle.tq_base.specs.Untold.{first_text, from_cmp, rank_cmp, ranked, unmarked, value_after, values_after, values_from, with_rank, AreUnmarked, IsRanked, RunsDone, SameKeys, SameOrder}
 use Rattle.tq_base.specs.ValueOrder.{value_cmp, values_cmp, values_total}
 use Rattle.tq_base.proofs.KeyLemmas.{compared_at}
 
@@ -163,6 +163,112 @@ pub key_sorted : (s : SidesState) (keys : List Key) → All (IsKey s) keys → I
 key_sorted s keys are sorted k d low high =
     ap is_lt (key_is_from s (get_or keys (k + 1) d) (get_or keys k d) (are (k + 1) d high) (are k d (omega (arith, high)))) ∙ sorted k d low high
 
+-- ---- marks
+
+-- what does not speak of marks and holds of all keys holds of the same keys with other marks
+pub same_all : (P : Key → Type 0) (xs ys : List Key) → ((k : Key) → P k → P (unmarked k)) → ((k : Key) → P (unmarked k) → P k) → SameKeys xs ys → All P xs → All P ys
+same_all P xs ys to from same all =
+    let there : All P (map unmarked ys) = All-permutation P (map unmarked xs) (map unmarked ys) same (All-map P unmarked xs (λ i d less. to (get_or xs i d) (all i d less))) in
+    λ i d less. from (get_or ys i d) (subst P (get_or-map unmarked ys i d d less) (there i d (omega (arith, less, length-map ys unmarked))))
+
+pub ranked_all : (s : SidesState) (place offset : ℕ) (xs ys : List Key) → SameKeys xs ys → All (IsRanked s place offset) xs → All (IsRanked s place offset) ys
+ranked_all s place offset xs ys = same_all (IsRanked s place offset) xs ys (λ k is. record { rank = is.rank; bytes = is.bytes }) (λ k is. record { rank = is.rank; bytes = is.bytes })
+
+pub keys_all : (s : SidesState) (xs ys : List Key) → SameKeys xs ys → All (IsKey s) xs → All (IsKey s) ys
+keys_all s xs ys =
+    same_all (IsKey s) xs ys
+    (λ k is. record { stands = is.stands; rank = is.rank; bytes = is.bytes; start = is.start })
+    (λ k is. record { stands = is.stands; rank = is.rank; bytes = is.bytes; start = is.start })
+
+same_length : (xs ys : List Key) → SameKeys xs ys → length ys ≡ length xs
+same_length xs ys same = sym (length-map ys unmarked) ∙ length_permutation (map unmarked xs) (map unmarked ys) same ∙ length-map xs unmarked
+
+held_unmarked : (s : SidesState) (keys : List Key) → map (held s) (map unmarked keys) ≡ map (held s) keys
+held_unmarked s [] = refl
+held_unmarked s (k ∷ keys) = ap (λ l. held s k ∷ l) (held_unmarked s keys)
+
+-- the same keys stand for the same rows
+pub rows_same : (s : SidesState) (xs ys : List Key) → SameKeys xs ys → IsPermutation (map (held s) xs) (map (held s) ys)
+rows_same s xs ys same =
+    subst (λ l. IsPermutation l (map (held s) ys)) (held_unmarked s xs)
+    (subst (IsPermutation (map (held s) (map unmarked xs))) (held_unmarked s ys) (IsPermutation-map (held s) (map unmarked xs) (map unmarked ys) same))
+
+-- where no key is marked, no mark is wrong
+pub marked_none : (s : SidesState) (keys : List Key) → AreUnmarked keys → AreMarked s keys
+marked_none s keys none i d less begins same = let not : (get_or keys (i + 1) d).begins ≡ false = none (i + 1) d less in cc (not, begins)
+
+-- marks stay right where ranks are given back
+pub marked_ranks : (s : SidesState) (rank : ℕ) (keys : List Key) → AreMarked s keys → AreMarked s (map (with_rank rank) keys)
+marked_ranks s rank keys marks i d less begins same =
+    let above : i + 1 < length keys = omega (arith, less, length-map keys (with_rank rank)) in
+    let next : get_or (map (with_rank rank) keys) (i + 1) d ≡ with_rank rank (get_or keys (i + 1) d) = get_or-map (with_rank rank) keys (i + 1) d d above in
+    let here : get_or (map (with_rank rank) keys) i d ≡ with_rank rank (get_or keys i d) = get_or-map (with_rank rank) keys i d d (omega (arith, above)) in
+    marks i d above (ap (λ (k : Key). k.begins) (sym next) ∙ begins) (ap (key_values s) (sym here) ∙ same ∙ ap (key_values s) next)
+
+marked_at : (xs ys : List Key) → map unmarked xs ≡ map unmarked ys → (i : ℕ) (d : Key) → i < length xs → unmarked (get_or xs i d) ≡ unmarked (get_or ys i d)
+marked_at xs ys same i d less =
+    let long : length xs ≡ length ys = sym (length-map xs unmarked) ∙ ap length same ∙ length-map ys unmarked in
+    sym (get_or-map unmarked xs i d d less) ∙ ap (λ l. get_or l i d) same ∙ get_or-map unmarked ys i d d (omega (arith, less, long))
+
+-- the order is the same whichever keys are marked
+pub marked_sorted : (s : SidesState) (place offset : ℕ) (xs ys : List Key) → map unmarked xs ≡ map unmarked ys → IsSorted (from_cmp s place offset) xs → IsSorted (from_cmp s place offset) ys
+marked_sorted s place offset xs ys same sorted k d low high =
+    let long : length xs ≡ length ys = sym (length-map xs unmarked) ∙ ap length same ∙ length-map ys unmarked in
+    let above : k + 1 < length xs = omega (arith, high, long) in
+    ap (λ a. is_lt (from_cmp s place offset a (get_or ys k d))) (sym (marked_at xs ys same (k + 1) d above))
+    ∙ ap (λ b. is_lt (from_cmp s place offset (get_or xs (k + 1) d) b)) (sym (marked_at xs ys same k d (omega (arith, above))))
+    ∙ sorted k d low above
+
+-- the first key may be marked
+pub first_marked : (s : SidesState) (xs ys : List Key) → map unmarked ys ≡ map unmarked xs → drop 1 ys ≡ drop 1 xs → AreMarked s xs → AreMarked s ys
+first_marked s xs ys same others marks i d less begins alike =
+    let long : length ys ≡ length xs = sym (length-map ys unmarked) ∙ ap length same ∙ length-map xs unmarked in
+    let at : 1 + i ≡ i + 1 = omega arith in
+    let next : get_or ys (i + 1) d ≡ get_or xs (i + 1) d =
+    ap (λ n. get_or ys n d) (sym at) ∙ sym (get_or-drop 1 ys i d) ∙ ap (λ l. get_or l i d) others ∙ get_or-drop 1 xs i d ∙ ap (λ n. get_or xs n d) at in
+    let here : key_values s (get_or ys i d) ≡ key_values s (get_or xs i d) = ap (key_values s) (marked_at ys xs same i d (omega (arith, less))) in
+    marks i d (omega (arith, less, long)) (ap (λ (k : Key). k.begins) (sym next) ∙ begins) (sym here ∙ alike ∙ ap (key_values s) next)
+
+pub mark_same : (keys : List Key) (first : Key) → map unmarked (set keys 0 (record { rank = (get_or keys 0 first).rank; start = (get_or keys 0 first).start; row = (get_or keys 0 first).row; side = (get_or keys 0 first).side; begins = true })) ≡ map unmarked keys
+mark_same [] first = refl
+mark_same (k ∷ keys) first = refl
+
+pub mark_others : (keys : List Key) (first : Key) → drop 1 (set keys 0 first) ≡ drop 1 keys
+mark_others [] first = refl
+mark_others (k ∷ keys) first = refl
+
+-- keys of other ranks have other values
+pub ranks_differ : (s : SidesState) (place offset : ℕ) (a b : Key) → IsRanked s place offset a → IsRanked s place offset b → a.rank < b.rank → key_values s a ≢ key_values s b
+ranks_differ s place offset a b a_is b_is lt same =
+    let ranks : first_rank (values_from s place offset a) ≡ first_rank (values_from s place offset b) = ap (λ values. first_rank (values_after offset (drop place values))) same in
+    absurd (omega (arith, lt, a_is.rank, b_is.rank, ranks))
+
+-- marked lists one after the other, the second of which begins with other values
+marked_join : (s : SidesState) (xs ys : List Key) → AreMarked s xs → AreMarked s ys
+    → ((d : Key) → 0 < length xs → 0 < length ys → key_values s (get_or xs (length xs - 1) d) ≢ key_values s (get_or ys 0 d)) → AreMarked s (xs ++ ys)
+marked_join s xs ys xs_marks ys_marks seam k d high begins same =
+    let wide : k + 1 < length xs + length ys = omega (arith, high, length-append xs ys) in
+    elim (cases_lt (k + 1) (length xs)) [
+      | inl inside ↦
+          let next : get_or (xs ++ ys) (k + 1) d ≡ get_or xs (k + 1) d = get_or_append_left xs ys d (k + 1) inside in
+          xs_marks k d inside (ap (λ (k : Key). k.begins) (sym next) ∙ begins)
+          (ap (key_values s) (sym (get_or_append_left xs ys d k (omega (arith, inside)))) ∙ same ∙ ap (key_values s) next)
+      | inr past ↦ elim (cases_lt k (length xs)) [
+        | inl last ↦
+            let end : k ≡ length xs - 1 = omega (arith, past, last) in
+            let first : k + 1 - length xs ≡ 0 = omega (arith, last) in
+            seam d (omega (arith, last)) (omega (arith, wide, past))
+            (ap (λ i. key_values s (get_or xs i d)) (sym end) ∙ ap (key_values s) (sym (get_or_append_left xs ys d k last)) ∙ same
+            ∙ ap (key_values s) (get_or-append_right xs ys (length xs) (k + 1) d refl past) ∙ ap (λ i. key_values s (get_or ys i d)) first)
+        | inr after ↦
+            let following : k + 1 - length xs ≡ k - length xs + 1 = omega (arith, after) in
+            let next : get_or (xs ++ ys) (k + 1) d ≡ get_or ys (k - length xs + 1) d =
+            get_or-append_right xs ys (length xs) (k + 1) d refl past ∙ ap (λ i. get_or ys i d) following in
+            ys_marks (k - length xs) d (omega (arith, after, wide)) (ap (λ (k : Key). k.begins) (sym next) ∙ begins)
+            (ap (key_values s) (sym (get_or-append_right xs ys (length xs) k d refl after)) ∙ same ∙ ap (key_values s) next)
+      ]
+    ]
+
 -- ---- order where nothing more is told
 
 abbrev pub start_cmp : Key → Key → Ordering
@@ -210,11 +316,17 @@ given_back s place offset rank [] alike = refl
 given_back s place offset rank (k ∷ keys) alike = λ i.
     own_rank rank k (All-head (λ (k : Key). k.rank ≡ rank) k keys alike) i ∷ given_back s place offset rank keys (All-tail (λ (k : Key). k.rank ≡ rank) k keys alike) i
 
-module _ (s : SidesState) (place offset next next_offset rank : ℕ) (run mid : List Key) (moved : IsPermutation (map (ranked s next next_offset) run) mid) where
-  pub back_same : All (λ (k : Key). k.rank ≡ rank) run → IsPermutation run (map (with_rank rank) mid)
+unmarked_ranks : (rank : ℕ) (keys : List Key) → map (with_rank rank) (map unmarked keys) ≡ map unmarked (map (with_rank rank) keys)
+unmarked_ranks rank [] = refl
+unmarked_ranks rank (k ∷ keys) = ap (λ l. unmarked (with_rank rank k) ∷ l) (unmarked_ranks rank keys)
+
+module _ (s : SidesState) (place offset next next_offset rank : ℕ) (run mid : List Key) (moved : SameKeys (map (ranked s next next_offset) run) mid) where
+  pub back_same : All (λ (k : Key). k.rank ≡ rank) run → SameKeys run (map (with_rank rank) mid)
   back_same alike =
-      subst (λ l. IsPermutation l (map (with_rank rank) mid)) (given_back s next next_offset rank run alike)
-      (IsPermutation-map (with_rank rank) (map (ranked s next next_offset) run) mid moved)
+      let there = map (ranked s next next_offset) run in
+      subst (λ l. IsPermutation l (map unmarked (map (with_rank rank) mid))) (unmarked_ranks rank there ∙ ap (map unmarked) (given_back s next next_offset rank run alike))
+      (subst (IsPermutation (map (with_rank rank) (map unmarked there))) (unmarked_ranks rank mid)
+      (IsPermutation-map (with_rank rank) (map unmarked there) (map unmarked mid) moved))
 
   abbrev Alike : Key → Key → Type 0
   Alike a b = from_cmp s next next_offset a b ≡ from_cmp s place offset a b
@@ -224,8 +336,8 @@ module _ (s : SidesState) (place offset next next_offset rank : ℕ) (run mid : 
       let after : All (λ a. All (Alike a) (map (ranked s next next_offset) run)) (map (ranked s next next_offset) run) =
       All-map (λ a. All (Alike a) (map (ranked s next next_offset) run)) (ranked s next next_offset) run
       (λ i d less. All-map (Alike (ranked s next next_offset (get_or run i d))) (ranked s next next_offset) run (same i d less)) in
-      All-permutation (λ a. All (Alike a) mid) (map (ranked s next next_offset) run) mid moved
-      (λ i d less. All-permutation (Alike (get_or (map (ranked s next next_offset) run) i d)) (map (ranked s next next_offset) run) mid moved (after i d less))
+      same_all (λ a. All (Alike a) mid) (map (ranked s next next_offset) run) mid (λ k is. is) (λ k is. is) moved
+      (λ i d less. same_all (Alike (get_or (map (ranked s next next_offset) run) i d)) (map (ranked s next next_offset) run) mid (λ k is. is) (λ k is. is) moved (after i d less))
 
   pub back_sorted : SameOrder s place offset next next_offset run → IsSorted (from_cmp s next next_offset) mid → IsSorted (from_cmp s place offset) (map (with_rank rank) mid)
   back_sorted same sorted k d low high =
@@ -313,15 +425,15 @@ above_it m n not_below differ = split (nat_cmp n m) refl
     split Equal is = absurd (differ (ranked_by n m Equal (sym is)))
     split Greater is = ranked_by n m Greater (sym is)
 
-module _ (start len rank : ℕ) (keys run : List Key) (inside : start + len ≤ length keys) (moved : IsPermutation (mid_of start len keys) run) (alike : All (λ (k : Key). k.rank ≡ rank) (mid_of start len keys)) where
+module _ (start len rank : ℕ) (keys run : List Key) (inside : start + len ≤ length keys) (moved : SameKeys (mid_of start len keys) run) (alike : All (λ (k : Key). k.rank ≡ rank) (mid_of start len keys)) where
   abbrev joined : List Key
   joined = put_mid start len keys run
 
   run_len : length run ≡ len
-  run_len = length_permutation (mid_of start len keys) run moved ∙ (let long : length (take len (drop start keys)) ≡ len = omega (arith, length-take len (drop start keys), length-drop start keys, inside) in long)
+  run_len = same_length (mid_of start len keys) run moved ∙ (let long : length (take len (drop start keys)) ≡ len = omega (arith, length-take len (drop start keys), length-drop start keys, inside) in long)
 
   run_alike : All (λ (k : Key). k.rank ≡ rank) run
-  run_alike = All-permutation (λ (k : Key). k.rank ≡ rank) (mid_of start len keys) run moved alike
+  run_alike = same_all (λ (k : Key). k.rank ≡ rank) (mid_of start len keys) run (λ k is. is) (λ k is. is) moved alike
 
   ranks_same : map (λ (k : Key). k.rank) joined ≡ map (λ (k : Key). k.rank) keys
   ranks_same =
@@ -329,7 +441,7 @@ module _ (start len rank : ℕ) (keys run : List Key) (inside : start + len ≤ 
       let apart : (l : List Key) → map f (put_mid start len keys l) ≡ map f (take start keys) ++ (map f l ++ map f (post_of start len keys)) =
       λ l. map-append f (take start keys) (l ++ post_of start len keys) ∙ ap (λ m. map f (take start keys) ++ m) (map-append f l (post_of start len keys)) in
       apart run
-      ∙ ap (λ m. map f (take start keys) ++ (m ++ map f (post_of start len keys))) (one_rank rank run (mid_of start len keys) run_alike alike (sym (sym (length_permutation (mid_of start len keys) run moved))))
+      ∙ ap (λ m. map f (take start keys) ++ (m ++ map f (post_of start len keys))) (one_rank rank run (mid_of start len keys) run_alike alike (same_length (mid_of start len keys) run moved))
       ∙ sym (apart (mid_of start len keys))
       ∙ ap (map f) (put_same start len keys)
 
@@ -363,29 +475,57 @@ module _ (start len rank : ℕ) (keys run : List Key) (inside : start + len ≤ 
       let there = rank_at joined keys ranks_same (start + len) d short in
       omega (arith, above, here, there, last)
 
-  pub done_joined : (s : SidesState) (place offset : ℕ) → 0 < len → All (IsRanked s place offset) keys → IsSorted (from_cmp s place offset) (take start keys) → IsSorted (from_cmp s place offset) run
-      → ((d : Key) → 0 < start → start < length keys → (get_or keys (start - 1) d).rank < (get_or keys start d).rank)
-      → IsSorted (from_cmp s place offset) (take (start + len) joined)
-  done_joined s place offset some ranks done sorted before =
-      let front : length (take start keys) ≡ start = omega (arith, length-take start keys, inside) in
-      let mid_ranks : All (IsRanked s place offset) run = All-permutation (IsRanked s place offset) (mid_of start len keys) run moved (All-take (IsRanked s place offset) len (drop start keys) (All-drop (IsRanked s place offset) start keys ranks)) in
-      let seam : (d : Key) → 0 < length (take start keys) → 0 < length run → is_lt (from_cmp s place offset (get_or run 0 d) (get_or (take start keys) (length (take start keys) - 1) d)) ≡ false =
-      λ d has some_run.
-      let was : get_or (take start keys) (length (take start keys) - 1) d ≡ get_or keys (start - 1) d =
-      ap (λ n. get_or (take start keys) (n - 1) d) front ∙ get_or-take start keys (start - 1) d (omega (arith, has, front)) in
-      let a = get_or keys (start - 1) d in
-      let b = get_or run 0 d in
-      let lower : a.rank < b.rank = omega (arith, before d (omega (arith, has, front)) (omega (arith, inside, some)), first_of_run d some, run_alike 0 d some_run) in
-      let less : from_cmp s place offset a b ≡ Less = rank_decides s place offset a b (ranks (start - 1) d (omega (arith, inside, some))) (mid_ranks 0 d some_run) lower in
-      ap (λ x. is_lt (from_cmp s place offset b x)) was ∙ ap is_lt ((from_cmp_total s place offset).antisymm b a ∙ ap ordering_reverse less) in
-      subst (IsSorted (from_cmp s place offset)) (sym (take-put_mid start len keys run (start + len) (ap (λ n. start + n) (sym run_len)) (omega (arith, inside))))
-      (sorted_join (from_cmp s place offset) (take start keys) run done sorted seam)
+  rest_joined : AreUnmarked (drop start keys) → AreUnmarked (drop (start + len) joined)
+  rest_joined rest =
+      subst AreUnmarked (drop-drop len start keys ∙ sym (drop-put_mid start len keys run (start + len) (omega arith) (omega (arith, inside)) run_len))
+      (All-drop (λ (k : Key). k.begins ≡ false) len (drop start keys) rest)
 
-pub runs_start : (s : SidesState) (place offset : ℕ) (keys : List Key) → IsSorted rank_cmp keys → RunsDone s place offset keys 0
-runs_start s place offset keys rise = record {
+  module _ (s : SidesState) (place offset : ℕ) (some : 0 < len) (ranks : All (IsRanked s place offset) keys)
+      (before : (d : Key) → 0 < start → start < length keys → (get_or keys (start - 1) d).rank < (get_or keys start d).rank) where
+    front : length (take start keys) ≡ start
+    front = omega (arith, length-take start keys, inside)
+
+    last_before : (d : Key) → 0 < length (take start keys) → get_or (take start keys) (length (take start keys) - 1) d ≡ get_or keys (start - 1) d
+    last_before d has = ap (λ n. get_or (take start keys) (n - 1) d) front ∙ get_or-take start keys (start - 1) d (omega (arith, has, front))
+
+    before_is : (d : Key) → IsRanked s place offset (get_or keys (start - 1) d)
+    before_is d = ranks (start - 1) d (omega (arith, inside, some))
+
+    first_is : (d : Key) → 0 < length run → IsRanked s place offset (get_or run 0 d)
+    first_is d some_run =
+        ranked_all s place offset (mid_of start len keys) run moved (All-take (IsRanked s place offset) len (drop start keys) (All-drop (IsRanked s place offset) start keys ranks)) 0 d some_run
+
+    lower : (d : Key) → 0 < length (take start keys) → 0 < length run → (get_or keys (start - 1) d).rank < (get_or run 0 d).rank
+    lower d has some_run = omega (arith, before d (omega (arith, has, front)) (omega (arith, inside, some)), first_of_run d some, run_alike 0 d some_run)
+
+    all_before : take start keys ++ run ≡ take (start + len) joined
+    all_before = sym (take-put_mid start len keys run (start + len) (ap (λ n. start + n) (sym run_len)) (omega (arith, inside)))
+
+    done_joined : IsSorted (from_cmp s place offset) (take start keys) → IsSorted (from_cmp s place offset) run → IsSorted (from_cmp s place offset) (take (start + len) joined)
+    done_joined done sorted =
+        subst (IsSorted (from_cmp s place offset)) all_before
+        (sorted_join (from_cmp s place offset) (take start keys) run done sorted
+        (λ d has some_run.
+        let a = get_or keys (start - 1) d in
+        let b = get_or run 0 d in
+        let less : from_cmp s place offset a b ≡ Less = rank_decides s place offset a b (before_is d) (first_is d some_run) (lower d has some_run) in
+        ap (λ x. is_lt (from_cmp s place offset b x)) (last_before d has) ∙ ap is_lt ((from_cmp_total s place offset).antisymm b a ∙ ap ordering_reverse less)))
+
+    marks_joined : AreMarked s (take start keys) → AreMarked s run → AreMarked s (take (start + len) joined)
+    marks_joined done marks =
+        subst (AreMarked s) all_before
+        (marked_join s (take start keys) run done marks
+        (λ d has some_run same.
+        ranks_differ s place offset (get_or keys (start - 1) d) (get_or run 0 d) (before_is d) (first_is d some_run) (lower d has some_run)
+        (ap (key_values s) (sym (last_before d has)) ∙ same)))
+
+pub runs_start : (s : SidesState) (place offset : ℕ) (keys : List Key) → IsSorted rank_cmp keys → AreUnmarked keys → RunsDone s place offset keys 0
+runs_start s place offset keys rise none = record {
   within = omega arith;
   rise = rise;
   done = λ k d low high. absurd (omega (arith, high));
+  marks = λ i d less. absurd (omega (arith, less));
+  rest = none;
   apart = λ d positive short. absurd (omega (arith, positive));
 }
 
@@ -419,29 +559,46 @@ pub run_part : (keys : List Key) (start len : ℕ) → len ≤ length (take (len
 run_part keys start len within =
     ap (take len) (rest_is keys start) ∙ ap (λ m. take m (drop start keys)) (sym (same_size start len))
 
+-- a part holds the same keys as before, and so does the whole
+pub same_put_mid : (start len : ℕ) (keys run : List Key) → SameKeys (mid_of start len keys) run → SameKeys keys (put_mid start len keys run)
+same_put_mid start len keys run same =
+    let front = map unmarked (take start keys) in
+    let end = map unmarked (post_of start len keys) in
+    let apart : (l : List Key) → front ++ (map unmarked l ++ end) ≡ map unmarked (put_mid start len keys l) =
+    λ l. ap (λ m. front ++ m) (sym (map-append unmarked l (post_of start len keys))) ∙ sym (map-append unmarked (take start keys) (l ++ post_of start len keys)) in
+    subst (λ l. IsPermutation l (map unmarked (put_mid start len keys run))) (apart (mid_of start len keys) ∙ ap (map unmarked) (put_same start len keys))
+    (subst (IsPermutation (front ++ (map unmarked (mid_of start len keys) ++ end))) (apart run)
+    (IsPermutation-append_right front (map unmarked (mid_of start len keys) ++ end) (map unmarked run ++ end)
+    (IsPermutation-append_left end (map unmarked (mid_of start len keys)) (map unmarked run) same)))
+
 -- one more run is sorted
 pub runs_more : (s : SidesState) (place offset : ℕ) (keys run : List Key) (start len rank : ℕ) (e : Key) → RunsDone s place offset keys start → All (IsRanked s place offset) keys
     → start < length keys → rank ≡ (get_or keys start e).rank → len ≤ length (take (length keys - start) (drop start keys))
     → All (λ (k : Key). k.rank ≡ rank) (take len (take (length keys - start) (drop start keys)))
     → Ends (take (length keys - start) (drop start keys)) len rank
-    → IsPermutation (mid_of start (start + len - start) keys) run → IsSorted (from_cmp s place offset) run
+    → SameKeys (mid_of start (start + len - start) keys) run → IsSorted (from_cmp s place offset) run → AreMarked s run
     → RunsDone s place offset (put_mid start (start + len - start) keys run) (start + len)
-runs_more s place offset keys run start len rank e before ranks less is within alike ends moved sorted =
-    let here : IsPermutation (mid_of start len keys) run = subst (λ m. IsPermutation (mid_of start m keys) run) (same_size start len) moved in
+runs_more s place offset keys run start len rank e before ranks less is within alike ends moved sorted marks =
+    let here : SameKeys (mid_of start len keys) run = subst (λ m. SameKeys (mid_of start m keys) run) (same_size start len) moved in
     let fits : len ≤ length (drop start keys) = subst (λ l. len ≤ length l) (rest_is keys start) within in
     let inside : start + len ≤ length keys = omega (arith, fits, less, length-drop start keys) in
     let stop : Ends (drop start keys) len rank = subst (λ l. Ends l len rank) (rest_is keys start) ends in
     let one : All (λ (k : Key). k.rank ≡ rank) (mid_of start len keys) = subst (λ l. All (λ (k : Key). k.rank ≡ rank) (take len l)) (rest_is keys start) alike in
     let some : 0 < len = run_some_here keys start len rank e less is stop in
-    let joined_same : IsPermutation keys (put_mid start len keys run) = IsPermutation-put_mid start len keys run here in
+    let joined_same : SameKeys keys (put_mid start len keys run) = same_put_mid start len keys run here in
     subst (λ m. RunsDone s place offset (put_mid start m keys run) (start + len)) (sym (same_size start len))
     (record {
-      within = omega (arith, inside, length_permutation keys (put_mid start len keys run) joined_same);
+      within = omega (arith, inside, same_length keys (put_mid start len keys run) joined_same);
       rise = rise_joined start len rank keys run inside here one before.rise;
-      done = done_joined start len rank keys run inside here one s place offset some ranks before.done sorted before.apart;
+      done = done_joined start len rank keys run inside here one s place offset some ranks before.apart before.done sorted;
+      marks = marks_joined start len rank keys run inside here one s place offset some ranks before.apart before.marks marks;
+      rest = rest_joined start len rank keys run inside here one before.rest;
       apart = apart_joined start len rank keys run inside here one some before.rise stop;
     })
 
 -- where all runs are sorted, all keys are
 pub runs_end : (s : SidesState) (place offset : ℕ) (keys : List Key) (start : ℕ) → RunsDone s place offset keys start → length keys ≤ start → IsSorted (from_cmp s place offset) keys
 runs_end s place offset keys start before past = subst (IsSorted (from_cmp s place offset)) (take_all start keys past) before.done
+
+pub runs_marked : (s : SidesState) (place offset : ℕ) (keys : List Key) (start : ℕ) → RunsDone s place offset keys start → length keys ≤ start → AreMarked s keys
+runs_marked s place offset keys start before past = subst (AreMarked s) (take_all start keys past) before.marks

@@ -10,13 +10,13 @@ use Rattle.std.proofs.lemmas.Bool.{cases_lt}
 use Rattle.std.proofs.lemmas.Bool.Decides.{nat_tests}
 use Rattle.std.proofs.lemmas.List.Sorted.{ranks_by, sorted_far}
 use Rattle.std.proofs.lemmas.Nat.{mod-mul-add}
-use Rattle.std.proofs.lemmas.List.{append_assoc, get_or-append-add, length-append}
+use Rattle.std.proofs.lemmas.List.{append_assoc, get_or-append-add, get_or-drop, length-append, length-drop}
 use Rattle.tq_base.specs.declared.value.Value.{Value}
 use Rattle.tq_base.specs.declared.sides.Key.{Key}
 use Rattle.tq_base.specs.Contents.{Int, Text, has_exact_rank}
 use Rattle.tq_base.specs.Ranks.{prefix, ranks_rise, ranks_tell, value_rank, HasBytes}
 use Rattle.tq_base.specs.ValueOrder.{value_cmp, value_total, values_cmp, values_same, values_total}
-use Rattle.tq_base.specs.Keys.{columns_on, first_rank, key_row, value_at, key_cmp, key_values, rank_tells, value_key_cmp, values_left, BeginsWithBytes, IsKey, Rises, SidesState}
+use Rattle.tq_base.specs.Keys.{columns_on, first_rank, key_row, value_at, key_cmp, key_values, rank_tells, value_key_cmp, values_left, AreMarked, BeginsWithBytes, IsKey, Rises, SidesState}
 
 -- ---- what ranks tell
 
@@ -147,6 +147,13 @@ rises s keys sorted are i j d before short above =
     let less : value_key_cmp s b a ≡ Less = as_values s b a (are j d short) (are i d (omega (arith, before, short))) ∙ (values_total.antisymm (key_values s b) (key_values s a) ∙ ap ordering_reverse above) in
     let below : is_lt (key_cmp s b a) ≡ true = ap (λ o. is_lt (ordering_then o (nat_cmp b.start a.start))) less in
     cc (not_below, below)
+
+-- the keys from a place on are marked as the whole
+pub marks_rest : (s : SidesState) (keys : List Key) (start : ℕ) → AreMarked s keys → AreMarked s (drop start keys)
+marks_rest s keys start marks i d less begins same =
+    let here : get_or (drop start keys) i d ≡ get_or keys (start + i) d = get_or-drop start keys i d in
+    let next : get_or (drop start keys) (i + 1) d ≡ get_or keys (start + i + 1) d = get_or-drop start keys (i + 1) d ∙ ap (λ n. get_or keys n d) (let at : start + (i + 1) ≡ start + i + 1 = omega arith in at) in
+    marks (start + i) d (omega (arith, less, length-drop start keys)) (ap (λ (k : Key). k.begins) (sym next) ∙ begins) (ap (key_values s) (sym here) ∙ same ∙ ap (key_values s) next)
 
 -- ---- all columns
 

@@ -1,7 +1,7 @@
 -- Rows as they are sorted: by the rank of the first value that is compared, by the values that this does not tell, and
 -- by their start. This project's own.
-use Rattle.std.specs.Prelude.{◌≡◌, ◌≢◌, ◌<◌, ℕ, ◌+◌, ◌^◌, ◌%◌, Bool, true, false, nat_lt, ◌&&◌, cond, if◌then◌else◌, List, [], ◌∷◌, length, map, drop, filter, pos, refl, slice_index_or, Option, Some, None, All, AllPairs}
-use Rattle.std.specs.Ordering.{nat_cmp, on, then_cmp}
+use Rattle.std.specs.Prelude.{◌≡◌, ◌≢◌, ◌<◌, ℕ, ◌+◌, ◌^◌, ◌%◌, Bool, true, false, nat_lt, ◌&&◌, ◌||◌, cond, if◌then◌else◌, List, [], ◌∷◌, length, map, drop, filter, pos, refl, slice_index_or, Option, Some, None, All, AllPairs}
+use Rattle.std.specs.Ordering.{is_ne, nat_cmp, on, then_cmp}
 use Rattle.std.specs.declared.cmp.Ordering.{Ordering}
 use Rattle.std.specs.declared.cmp.Ordering.TheVariants.{Greater}
 use Rattle.std.proofs.lemmas.Bool.{ltb-true}
@@ -124,6 +124,20 @@ pub record IsKey (s : SidesState) (k : Key) : Type 0 where
   pub rank : k.rank ≡ first_rank (key_values s k)
   pub bytes : BeginsWithBytes (key_values s k)
   pub start : k.start ≡ (key_row s k).period.start
+
+-- the key of a row, of which it is not known whether it begins a run
+pub record IsFresh (s : SidesState) (k : Key) : Type 0 where
+  pub key : IsKey s k
+  pub unmarked : k.begins ≡ false
+
+-- a key that is marked has other values than the one before it
+abbrev pub AreMarked : SidesState → List Key → Type 0
+AreMarked s keys = (i : ℕ) (d : Key) → i + 1 < length keys → (slice_index_or keys (i + 1) d).begins ≡ true
+    → key_values s (slice_index_or keys i d) ≢ key_values s (slice_index_or keys (i + 1) d)
+
+-- whether the key at the place is marked or stands apart from the first
+abbrev pub begins_run : SidesState → ℕ → Key → Key → Bool
+begins_run s place k first = nat_lt 0 place && (k.begins || is_ne (value_key_cmp s k first))
 
 -- no key's values are above those of a later one
 abbrev pub Rises : SidesState → List Key → Type 0

@@ -4,6 +4,7 @@ pub mod Copies
 pub mod Fragments
 pub mod Groups
 pub mod KeyLaws
+pub mod KeyRanges
 pub mod KeySides
 pub mod Keys
 pub mod Layering

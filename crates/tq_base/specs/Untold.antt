@@ -1,13 +1,13 @@
 -- What is left to be compared of keys' values where ranks did not tell all: from a column on, and of the text that stands
 -- there from a byte on. This project's own.
-use Rattle.std.specs.Prelude.{◌≡◌, ◌<◌, ◌≤◌, ◌-◌, ℕ, List, [], ◌∷◌, drop, length, slice_index_or, take, All, IsSorted}
+use Rattle.std.specs.Prelude.{◌≡◌, ◌<◌, ◌≤◌, ◌-◌, ℕ, false, List, [], ◌∷◌, drop, length, map, slice_index_or, take, All, IsPermutation, IsSorted}
 use Rattle.std.specs.Ordering.{nat_cmp, on, then_cmp}
 use Rattle.std.specs.declared.cmp.Ordering.{Ordering}
 use Rattle.tq_base.specs.declared.value.Value.{Value}
 use Rattle.tq_base.specs.declared.sides.Key.{Key}
 use Rattle.tq_base.specs.Contents.{Int, Text}
 use Rattle.tq_base.specs.ValueOrder.{values_cmp}
-use Rattle.tq_base.specs.Keys.{first_rank, key_values, BeginsWithBytes, SidesState}
+use Rattle.tq_base.specs.Keys.{first_rank, key_values, AreMarked, BeginsWithBytes, SidesState}
 
 -- the bytes of a text, none of a number
 abbrev pub text_of : Value → List ℕ
@@ -43,11 +43,23 @@ rank_cmp = on (λ k. k.rank) nat_cmp
 
 -- the key with another rank
 abbrev pub with_rank : ℕ → Key → Key
-with_rank rank k = record { rank = rank; start = k.start; row = k.row; side = k.side }
+with_rank rank k = record { rank = rank; start = k.start; row = k.row; side = k.side; begins = k.begins }
 
 -- the key with the rank of what is left
 abbrev pub ranked : SidesState → ℕ → ℕ → Key → Key
 ranked s place offset k = with_rank (first_rank (values_from s place offset k)) k
+
+-- the key without its mark
+abbrev pub unmarked : Key → Key
+unmarked k = record { rank = k.rank; start = k.start; row = k.row; side = k.side; begins = false }
+
+-- no key is marked
+abbrev pub AreUnmarked : List Key → Type 0
+AreUnmarked keys = All (λ k. k.begins ≡ false) keys
+
+-- the same keys in some order, whichever are marked
+abbrev pub SameKeys : List Key → List Key → Type 0
+SameKeys xs ys = IsPermutation (map unmarked xs) (map unmarked ys)
 
 -- the key's rank is that of what is left
 pub record IsRanked (s : SidesState) (place offset : ℕ) (k : Key) : Type 0 where
@@ -64,9 +76,11 @@ abbrev pub SameOrder : SidesState → ℕ → ℕ → ℕ → ℕ → List Key �
 SameOrder s place offset next next_offset keys =
     All (λ a. All (λ b. from_cmp s next next_offset a b ≡ from_cmp s place offset a b) keys) keys
 
--- the keys before the place are sorted by what is left, and have lower ranks than those from there on
+-- the keys before the place are sorted by what is left and marked, and have lower ranks than those from there on
 pub record RunsDone (s : SidesState) (place offset : ℕ) (keys : List Key) (start : ℕ) : Type 0 where
   pub within : start ≤ length keys
   pub rise : IsSorted rank_cmp keys
   pub done : IsSorted (from_cmp s place offset) (take start keys)
+  pub marks : AreMarked s (take start keys)
+  pub rest : AreUnmarked (drop start keys)
   pub apart : (d : Key) → 0 < start → start < length keys → (slice_index_or keys (start - 1) d).rank < (slice_index_or keys start d).rank

@@ -6,7 +6,7 @@ ghost use Rattle.std.specs.Bool.{OnTrue};
 ghost use Rattle.std.specs.Option.{option_copied};
 ghost use Rattle.tq_base.specs.declared.sides.Key.{Key};
 ghost use Rattle.tq_base.specs.KeySides.{state_of};
-ghost use Rattle.tq_base.specs.Keys.{columns_on, first_rank, held, held_on, is_within, key_cmp, key_row, key_values, no_row, rank_tells, rows_on, told_cmp, value_at, value_key_cmp, within, AreTold, BeginsWithBytes, IsKey, Rises};
+ghost use Rattle.tq_base.specs.Keys.{begins_run, columns_on, first_rank, held, held_on, is_within, key_cmp, key_row, key_values, no_row, rank_tells, rows_on, told_cmp, value_at, value_key_cmp, within, AreMarked, AreTold, BeginsWithBytes, IsFresh, IsKey, Rises};
 ghost use Rattle.tq_base.specs.ValueOrder.{value_cmp, values_cmp};
 
 use crate::period::{Bound, Instant, Period};
@@ -215,7 +215,7 @@ impl<'a> Sides<'a> {
     // The key of the row.
     fn key_of(&self, side: Side, row: u32) -> Key
         requires { row < length (rows_on (state_of self.now) side) }
-        ensures key { IsKey (state_of self.now) result }
+        ensures key { IsFresh (state_of self.now) result }
         ensures side { result.side ≡ side }
         ensures row { result.row ≡ row }
     {
@@ -228,6 +228,7 @@ impl<'a> Sides<'a> {
             start,
             row,
             side,
+            begins: false,
         }
     }
 
@@ -241,7 +242,7 @@ impl<'a> Sides<'a> {
     ) -> Result<(), AllocError>
         ensures rows { OnOk result (map (held (state_of self.now)) keys.new.items
             ≡ map (held (state_of self.now)) keys.old.items ++ held_on side (within (option_copied window.entry) (rows_on (state_of self.now) side))) }
-        ensures keys { OnOk result (All (IsKey (state_of self.now)) keys.old.items → All (IsKey (state_of self.now)) keys.new.items) }
+        ensures keys { OnOk result (All (IsFresh (state_of self.now)) keys.old.items → All (IsFresh (state_of self.now)) keys.new.items) }
         ensures kept { OnErr result (keys.new.items ≡ keys.old.items) }
     {
         let rows = self.rows(side);
@@ -273,12 +274,14 @@ impl<'a> Sides<'a> {
         }
     }
 
-    /// Sorts the keys by the values that are compared, then by start. What is in order already is not sorted.
-    /// `AllocError` where a growth was refused: then the keys stand as before.
+    /// Sorts the keys by the values that are compared, then by start, and marks keys that are seen to begin a run.
+    /// What is in order already is not sorted. `AllocError` where a growth was refused: then the keys stand as
+    /// before.
     pub fn sort(&self, keys: &mut Vec<Key>) -> Result<(), AllocError>
-        requires keys { All (IsKey (state_of self.now)) keys.old.items }
-        ensures same { OnOk result (IsPermutation keys.old.items keys.new.items) }
+        requires keys { All (IsFresh (state_of self.now)) keys.old.items }
+        ensures rows { OnOk result (IsPermutation (map (held (state_of self.now)) keys.old.items) (map (held (state_of self.now)) keys.new.items)) }
         ensures keys { OnOk result (All (IsKey (state_of self.now)) keys.new.items) }
+        ensures marks { OnOk result (AreMarked (state_of self.now) keys.new.items) }
         ensures order { OnOk result (IsSorted (key_cmp (state_of self.now)) keys.new.items) }
         ensures rises { OnOk result (Rises (state_of self.now) keys.new.items) }
         ensures kept { OnErr result (keys.new.items ≡ keys.old.items) }
@@ -294,9 +297,18 @@ impl<'a> Sides<'a> {
         Ok(())
     }
 
+    // Whether the key at the place, before which all have the values of the first one, has others. Where it is
+    // marked, no row is read.
+    fn begins_run(&self, place: usize, key: &Key, first: &Key) -> bool
+        ensures { result ≡ begins_run (state_of self.now) place key.now first.now }
+    {
+        place > 0 && (key.begins || self.compare_values(key, first).is_ne())
+    }
+
     /// How many keys at the front have the values of the first in the columns that are compared.
     pub fn run_len(&self, keys: &[Key]) -> usize
         requires keys { All (IsKey (state_of self.now)) keys.now }
+        requires marks { AreMarked (state_of self.now) keys.now }
         ensures within { result ≤ length keys.now }
         ensures some { 0 < length keys.now → 0 < result }
         ensures alike { (d : Key) → All (λ k. key_values (state_of self.now) k ≡ key_values (state_of self.now) (slice_index_or keys.now 0 d)) (take result keys.now) }
@@ -307,7 +319,7 @@ impl<'a> Sides<'a> {
             return 0;
         };
         'keys: for (len, key) in keys.iter().enumerate() {
-            if self.compare_values(key, first).is_ne() {
+            if self.begins_run(len, key, first) {
                 return len;
             }
         }

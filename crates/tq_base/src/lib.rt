@@ -10,6 +10,7 @@
 mod catalogue;
 mod fragment;
 mod items;
+mod key_range;
 mod keys;
 pub mod laws;
 mod name;
@@ -29,6 +30,7 @@ mod values;
 pub use catalogue::{Catalogue, Column, Kind, MAX_TEXT, Schema};
 pub use fragment::Fragment;
 pub use items::Items;
+pub use key_range::KeyRange;
 pub use name::{MAX_NAME, Name, RESERVED, fold_name, is_name, is_reserved, is_same_word};
 pub use number::{read_bound, read_instant, read_int, read_natural};
 pub use period::{Bound, FOREVER, Instant, Period};

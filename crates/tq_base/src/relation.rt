@@ -368,9 +368,9 @@ impl<'a> Relation<'a> {
         Ok(out)
     }
 
-    /// The same rows, their values copied, so that nothing is lent. `AllocError` where a growth was refused.
-    pub fn detached<'b>(&self, alloc: Global) -> Result<Relation<'b>, AllocError>
-        ensures { IfOk result (λ relation. relation ≡ self.now) }
+    /// The rows, their values copied. `AllocError` where a growth was refused.
+    pub fn copied(&self, alloc: Global) -> Result<Rows, AllocError>
+        ensures { IfOk result (λ rows. rows ≡ self.now) }
     {
         let mut out = Rows::new(alloc, self.width());
         let mut room = Vec::with_capacity(alloc, self.width())?;
@@ -378,6 +378,13 @@ impl<'a> Relation<'a> {
             self.row(number).show_all(&mut room)?;
             out.push(&mut room, self.period(number))?;
         }
-        Relation::made(alloc, out)
+        Ok(out)
+    }
+
+    /// The same rows, their values copied, so that nothing is lent. `AllocError` where a growth was refused.
+    pub fn detached<'b>(&self, alloc: Global) -> Result<Relation<'b>, AllocError>
+        ensures { IfOk result (λ relation. relation ≡ self.now) }
+    {
+        Relation::made(alloc, self.copied(alloc)?)
     }
 }

@@ -144,4 +144,33 @@ impl Rows {
         self.periods.push_reserved(period);
         Ok(())
     }
+
+    /// The rows, then those of the other, as wide. No value is copied. `AllocError` where a growth was refused, or
+    /// where there are 2^32 rows or more.
+    pub fn followed_by(self, other: Rows) -> Result<Rows, AllocError>
+        requires { other.width ≡ self.width }
+        ensures width { IfOk result (λ rows. rows.width ≡ self.width) }
+        ensures rows { IfOk result (λ rows. rows.items ≡ self.items ++ other.items) }
+    {
+        if other.periods.len() > MAX_ROWS - self.periods.len() {
+            return Err(AllocError);
+        }
+        let Rows {
+            width,
+            mut values,
+            mut periods,
+        } = self;
+        let Rows {
+            width: _,
+            values: mut more_values,
+            periods: mut more_periods,
+        } = other;
+        values.append(&mut more_values)?;
+        periods.append(&mut more_periods)?;
+        Ok(Rows {
+            width,
+            values,
+            periods,
+        })
+    }
 }

@@ -13,13 +13,15 @@ pub enum Side {
     Right,
 }
 
-/// A row as it is sorted: the rank of its first value that is compared, its start, its number and its side.
+/// A row as it is sorted: the rank of its first value that is compared, its start, its number and its side, and
+/// whether it is known to begin a run: that its values are not those of the key before it.
 #[derive(Clone, Copy, Debug)]
 pub struct Key {
     pub rank: u128,
     pub start: u64,
     pub row: u32,
     pub side: Side,
+    pub begins: bool,
 }
 
 /// The rows of two relations, and as many columns of each, by which rows are compared.

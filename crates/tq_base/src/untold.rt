@@ -1,13 +1,14 @@
 //! Sorting of keys whose first ranks do not tell all that is compared: keys of one rank get the rank of what comes
-//! next, which is the next column or what follows the common beginning of their texts, and are sorted by that.
+//! next, which is the next column or what follows the common beginning of their texts, and are sorted by that. The
+//! first key of each run of one such rank is marked: its values differ from those of the key before it.
 
-ghost use Rattle.std.specs.Prelude.{◌≡◌, ◌≢◌, ◌<◌, ◌≤◌, All, IsPermutation, IsSorted, length, map, slice_index_or, take};
+ghost use Rattle.std.specs.Prelude.{◌≡◌, ◌≢◌, ◌<◌, ◌≤◌, All, IsPermutation, IsSorted, drop, length, map, slice_index_or, take};
 ghost use Rattle.std.specs.Bool.{OnTrue};
 ghost use Rattle.tq_base.specs.declared.sides.Key.{Key};
 ghost use Rattle.tq_base.specs.KeySides.{state_of};
-ghost use Rattle.tq_base.specs.Keys.{first_rank, value_at, BeginsWithBytes};
+ghost use Rattle.tq_base.specs.Keys.{first_rank, value_at, AreMarked, BeginsWithBytes};
 ghost use Rattle.tq_base.specs.Ranks.{value_rank, HasBytes};
-ghost use Rattle.tq_base.specs.Untold.{first_text, from_cmp, rank_cmp, ranked, text_of, value_after, values_from, with_rank, IsRanked, RunsDone, SameOrder, Share};
+ghost use Rattle.tq_base.specs.Untold.{first_text, from_cmp, rank_cmp, ranked, text_of, unmarked, value_after, values_from, with_rank, AreUnmarked, IsRanked, RunsDone, SameKeys, SameOrder, Share};
 ghost use Rattle.tq_base.specs.ValueOrder.{value_cmp};
 
 use crate::keys::{compare_told, rank_tells};
@@ -99,6 +100,16 @@ fn set_ranks(keys: &mut [Key], rank: u128)
 {
     'keys: for key in keys.iter_mut() {
         key.rank = rank;
+    }
+}
+
+// Marks the first key.
+fn mark_first(keys: &mut [Key])
+    ensures same { map unmarked keys.new ≡ map unmarked keys.old }
+    ensures others { drop 1 keys.new ≡ drop 1 keys.old }
+{
+    if !keys.is_empty() {
+        keys[0].begins = true;
     }
 }
 
@@ -215,13 +226,16 @@ impl<'a> Sides<'a> {
         }
     }
 
-    // Sorts keys of one rank by what they have from there on. The levels bound how often ranks are taken anew.
+    // Sorts keys of one rank by what they have from there on, and marks those that are seen to begin a run. The
+    // levels bound how often ranks are taken anew.
     #[cycle(untold)]
     fn sort_run(&self, levels: u32, rank: u128, run: &mut [Key], place: usize, offset: usize)
         requires alike { All (λ k. k.rank ≡ rank) run.old }
         requires ranks { All (IsRanked (state_of self.now) place offset) run.old }
-        ensures same { IsPermutation run.old run.new }
+        requires unmarked { AreUnmarked run.old }
+        ensures same { SameKeys run.old run.new }
         ensures order { IsSorted (from_cmp (state_of self.now) place offset) run.new }
+        ensures marks { AreMarked (state_of self.now) run.new }
     {
         if run.len() < 2 {
             return;
@@ -237,7 +251,7 @@ impl<'a> Sides<'a> {
         }
     }
 
-    // Sorts the first run of equal ranks from the start on, and says where it ends.
+    // Sorts the first run of equal ranks from the start on, marks its first key, and says where it ends.
     #[cycle(untold)]
     fn sort_next(
         &self,
@@ -250,22 +264,27 @@ impl<'a> Sides<'a> {
         requires ranks { All (IsRanked (state_of self.now) place offset) keys.old }
         requires done { RunsDone (state_of self.now) place offset keys.old start }
         requires some { start < length keys.old }
-        ensures same { IsPermutation keys.old keys.new }
+        ensures same { SameKeys keys.old keys.new }
         ensures done { RunsDone (state_of self.now) place offset keys.new result }
         ensures further { start < result }
     {
         let rank = keys[start].rank;
         let end = start + rank_run_len(&keys[start..], rank);
-        self.sort_run(levels, rank, &mut keys[start..end], place, offset);
+        let run = &mut keys[start..end];
+        self.sort_run(levels, rank, run, place, offset);
+        mark_first(run);
         end
     }
 
-    // Sorts keys that have the ranks of what they have from there on by these, and then each run of equal ranks.
+    // Sorts keys that have the ranks of what they have from there on by these, and then each run of equal ranks,
+    // and marks those that are seen to begin a run.
     #[cycle(untold)]
     fn sort_ranked(&self, levels: u32, keys: &mut [Key], place: usize, offset: usize)
-        requires { All (IsRanked (state_of self.now) place offset) keys.old }
-        ensures same { IsPermutation keys.old keys.new }
+        requires ranks { All (IsRanked (state_of self.now) place offset) keys.old }
+        requires unmarked { AreUnmarked keys.old }
+        ensures same { SameKeys keys.old keys.new }
         ensures order { IsSorted (from_cmp (state_of self.now) place offset) keys.new }
+        ensures marks { AreMarked (state_of self.now) keys.new }
     {
         sort_by_rank(keys);
         let mut start = 0;
@@ -274,11 +293,13 @@ impl<'a> Sides<'a> {
         }
     }
 
-    // Sorts keys whose first ranks do not tell all that is compared.
+    // Sorts keys whose first ranks do not tell all that is compared, and marks those that are seen to begin a run.
     pub(crate) fn sort_untold(&self, keys: &mut Vec<Key>)
-        requires { All (IsRanked (state_of self.now) 0 0) keys.old.items }
-        ensures same { IsPermutation keys.old.items keys.new.items }
+        requires ranks { All (IsRanked (state_of self.now) 0 0) keys.old.items }
+        requires unmarked { AreUnmarked keys.old.items }
+        ensures same { SameKeys keys.old.items keys.new.items }
         ensures order { IsSorted (from_cmp (state_of self.now) 0 0) keys.new.items }
+        ensures marks { AreMarked (state_of self.now) keys.new.items }
     {
         self.sort_ranked(LEVELS, keys.as_mut_slice(), 0, 0);
     }

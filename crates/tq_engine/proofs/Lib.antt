@@ -1,3 +1,2 @@
 pub mod UniqueLemmas
 pub mod FaultLemmas
-pub mod NumberLemmas

@@ -10,12 +10,12 @@ ghost use Rattle.tq_table.specs.Text.{text_of};
 ghost use Rattle.tq_table.specs.declared.table.Table.{Table as AnyTable};
 ghost use Rattle.tq_engine.specs.Answers.{HasAnswer, IsAsked, IsFault, IsStatementFault};
 ghost use Rattle.tq_eval.specs.Answers.{IsAnswer};
-ghost use Rattle.tq_eval.specs.TableAnswers.{AreAllNumbers};
+ghost use Rattle.tq_eval.specs.Fitting.{AreAllFitting};
 
 use std::alloc::{AllocError, Global};
 use std::io::Write;
 use thiserror::Error;
-use tq_eval::laws::{numbers_are_held, tables_answer};
+use tq_eval::laws::{held_rows_fit, tables_answer};
 use tq_eval::{answer_tables, detached};
 use tq_event::laws::{loaded_is_history, tables_are_loaded};
 use tq_event::{LoadFault, LoadFaultKind, MAX_EVENTS, TableFile, Tables, load_tables};
@@ -104,13 +104,13 @@ struct Question {
 // What the files and the bytes ask. A file's bytes are let go once its table is loaded.
 fn asked(alloc: Global, files: Vec<TableFile>, bytes: &[u8]) -> Result<Question, AnswerFault>
     ensures asked { IfOk result (λ question. IsAsked files.items bytes.now question.tables question.statement) }
-    ensures numbers { IfOk result (λ question. AreAllNumbers (lists_of question.tables.rows)) }
+    ensures fit { IfOk result (λ question. AreAllFitting question.tables.catalogue (lists_of question.tables.rows)) }
     ensures fault { IfErr result (IsFault files.items bytes.now) }
 {
     let tables = load_tables(alloc, files, MAX_EVENTS)?;
     tables_are_loaded();
     loaded_is_history();
-    numbers_are_held();
+    held_rows_fit();
     let statement = read(alloc, bytes)?;
     Ok(Question { tables, statement })
 }
@@ -121,20 +121,20 @@ fn answer_statement<'a>(
     tables: &'a Tables,
     statement: &Statement,
 ) -> Result<Table<'a>, AnswerFault>
-    requires numbers { AreAllNumbers (lists_of tables.now.rows) }
+    requires fit { AreAllFitting tables.now.catalogue (lists_of tables.now.rows) }
     ensures answer { (history : List AnyEvent) → ((table : ℕ) → HoldsRows (lists_of tables.now.rows) history (length history) table)
         → IfOk result (IsAnswer tables.now.catalogue statement.now history (length history)) }
     ensures fault { IfErr result (IsStatementFault tables.now.catalogue statement.now) }
 {
     let plan = plan(alloc, &tables.catalogue, statement)?;
-    let table = answer_tables(alloc, tables.rows.get(), &plan)?;
+    let table = answer_tables(alloc, &tables.catalogue, tables.rows.get(), &plan)?;
     tables_answer();
     Ok(table)
 }
 
 // The answer to what files and bytes ask.
 fn answered<'a>(alloc: Global, question: &'a Question) -> Result<Table<'a>, AnswerFault>
-    requires numbers { AreAllNumbers (lists_of question.now.tables.rows) }
+    requires fit { AreAllFitting question.now.tables.catalogue (lists_of question.now.tables.rows) }
     ensures answer { (files : List AnyFile) (bytes : List ℕ) → IsAsked files bytes question.now.tables question.now.statement → IfOk result (HasAnswer files bytes) }
     ensures fault { (files : List AnyFile) (bytes : List ℕ) → IsAsked files bytes question.now.tables question.now.statement → IfErr result (IsFault files bytes) }
 {

@@ -1,7 +1,6 @@
 //! Laws of answers.
 
 ghost use Rattle.tq_engine.specs.Answers.{AnswersAreUnique};
-ghost use Rattle.tq_engine.specs.Histories.{HistoriesFit};
 
 use tq_event::laws::loaded_is_unique;
 use tq_sql::laws::statements_are_unique;
@@ -14,9 +13,3 @@ pub fn answers_are_unique()
     statements_are_unique();
     tq_eval::laws::answers_are_unique();
 }
-
-/// The values of the rows that a history starts fit the tables of its catalogue, as
-/// `tq_eval::answer_list` is owed.
-pub fn histories_fit()
-    ensures { HistoriesFit }
-{}

@@ -15,6 +15,7 @@ use Rattle.tq_event.specs.declared.event.Event.{Event}
 use Rattle.tq_table.specs.declared.table.Table.{Table}
 use Rattle.tq_plan.specs.declared.plans.Plan.{Plan}
 use Rattle.tq_plan.specs.declared.plans.QueryPlan.{QueryPlan}
+use Rattle.tq_plan.specs.Plans.{tables_of}
 use Rattle.tq_eval.specs.Answers.{as_of, lists_at, times_at, times_in, times_in_right, IsPlanAnswer}
 use Rattle.tq_agg.specs.Grouping.{Row}
 use Rattle.tq_eval.specs.Ordinary.{ordinary}
@@ -111,7 +112,7 @@ spans-window p t = grind (arith, nat_tests)
 
 abbrev right_rows : List Event → ℕ → Option QueryPlan → ℕ → List Row
 right_rows history n None t = []
-right_rows history n (Some query) t = ordinary query (lists_at (as_of history n) t query.tables)
+right_rows history n (Some query) t = ordinary query (lists_at (as_of history n) t (tables_of query))
 
 right_counted : (history : List Event) (n : ℕ) (query : Option QueryPlan) (v : Row) (t : ℕ) → occurrences (right_rows history n query t) v ≡ times_in_right (as_of history n) query v t
 right_counted history n None v t = refl
@@ -136,7 +137,7 @@ from_rows layers history n plan rows right =
 
 pub answer_exists : LayersExist → (history : List Event) (n : ℕ) (plan : Plan) → (table : Table) × IsPlanAnswer history n plan table
 answer_exists layers history n plan =
-    let left : ℕ → List Row = λ t. ordinary plan.left (lists_at (as_of history n) t plan.left.tables) in
+    let left : ℕ → List Row = λ t. ordinary plan.left (lists_at (as_of history n) t (tables_of plan.left)) in
     let right : ℕ → List Row = right_rows history n plan.right in
     from_rows layers history n plan (λ t. (less (left t) (right t)).rows)
     (λ v t. (less (left t) (right t)).counted v ∙ ap (λ k. times_in (as_of history n) plan.left v t - k) (right_counted history n plan.right v t))

@@ -3,7 +3,7 @@ use Rattle.std.proofs.Common.{◌≡◌, ℕ, suc, ◌+◌, ◌<◌, ◌==◌, �
 use Rattle.std.specs.Prelude.{IsTrue, pos}
 use Rattle.std.specs.List.{list_all, list_any, position_or_len}
 use Rattle.std.proofs.lemmas.Bool.{false≢true, eqb-true, ltb-false}
-use Rattle.std.proofs.lemmas.List.{append_assoc, get_or-append-add, length-append, length-map}
+use Rattle.std.proofs.lemmas.List.{append_assoc, get_or-append-add, length-append}
 use Rattle.std.proofs.Math.ListN.{get_or-append}
 use Rattle.tq_base.specs.declared.value.Value.{Value}
 use Rattle.tq_base.specs.Contents.{Int}
@@ -20,9 +20,9 @@ use Rattle.tq_plan.specs.declared.plans.QueryPlan.{QueryPlan}
 use Rattle.tq_eval.specs.Answers.{lists_at, times_in, ValidRows}
 use Rattle.tq_eval.specs.Ordinary.{alone_or_together, groups, ordinary, output_value}
 use Rattle.tq_plan.specs.Standing.{is_aggregate, items_stand, may_stand, no_group}
-use Rattle.tq_plan.specs.Plans.{is_groupable}
+use Rattle.tq_plan.specs.Plans.{is_groupable, tables_of}
 use Rattle.tq_eval.specs.Running.{item_places, number_in, summed_places}
-use Rattle.tq_eval.proofs.BagLemmas.{same_lengths, same_mapped}
+use Rattle.tq_eval.proofs.BagLemmas.{same_mapped}
 use Rattle.tq_eval.proofs.GroupBags.{same_groups}
 
 -- ---- a key
@@ -184,12 +184,12 @@ ordinary_counted query lists none counted stand = by_group query.group refl
 
 -- the items of groups of the rows that pass
 pub grouped_inside : (valid : ValidRows) (query : QueryPlan) (window : Period) (passed out : List Fragment) → no_group query.group ≡ false → items_stand query ≡ true
-    → HasInside window passed (λ t v. occurrences (selection query.test (product_of (lists_at valid t query.tables))) v)
+    → HasInside window passed (λ t v. occurrences (selection query.test (product_of (lists_at valid t (tables_of query)))) v)
     → HasInside window out (λ t v. occurrences (map (projection (item_places query.group (length query.group + 1) query.outputs)) (grouped_rows query.group (summed_places query.outputs) (at passed t))) v)
     → HasInside window out (λ t v. times_in valid query v t)
 grouped_inside valid query window passed out some stand on_passed on_out t v inside =
     let places = item_places query.group (length query.group + 1) query.outputs in
-    let lists = lists_at valid t query.tables in
+    let lists = lists_at valid t (tables_of query) in
     let rows = selection query.test (product_of lists) in
     let sums = summed_places query.outputs in
     on_out t v inside
@@ -198,12 +198,12 @@ grouped_inside valid query window passed out some stand on_passed on_out t v ins
 
 -- the items of the count of as many rows as pass
 pub counted_inside : (valid : ValidRows) (query : QueryPlan) (window : Period) (counted out : List Fragment) → no_group query.group ≡ true → list_any is_aggregate query.outputs ≡ true → items_stand query ≡ true
-    → ((t : ℕ) → IsTrue (holds window t) → length (at counted t) ≡ length (selection query.test (product_of (lists_at valid t query.tables))))
+    → ((t : ℕ) → IsTrue (holds window t) → length (at counted t) ≡ length (selection query.test (product_of (lists_at valid t (tables_of query)))))
     → HasInside window out (λ t v. occurrences (map (projection (item_places query.group (length query.group + 1) query.outputs)) (count_rows (at counted t))) v)
     → HasInside window out (λ t v. times_in valid query v t)
 counted_inside valid query window counted out none aggregate stand as_many on_out t v inside =
     let shown = item_places query.group (length query.group + 1) query.outputs in
-    let lists = lists_at valid t query.tables in
+    let lists = lists_at valid t (tables_of query) in
     on_out t v inside
     ∙ ap (λ n. occurrences (map (projection shown) ((Int (pos n) ∷ []) ∷ [])) v) (as_many t inside)
     ∙ ap (λ l. occurrences l v) (ordinary_counted query lists none aggregate stand)

@@ -1,5 +1,5 @@
 -- Rows of which the values at some places are shown.
-use Rattle.std.proofs.Common.{◌≡◌, ℕ, Bool, true, false, cond, List, [], ◌∷◌, map, refl, ap, ◌∙◌}
+use Rattle.std.proofs.Common.{◌≡◌, ℕ, suc, ◌+◌, Bool, true, false, cond, List, [], ◌∷◌, length, map, refl, ap, ◌∙◌}
 use Rattle.std.specs.Prelude.{filter}
 use Rattle.tq_base.specs.declared.fragment.Fragment.{Fragment}
 use Rattle.tq_base.specs.declared.period.Period.{Period}
@@ -8,6 +8,9 @@ use Rattle.tq_base.specs.Periods.{holds}
 use Rattle.tq_base.specs.Relations.{projected}
 use Rattle.tq_ops.specs.Ordinary.{HasInside, IsEmptyOutside, projection}
 use Rattle.tq_agg.specs.Grouping.{Row}
+use Rattle.tq_plan.specs.declared.plans.Output.{Output}
+use Rattle.tq_plan.specs.declared.plans.Output.TheVariants.{Column, Count, Sum}
+use Rattle.tq_eval.specs.Running.{item_places}
 use Rattle.tq_eval.proofs.BagLemmas.{same_mapped}
 
 pub at-projected : (places : List ℕ) (rows : List Fragment) (t : ℕ) → at (map (projected places) rows) t ≡ map (projection places) (at rows t)
@@ -32,3 +35,10 @@ shown_inside places window rows passed out counted is t v inside =
 pub shown_outside : (places : List ℕ) (window : Period) (passed out : List Fragment) → IsEmptyOutside window passed → out ≡ map (projected places) passed → IsEmptyOutside window out
 shown_outside places window passed out none is t outside =
     ap (λ l. at l t) is ∙ at-projected places passed t ∙ ap (map (projection places)) (none t outside)
+
+-- each item stands at a place
+pub length-item_places : (group : List ℕ) (next : ℕ) (outputs : List Output) → length (item_places group next outputs) ≡ length outputs
+length-item_places group next [] = refl
+length-item_places group next (Column place ∷ outputs) = ap (λ n. suc n) (length-item_places group next outputs)
+length-item_places group next (Count ∷ outputs) = ap (λ n. suc n) (length-item_places group next outputs)
+length-item_places group next (Sum place ∷ outputs) = ap (λ n. suc n) (length-item_places group (next + 1) outputs)

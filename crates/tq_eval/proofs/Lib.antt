@@ -1,14 +1,12 @@
 pub mod ExistLemmas
 pub mod AnswerLemmas
-pub mod KeptLemmas
-pub mod RowLemmas
-pub mod HistoryLemmas
 pub mod BagLemmas
 pub mod RunningLemmas
+pub mod ProductLemmas
 pub mod SourceLemmas
 pub mod TableLemmas
 pub mod GroupBags
 pub mod GroupingLemmas
-pub mod HeldNumbers
+pub mod HeldRows
 pub mod ItemLemmas
 pub mod NumberLemmas

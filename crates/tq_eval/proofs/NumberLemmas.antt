@@ -1,30 +1,41 @@
--- Numbers of 64 signed bits: those of tables of rows, and what is made of them.
-use Rattle.std.proofs.Common.{◌≡◌, ℕ, zero, suc, ◌<◌, Bool, true, false, cond, List, [], ◌∷◌, ◌++◌, map, length, get_or, Option, refl, sym, ap, subst, arith}
-use Rattle.std.specs.Prelude.{All, FitsSigned, pos, filter}
+-- Numbers of 64 signed bits: those of rows that fit their tables, and what is made of them.
+use Rattle.std.proofs.Common.{◌≡◌, ℕ, zero, suc, ◌<◌, Bool, true, false, cond, List, [], ◌∷◌, ◌++◌, map, length, get_or, Option, Some, None, refl, sym, ap, subst, arith}
+use Rattle.std.specs.Prelude.{All, FitsSigned, IsSomeAnd, pos, filter, slice_get}
 use Rattle.std.specs.Int.{w64}
 use Rattle.std.proofs.lemmas.Bool.Decides.{nat_tests}
 use Rattle.std.proofs.lemmas.Int.{fits_signed_from_abs}
 use Rattle.std.proofs.lemmas.List.Concat.{flat_map-cons}
-use Rattle.std.proofs.lemmas.List.Elements.{All-append, All-cons, All-filter, All-map, All-tail, All-weaker}
+use Rattle.std.proofs.lemmas.List.Elements.{All-append, All-cons, All-filter, All-tail, All-weaker}
 use Rattle.std.proofs.lemmas.List.Sums.{sum_by-cons}
+use Rattle.tq_base.specs.declared.catalogue.Catalogue.{Catalogue}
+use Rattle.tq_base.specs.declared.catalogue.Column.{Column}
+use Rattle.tq_base.specs.declared.catalogue.Kind.{Kind}
+use Rattle.tq_base.specs.declared.catalogue.Kind.TheVariants as kind
+use Rattle.tq_base.specs.declared.catalogue.Schema.{Schema}
 use Rattle.tq_base.specs.declared.value.Value.{Value}
 use Rattle.tq_base.specs.declared.fragment.Fragment.{Fragment}
 use Rattle.tq_base.specs.declared.period.Period.{Period}
+use Rattle.tq_base.specs.Catalogues.{Fit, IsOfKind}
+use Rattle.tq_base.specs.Contents.{Int, Text}
 use Rattle.tq_base.specs.Fragments.{at, occurrences}
 use Rattle.tq_base.specs.Periods.{holds}
 use Rattle.tq_base.specs.ValueOrder.{eq_from_same}
-use Rattle.tq_event.specs.Tables.{rows_in}
+use Rattle.tq_event.specs.Recorded.{HasTable}
 use Rattle.tq_ops.specs.declared.condition.Test.{Test}
 use Rattle.tq_ops.specs.Conditions.{value_at}
 use Rattle.tq_ops.specs.Ordinary.{HasInside, IsEmptyOutside, admits, product, product_of, selection}
 use Rattle.tq_agg.specs.Grouping.{AreSummable, Row, number_of}
-use Rattle.tq_eval.specs.TableAnswers.{AreAllNumbers, AreValidNumbers}
-use Rattle.tq_eval.specs.Answers.{in_tables, lists_at, ValidRows}
 use Rattle.tq_eval.specs.Running.{AreNumbers}
+use Rattle.tq_eval.specs.Fitting.{AreFitting}
+use Rattle.tq_eval.specs.Answers.{lists_at, ValidRows}
 use Rattle.tq_eval.proofs.BagLemmas.{is_it, one_if, split}
 
 abbrev pub IsNumber : Value → Type 0
 IsNumber value = FitsSigned w64 (number_of value)
+
+-- the numbers of all rows that are valid at some instant
+abbrev pub AreValidNumbers : ValidRows → Type 0
+AreValidNumbers valid = (table t : ℕ) → All AreNumbers (valid table t)
 
 -- what holds of the first, and of the others
 pub first_of : {X : Type 0} (P : X → Type 0) (x : X) (xs : List X) → All P (x ∷ xs) → P x
@@ -33,24 +44,44 @@ first_of P x xs all = all 0 x (omega arith)
 pub others_of : {X : Type 0} (P : X → Type 0) (x : X) (xs : List X) → All P (x ∷ xs) → All P xs
 others_of P x xs all = All-tail P x xs all
 
+-- of a row that stands in a list
+pub one_of : (P : Row → Type 0) (rows : List Row) (v : Row) → 0 < occurrences rows v → All P rows → P v
+one_of P rows v some all =
+    let s = split rows v some in
+    middle s.before s.after (subst (All P) s.is all)
+  where
+    middle : (before after : List Row) → All P (before ++ v ∷ after) → P v
+    middle [] after all = first_of P v after all
+    middle (row ∷ before) after all = middle before after (others_of P row (before ++ v ∷ after) all)
+
 pub none_of : {X : Type 0} (P : X → Type 0) → All P []
 none_of P k d less = absurd (omega (arith, less))
 
--- ---- rows of tables
+-- ---- rows that fit their tables
 
-abbrev HaveNumbers : List Fragment → Type 0
-HaveNumbers rows = All (λ (row : Fragment). AreNumbers row.values) rows
+zero_fits : FitsSigned w64 (pos 0)
+zero_fits = fits_signed_from_abs w64 (pos 0) (omega arith)
 
-table_has : (tables : List (List Fragment)) (table : ℕ) → AreAllNumbers tables → HaveNumbers (rows_in tables table)
-table_has [] table all = none_of (λ (row : Fragment). AreNumbers row.values)
-table_has (rows ∷ tables) zero all = first_of HaveNumbers rows tables all
-table_has (rows ∷ tables) (suc table) all = table_has tables table (others_of HaveNumbers rows tables all)
+of_kind : (k : Kind) (value : Value) → IsOfKind k value → IsNumber value
+of_kind kind.Int (Int n) is = is
+of_kind kind.Int (Text t) is = absurd is
+of_kind kind.Text (Int n) is = absurd is
+of_kind kind.Text (Text t) is = zero_fits
 
--- what is valid in tables of such numbers
-pub tables_have : (tables : List (List Fragment)) → AreAllNumbers tables → AreValidNumbers (in_tables tables)
-tables_have tables all table t =
-    All-map AreNumbers (λ (row : Fragment). row.values) (filter (λ (row : Fragment). holds row.period t) (rows_in tables table))
-    (All-filter (λ (row : Fragment). holds row.period t) (λ (row : Fragment). AreNumbers row.values) (rows_in tables table) (table_has tables table all))
+fitting : (columns : List Column) (values : List Value) → Fit columns values → AreNumbers values
+fitting [] [] fit = none_of IsNumber
+fitting [] (v ∷ vs) fit = absurd fit
+fitting (c ∷ cs) [] fit = absurd fit
+fitting (c ∷ cs) (v ∷ vs) fit = All-cons IsNumber v vs (of_kind c.kind v fit.0) (fitting cs vs fit.1)
+
+in_table : (schema : Option Schema) (values : List Value) → IsSomeAnd schema (λ (s : Schema). Fit s.columns values) → AreNumbers values
+in_table None values is = absurd is
+in_table (Some s) values is = fitting s.columns values is
+
+-- the numbers of valid rows that fit their tables
+pub numbers_fit : (catalogue : Catalogue) (valid : ValidRows) → AreFitting catalogue valid → AreValidNumbers valid
+numbers_fit catalogue valid fit table t =
+    All-weaker (HasTable catalogue table) AreNumbers (λ values has. in_table (slice_get catalogue.tables table) values has) (valid table t) (fit table t)
 
 -- ---- rows of the sources' product
 
@@ -74,14 +105,14 @@ products_have valid t (table ∷ next ∷ numbers) all =
 
 -- ---- fragments
 
-pub in_both : (rows found : List Row) (v : Row) → occurrences found v ≡ occurrences rows v → 0 < occurrences found v → All AreNumbers rows → AreNumbers v
-in_both rows found v same some all =
-    let s = split rows v (omega (arith, same, some)) in
-    middle s.before s.after (subst (All AreNumbers) s.is all)
-  where
-    middle : (before after : List Row) → All AreNumbers (before ++ v ∷ after) → AreNumbers v
-    middle [] after all = first_of AreNumbers v after all
-    middle (row ∷ before) after all = middle before after (others_of AreNumbers row (before ++ v ∷ after) all)
+in_both : (rows found : List Row) (v : Row) → occurrences found v ≡ occurrences rows v → 0 < occurrences found v → All AreNumbers rows → AreNumbers v
+in_both rows found v same some all = one_of AreNumbers rows v (omega (arith, same, some)) all
+
+-- a row of a list stands in it
+pub stands_at : (rows : List Row) (k : ℕ) (d : Row) → k < length rows → 0 < occurrences rows (get_or rows k d)
+stands_at [] k d less = absurd (omega (arith, less))
+stands_at (row ∷ rows) zero d less = omega (arith, sum_by-cons (is_it row) row rows, ap one_if (eq_from_same row row refl))
+stands_at (row ∷ rows) (suc k) d less = omega (arith, stands_at rows k d (omega (arith, less)), sum_by-cons (is_it (get_or rows k d)) row rows)
 
 starts_inside : (f : Fragment) → holds f.period f.period.start ≡ true
 starts_inside f = let ordered : f.period.start < f.period.end = f.period.ordered in grind (arith, nat_tests)
@@ -110,9 +141,6 @@ fragments_have : (out : List Fragment) (rows : ℕ → List Row) → ((t : ℕ) 
 fragments_have out rows same all k d less =
     let f : Fragment = get_or out k d in
     in_both (rows f.period.start) (at out f.period.start) f.values (same f.period.start f.values) (stands out k d less) (all f.period.start)
-
-zero_fits : FitsSigned w64 (pos 0)
-zero_fits = fits_signed_from_abs w64 (pos 0) (omega arith)
 
 number_at : (row : Row) (place : ℕ) → AreNumbers row → IsNumber (value_at row place)
 number_at [] place all = zero_fits

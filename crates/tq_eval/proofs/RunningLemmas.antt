@@ -11,7 +11,8 @@ use Rattle.tq_plan.specs.declared.plans.Output.{Output}
 use Rattle.tq_plan.specs.declared.plans.Output.TheVariants.{Column, Count, Sum}
 use Rattle.tq_plan.specs.declared.plans.Plan.{Plan}
 use Rattle.tq_plan.specs.declared.plans.QueryPlan.{QueryPlan}
-use Rattle.tq_eval.specs.Answers.{lists_at, times_at, times_in, times_in_right, ValidRows}
+use Rattle.tq_plan.specs.Plans.{tables_of}
+use Rattle.tq_eval.specs.Answers.{lists_at, times_in, times_in_right, times_within, ValidRows}
 use Rattle.tq_agg.specs.Grouping.{Row}
 use Rattle.tq_eval.specs.Ordinary.{groups, ordinary, output_value}
 use Rattle.tq_plan.specs.Standing.{is_aggregate, no_group}
@@ -49,12 +50,12 @@ no_places (first ∷ more) none = cc
 
 -- the values at the items' places of all rows that pass
 pub shown_alone : (valid : ValidRows) (query : QueryPlan) (window : Period) (places : List ℕ) (out : List Fragment) → no_group query.group ≡ true → list_any is_aggregate query.outputs ≡ false → places ≡ map output_place query.outputs
-    → HasInside window out (λ t v. occurrences (map (projection places) (selection query.test (product_of (lists_at valid t query.tables)))) v)
+    → HasInside window out (λ t v. occurrences (map (projection places) (selection query.test (product_of (lists_at valid t (tables_of query))))) v)
     → HasInside window out (λ t v. times_in valid query v t)
 shown_alone valid query window places out alone none same shown t v inside =
     shown t v inside
-    ∙ ap (λ ps. occurrences (map (projection ps) (selection query.test (product_of (lists_at valid t query.tables)))) v) same
-    ∙ ap (λ l. occurrences l v) (sym (ordinary_alone query (lists_at valid t query.tables) (no_places query.group alone) none))
+    ∙ ap (λ ps. occurrences (map (projection ps) (selection query.test (product_of (lists_at valid t (tables_of query))))) v) same
+    ∙ ap (λ l. occurrences l v) (sym (ordinary_alone query (lists_at valid t (tables_of query)) (no_places query.group alone) none))
 
 -- ---- plans
 
@@ -67,21 +68,21 @@ by_window window out count inside outside v t = by_time (holds window t) refl
     by_time true is = inside t v is
     by_time false is = ap (λ l. occurrences l v) (outside t is)
 
-pub left_alone : (valid : ValidRows) (plan : Plan) (out : List Fragment) → plan.right ≡ None → HasInside plan.window out (λ t v. times_in valid plan.left v t) → IsEmptyOutside plan.window out
-    → (v : Row) (t : ℕ) → copies out v t ≡ times_at valid plan v t
-left_alone valid plan out none inside outside v t =
-    by_window plan.window out (λ t v. times_in valid plan.left v t) inside outside v t
-    ∙ ap (λ n. if holds plan.window t then n else 0)
+pub left_alone : (valid : ValidRows) (plan : Plan) (period : Period) (out : List Fragment) → plan.right ≡ None → HasInside period out (λ t v. times_in valid plan.left v t) → IsEmptyOutside period out
+    → (v : Row) (t : ℕ) → copies out v t ≡ times_within valid plan period v t
+left_alone valid plan period out none inside outside v t =
+    by_window period out (λ t v. times_in valid plan.left v t) inside outside v t
+    ∙ ap (λ n. if holds period t then n else 0)
     (let less : times_in valid plan.left v t ≡ times_in valid plan.left v t - 0 = omega arith in
     less ∙ ap (λ r. times_in valid plan.left v t - times_in_right valid r v t) (sym none))
 
-pub left_less_right : (valid : ValidRows) (plan : Plan) (query : QueryPlan) (left right out : List Fragment) → plan.right ≡ Some query
-    → HasInside plan.window left (λ t v. times_in valid plan.left v t) → HasInside plan.window right (λ t v. times_in valid query v t)
-    → HasInside plan.window out (λ t v. copies left v t - copies right v t) → IsEmptyOutside plan.window out
-    → (v : Row) (t : ℕ) → copies out v t ≡ times_at valid plan v t
-left_less_right valid plan query left right out some on_left on_right inside outside v t = by_time (holds plan.window t) refl
+pub left_less_right : (valid : ValidRows) (plan : Plan) (period : Period) (query : QueryPlan) (left right out : List Fragment) → plan.right ≡ Some query
+    → HasInside period left (λ t v. times_in valid plan.left v t) → HasInside period right (λ t v. times_in valid query v t)
+    → HasInside period out (λ t v. copies left v t - copies right v t) → IsEmptyOutside period out
+    → (v : Row) (t : ℕ) → copies out v t ≡ times_within valid plan period v t
+left_less_right valid plan period query left right out some on_left on_right inside outside v t = by_time (holds period t) refl
   where
-    by_time : (b : Bool) → holds plan.window t ≡ b → copies out v t ≡ times_at valid plan v t
+    by_time : (b : Bool) → holds period t ≡ b → copies out v t ≡ times_within valid plan period v t
     by_time true is =
         rw is (inside t v is
         ∙ ap (λ n. n - copies right v t) (on_left t v is)

@@ -10,6 +10,7 @@ use Rattle.tq_base.specs.Contents.{Int}
 use Rattle.tq_base.specs.Fragments.{occurrences}
 use Rattle.tq_base.specs.Periods.{holds}
 use Rattle.tq_ops.specs.Ordinary.{admits, product, product_of, projection, selection}
+use Rattle.tq_plan.specs.Plans.{tables_of}
 use Rattle.tq_agg.specs.Grouping.{Row, grouped_rows}
 use Rattle.tq_plan.specs.declared.plans.Plan.{Plan}
 use Rattle.tq_plan.specs.declared.plans.QueryPlan.{QueryPlan}
@@ -17,13 +18,20 @@ use Rattle.tq_eval.specs.Answers.{lists_at, right_tables, tables_read, times_at,
 use Rattle.tq_eval.specs.Ordinary.{ordinary}
 use Rattle.tq_plan.specs.Standing.{is_aggregate, items_stand, no_group, IsPlan, PlansStand}
 use Rattle.tq_eval.specs.Running.{item_places, output_place, summed_places}
-use Rattle.tq_eval.specs.Sources.{AreAlike, SameCounts}
+use Rattle.tq_eval.specs.Sources.{SameCounts}
 use Rattle.tq_eval.proofs.BagLemmas.{is_it, same_filtered, same_lengths, same_mapped, same_products, same_sums}
 use Rattle.tq_eval.proofs.GroupBags.{same_groups}
 use Rattle.tq_eval.proofs.GroupingLemmas.{ordinary_counted, ordinary_grouped}
 use Rattle.tq_eval.proofs.RunningLemmas.{no_places, ordinary_alone}
 
 -- ---- products
+
+-- the lists are alike, one by one
+abbrev AreAlike : List (List Row) → List (List Row) → Type 0
+AreAlike [] [] = Unit {0}
+AreAlike [] (b ∷ ys) = ⊥
+AreAlike (a ∷ xs) [] = ⊥
+AreAlike (a ∷ xs) (b ∷ ys) = SameCounts a b × AreAlike xs ys
 
 counted_product : (left right : List Row) (v : Row) → occurrences (product left right) v ≡ sum_by (λ l. occurrences (map (λ r. l ++ r) right) v) left
 counted_product [] right v = refl
@@ -39,7 +47,7 @@ same_left : (a b right : List Row) → SameCounts a b → SameCounts (product a 
 same_left a b right same v =
     counted_product a right v ∙ same_sums (λ l. occurrences (map (λ r. l ++ r) right) v) a b same ∙ sym (counted_product b right v)
 
-pub same_product_of : (xs ys : List (List Row)) → AreAlike xs ys → SameCounts (product_of xs) (product_of ys)
+same_product_of : (xs ys : List (List Row)) → AreAlike xs ys → SameCounts (product_of xs) (product_of ys)
 same_product_of [] [] alike v = refl
 same_product_of [] (b ∷ ys) alike v = absurd alike
 same_product_of (a ∷ xs) [] alike v = absurd alike
@@ -98,8 +106,8 @@ module _ (valid other : ValidRows) where
   lists_alike [] t all = tt
   lists_alike (table ∷ numbers) t all = (all 0 table (omega arith) t, lists_alike numbers t (All-tail Agree table numbers all))
 
-  times_same : (query : QueryPlan) (v : Row) (t : ℕ) → items_stand query ≡ true → All Agree query.tables → times_in valid query v t ≡ times_in other query v t
-  times_same query v t stand all = same_ordinary query (lists_at valid t query.tables) (lists_at other t query.tables) stand (lists_alike query.tables t all) v
+  times_same : (query : QueryPlan) (v : Row) (t : ℕ) → items_stand query ≡ true → All Agree (tables_of query) → times_in valid query v t ≡ times_in other query v t
+  times_same query v t stand all = same_ordinary query (lists_at valid t (tables_of query)) (lists_at other t (tables_of query)) stand (lists_alike (tables_of query) t all) v
 
   right_same : (right : Option QueryPlan) (v : Row) (t : ℕ) → ((query : QueryPlan) → right ≡ Some query → items_stand query ≡ true) → All Agree (right_tables right)
       → times_in_right valid right v t ≡ times_in_right other right v t
@@ -108,7 +116,7 @@ module _ (valid other : ValidRows) where
 
   plan_same : PlansStand → (plan : Plan) (v : Row) (t : ℕ) → IsPlan plan → All Agree (tables_read plan) → times_at valid plan v t ≡ times_at other plan v t
   plan_same stand plan v t is all =
-      let parts = All-parts Agree plan.left.tables (right_tables plan.right) all in
+      let parts = All-parts Agree (tables_of plan.left) (right_tables plan.right) all in
       λ i. if holds plan.window t then times_same plan.left v t ((stand plan is).0) parts.0 i - right_same plan.right v t ((stand plan is).1) parts.1 i else 0
     where
       All-parts : (P : ℕ → Type 0) (xs ys : List ℕ) → All P (xs ++ ys) → All P xs × All P ys

@@ -4,6 +4,7 @@
 use Rattle.std.specs.Prelude.{◌≡◌, ℕ, ◌-◌, ◌≤◌, if◌then◌else◌, List, [], ◌++◌, length, map, All, Option, Some, None, Ok}
 use Rattle.tq_base.specs.declared.catalogue.Catalogue.{Catalogue}
 use Rattle.tq_base.specs.declared.fragment.Fragment.{Fragment}
+use Rattle.tq_base.specs.declared.period.Period.{Period}
 use Rattle.tq_base.specs.Fragments.{at, occurrences}
 use Rattle.tq_base.specs.Layers.{IsLayers}
 use Rattle.tq_base.specs.Periods.{holds}
@@ -16,7 +17,7 @@ use Rattle.tq_plan.specs.declared.plans.Plan.{Plan}
 use Rattle.tq_plan.specs.declared.plans.QueryPlan.{QueryPlan}
 use Rattle.tq_agg.specs.Grouping.{Row}
 use Rattle.tq_eval.specs.Ordinary.{ordinary}
-use Rattle.tq_plan.specs.Plans.{plan_of}
+use Rattle.tq_plan.specs.Plans.{plan_of, tables_of}
 use Rattle.tq_plan.specs.Standing.{IsPlan}
 
 -- which rows are valid in each table, by its number, at each instant
@@ -37,17 +38,24 @@ lists_at valid t tables = map (λ table. valid table t) tables
 
 -- how often the row stands in the query's ordinary answer over the rows valid at the instant
 abbrev pub times_in : ValidRows → QueryPlan → Row → ℕ → ℕ
-times_in valid query v t = occurrences (ordinary query (lists_at valid t query.tables)) v
+times_in valid query v t = occurrences (ordinary query (lists_at valid t (tables_of query))) v
 
 abbrev pub times_in_right : ValidRows → Option QueryPlan → Row → ℕ → ℕ
 times_in_right valid None v t = 0
 times_in_right valid (Some query) v t = times_in valid query v t
 
 -- how often the row stands in the ordinary answer of the statement: as often as on the left, less the
--- times on the right (EXCEPT ALL), and nowhere outside the window
+-- times on the right (EXCEPT ALL)
+abbrev pub times_by : ValidRows → Plan → Row → ℕ → ℕ
+times_by valid plan v t = times_in valid plan.left v t - times_in_right valid plan.right v t
+
+-- the same in a period, and nowhere outside it
+abbrev pub times_within : ValidRows → Plan → Period → Row → ℕ → ℕ
+times_within valid plan period v t = if holds period t then times_by valid plan v t else 0
+
+-- the same in the statement's window
 abbrev pub times_at : ValidRows → Plan → Row → ℕ → ℕ
-times_at valid plan v t =
-    if holds plan.window t then times_in valid plan.left v t - times_in_right valid plan.right v t else 0
+times_at valid plan v t = times_within valid plan plan.window v t
 
 -- the table has the plan's columns, and is the one ordered, coalesced table of these rows at each instant
 pub record IsAnswerOver (valid : ValidRows) (plan : Plan) (table : Table) : Type 0 where
@@ -71,10 +79,10 @@ pub record IsAnswer (catalogue : Catalogue) (statement : Statement) (history : L
 -- the tables that a plan reads
 abbrev pub right_tables : Option QueryPlan → List ℕ
 right_tables None = []
-right_tables (Some query) = query.tables
+right_tables (Some query) = tables_of query
 
 abbrev pub tables_read : Plan → List ℕ
-tables_read plan = plan.left.tables ++ right_tables plan.right
+tables_read plan = tables_of plan.left ++ right_tables plan.right
 
 -- ---- laws
 

@@ -1,6 +1,6 @@
 pub mod Ordinary
 pub mod Answers
-pub mod Rows
+pub mod Fitting
 pub mod Running
 pub mod Sources
 pub mod TableAnswers

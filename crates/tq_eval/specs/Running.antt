@@ -1,9 +1,6 @@
 -- Evaluated queries: which values are summed, and where the items stand in the row of a group.
-use Rattle.std.specs.Prelude.{◌≡◌, ℕ, ◌+◌, ◌==◌, FitsSigned, Bool, true, false, not, List, [], ◌∷◌, length, position, unwrap_or, All, Ok, IsSomeAnd, Option, Some, None, slice_get}
+use Rattle.std.specs.Prelude.{ℕ, ◌+◌, ◌==◌, FitsSigned, List, [], ◌∷◌, length, position, unwrap_or, All}
 use Rattle.std.specs.Int.{w64}
-use Rattle.tq_base.specs.declared.catalogue.Catalogue.{Catalogue}
-use Rattle.tq_base.specs.declared.catalogue.Schema.{Schema}
-use Rattle.tq_base.specs.Catalogues.{Fit}
 use Rattle.tq_event.specs.declared.event.Event.{Event}
 use Rattle.tq_event.specs.declared.event.Event.TheVariants.{Start, End}
 use Rattle.tq_agg.specs.Grouping.{Row, number_of}
@@ -18,19 +15,6 @@ AreNumbers row = All (λ value. FitsSigned w64 (number_of value)) row
 abbrev pub HasNumbers : Event → Type 0
 HasNumbers (Start table values at) = AreNumbers values
 HasNumbers (End table row at) = Unit {0}
-
--- the values that the event brings are those of a row of its table
-abbrev pub Fits : Catalogue → Event → Type 0
-Fits catalogue (Start table values at) = IsSomeAnd (slice_get catalogue.tables table) (λ (s : Schema). Fit s.columns values)
-Fits catalogue (End table row at) = Unit {0}
-
--- how many columns the table has
-abbrev pub columns_of : Option Schema → ℕ
-columns_of None = 0
-columns_of (Some schema) = length schema.columns
-
-abbrev pub width_of : Catalogue → ℕ → ℕ
-width_of catalogue table = columns_of (slice_get catalogue.tables table)
 
 -- the place of the value that an item shows
 abbrev pub output_place : Output → ℕ

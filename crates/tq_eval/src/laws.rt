@@ -1,7 +1,8 @@
 //! Laws of answers.
 
 ghost use Rattle.tq_eval.specs.Answers.{AnswersAgree, AnswersAreUnique, AnswersExist, AnswersStay};
-ghost use Rattle.tq_eval.specs.TableAnswers.{NumbersAreHeld, TablesAnswer};
+ghost use Rattle.tq_eval.specs.Fitting.{HeldRowsFit};
+ghost use Rattle.tq_eval.specs.TableAnswers.{TablesAnswer};
 
 use tq_base::laws::{layers_are_unique, layers_exist};
 use tq_event::laws::prefixes_agree;
@@ -44,7 +45,7 @@ pub fn tables_answer()
     answers_agree();
 }
 
-/// The numbers of tables that hold what a history holds are those of its events.
-pub fn numbers_are_held()
-    ensures { NumbersAreHeld }
+/// The rows of tables that hold what a history over a catalogue holds fit the catalogue's tables.
+pub fn held_rows_fit()
+    ensures { HeldRowsFit }
 {}

@@ -15,3 +15,4 @@ pub mod Products
 pub mod Knowing
 pub mod Turns
 pub mod Widths
+pub mod Ranging

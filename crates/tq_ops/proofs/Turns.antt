@@ -5,7 +5,7 @@ use Rattle.std.specs.Ordering.{eq_by_cmp}
 use Rattle.std.specs.List.{take-map}
 use Rattle.std.proofs.lemmas.List.{drop-map, get_or-drop, get_or-map, length-map}
 use Rattle.std.proofs.lemmas.List.Elements.{All-drop, All-map, All-take}
-use Rattle.std.proofs.lemmas.List.Sorted.{sum_by-IsPermutation, IsPermutation-map}
+use Rattle.std.proofs.lemmas.List.Sorted.{sum_by-IsPermutation}
 use Rattle.tq_base.specs.declared.value.Value.{Value}
 use Rattle.tq_base.specs.declared.period.Period.{Period}
 use Rattle.tq_base.specs.declared.fragment.Fragment.{Fragment}
@@ -24,7 +24,7 @@ use Rattle.tq_ops.proofs.Grouping.{adds_group, group_ends, group_not_empty, item
 use Rattle.tq_ops.proofs.Products.{sum_by-overlapping, sum_by-side}
 
 abbrev no_key : Key
-no_key = record { rank = 0; start = 0; row = 0; side = Left }
+no_key = record { rank = 0; start = 0; row = 0; side = Left; begins = false }
 
 module _ (s : SidesState) (keys : List Key) (whole : All (λ k. key_values s k ≡ (key_row s k).values) keys) where
   -- the row of a key
@@ -120,8 +120,7 @@ module _ (s : SidesState) (window : Period) (keys : List Key) (are : AreKeysOfBo
 
   pub side_counts : (side : Side) (rows : List Fragment) → rows ≡ rows_on s side → side_copies window side (map (held s) keys) v t ≡ cond (holds window t) (copies rows v t) 0
   side_counts side rows is =
-      sum_by-IsPermutation (counted_as side) (map (held s) are.gathered) (map (held s) keys) (IsPermutation-map (held s) are.gathered keys are.same)
-      ∙ ap (sum_by (counted_as side)) are.rows
+      sum_by-IsPermutation (counted_as side) (held_on Left (overlapping window s.left) ++ held_on Right (overlapping window s.right)) (map (held s) keys) are.rows
       ∙ sum_by-same (counted_as side) (λ (r : Held). cond (is_same_side side r.side) (own r.row) 0)
       (λ r. apart_side (is_same_side side r.side) (holds r.row.period t && holds window t) (eq_by_cmp values_cmp r.row.values v)) (held_on Left (overlapping window s.left) ++ held_on Right (overlapping window s.right))
       ∙ parted side

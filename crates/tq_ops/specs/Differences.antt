@@ -7,7 +7,7 @@ use Rattle.tq_base.specs.declared.period.Period.{Period}
 use Rattle.tq_base.specs.declared.fragment.Fragment.{Fragment}
 use Rattle.tq_base.specs.declared.sides.Side.{Side}
 use Rattle.tq_base.specs.declared.sides.Side.TheVariants.{Left, Right}
-use Rattle.tq_base.specs.Keys.{held as held_key, held_on, is_same_side, overlapping, Held, IsKey, Rises, SidesState}
+use Rattle.tq_base.specs.Keys.{held as held_key, held_on, is_same_side, overlapping, AreMarked, Held, IsKey, Rises, SidesState}
 use Rattle.tq_base.specs.declared.relation.Line.{Line}
 use Rattle.tq_base.specs.declared.sides.Key.{Key}
 use Rattle.tq_base.specs.Periods.{holds}
@@ -56,8 +56,7 @@ AreLines s lines = All (λ (line : Line). line.row < length s.left) lines
 
 -- the keys of all rows of both sides that overlap the window, in order
 pub record AreKeysOfBoth (s : SidesState) (window : Period) (keys : List Key) : Type 0 where
-  pub gathered : List Key
-  pub rows : map (held_key s) gathered ≡ held_on Left (overlapping window s.left) ++ held_on Right (overlapping window s.right)
-  pub same : IsPermutation gathered keys
+  pub rows : IsPermutation (held_on Left (overlapping window s.left) ++ held_on Right (overlapping window s.right)) (map (held_key s) keys)
   pub each : All (IsKey s) keys
+  pub marks : AreMarked s keys
   pub rising : Rises s keys

@@ -2,6 +2,7 @@ pub mod Conditions
 pub mod Differences
 pub mod Folds
 pub mod Joins
+pub mod KeyRanges
 pub mod Known
 pub mod Links
 pub mod Ordinary

@@ -13,6 +13,7 @@ mod difference;
 mod folding;
 mod gathering;
 mod joining;
+mod key_range;
 mod known;
 pub mod laws;
 mod links;

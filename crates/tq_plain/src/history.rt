@@ -2,12 +2,14 @@
 
 ghost use Rattle.std.specs.Prelude.{◌≡◌, IfOk};
 ghost use Rattle.tq_event.specs.History.{end_of, valid_at};
+ghost use Rattle.tq_plan.specs.Plans.{tables_in};
 ghost use Rattle.tq_eval.specs.Answers.{as_of, lists_at};
 
 use crate::bags::push;
 use std::alloc::{AllocError, Global};
 use tq_base::{FOREVER, Items, Values};
 use tq_event::Event;
+use tq_plan::QuerySource;
 
 // When the row ends by these events, or `FOREVER`.
 fn end_of(events: &[Event], table: u32, row: usize) -> u64
@@ -60,19 +62,19 @@ fn valid_at(
     Ok(rows)
 }
 
-/// The rows valid at the instant as of the first `n` events, table by table.
+/// The rows valid at the instant as of the first `n` events, source by source.
 pub fn lists_at(
     alloc: Global,
     events: &[Event],
     n: u32,
-    tables: &[u32],
+    sources: &[QuerySource],
     instant: u64,
 ) -> Result<Vec<Items<Values>>, AllocError>
-    ensures { IfOk result (λ lists. lists.items ≡ lists_at (as_of events.now n) instant tables.now) }
+    ensures { IfOk result (λ lists. lists.items ≡ lists_at (as_of events.now n) instant (tables_in sources.now)) }
 {
     let mut lists = Vec::new(alloc);
-    'tables: for table in tables {
-        let rows = valid_at(alloc, events, n, *table, instant)?;
+    'sources: for source in sources {
+        let rows = valid_at(alloc, events, n, source.table, instant)?;
         push(&mut lists, Items::of(rows))?;
     }
     Ok(lists)

@@ -4,6 +4,7 @@ ghost use Rattle.std.specs.Prelude.{◌≡◌, ◌≢◌, All, Err, ◌∷◌, �
 ghost use Rattle.tq_base.specs.Fragments.{occurrences};
 ghost use Rattle.tq_base.specs.Periods.{holds};
 ghost use Rattle.tq_agg.specs.Grouping.{Row};
+ghost use Rattle.tq_plan.specs.Plans.{tables_of};
 ghost use Rattle.tq_eval.specs.Answers.{as_of, lists_at, times_at};
 ghost use Rattle.tq_eval.specs.Ordinary.{ordinary};
 ghost use Rattle.tq_eval.specs.Running.{HasNumbers};
@@ -51,10 +52,10 @@ fn query_rows(
     query: &QueryPlan,
     instant: u64,
 ) -> Result<Vec<Values>, PlainFault>
-    ensures rows { IfOk result (λ rows. rows.items ≡ ordinary query.now (lists_at (as_of events.now n) instant query.now.tables)) }
+    ensures rows { IfOk result (λ rows. rows.items ≡ ordinary query.now (lists_at (as_of events.now n) instant (tables_of query.now))) }
     ensures too_large { All HasNumbers events.now → result ≢ Err PlainFault.TooLarge }
 {
-    let lists = lists_at(alloc, events, n, query.tables.get(), instant)?;
+    let lists = lists_at(alloc, events, n, query.sources.get(), instant)?;
     ordinary(alloc, query, &lists)
 }
 

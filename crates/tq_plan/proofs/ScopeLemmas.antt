@@ -10,7 +10,7 @@ use Rattle.tq_base.specs.declared.catalogue.Column.{Column}
 use Rattle.tq_base.specs.declared.catalogue.Schema.{Schema}
 use Rattle.tq_plan.specs.declared.fault.PlanFault.TheVariants.{AmbiguousColumn, DuplicateAlias}
 use Rattle.tq_plan.specs.declared.scope.Field.{Field as Borrowed}
-use Rattle.tq_plan.specs.Scope.{Field, Sources, add_table, is_meant, meanings, the_one}
+use Rattle.tq_plan.specs.Scope.{Field, Sources, add_table, is_meant, meanings, source_of, the_one}
 use Rattle.tq_plan.specs.Seen.{field_seen}
 
 -- the field at a place stands before those after it
@@ -52,6 +52,6 @@ taken sources alias table schema is = rw is refl
 
 -- the sources with one more, where no earlier one has the alias
 pub added : (sources more : Sources) (alias : List ℕ) (table : ℕ) (schema : Schema) → list_any (λ earlier. bytes_eq earlier alias) sources.aliases ≡ false
-    → sources.tables ++ table ∷ [] ≡ more.tables → sources.aliases ++ alias ∷ [] ≡ more.aliases → sources.fields ++ map (λ (column : Column). (alias, column)) schema.columns ≡ more.fields
+    → sources.sources ++ source_of table (length sources.fields) schema.columns ∷ [] ≡ more.sources → sources.aliases ++ alias ∷ [] ≡ more.aliases → sources.fields ++ map (λ (column : Column). (alias, column)) schema.columns ≡ more.fields
     → add_table sources alias table (Some schema) ≡ Ok more
-added sources more alias table schema is tables aliases fields = rw is (λ i. Ok record { tables = tables i; aliases = aliases i; fields = fields i })
+added sources more alias table schema is all aliases fields = rw is (λ i. Ok record { sources = all i; aliases = aliases i; fields = fields i })

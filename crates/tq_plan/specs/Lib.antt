@@ -1,5 +1,6 @@
 pub mod Scope
 pub mod Conditions
+pub mod KeyRanges
 pub mod Steps
 pub mod Seen
 pub mod Windows

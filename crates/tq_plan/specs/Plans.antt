@@ -18,6 +18,7 @@ use Rattle.tq_plan.specs.declared.plans.Output.{Output}
 use Rattle.tq_plan.specs.declared.plans.Output.TheVariants as output
 use Rattle.tq_plan.specs.declared.plans.Plan.{Plan}
 use Rattle.tq_plan.specs.declared.plans.QueryPlan.{QueryPlan}
+use Rattle.tq_plan.specs.declared.plans.QuerySource.{QuerySource}
 use Rattle.tq_plan.specs.Scope.{Field, given_or, no_sources, resolved, sources_after}
 use Rattle.tq_plan.specs.Conditions.{same_kind, where_of}
 use Rattle.tq_plan.specs.Windows.{window_plan}
@@ -69,6 +70,13 @@ outputs_after fields counted group outputs (item ∷ items) =
 
 -- ---- queries and statements
 
+-- the tables of sources, by their numbers
+abbrev pub tables_in : List QuerySource → List ℕ
+tables_in sources = map (λ (s : QuerySource). s.table) sources
+
+abbrev pub tables_of : QueryPlan → List ℕ
+tables_of query = tables_in query.sources
+
 -- a query over places, and the kinds of its items
 abbrev pub query_of : Catalogue → Query → Result (QueryPlan × List Kind) PlanFault
 query_of catalogue query =
@@ -76,7 +84,7 @@ query_of catalogue query =
     and_then (where_of sources.fields query.cond) (λ test.
     and_then (group_after sources.fields [] query.group) (λ group.
     and_then (outputs_after sources.fields (has_aggregate query.items) group [] query.items) (λ outputs.
-    Ok (record { tables = sources.tables; test = test; group = group; outputs = map (λ one. one.0) outputs }, map (λ one. one.1) outputs)))))
+    Ok (record { sources = sources.sources; test = test; group = group; outputs = map (λ one. one.0) outputs }, map (λ one. one.1) outputs)))))
 
 abbrev pub same_kinds : List Kind → List Kind → Bool
 same_kinds [] [] = true

@@ -1,9 +1,10 @@
 -- What the names of a query mean: the columns of its sources, one after the other. After SQL, where a
 -- table's own name serves as its alias if none is given.
-use Rattle.std.specs.Prelude.{ℕ, ◌+◌, Bool, true, ◌&&◌, if◌then◌else◌, List, [], ◌∷◌, ◌++◌, map, Option, Some, None, Result, Ok, Err, slice_get}
+use Rattle.std.specs.Prelude.{ℕ, ◌+◌, Bool, true, false, ◌&&◌, if◌then◌else◌, List, [], ◌∷◌, ◌++◌, length, map, Option, Some, None, Result, Ok, Err, slice_get}
 use Rattle.std.specs.List.{list_any}
 use Rattle.std.specs.Str.{bytes_eq}
 use Rattle.tq_base.specs.declared.catalogue.Kind.{Kind}
+use Rattle.tq_base.specs.declared.catalogue.Kind.TheVariants as kind
 use Rattle.tq_base.specs.declared.catalogue.Column.{Column}
 use Rattle.tq_base.specs.declared.catalogue.Schema.{Schema}
 use Rattle.tq_base.specs.declared.catalogue.Catalogue.{Catalogue}
@@ -12,20 +13,21 @@ use Rattle.tq_base.specs.Results.{and_then}
 use Rattle.tq_sql.specs.declared.statement.ColumnRef.{ColumnRef}
 use Rattle.tq_sql.specs.declared.statement.SourceRef.{SourceRef}
 use Rattle.tq_plan.specs.declared.fault.PlanFault.{PlanFault}
+use Rattle.tq_plan.specs.declared.plans.QuerySource.{QuerySource}
 use Rattle.tq_plan.specs.declared.fault.PlanFault.TheVariants.{UnknownTable, UnknownColumn, AmbiguousColumn, DuplicateAlias}
 
 -- a column, and the alias of its source
 abbrev pub Field : Type 0
 Field = List ℕ × Column
 
--- the sources so far: the numbers of their tables, their aliases, and all their columns
+-- the sources so far, their aliases, and all their columns
 pub record Sources : Type 0 where
-  pub tables : List ℕ
+  pub sources : List QuerySource
   pub aliases : List (List ℕ)
   pub fields : List Field
 
 abbrev pub no_sources : Sources
-no_sources = record { tables = []; aliases = []; fields = [] }
+no_sources = record { sources = []; aliases = []; fields = [] }
 
 abbrev pub given_or : List ℕ → Option (List ℕ) → List ℕ
 given_or name None = name
@@ -35,12 +37,25 @@ given_or name (Some alias) = alias
 abbrev pub alias_of : SourceRef → List ℕ
 alias_of source = given_or source.table source.alias
 
+abbrev pub is_number : Kind → Bool
+is_number kind.Int = true
+is_number kind.Text = false
+
+-- whether the first column holds numbers
+abbrev pub is_numbered : List Column → Bool
+is_numbered [] = false
+is_numbered (column ∷ columns) = is_number column.kind
+
+-- a source with these columns, whose first one stands at the place
+abbrev pub source_of : ℕ → ℕ → List Column → QuerySource
+source_of table first columns = record { table = table; first = first; width = length columns; numbered = is_numbered columns }
+
 abbrev pub add_table : Sources → List ℕ → ℕ → Option Schema → Result Sources PlanFault
 add_table sources alias table None = Err UnknownTable
 add_table sources alias table (Some schema) =
     if list_any (λ earlier. bytes_eq earlier alias) sources.aliases then Err DuplicateAlias
     else Ok record {
-      tables = sources.tables ++ table ∷ [];
+      sources = sources.sources ++ source_of table (length sources.fields) schema.columns ∷ [];
       aliases = sources.aliases ++ alias ∷ [];
       fields = sources.fields ++ map (λ column. (alias, column)) schema.columns;
     }

@@ -9,4 +9,4 @@ abbrev pub field_seen : Field → List ℕ × Column
 field_seen field = (field.alias.now, field.column.now)
 
 abbrev pub sources_seen : Scope → Sources
-sources_seen scope = record { tables = scope.tables.items; aliases = map (λ alias. alias.now) scope.aliases.items; fields = map field_seen scope.fields.items }
+sources_seen scope = record { sources = scope.sources.items; aliases = map (λ alias. alias.now) scope.aliases.items; fields = map field_seen scope.fields.items }

@@ -1,17 +1,25 @@
--- Which items of a query may stand, and that those of a statement's plan do.
-use Rattle.std.specs.Prelude.{◌≡◌, ℕ, Bool, true, false, not, List, ◌∷◌, [], Ok, Option, Some}
+-- Which items of a query may stand and where its sources do, and that those of a statement's plan do.
+use Rattle.std.specs.Prelude.{◌≡◌, ℕ, ◌+◌, Bool, true, false, not, All, IsSomeAnd, List, ◌∷◌, [], Ok, Some, length, slice_get}
 use Rattle.std.specs.List.{list_all, list_any}
 use Rattle.tq_base.specs.declared.catalogue.Catalogue.{Catalogue}
+use Rattle.tq_base.specs.declared.catalogue.Schema.{Schema}
 use Rattle.tq_sql.specs.declared.statement.Statement.{Statement}
 use Rattle.tq_plan.specs.declared.plans.Output.{Output}
 use Rattle.tq_plan.specs.declared.plans.Output.TheVariants.{Column, Count, Sum}
 use Rattle.tq_plan.specs.declared.plans.Plan.{Plan}
 use Rattle.tq_plan.specs.declared.plans.QueryPlan.{QueryPlan}
+use Rattle.tq_plan.specs.declared.plans.QuerySource.{QuerySource}
 use Rattle.tq_plan.specs.Plans.{is_groupable, plan_of}
+use Rattle.tq_plan.specs.Scope.{is_numbered}
 
 -- the plan is that of a statement
 pub record IsPlan (plan : Plan) : Type 0 where
   pub catalogue : Catalogue
+  pub statement : Statement
+  pub planned : plan_of catalogue statement ≡ Ok plan
+
+-- the plan is that of a statement over this catalogue
+pub record IsPlanOver (catalogue : Catalogue) (plan : Plan) : Type 0 where
   pub statement : Statement
   pub planned : plan_of catalogue statement ≡ Ok plan
 
@@ -35,8 +43,32 @@ may_stand counted group (Sum place) = not (no_group group)
 abbrev pub items_stand : QueryPlan → Bool
 items_stand query = list_all (may_stand (list_any is_aggregate query.outputs) query.group) query.outputs
 
+-- the sources stand one after the other, from the place on: each begins where the one before it ends
+abbrev pub StandFrom : ℕ → List QuerySource → Type 0
+StandFrom place [] = Unit {0}
+StandFrom place (source ∷ sources) = (source.first ≡ place) × StandFrom (place + source.width) sources
+
+-- the source has as many columns as its table has in the catalogue, and is numbered where the first of them holds numbers
+abbrev pub HasColumns : Catalogue → QuerySource → Type 0
+HasColumns catalogue source =
+    IsSomeAnd (slice_get catalogue.tables source.table) (λ (s : Schema). (source.width ≡ length s.columns) × (source.numbered ≡ is_numbered s.columns))
+
+-- the items of the query may stand; its sources stand one after the other and have the columns of their tables
+pub record IsQueryOver (catalogue : Catalogue) (query : QueryPlan) : Type 0 where
+  pub items : items_stand query ≡ true
+  pub sources : StandFrom 0 query.sources
+  pub columns : All (HasColumns catalogue) query.sources
+
 -- ---- laws
 
 -- the items of both queries of a statement's plan may stand
 abbrev pub PlansStand : Type 0
 PlansStand = (plan : Plan) → IsPlan plan → (items_stand plan.left ≡ true) × ((query : QueryPlan) → plan.right ≡ Some query → items_stand query ≡ true)
+
+-- the sources of both queries of a statement's plan stand one after the other, from place 0 on
+abbrev pub SourcesStand : Type 0
+SourcesStand = (plan : Plan) → IsPlan plan → StandFrom 0 plan.left.sources × ((query : QueryPlan) → plan.right ≡ Some query → StandFrom 0 query.sources)
+
+-- both queries of a statement's plan over a catalogue are queries over it
+abbrev pub QueriesStand : Type 0
+QueriesStand = (catalogue : Catalogue) (plan : Plan) → IsPlanOver catalogue plan → IsQueryOver catalogue plan.left × ((query : QueryPlan) → plan.right ≡ Some query → IsQueryOver catalogue query)

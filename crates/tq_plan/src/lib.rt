@@ -6,6 +6,7 @@
 
 mod conditions;
 mod fault;
+mod key_range;
 pub mod laws;
 mod planning;
 mod plans;
@@ -15,4 +16,4 @@ mod windows;
 
 pub use fault::PlanFault;
 pub use planning::plan;
-pub use plans::{Output, Plan, QueryPlan, copy_names};
+pub use plans::{Output, Plan, QueryPlan, QuerySource, copy_names};

@@ -21,7 +21,7 @@ use Rattle.tq_event.specs.History.{CanHappen, IsAdmissible, IsHistory, IsNotBefo
 use Rattle.tq_event.specs.Recorded.{table_of}
 use Rattle.tq_event.specs.Versions.{Ending, Life, row_lives}
 use Rattle.tq_store.specs.declared.index.Index.{Index}
-use Rattle.tq_store.specs.Keys.{key_of}
+use Rattle.tq_base.specs.KeyRanges.{key_of}
 use Rattle.tq_store.specs.Index.{AreIndexes, CanEnd, CanTake, IsIndexOf, IsOpenAt}
 use Rattle.tq_store.proofs.LifeLemmas.{as_of, end_by, known_by, rows_known}
 use Rattle.tq_store.proofs.IndexLemmas.{end_stands, start_stands}

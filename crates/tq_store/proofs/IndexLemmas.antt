@@ -20,7 +20,8 @@ use Rattle.tq_mvbt.specs.Points.{now, within}
 use Rattle.tq_mvbt.specs.TreeState.{HasLife, TreeState, lives_of}
 use Rattle.tq_store.specs.declared.index.Index.{Index}
 use Rattle.tq_store.specs.declared.index.RowEvents.{RowEvents}
-use Rattle.tq_store.specs.Keys.{key_of, shifted, tree_key}
+use Rattle.tq_base.specs.KeyRanges.{key_of}
+use Rattle.tq_store.specs.Keys.{shifted, tree_key}
 use Rattle.tq_store.specs.Index.{AreIndexes, Begins, Ends, HasRows, IsIndexOf, IsKeyOf, IsOpenAt, IsRowLife, dead_of, events_of, is_open_at, is_open_of}
 use Rattle.tq_store.specs.Open.{HasSame, has}
 use Rattle.tq_store.proofs.OpenRowsLemmas.{and-false, and-yes, number_other, number_same, or-false}

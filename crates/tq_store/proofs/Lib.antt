@@ -9,3 +9,4 @@ pub mod OpenRowsLemmas
 pub mod OpenLemmas
 pub mod CountLemmas
 pub mod ValidLemmas
+pub mod LeafLemmas

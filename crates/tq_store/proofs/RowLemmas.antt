@@ -22,8 +22,9 @@ use Rattle.tq_scan.specs.Lists.{ListsJust}
 use Rattle.tq_scan.specs.Scans.{FoundIn}
 use Rattle.tq_scan.specs.Windows.{lies_in, whole_of}
 use Rattle.tq_store.specs.declared.index.Index.{Index}
-use Rattle.tq_store.specs.declared.key.KeyRange.{KeyRange}
-use Rattle.tq_store.specs.Keys.{key_of, shifted, tree_key}
+use Rattle.tq_base.specs.declared.key_range.KeyRange.{KeyRange}
+use Rattle.tq_base.specs.KeyRanges.{key_of}
+use Rattle.tq_store.specs.Keys.{shifted, tree_key}
 use Rattle.tq_store.specs.Index.{HasRows, IsKeyOf, IsRowLife, dead_of, events_of}
 use Rattle.tq_store.specs.Rows.{ArePartRows, IsPartRow, row_key, window_part}
 use Rattle.tq_store.specs.Stored.{IsReadable, IsStart, IsStored, end_as_of, row_of_key, stored_row, time_at, values_in}

@@ -25,9 +25,10 @@ use Rattle.tq_event.specs.declared.event.Event.TheVariants.{Start, End}
 use Rattle.tq_event.specs.History.{IsHistory, Row, end_of, rows_from, rows_of, time_of, valid_at}
 use Rattle.tq_event.specs.Recorded.{HasTable}
 use Rattle.tq_event.specs.Versions.{Life, birth_of, version_at}
-use Rattle.tq_store.specs.declared.key.KeyRange.{KeyRange}
+use Rattle.tq_base.specs.declared.key_range.KeyRange.{KeyRange}
 use Rattle.tq_store.specs.declared.row.Row as declared
-use Rattle.tq_store.specs.Keys.{key_of, shifted}
+use Rattle.tq_base.specs.KeyRanges.{key_of}
+use Rattle.tq_store.specs.Keys.{shifted}
 use Rattle.tq_store.specs.Rows.{ArePartRows, HasReference, IsPartRow, row_key, window_part}
 use Rattle.tq_store.specs.Stored.{seen}
 use Rattle.tq_store.specs.Valid.{AreValid, AreValidIn, AreWhole, HasKeyIn, fragment_of_row}

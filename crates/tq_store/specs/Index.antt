@@ -17,7 +17,8 @@ use Rattle.tq_mvbt.specs.Points.{now}
 use Rattle.tq_mvbt.specs.TreeState.{HasLife, TreeState, lives_of}
 use Rattle.tq_store.specs.declared.index.Index.{Index}
 use Rattle.tq_store.specs.declared.index.RowEvents.{RowEvents}
-use Rattle.tq_store.specs.Keys.{key_of, tree_key}
+use Rattle.tq_base.specs.KeyRanges.{key_of}
+use Rattle.tq_store.specs.Keys.{tree_key}
 use Rattle.tq_store.specs.Open.{has}
 
 -- the first version at which a row that so ends is dead

@@ -1,14 +1,7 @@
--- Keys of rows, and the keys under which a tree has them: by the key, then by the number of the row. This project's
--- own.
-use Rattle.std.specs.Prelude.{ℕ, ℤ, pos, negsuc, ◌+◌, ◌-◌, ◌*◌, ◌^◌, min, List, [], ◌∷◌}
+-- The keys under which a tree has rows: by the key of the row, then by its number. This project's own.
+use Rattle.std.specs.Prelude.{ℕ, ℤ, pos, negsuc, ◌+◌, ◌-◌, ◌*◌, ◌^◌, min, List}
 use Rattle.tq_base.specs.declared.value.Value.{Value}
-use Rattle.tq_base.specs.Contents.{Int, Text}
-
--- the key of a row of these values: the first one, which is a number
-abbrev pub key_of : List Value → ℤ
-key_of [] = pos 0
-key_of (Int n ∷ values) = n
-key_of (Text t ∷ values) = pos 0
+use Rattle.tq_base.specs.KeyRanges.{key_of}
 
 -- a number of 64 signed bits, counted from the least of them
 abbrev pub shifted : ℤ → ℕ

@@ -7,7 +7,7 @@ use Rattle.tq_scan.specs.declared.window.Part.{Part}
 use Rattle.tq_scan.specs.declared.window.Window.{Window}
 use Rattle.tq_scan.specs.Cuts.{AreTiles}
 use Rattle.tq_scan.specs.Windows.{whole_of}
-use Rattle.tq_store.specs.declared.key.KeyRange.{KeyRange}
+use Rattle.tq_base.specs.declared.key_range.KeyRange.{KeyRange}
 use Rattle.tq_store.specs.Rows.{IsPartRow, window_part}
 
 -- the row is one of one of the parts, and of no other

@@ -9,8 +9,9 @@ use Rattle.tq_event.specs.Versions.{birth_of, version_at}
 use Rattle.tq_scan.specs.declared.window.Part.{Part}
 use Rattle.tq_scan.specs.declared.window.Window.{Window}
 use Rattle.tq_scan.specs.Windows.{IsInside, lies_in, whole_of}
-use Rattle.tq_store.specs.declared.key.KeyRange.{KeyRange}
-use Rattle.tq_store.specs.Keys.{key_of, shifted, tree_key}
+use Rattle.tq_base.specs.declared.key_range.KeyRange.{KeyRange}
+use Rattle.tq_base.specs.KeyRanges.{key_of}
+use Rattle.tq_store.specs.Keys.{shifted, tree_key}
 
 -- all of the window of a range of keys and a period: the keys that a tree has for rows of the range, and the
 -- versions from that of the period's first instant to that of its last one

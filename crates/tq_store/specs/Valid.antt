@@ -7,9 +7,9 @@ use Rattle.tq_base.specs.Fragments.{copies, occurrences}
 use Rattle.tq_base.specs.Periods.{holds}
 use Rattle.tq_event.specs.declared.event.Event.{Event}
 use Rattle.tq_event.specs.History.{valid_at}
-use Rattle.tq_store.specs.declared.key.KeyRange.{KeyRange}
+use Rattle.tq_base.specs.declared.key_range.KeyRange.{KeyRange}
 use Rattle.tq_store.specs.declared.row.Row as declared
-use Rattle.tq_store.specs.Keys.{key_of}
+use Rattle.tq_base.specs.KeyRanges.{key_of}
 use Rattle.tq_store.specs.Rows.{ArePartRows, window_part}
 use Rattle.tq_store.specs.Stored.{seen}
 

@@ -1,6 +1,6 @@
 //! Tables as of any count of events.
 
-ghost use Rattle.std.specs.Prelude.{ℕ, ◌≡◌, ◌↔◌, ◌+◌, ◌*◌, ◌/◌, ◌<◌, ◌≤◌, ◌∷◌, ◌++◌, [], IsTrue, IfOk, OnOk, OnErr, if◌then◌else◌, length, map};
+ghost use Rattle.std.specs.Prelude.{ℕ, ◌≡◌, ◌↔◌, ◌+◌, ◌*◌, ◌/◌, ◌<◌, ◌≤◌, ◌∷◌, ◌++◌, [], IsTrue, IfOk, OnOk, OnErr, if◌then◌else◌, length, map, min};
 ghost use Rattle.tq_base.specs.declared.period.TheConstants.{FOREVER};
 ghost use Rattle.tq_event.specs.History.{CanHappen, IsAdmissible, IsHistory, IsNotBefore, time_of};
 ghost use Rattle.tq_event.specs.Opening.{open_row};
@@ -12,15 +12,15 @@ ghost use Rattle.tq_store.specs.Rows.{ArePartRows, IsWithin, window_part};
 ghost use Rattle.tq_store.specs.Stored.{seen};
 
 use crate::index::{Index, no_indexes, take};
-use crate::key::KeyRange;
 use crate::read::{find_version, make_window, read_rows};
 use crate::row::Row;
 use crate::stored::time;
 use std::alloc::{AllocError, Global};
 use std::marker::Model;
 use tq_arena::Meter;
-use tq_base::{Catalogue, Instant, Period, Values};
+use tq_base::{Catalogue, Instant, KeyRange, Period, Values};
 use tq_event::Event;
+use tq_mvbt::trees_tile;
 use tq_scan::{Part, Window, scan};
 
 /// A history that answers as of any count of its events: a catalogue, and the events that it took, in order.
@@ -180,7 +180,7 @@ impl Db {
 
     /// The rows of the table as of the first n events whose key lies in the range and whose period overlaps the
     /// given one, as far as their reference point lies in the part of the window; in the order of their keys, and
-    /// of their numbers where these are equal. The meter counts the reads of nodes.
+    /// of their numbers where these are equal. The meter counts the reads of nodes, at least one.
     /// Out of memory: nothing is given.
     pub fn rows_part(
         &self,
@@ -195,11 +195,14 @@ impl Db {
         requires table { table < length self.now.catalogue.tables }
         requires inside { IsWithin (window_part self.now.events n range.now period.now) part.now }
         ensures rows { IfOk result (λ rows. ArePartRows self.now.events n table range.now period.now part.now (map seen rows.items)) }
+        ensures counted { IfOk result (λ rows. min (meter.old + 1) u64.MAX ≤ meter.new) }
         ensures reads { IfOk result (λ rows. period.now.end ≡ period.now.start + 1 → meter.new ≤ meter.old + 10 * (length rows.items / 5 + 2)) }
     {
         let window = make_window(&self.events, n, range, period);
         let index = &self.indexes[table as usize];
         let _levels = index.tree.levels(part.last);
+        let _version = index.tree.version();
+        trees_tile();
         let found = scan(self.alloc, &index.tree, &window, part, meter)?;
         read_rows(self.alloc, &self.events, &index.rows, found.keys.get(), n)
     }

@@ -1,7 +1,8 @@
-//! Keys of rows, and the keys under which a tree has them.
+//! The keys under which a tree has rows.
 
-ghost use Rattle.std.specs.Prelude.{◌≡◌, ◌≤ℤ◌, ◌+◌, ◌*◌, ◌<◌, ◌^◌, IsSome, IfSome, ◌↔◌};
-ghost use Rattle.tq_store.specs.Keys.{key_of, shifted, tree_key};
+ghost use Rattle.std.specs.Prelude.{◌≡◌, ◌+◌, ◌*◌, ◌<◌, ◌^◌};
+ghost use Rattle.tq_base.specs.KeyRanges.{key_of};
+ghost use Rattle.tq_store.specs.Keys.{shifted, tree_key};
 
 use tq_base::{Seen, Values};
 
@@ -10,29 +11,6 @@ const SPAN: i128 = 0x8000_0000_0000_0000;
 
 /// How many tree keys there are for each key, one for each number that a row can have.
 pub(crate) const ROWS: u128 = 4_294_967_296;
-
-/// The keys from `low` to `high`, both among them.
-#[derive(Clone, Copy, PartialEq, Eq, Debug)]
-pub struct KeyRange {
-    pub low: i64,
-    pub high: i64,
-    ghost ordered: { low ≤ℤ high },
-}
-
-impl KeyRange {
-    /// The keys from the low to the high one; `None` where the low one is above the high one.
-    pub fn new(low: i64, high: i64) -> Option<KeyRange>
-        ensures valid { IsSome result ↔ (low ≤ℤ high) }
-        ensures low { IfSome result (λ r. r.low ≡ low) }
-        ensures high { IfSome result (λ r. r.high ≡ high) }
-    {
-        if low <= high {
-            Some(KeyRange { low, high })
-        } else {
-            None
-        }
-    }
-}
 
 // The number, from 0 on in place of the least number of 64 signed bits.
 fn shift(number: i128) -> u128

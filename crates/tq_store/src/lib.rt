@@ -18,7 +18,7 @@ mod stored;
 mod valid;
 
 pub use db::Db;
-pub use key::KeyRange;
 pub use laws::rows_come_once;
 pub use opening::open_row;
 pub use row::Row;
+pub use tq_base::KeyRange;

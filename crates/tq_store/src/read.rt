@@ -11,11 +11,11 @@ ghost use Rattle.tq_store.specs.Rows.{window_part};
 ghost use Rattle.tq_store.specs.Stored.{IsReadable, row_of_key, seen};
 
 use crate::index::RowEvents;
-use crate::key::{KeyRange, ROWS, shift_key};
+use crate::key::{ROWS, shift_key};
 use crate::row::Row;
 use crate::stored::{read_row, time};
 use std::alloc::{AllocError, Global};
-use tq_base::Period;
+use tq_base::{KeyRange, Period};
 use tq_event::Event;
 use tq_scan::Window;
 

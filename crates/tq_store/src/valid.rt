@@ -5,15 +5,14 @@ ghost use Rattle.std.specs.Int.{w64};
 ghost use Rattle.tq_base.specs.declared.fragment.Fragment.{Fragment};
 ghost use Rattle.tq_base.specs.declared.value.Value.{Value};
 ghost use Rattle.tq_store.specs.declared.row.Row as declared;
-ghost use Rattle.tq_store.specs.Keys.{key_of};
+ghost use Rattle.tq_base.specs.KeyRanges.{key_of};
 ghost use Rattle.tq_store.specs.Valid.{AreValid, AreValidIn, AreWhole, HasKeyIn, fragment_of_row};
 
 use crate::db::Db;
-use crate::key::KeyRange;
 use crate::row::Row;
 use std::alloc::{AllocError, Global};
 use tq_arena::Meter;
-use tq_base::{Period, Rows};
+use tq_base::{KeyRange, Period, Rows};
 
 // The keys of 64 signed bits.
 fn all_keys() -> KeyRange

@@ -1,10 +1,11 @@
 -- Keys of left rows, of which all columns are compared: their rows go into the table group by group.
-use Rattle.std.proofs.Common.{◌≡◌, ◌≢◌, ◌++◌, ◌∷◌, [], ℕ, ◌+◌, ◌<◌, List, get_or, length, map, take, drop, refl, sym, ap, ◌∙◌, subst, arith, IfSome, slice_get}
+use Rattle.std.proofs.Common.{◌≡◌, ◌≢◌, ◌++◌, ◌∷◌, [], ℕ, ◌+◌, ◌<◌, false, List, get_or, length, map, take, drop, refl, sym, ap, ◌∙◌, subst, arith, IfSome, slice_get}
 use Rattle.std.specs.Prelude.{All, AllPairs, IsPermutation}
 use Rattle.std.specs.List.{range_with_len}
 use Rattle.std.specs.declared.cmp.Ordering.TheVariants.{Less, Greater}
 use Rattle.std.proofs.lemmas.List.{drop_more, get_or-map, length-drop, length-map, map-append, take-append-drop}
 use Rattle.std.proofs.lemmas.List.Elements.{All-cons, All-map, All-nil, All-take}
+use Rattle.std.proofs.lemmas.List.Sorted.{All-permutation, IsPermutation-map}
 use Rattle.tq_base.specs.declared.value.Value.{Value}
 use Rattle.tq_base.specs.declared.fragment.Fragment.{Fragment}
 use Rattle.tq_base.specs.declared.sides.Key.{Key}
@@ -13,7 +14,7 @@ use Rattle.tq_base.specs.ValueOrder.{values_cmp}
 use Rattle.tq_base.specs.Copies.{copies-IsPermutation}
 use Rattle.tq_base.specs.Groups.{closes_group, Grouping}
 use Rattle.tq_base.specs.KeyLaws.{whole_row}
-use Rattle.tq_base.specs.Keys.{columns_on, held, held_on, key_row, key_values, no_row, rows_on, IsKey, Rises, SidesState}
+use Rattle.tq_base.specs.Keys.{columns_on, held, held_on, key_row, key_values, no_row, rows_on, Held, IsKey, Rises, SidesState}
 use Rattle.tq_base.specs.Layering.{AddsLayers}
 use Rattle.tq_base.specs.Layers.{TakesIn}
 
@@ -27,30 +28,37 @@ AreWhole s keys = All (λ k. key_values s k ≡ (key_row s k).values) keys
 
 -- a key, as it is read past the end of a list
 abbrev pub end_key : Key
-end_key = record { rank = 0; start = 0; row = 0; side = side.Left }
+end_key = record { rank = 0; start = 0; row = 0; side = side.Left; begins = false }
 
 -- ---- what is gathered
 
--- the keys of all rows are left ones
-pub left_held : (s : SidesState) (keys : List Key) (rows : List Fragment) → map (held s) keys ≡ held_on side.Left rows → AreLeft keys
-left_held s [] rows is = All-nil (λ k. k.side ≡ side.Left)
-left_held s (k ∷ keys) [] is = cc
-left_held s (k ∷ keys) (row ∷ rows) is =
-    let first : held s k ≡ record { side = side.Left; row = row } = cc in
-    let rest : map (held s) keys ≡ held_on side.Left rows = cc in
-    All-cons (λ k. k.side ≡ side.Left) k keys (ap (λ h. h.side) first) (left_held s keys rows rest)
+held_rows : (s : SidesState) (keys : List Key) → map (λ (h : Held). h.row) (map (held s) keys) ≡ map (key_row s) keys
+held_rows s [] = refl
+held_rows s (k ∷ keys) = ap (λ l. key_row s k ∷ l) (held_rows s keys)
 
--- and stand for these rows
-pub rows_held : (s : SidesState) (keys : List Key) (rows : List Fragment) → map (held s) keys ≡ held_on side.Left rows → rows ≡ map (key_row s) keys
-rows_held s [] [] is = refl
-rows_held s [] (row ∷ rows) is = cc
-rows_held s (k ∷ keys) [] is = cc
-rows_held s (k ∷ keys) (row ∷ rows) is =
-    let first : held s k ≡ record { side = side.Left; row = row } = cc in
-    let rest : map (held s) keys ≡ held_on side.Left rows = cc in
-    let same : key_row s k ≡ row = ap (λ h. h.row) first in
-    let others : rows ≡ map (key_row s) keys = rows_held s keys rows rest in
-    cc (same, others)
+rows_held : (rows : List Fragment) → map (λ (h : Held). h.row) (held_on side.Left rows) ≡ rows
+rows_held [] = refl
+rows_held (row ∷ rows) = ap (λ l. row ∷ l) (rows_held rows)
+
+all_left : (rows : List Fragment) → All (λ (h : Held). h.side ≡ side.Left) (held_on side.Left rows)
+all_left [] = All-nil (λ (h : Held). h.side ≡ side.Left)
+all_left (row ∷ rows) = All-cons (λ (h : Held). h.side ≡ side.Left) (record { side = side.Left; row = row }) (held_on side.Left rows) refl (all_left rows)
+
+-- keys of left rows, in some order, stand for these rows
+pub rows_moved : (s : SidesState) (keys : List Key) (rows : List Fragment) → IsPermutation (held_on side.Left rows) (map (held s) keys) → IsPermutation rows (map (key_row s) keys)
+rows_moved s keys rows same =
+    subst (λ l. IsPermutation l (map (key_row s) keys)) (rows_held rows)
+    (subst (IsPermutation (map (λ (h : Held). h.row) (held_on side.Left rows))) (held_rows s keys) (IsPermutation-map (λ (h : Held). h.row) (held_on side.Left rows) (map (held s) keys) same))
+
+-- and are left ones
+pub left_moved : (s : SidesState) (keys : List Key) (rows : List Fragment) → IsPermutation (held_on side.Left rows) (map (held s) keys) → AreLeft keys
+left_moved s keys rows same =
+    let there : All (λ (h : Held). h.side ≡ side.Left) (map (held s) keys) = All-permutation (λ (h : Held). h.side ≡ side.Left) (held_on side.Left rows) (map (held s) keys) same (all_left rows) in
+    λ i d less. subst (λ (h : Held). h.side ≡ side.Left) (get_or-map (held s) keys i d (held s d) less) (there i (held s d) (omega (arith, less, length-map keys (held s))))
+
+-- left keys stand for rows of the left
+pub all_stand : (s : SidesState) (keys : List Key) → All (IsKey s) keys → AreLeft keys → All (λ k. k.row < length s.left) keys
+all_stand s keys are left i d less = subst (λ z. (get_or keys i d).row < length (rows_on s z)) (left i d less) (are i d less).stands
 
 -- ---- all columns
 

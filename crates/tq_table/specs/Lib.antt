@@ -2,3 +2,4 @@ pub mod Apart
 pub mod Sink
 pub mod Text
 pub mod Writing
+pub mod Merging

@@ -3,8 +3,9 @@
 ghost use Rattle.std.specs.Prelude.{◌≡◌, ◌<◌, All, IfOk, IsPermutation, List, OnOk, length, map};
 ghost use Rattle.std.specs.Bool.{OnTrue};
 ghost use Rattle.tq_base.specs.declared.value.Value.{Value};
+ghost use Rattle.tq_base.specs.declared.fragment.Fragment.{Fragment};
 ghost use Rattle.tq_base.specs.Fragments.{copies};
-ghost use Rattle.tq_base.specs.Keys.{key_row, IsKey, Rises};
+ghost use Rattle.tq_base.specs.Keys.{key_row, AreMarked, IsKey, Rises};
 ghost use Rattle.tq_base.specs.KeySides.{state_of};
 ghost use Rattle.tq_base.specs.Layers.{IsLayers};
 ghost use Rattle.tq_base.specs.Layering.{AddsLayers};
@@ -76,6 +77,7 @@ fn sorted_keys(alloc: Global, sides: &Sides<'_>) -> Result<Vec<Key>, AllocError>
     ensures rows { IfOk result (λ keys. IsPermutation sides.now.left.now.items (map (key_row (state_of sides.now)) keys.items)) }
     ensures left { IfOk result (λ keys. All (λ k. k.side ≡ Side.Left) keys.items) }
     ensures keys { IfOk result (λ keys. All (IsKey (state_of sides.now)) keys.items) }
+    ensures marks { IfOk result (λ keys. AreMarked (state_of sides.now) keys.items) }
     ensures rises { IfOk result (λ keys. Rises (state_of sides.now) keys.items) }
 {
     let mut keys = Vec::new(alloc);
@@ -112,8 +114,11 @@ fn lines_of(alloc: Global, rows: &Relation<'_>) -> Result<Vec<Line>, AllocError>
 /// then of the start, then of the end. No value is moved or copied. `AllocError` where a growth was
 /// refused.
 pub fn coalesce<'a>(alloc: Global, rows: Relation<'a>) -> Result<Lines<'a>, AllocError>
-    ensures { IfOk result (IsLayers (copies rows.entry.items)) }
+    ensures layers { IfOk result (IsLayers (copies rows.entry.items)) }
+    ensures width { IfOk result (λ lines. All (λ (row : Fragment). length row.values ≡ rows.entry.width) lines) }
 {
     let lines = lines_of(alloc, &rows)?;
-    Ok(Lines::of(rows.pick(alloc, &lines)?))
+    let picked = rows.pick(alloc, &lines)?;
+    picked.width();
+    Ok(Lines::of(picked))
 }

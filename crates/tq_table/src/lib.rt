@@ -10,6 +10,7 @@
 mod coalescing;
 mod layering;
 mod lines;
+mod merging;
 mod sending;
 mod sink;
 mod table;
@@ -17,6 +18,7 @@ mod text;
 
 pub use coalescing::coalesce;
 pub use lines::Lines;
+pub use merging::merge;
 pub use sink::{Sink, WriteFault};
 pub use table::Table;
 pub use text::{table_text, write_table};

@@ -6,7 +6,7 @@ ghost use Rattle.tq_base.specs.Relations.{values_at_number};
 
 use std::alloc::{AllocError, Global};
 use std::marker::Model;
-use tq_base::{Period, Relation, Row};
+use tq_base::{Period, Relation, Row, Rows};
 
 /// Rows with a period each, whose values stand where they stood; seen as their list.
 #[derive(Drop, Debug)]
@@ -51,6 +51,13 @@ impl<'a> Lines<'a> {
         ensures { (d : Fragment) → result ≡ (slice_index_or self.now line d).period }
     {
         self.rows.period(line)
+    }
+
+    /// The lines as rows of their own, their values copied. `AllocError` where a growth was refused.
+    pub fn copied(&self, alloc: Global) -> Result<Rows, AllocError>
+        ensures { IfOk result (λ rows. rows.items ≡ self.now) }
+    {
+        self.rows.copied(alloc)
     }
 
     /// The same lines, their values copied, so that nothing is lent. `AllocError` where a growth was refused.

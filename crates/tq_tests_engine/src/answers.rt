@@ -3,6 +3,7 @@
 mod histories;
 mod large;
 
+use histories::answered;
 use std::alloc::{AllocError, Global};
 use std::fmt::Write as Format;
 use std::io::{self, ErrorKind, Write};
@@ -10,7 +11,7 @@ use std::process::Abort;
 use std::test::Fail;
 use tq_base::Items;
 use tq_engine::{AnswerFault, answer, answer_bytes};
-use tq_event::{LoadFault, LoadFaultKind, TableFile};
+use tq_event::{LoadFault, LoadFaultKind, MAX_EVENTS, TableFile};
 use tq_plan::PlanFault;
 use tq_sql::{SqlFault, SqlFaultKind};
 use tq_table::Sink;
@@ -34,7 +35,7 @@ fn files_of(alloc: Global, tables: &[(&[u8], &[u8])]) -> Result<Vec<TableFile>, 
     Ok(files)
 }
 
-// Has a statement answered over the tables, and compares what was written.
+// Has a statement answered over the tables, and as of all events that they make, and compares what was written.
 fn assert_answers(
     rt: &(impl Abort + AllocGlobal),
     tables: &[(&[u8], &[u8])],
@@ -49,6 +50,10 @@ fn assert_answers(
     );
     assert_eq!(rt; sink.failed(), 0);
     assert_eq!(rt; sink.into_inner().as_slice(), wanted);
+    assert_eq!(rt;
+        answered(rt.alloc(), tables, MAX_EVENTS, statement)?.as_slice(),
+        wanted
+    );
     Ok(())
 }
 

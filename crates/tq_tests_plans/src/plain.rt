@@ -1,10 +1,10 @@
 // Statements over small tables, tried instant by instant: the definition against answers worked by hand, and
 // answers of random statements against the definition.
 
-ghost use Rattle.std.specs.Prelude.{All, IfOk};
-ghost use Rattle.tq_plan.specs.Standing.{IsPlan};
-ghost use Rattle.tq_eval.specs.Running.{Fits};
+ghost use Rattle.std.specs.Prelude.{IfOk};
+ghost use Rattle.tq_plan.specs.Standing.{IsPlanOver};
 
+mod as_of;
 mod counts;
 mod histories;
 mod random;
@@ -13,12 +13,12 @@ mod rows;
 use std::alloc::{AllocError, Global};
 use std::process::Abort;
 use std::test::Fail;
-use tq_base::{FOREVER, Items, Seen, Value};
-use tq_event::laws::loaded_is_history;
-use tq_event::{Loaded, MAX_EVENTS, TableFile, load};
+use tq_base::{Catalogue, FOREVER, Items, Seen, Value};
+use tq_event::{Event, MAX_EVENTS, TableFile, load};
 use tq_plain::rows_at;
 use tq_plan::{Plan, plan};
 use tq_sql::read;
+use tq_store::Db;
 
 const EMP: &[u8] = b"emp:int,name:text,dept:text,from,to
 1,ann,toys,10,20
@@ -30,10 +30,10 @@ const EMP: &[u8] = b"emp:int,name:text,dept:text,from,to
 // A row of an answer: its values, divided by commas, and from when until when it is valid.
 type Expected<'a> = (&'a str, u64, u64);
 
-// A statement over tables: what the tables hold, and its plan.
+// A statement over tables: a Db that took what they hold, and its plan.
 #[derive(Drop)]
 struct Question {
-    loaded: Loaded,
+    db: Db,
     plan: Plan,
 }
 
@@ -49,15 +49,25 @@ fn files_of(alloc: Global, tables: &[(&[u8], &[u8])]) -> Result<Vec<TableFile>, 
     Ok(files)
 }
 
+// A Db that took the events.
+fn db_of(alloc: Global, catalogue: Catalogue, events: &[Event]) -> Result<Db, Fail> {
+    let mut db = Db::new(alloc, catalogue)?;
+    for event in events {
+        if db.count() >= MAX_EVENTS || !db.apply(event)? {
+            return Err(Fail::from("an event is refused"));
+        }
+    }
+    Ok(db)
+}
+
 fn asked(alloc: Global, tables: &[(&[u8], &[u8])], statement: &str) -> Result<Question, Fail>
-    ensures fit { IfOk result (λ question. All (Fits question.loaded.catalogue) question.loaded.events) }
-    ensures plan { IfOk result (λ question. IsPlan question.plan) }
+    ensures { IfOk result (λ question. IsPlanOver question.db.catalogue question.plan) }
 {
     let loaded = load(alloc, files_of(alloc, tables)?, MAX_EVENTS)?;
-    loaded_is_history();
     let statement = read(alloc, statement.as_bytes())?;
-    let plan = plan(alloc, &loaded.catalogue, &statement)?;
-    Ok(Question { loaded, plan })
+    let db = db_of(alloc, loaded.catalogue, loaded.events.get())?;
+    let plan = plan(alloc, db.catalogue(), &statement)?;
+    Ok(Question { db, plan })
 }
 
 // The values of a row, divided by commas.
@@ -76,9 +86,14 @@ fn line_of(alloc: Global, row: &[Value]) -> Result<String, AllocError> {
 }
 
 // The rows of the answer at the instant as of the first `n` events, in order.
-fn lines_at(alloc: Global, question: &Question, n: u32, instant: u64) -> Result<Vec<String>, Fail> {
-    let events = question.loaded.events.get();
-    let rows = rows_at(alloc, events, n, &question.plan, instant)?;
+fn lines_at(
+    alloc: Global,
+    db: &Db,
+    plan: &Plan,
+    n: u32,
+    instant: u64,
+) -> Result<Vec<String>, Fail> {
+    let rows = rows_at(alloc, db.events(), n, plan, instant)?;
     let mut lines = Vec::new(alloc);
     for row in &rows {
         lines.push(line_of(alloc, row.get())?)?;
@@ -112,7 +127,13 @@ fn assert_instants(
 ) -> Result<(), Fail> {
     for instant in instants {
         assert_eq!(rt;
-            lines_at(rt.alloc(), question, MAX_EVENTS, *instant)?,
+            lines_at(
+                rt.alloc(),
+                &question.db,
+                &question.plan,
+                MAX_EVENTS,
+                *instant
+            )?,
             expected_at(rt.alloc(), expected, *instant)?,
             "at {instant}"
         );

@@ -1,10 +1,9 @@
 // Statements over small catalogues, written out.
 
-ghost use Rattle.std.specs.Prelude.{IfOk};
-ghost use Rattle.tq_plan.specs.Standing.{IsPlan};
-
 mod answers;
 mod faults;
+mod keyed;
+mod keys;
 mod plans;
 mod windows;
 
@@ -41,9 +40,7 @@ fn catalogue_of(alloc: Global, tables: &[(&[u8], &[u8])]) -> Result<Catalogue, L
 }
 
 // The plan of a statement over these tables.
-fn planned(alloc: Global, tables: &[(&[u8], &[u8])], statement: &[u8]) -> Result<Plan, Fail>
-    ensures { IfOk result (λ plan. IsPlan plan) }
-{
+fn planned(alloc: Global, tables: &[(&[u8], &[u8])], statement: &[u8]) -> Result<Plan, Fail> {
     let catalogue = catalogue_of(alloc, tables)?;
     let statement = read(alloc, statement)?;
     Ok(plan(alloc, &catalogue, &statement)?)

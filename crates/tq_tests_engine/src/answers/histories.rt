@@ -3,25 +3,29 @@
 use super::{EMP, files_of};
 use std::alloc::Global;
 use std::test::Fail;
-use tq_engine::laws::histories_fit;
-use tq_eval::answer_list;
-use tq_event::laws::loaded_is_history;
+use tq_eval::answer;
 use tq_event::{MAX_EVENTS, load};
 use tq_plan::plan;
 use tq_sql::read;
+use tq_store::Db;
 use tq_table::table_text;
 
-// The text of a statement's answer as of the first events of `emp`.
-fn answered(alloc: Global, n: u32, statement: &[u8]) -> Result<Vec<u8>, Fail> {
-    let loaded = load(alloc, files_of(alloc, &[(b"emp", EMP)])?, MAX_EVENTS)?;
-    let plan = plan(alloc, &loaded.catalogue, &read(alloc, statement)?)?;
-    let events = loaded.events.get();
-    if events.len() < n as usize {
-        return Err(Fail::from("so many events"));
+/// The text of a statement's answer as of the first events of the tables, of all where there are fewer.
+pub fn answered(
+    alloc: Global,
+    tables: &[(&[u8], &[u8])],
+    n: u32,
+    statement: &[u8],
+) -> Result<Vec<u8>, Fail> {
+    let loaded = load(alloc, files_of(alloc, tables)?, MAX_EVENTS)?;
+    let mut db = Db::new(alloc, loaded.catalogue)?;
+    for event in loaded.events.get() {
+        if db.count() >= MAX_EVENTS || !db.apply(event)? {
+            return Err(Fail::from("an event is refused"));
+        }
     }
-    loaded_is_history();
-    histories_fit();
-    let table = answer_list(alloc, &loaded.catalogue, events, n, &plan)?;
+    let plan = plan(alloc, db.catalogue(), &read(alloc, statement)?)?;
+    let table = answer(alloc, &db, n.min(db.count()), &plan)?;
     Ok(table_text(alloc, &table)?)
 }
 
@@ -47,13 +51,23 @@ fn later_events_are_not_known_yet(rt: HostRuntime) -> Result<(), Fail> {
             b"0,0,5\n1,5,10\n1,30,forever\n2,10,15\n2,25,30\n3,15,25\n",
         ),
     ] {
-        let text = answered(rt.alloc(), n, b"VALIDTIME SELECT name FROM emp")?;
+        let text = answered(
+            rt.alloc(),
+            &[(b"emp", EMP)],
+            n,
+            b"VALIDTIME SELECT name FROM emp",
+        )?;
         let (header, rows) = text
             .as_slice()
             .split_at(b"name,from,to\n".len().min(text.len()));
         assert_eq!(rt; header, b"name,from,to\n".as_slice());
         assert_eq!(rt; rows, names, "{n} events");
-        let text = answered(rt.alloc(), n, b"VALIDTIME SELECT COUNT(*) FROM emp")?;
+        let text = answered(
+            rt.alloc(),
+            &[(b"emp", EMP)],
+            n,
+            b"VALIDTIME SELECT COUNT(*) FROM emp",
+        )?;
         let (_, rows) = text
             .as_slice()
             .split_at(b"count,from,to\n".len().min(text.len()));

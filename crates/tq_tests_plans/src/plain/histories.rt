@@ -6,6 +6,7 @@ use std::test::Fail;
 use tq_base::{Instant, Items, Value, Values};
 use tq_event::{Event, MAX_EVENTS};
 use tq_plain::{PlainFault, rows_at};
+use tq_plan::QuerySource;
 
 #[test]
 fn later_events_are_not_seen(rt: HostRuntime) -> Result<(), Fail> {
@@ -15,7 +16,7 @@ fn later_events_are_not_seen(rt: HostRuntime) -> Result<(), Fail> {
         "VALIDTIME SELECT COUNT(*) FROM emp WHERE name = 'ann'",
     )?;
     for (n, count) in [(0, "0"), (1, "0"), (2, "1"), (4, "0"), (5, "1"), (100, "0")] {
-        let lines = lines_at(rt.alloc(), &question, n, 35)?;
+        let lines = lines_at(rt.alloc(), &question.db, &question.plan, n, 35)?;
         assert_eq!(rt; lines.len(), 1);
         assert_eq!(rt; lines[0].as_str(), count, "as of the first {n} events");
     }
@@ -36,8 +37,17 @@ fn a_query_may_have_any_number_of_sources(rt: HostRuntime) -> Result<(), Fail> {
         (&[0, 0, 0, 0, 0], "243"),
     ];
     for (tables, count) in cases {
-        question.plan.left.tables = Items::of(tables.to_vec(rt.alloc())?);
-        let lines = lines_at(rt.alloc(), &question, MAX_EVENTS, 22)?;
+        let mut sources = Vec::new(rt.alloc());
+        for table in tables {
+            sources.push(QuerySource {
+                table: *table,
+                first: 0,
+                width: 3,
+                numbered: true,
+            })?;
+        }
+        question.plan.left.sources = Items::of(sources);
+        let lines = lines_at(rt.alloc(), &question.db, &question.plan, MAX_EVENTS, 22)?;
         assert_eq!(rt; lines.len(), 1);
         assert_eq!(rt; lines[0].as_str(), count, "of {tables:?}");
     }

@@ -9,18 +9,18 @@ use std::fmt::Write;
 use std::process::Abort;
 use std::test::Fail;
 use tq_base::{FOREVER, Kind};
-use tq_eval::answer_list;
+use tq_eval::answer;
 use tq_table::Table;
 
 /// A linear congruential generator.
 #[derive(Drop)]
-struct Draws {
-    state: u64,
+pub(super) struct Draws {
+    pub(super) state: u64,
 }
 
 impl Draws {
     // The next number below the limit.
-    fn below(&mut self, limit: u64) -> u64
+    pub(super) fn below(&mut self, limit: u64) -> u64
         ensures { result < max limit 1 }
     {
         self.state = self
@@ -31,7 +31,7 @@ impl Draws {
     }
 
     // One of the words.
-    fn word<'a>(&mut self, words: &[&'a str]) -> &'a str {
+    pub(super) fn word<'a>(&mut self, words: &[&'a str]) -> &'a str {
         let place = self.below(words.len() as u64) as usize;
         match words.get(place) {
             Some(word) => *word,
@@ -48,7 +48,7 @@ impl Draws {
 }
 
 // Texts that a value has room for, and two that differ in their last byte alone, behind it.
-const TEXTS: [&str; 4] = ["a", "b", "text of 15 byte", "text of 15 bytf"];
+pub(super) const TEXTS: [&str; 4] = ["a", "b", "text of 15 byte", "text of 15 bytf"];
 
 // ---- tables
 
@@ -302,7 +302,11 @@ fn push_window(text: &mut String, draws: &mut Draws) -> Result<(), AllocError> {
 }
 
 // A statement whose first query has so many sources, and its second, if it has one, at most as many.
-fn random_statement(alloc: Global, draws: &mut Draws, sources: u64) -> Result<String, AllocError> {
+pub(super) fn random_statement(
+    alloc: Global,
+    draws: &mut Draws,
+    sources: u64,
+) -> Result<String, AllocError> {
     let mut kinds = Vec::new(alloc);
     for _ in 0..draws.below(3) + 1 {
         kinds.push(draws.kind())?;
@@ -323,7 +327,11 @@ fn random_statement(alloc: Global, draws: &mut Draws, sources: u64) -> Result<St
 // ---- answers
 
 // The rows of the table that are valid at the instant, in order.
-fn valid_lines(alloc: Global, table: &Table<'_>, instant: u64) -> Result<Vec<String>, AllocError> {
+pub(super) fn valid_lines(
+    alloc: Global,
+    table: &Table<'_>,
+    instant: u64,
+) -> Result<Vec<String>, AllocError> {
     let mut lines = Vec::new(alloc);
     let mut values = Vec::new(alloc);
     for line in 0..table.rows.len() {
@@ -352,14 +360,12 @@ fn assert_agrees(
         (b"c".as_slice(), files.c.as_bytes()),
     ];
     let question = asked(rt.alloc(), &tables, statement)?;
-    let events = question.loaded.events.get();
     let most = match draws.below(4) {
-        0 => draws.below(60),
+        0 => draws.below(60) as u32,
         _ => 100,
     };
-    let n = events.len().min(most as usize) as u32;
-    let catalogue = &question.loaded.catalogue;
-    let table = answer_list(rt.alloc(), catalogue, events, n, &question.plan)?;
+    let n = question.db.count().min(most);
+    let table = answer(rt.alloc(), &question.db, n, &question.plan)?;
     let mut seen: usize = 0;
     for _ in 0..5 {
         let instant = match draws.below(10) {
@@ -370,7 +376,7 @@ fn assert_agrees(
         seen = seen.saturating_add(lines.len());
         assert_eq!(rt;
             lines,
-            lines_at(rt.alloc(), &question, n, instant)?,
+            lines_at(rt.alloc(), &question.db, &question.plan, n, instant)?,
             "{statement} as of {n} events at {instant}"
         );
     }

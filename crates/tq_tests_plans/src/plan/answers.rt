@@ -1,79 +1,48 @@
 // Answers over tables of rows, written out.
 
-ghost use Rattle.std.specs.Prelude.{◌≡◌, All, IfOk, OnOk};
-ghost use Rattle.tq_base.specs.declared.fragment.Fragment.{Fragment};
+ghost use Rattle.std.specs.Prelude.{IfOk};
 ghost use Rattle.tq_event.specs.Tables.{lists_of};
-ghost use Rattle.tq_eval.specs.Running.{AreNumbers};
-ghost use Rattle.tq_plan.specs.Standing.{IsPlan};
-ghost use Rattle.tq_eval.specs.TableAnswers.{AreAllNumbers};
+ghost use Rattle.tq_eval.specs.Fitting.{AreAllFitting};
 
-use super::planned;
+use super::files_of;
 use std::alloc::Global;
 use std::process::Abort;
 use std::test::Fail;
-use tq_base::{Bound, FOREVER, Instant, Period, Rows, Value};
 use tq_eval::answer_tables;
-use tq_plan::Plan;
+use tq_eval::laws::held_rows_fit;
+use tq_event::laws::{loaded_is_history, tables_are_loaded};
+use tq_event::{MAX_EVENTS, Tables, load_tables};
+use tq_plan::plan;
+use tq_sql::read;
 use tq_table::table_text;
 
-// A number and a text, from when until when.
-type Told<'a> = (i64, &'a str, u64, u64);
-
 const STAFF: &[u8] = b"id:int,name:text,from,to
+2,bob,15,25
+1,ann,20,30
+1,ann,10,20
 ";
 
 const PAY: &[u8] = b"amount:int,who:text,from,to
+7,ann,12,forever
 ";
 
-fn period(start: u64, end: u64) -> Result<Period, Fail> {
-    let start = Instant::new(start).ok_or("no instant")?;
-    let end = Bound::new(end).ok_or("no bound")?;
-    Ok(Period::new(start, end).ok_or("no period")?)
-}
-
-fn add_pair(
-    alloc: Global,
-    number: i64,
-    content: &str,
-    period: Period,
-    rows: &mut Rows,
-) -> Result<(), Fail>
-    requires { rows.old.width ≡ 2 }
-    ensures width { rows.new.width ≡ 2 }
-    ensures numbers { OnOk result (All (λ (row : Fragment). AreNumbers row.values) rows.old.items → All (λ (row : Fragment). AreNumbers row.values) rows.new.items) }
+// The tables of files of these names and bytes.
+pub(super) fn tables_of(alloc: Global, files: &[(&[u8], &[u8])]) -> Result<Tables, Fail>
+    ensures { IfOk result (λ tables. AreAllFitting tables.catalogue (lists_of tables.rows)) }
 {
-    let number = Value::int(number);
-    let text = Value::text(alloc, content)?;
-    rows.push(&mut vec![in alloc; number, text]?, period)?;
-    Ok(())
-}
-
-fn pairs(alloc: Global, told: &[Told<'_>]) -> Result<Rows, Fail>
-    ensures { IfOk result (λ rows. All (λ (row : Fragment). AreNumbers row.values) rows.items) }
-{
-    let mut rows = Rows::new(alloc, 2);
-    'rows: for (number, content, start, end) in told {
-        add_pair(alloc, *number, content, period(*start, *end)?, &mut rows)?;
-    }
-    Ok(rows)
-}
-
-fn tables(alloc: Global, told: &[&[Told<'_>]]) -> Result<Vec<Rows>, Fail>
-    ensures { IfOk result (λ tables. AreAllNumbers (lists_of tables.items)) }
-{
-    let mut tables = Vec::new(alloc);
-    'tables: for rows in told {
-        tables.push(pairs(alloc, rows)?)?;
-    }
+    let tables = load_tables(alloc, files_of(alloc, files)?, MAX_EVENTS)?;
+    tables_are_loaded();
+    loaded_is_history();
+    held_rows_fit();
     Ok(tables)
 }
 
-// The text of the plan's answer over the tables.
-fn answered(alloc: Global, tables: &[Rows], plan: &Plan) -> Result<Vec<u8>, Fail>
-    requires numbers { AreAllNumbers (lists_of tables.now) }
-    requires plan { IsPlan plan.now }
+// The text of the statement's answer over the tables.
+pub(super) fn answered(alloc: Global, tables: &Tables, statement: &[u8]) -> Result<Vec<u8>, Fail>
+    requires { AreAllFitting tables.now.catalogue (lists_of tables.now.rows) }
 {
-    let table = answer_tables(alloc, tables, plan)?;
+    let plan = plan(alloc, &tables.catalogue, &read(alloc, statement)?)?;
+    let table = answer_tables(alloc, &tables.catalogue, tables.rows.get(), &plan)?;
     Ok(table_text(alloc, &table)?)
 }
 
@@ -82,17 +51,10 @@ fn assert_answered(
     rt: &(impl Abort + AllocGlobal),
     answers: &[(&[u8], &[u8])],
 ) -> Result<(), Fail> {
-    let tables = tables(
-        rt.alloc(),
-        &[
-            &[(2, "bob", 15, 25), (1, "ann", 20, 30), (1, "ann", 10, 20)],
-            &[(7, "ann", 12, FOREVER)],
-        ],
-    )?;
+    let tables = tables_of(rt.alloc(), &[(b"staff", STAFF), (b"pay", PAY)])?;
     for (statement, wanted) in answers {
-        let plan = planned(rt.alloc(), &[(b"staff", STAFF), (b"pay", PAY)], statement)?;
         assert_eq!(rt;
-            answered(rt.alloc(), &tables, &plan)?.as_slice(),
+            answered(rt.alloc(), &tables, statement)?.as_slice(),
             *wanted,
             "{statement:?}"
         );

@@ -5,7 +5,7 @@ use std::alloc::{AllocError, Global};
 use std::test::Fail;
 use tq_ops::{Compare, Operand, Test};
 use tq_plan::Output::{Column, Count, Sum};
-use tq_plan::{PlanFault, plan};
+use tq_plan::{PlanFault, QueryPlan, QuerySource, plan};
 use tq_sql::read;
 
 const PAY: &[u8] = b"id:int,who:text,amount:int,from,to
@@ -14,6 +14,15 @@ const PAY: &[u8] = b"id:int,who:text,amount:int,from,to
 const SHORT: &[u8] = b"a:int,from,to
 ";
 
+// The tables of the query's sources.
+fn tables_of(alloc: Global, query: &QueryPlan) -> Result<Vec<u32>, AllocError> {
+    let mut tables = Vec::new(alloc);
+    for source in query.sources.get() {
+        tables.push(source.table)?;
+    }
+    Ok(tables)
+}
+
 #[test]
 fn a_plan_numbers_tables_and_columns(rt: HostRuntime) -> Result<(), Fail> {
     let plan = planned(
@@ -21,7 +30,10 @@ fn a_plan_numbers_tables_and_columns(rt: HostRuntime) -> Result<(), Fail> {
         &[(b"pay", PAY), (b"emp", EMP)],
         b"VALIDTIME SELECT dept, name, dept FROM Emp",
     )?;
-    assert_eq!(rt; plan.left.tables.get(), [1].as_slice());
+    assert_eq!(rt;
+        tables_of(rt.alloc(), &plan.left)?.as_slice(),
+        [1].as_slice()
+    );
     assert!(rt; plan.left.test.is_none());
     assert!(rt; plan.left.group.get().is_empty());
     assert_eq!(rt;
@@ -51,7 +63,10 @@ fn the_places_of_a_join_go_on_over_its_sources(rt: HostRuntime) -> Result<(), Fa
         &[(b"emp", EMP)],
         b"VALIDTIME SELECT x.name, y.name FROM emp x, emp AS y WHERE x.dept = y.dept AND x.name < y.name",
     )?;
-    assert_eq!(rt; plan.left.tables.get(), [0, 0].as_slice());
+    assert_eq!(rt;
+        tables_of(rt.alloc(), &plan.left)?.as_slice(),
+        [0, 0].as_slice()
+    );
     assert_eq!(rt; plan.left.outputs.get(), [Column(1), Column(4)].as_slice());
     assert_eq!(rt;
         names_of(rt.alloc(), &plan)?.as_slice(),
@@ -74,7 +89,10 @@ fn a_join_of_two_tables_is_grouped_and_summed(rt: HostRuntime) -> Result<(), Fai
             WHERE NOT p.who <> emp.name OR amount >= emp
             GROUP BY emp.name, dept",
     )?;
-    assert_eq!(rt; plan.left.tables.get(), [1, 0].as_slice());
+    assert_eq!(rt;
+        tables_of(rt.alloc(), &plan.left)?.as_slice(),
+        [1, 0].as_slice()
+    );
     assert_eq!(rt; plan.left.group.get(), [4, 5].as_slice());
     assert_eq!(rt;
         plan.left.outputs.get(),
@@ -98,7 +116,10 @@ fn the_places_of_four_sources_go_on_over_all_of_them(rt: HostRuntime) -> Result<
         &[(b"emp", EMP), (b"pay", PAY), (b"short", SHORT)],
         b"VALIDTIME SELECT f.name, amount, a, e.dept FROM emp e, short, pay, emp f WHERE a = f.emp",
     )?;
-    assert_eq!(rt; plan.left.tables.get(), [0, 2, 1, 0].as_slice());
+    assert_eq!(rt;
+        tables_of(rt.alloc(), &plan.left)?.as_slice(),
+        [0, 2, 1, 0].as_slice()
+    );
     assert_eq!(rt;
         plan.left.outputs.get(),
         [Column(8), Column(6), Column(3), Column(2)].as_slice()
@@ -111,19 +132,57 @@ fn the_places_of_four_sources_go_on_over_all_of_them(rt: HostRuntime) -> Result<
 }
 
 #[test]
+fn sources_stand_one_after_the_other(rt: HostRuntime) -> Result<(), Fail> {
+    let plan = planned(
+        rt.alloc(),
+        &[
+            (b"emp", EMP),
+            (b"pay", PAY),
+            (b"names", b"name:text,size:int,from,to\n"),
+        ],
+        b"VALIDTIME SELECT COUNT(*) FROM pay, names, emp",
+    )?;
+    let sources = [
+        QuerySource {
+            table: 1,
+            first: 0,
+            width: 3,
+            numbered: true,
+        },
+        QuerySource {
+            table: 2,
+            first: 3,
+            width: 2,
+            numbered: false,
+        },
+        QuerySource {
+            table: 0,
+            first: 5,
+            width: 3,
+            numbered: true,
+        },
+    ];
+    assert_eq!(rt; plan.left.sources.get(), sources.as_slice());
+    Ok(())
+}
+
+#[test]
 fn both_sides_of_a_difference_have_numbers_of_their_own(rt: HostRuntime) -> Result<(), Fail> {
     let plan = planned(
         rt.alloc(),
         &[(b"emp", EMP), (b"pay", PAY)],
         b"VALIDTIME SELECT name AS a FROM emp EXCEPT ALL SELECT who AS b FROM pay GROUP BY who",
     )?;
-    assert_eq!(rt; plan.left.tables.get(), [0].as_slice());
+    assert_eq!(rt;
+        tables_of(rt.alloc(), &plan.left)?.as_slice(),
+        [0].as_slice()
+    );
     assert_eq!(rt; plan.left.outputs.get(), [Column(1)].as_slice());
     assert!(rt; plan.left.group.get().is_empty());
     let Some(right) = &plan.right else {
         return Err("a query after EXCEPT ALL".into());
     };
-    assert_eq!(rt; right.tables.get(), [1].as_slice());
+    assert_eq!(rt; tables_of(rt.alloc(), right)?.as_slice(), [1].as_slice());
     assert_eq!(rt; right.outputs.get(), [Column(1)].as_slice());
     assert_eq!(rt; right.group.get(), [1].as_slice());
     Ok(())

@@ -2,7 +2,7 @@
 
 ghost use Rattle.std.specs.Prelude.{All, IfOk};
 ghost use Rattle.tq_base.specs.KeySides.{state_of};
-ghost use Rattle.tq_base.specs.Keys.{IsKey};
+ghost use Rattle.tq_base.specs.Keys.{IsFresh};
 
 use super::{period, text};
 use std::alloc::{AllocError, Global};
@@ -29,7 +29,7 @@ fn left_keys(
     sides: &Sides<'_>,
     window: Option<&Period>,
 ) -> Result<Vec<Key>, AllocError>
-    ensures { IfOk result (λ keys. All (IsKey (state_of sides.now)) keys.items) }
+    ensures { IfOk result (λ keys. All (IsFresh (state_of sides.now)) keys.items) }
 {
     let mut keys = Vec::new(alloc);
     sides.add_keys(Side::Left, window, &mut keys)?;
@@ -38,7 +38,7 @@ fn left_keys(
 
 // The keys of the rows of both sides.
 fn both_keys(alloc: Global, sides: &Sides<'_>) -> Result<Vec<Key>, AllocError>
-    ensures { IfOk result (λ keys. All (IsKey (state_of sides.now)) keys.items) }
+    ensures { IfOk result (λ keys. All (IsFresh (state_of sides.now)) keys.items) }
 {
     let mut keys = left_keys(alloc, sides, None)?;
     sides.add_keys(Side::Right, None, &mut keys)?;

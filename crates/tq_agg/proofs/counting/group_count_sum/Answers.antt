@@ -9,7 +9,8 @@ use Rattle.tq_base.specs.declared.fragment.Fragment.{Fragment}
 use Rattle.tq_base.specs.declared.sides.Key.{Key}
 use Rattle.tq_base.specs.Periods.{holds}
 use Rattle.tq_base.specs.Fragments.{at, copies, occurrences}
-use Rattle.tq_base.specs.Keys.{key_row, key_values, overlapping, IsKey}
+use Rattle.tq_base.specs.KeyLaws.{marks_rest}
+use Rattle.tq_base.specs.Keys.{key_row, key_values, overlapping, AreMarked, IsKey}
 use Rattle.tq_agg.specs.declared.summands.Summand.{Summand}
 use Rattle.tq_agg.specs.declared.summands.Summand.TheVariants.{Column, One}
 use Rattle.tq_agg.specs.Grouping.{grouped_rows, AreSummable}
@@ -52,7 +53,11 @@ pub run_len-requires : goal.run_len-requires
 run_len-requires c =
     let sorted = c.sort.new.keys.items in
     let Is : Key → Type 0 = λ k. IsKey (groups_state c.args.rows.now.items c.args.keys.now) k in
-    record { keys = rw c.deref.ensures.value (All-take Is (length sorted - c.groups.start) (drop c.groups.start sorted) (All-drop Is c.groups.start sorted c.in_ok-sort.ensures.keys)) }
+    let s = groups_state c.args.rows.now.items c.args.keys.now in
+    record {
+      keys = rw c.deref.ensures.value (All-take Is (length sorted - c.groups.start) (drop c.groups.start sorted) (All-drop Is c.groups.start sorted c.in_ok-sort.ensures.keys));
+      marks = rw c.deref.ensures.value (subst (AreMarked s) (sym (take_rest sorted c.groups.start)) (marks_rest s sorted c.groups.start c.in_ok-sort.ensures.marks));
+    }
 
 -- the keys that the run_len is asked of
 pub run : (c : goal.In_ok-add_group)
@@ -110,7 +115,7 @@ add_group-requires-clause-small c =
     let sorted = c.sort.new.keys.items in
     let start = c.groups.start in
     let len = c.groups.start + c.run_len.result - c.groups.start in
-    let same = rows_same rows columns c.args.window.now c.new-sorted.result.items c.add_keys.new.keys.items sorted c.new-sorted.ensures.items c.in_ok-add_keys.ensures.rows c.in_ok-sort.ensures.same in
+    let same = rows_same rows columns c.args.window.now c.new-sorted.result.items c.add_keys.new.keys.items sorted c.new-sorted.ensures.items c.in_ok-add_keys.ensures.rows c.in_ok-sort.ensures.rows in
     let row : Key → Fragment = λ k. key_row (groups_state rows columns) k in
     let fit = sorted_fit c.args.window.now sums rows (map row sorted) c.requires.summable same in
     let Fit : Fragment → Type 0 = λ r. AreSummable sums r.values in
@@ -150,7 +155,7 @@ returns-clause-inside c =
     let sorted = c.sort.new.keys.items in
     inside_from_counts c.args.window.now c.groups.out.items (λ t v. occurrences (grouped_rows c.args.keys.now c.args.sums.now (at rows t)) v)
     (all_counted c.args.window.now c.args.keys.now c.args.sums.now c.in_ok-summands.summands.items rows (map (key_row (groups_state rows c.args.keys.now)) sorted) c.groups.start c.groups.out.items c.in_ok-summands.ensures
-    (rows_same rows c.args.keys.now c.args.window.now c.new-sorted.result.items c.add_keys.new.keys.items sorted c.new-sorted.ensures.items c.in_ok-add_keys.ensures.rows c.in_ok-sort.ensures.same)
+    (rows_same rows c.args.keys.now c.args.window.now c.new-sorted.result.items c.add_keys.new.keys.items sorted c.new-sorted.ensures.items c.in_ok-add_keys.ensures.rows c.in_ok-sort.ensures.rows)
     (omega (arith, c.groups-test.false, c.len-in-groups.ensures, c.sort.new.keys.ok.0, length-map sorted (key_row (groups_state rows c.args.keys.now)))) c.groups.invariant.grouping)
 
 pub returns-clause-outside : goal.returns-clause-outside
@@ -159,5 +164,5 @@ returns-clause-outside c =
     let sorted = c.sort.new.keys.items in
     outside_from_counts c.args.window.now c.groups.out.items (λ t v. occurrences (grouped_rows c.args.keys.now c.args.sums.now (at rows t)) v)
     (all_counted c.args.window.now c.args.keys.now c.args.sums.now c.in_ok-summands.summands.items rows (map (key_row (groups_state rows c.args.keys.now)) sorted) c.groups.start c.groups.out.items c.in_ok-summands.ensures
-    (rows_same rows c.args.keys.now c.args.window.now c.new-sorted.result.items c.add_keys.new.keys.items sorted c.new-sorted.ensures.items c.in_ok-add_keys.ensures.rows c.in_ok-sort.ensures.same)
+    (rows_same rows c.args.keys.now c.args.window.now c.new-sorted.result.items c.add_keys.new.keys.items sorted c.new-sorted.ensures.items c.in_ok-add_keys.ensures.rows c.in_ok-sort.ensures.rows)
     (omega (arith, c.groups-test.false, c.len-in-groups.ensures, c.sort.new.keys.ok.0, length-map sorted (key_row (groups_state rows c.args.keys.now)))) c.groups.invariant.grouping)

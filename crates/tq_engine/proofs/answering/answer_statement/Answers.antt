@@ -2,7 +2,7 @@ use Rattle.std.proofs.Common.{List, length, get_or, sym, subst}
 use Rattle.tq_base.specs.RowLists.{RowList}
 use Rattle.tq_event.specs.Tables.{lists_of}
 use Rattle.tq_eval.specs.Answers.{IsTablesAnswer, tables_read}
-use Rattle.tq_eval.specs.TableAnswers.{AreAllNumbers}
+use Rattle.tq_eval.specs.Fitting.{AreAllFitting}
 use Rattle.tq_engine.proofs.answering.answer_statement.Goals as goal
 
 pub returns-clause-answer : goal.returns-clause-answer
@@ -16,5 +16,8 @@ returns-clause-answer c history hold = record {
       (subst (λ (tables : List RowList). IsTablesAnswer (lists_of tables) c.in_ok-plan.plan c.in_ok-table.table) c.get.ensures c.in_ok-table.ensures);
 }
 
-pub answer_tables-requires-clause-numbers : goal.answer_tables-requires-clause-numbers
-answer_tables-requires-clause-numbers c = subst (λ (tables : List RowList). AreAllNumbers (lists_of tables)) (sym c.get.ensures) c.requires.numbers
+pub answer_tables-requires-clause-fit : goal.answer_tables-requires-clause-fit
+answer_tables-requires-clause-fit c = subst (λ (tables : List RowList). AreAllFitting c.args.tables.now.catalogue (lists_of tables)) (sym c.get.ensures) c.requires.fit
+
+pub answer_tables-requires-clause-plan : goal.answer_tables-requires-clause-plan
+answer_tables-requires-clause-plan c = record { statement = c.args.statement.now; planned = c.in_ok-plan.ensures.plan }

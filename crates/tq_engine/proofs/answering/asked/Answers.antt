@@ -1,9 +1,10 @@
-use Rattle.std.proofs.Common.{length, ap}
+use Rattle.std.proofs.Common.{length, ap, subst}
 use Rattle.std.proofs.lemmas.Result.{err_from_is_err_and}
+use Rattle.tq_base.specs.declared.catalogue.Catalogue.{Catalogue}
+use Rattle.tq_eval.specs.Fitting.{AreAllFitting}
 use Rattle.tq_event.specs.Tables.{lists_of, AreLoaded}
 use Rattle.tq_sql.specs.declared.fault.SqlFault.{SqlFault}
 use Rattle.tq_engine.proofs.FaultLemmas.{sql_fault}
-use Rattle.tq_engine.proofs.NumberLemmas.{numbers_of_history}
 use Rattle.tq_engine.proofs.answering.asked.Goals as goal
 
 pub returns-in_err-statement-clause-fault : goal.returns-in_err-statement-clause-fault
@@ -19,8 +20,9 @@ returns-clause-asked c = record {
   makes = c.in_ok-statement.ensures.statement;
 }
 
-pub returns-clause-numbers : goal.returns-clause-numbers
-returns-clause-numbers c =
+pub returns-clause-fit : goal.returns-clause-fit
+returns-clause-fit c =
     let of : AreLoaded c.args.files.items 16777216 c.in_ok-tables.tables = c.tables_are_loaded.ensures c.args.files.items 16777216 c.in_ok-tables.tables c.in_ok-tables.ensures.tables in
-    c.numbers_are_held.ensures (lists_of c.in_ok-tables.tables.rows) of.loaded.events (length of.loaded.events) (λ table within. of.hold table)
-    (numbers_of_history of.loaded.catalogue of.loaded.events (c.loaded_is_history.ensures c.args.files.items 16777216 of.loaded of.is_loaded))
+    subst (λ (catalogue : Catalogue). AreAllFitting catalogue (lists_of c.in_ok-tables.tables.rows)) of.catalogue
+    (c.held_rows_fit.ensures of.loaded.catalogue (lists_of c.in_ok-tables.tables.rows) of.loaded.events (length of.loaded.events)
+    (c.loaded_is_history.ensures c.args.files.items 16777216 of.loaded of.is_loaded) of.hold)

@@ -1,6 +1,7 @@
 use Rattle.std.proofs.lemmas.Result.{IfOk-weaker}
 use Rattle.tq_base.specs.Fragments.{at}
 use Rattle.tq_ops.specs.Ordinary.{product_of, selection}
+use Rattle.tq_plan.specs.Plans.{tables_of}
 use Rattle.tq_eval.specs.Answers.{lists_at}
 use Rattle.tq_eval.proofs.BagLemmas.{same_lengths}
 use Rattle.tq_eval.proofs.GroupingLemmas.{counted_inside}
@@ -12,7 +13,7 @@ returns-clause-inside g c =
     let query = c.args.query.now in
     let rows = c.in_ok-rows.rows.items in
     IfOk-weaker c.items_of_count.result _ _
-    (λ out counted. counted_inside valid query c.args.window.now rows out.items c.requires.alone c.requires.counted c.requires.stand
-    (λ t inside. same_lengths (at rows t) (selection query.test (product_of (lists_at valid t query.tables))) (λ v. c.in_ok-rows.ensures.inside t v inside))
+    (λ out counted. counted_inside valid query c.args.window.now rows out.items c.requires.alone c.requires.counted c.requires.query.items
+    (λ t inside. same_lengths (at rows t) (selection query.test (product_of (lists_at valid t (tables_of query)))) (λ v. c.in_ok-rows.ensures.inside t v inside))
     counted)
     c.items_of_count.ensures.inside

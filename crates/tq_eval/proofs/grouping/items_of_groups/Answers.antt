@@ -26,11 +26,11 @@ returns-clause-inside c =
     ∙ ap (λ g. occurrences (grouped_rows g c.deref.result.now (at rows t)) v) c.get-2.ensures
     ∙ ap (λ s. occurrences (grouped_rows query.group s (at rows t)) v) sums)
     is)
-    c.item_rows.ensures
+    c.item_rows.ensures.rows
 
 pub returns-clause-outside : goal.returns-clause-outside
 returns-clause-outside c =
     let query = c.args.query.now in
     IfOk-weaker c.item_rows.result _ _
     (λ out is. shown_outside (item_places query.group (length query.group + 1) query.outputs) c.args.window.now c.in_ok-groups.groups.items out.items c.in_ok-groups.ensures.outside is)
-    c.item_rows.ensures
+    c.item_rows.ensures.rows

@@ -1,4 +1,4 @@
-use Rattle.std.proofs.Common.{◌≡◌, ◌<◌, true, length, get_or, map, refl, sym, ap, ◌∙◌, subst, arith}
+use Rattle.std.proofs.Common.{◌≡◌, ◌<◌, true, length, get_or, map, refl, sym, ap, ◌∙◌, subst, arith, false}
 use Rattle.std.proofs.lemmas.List.{get_or-map, length-map, take_all}
 use Rattle.std.proofs.lemmas.List.Elements.{All-map}
 use Rattle.tq_base.specs.declared.relation.Line.{Line}
@@ -13,7 +13,7 @@ use Rattle.tq_ops.specs.Differences.{lines_made}
 use Rattle.tq_ops.proofs.difference.add_cut.Goals as goal
 
 abbrev no_key : Key
-no_key = record { rank = 0; start = 0; row = 0; side = Left }
+no_key = record { rank = 0; start = 0; row = 0; side = Left; begins = false }
 
 pub rows-init : goal.rows-init
 rows-init c = record {

@@ -6,7 +6,8 @@ use Rattle.tq_base.specs.declared.value.Value.{Value}
 use Rattle.tq_base.specs.declared.sides.Key.{Key}
 use Rattle.tq_base.specs.declared.sides.Side.TheVariants.{Left, Right}
 use Rattle.tq_base.specs.Fragments.{copies}
-use Rattle.tq_base.specs.Keys.{held, key_values, Held, IsKey}
+use Rattle.tq_base.specs.Keys.{held, key_values, AreMarked, Held, IsKey}
+use Rattle.tq_base.specs.KeyLaws.{marks_rest}
 use Rattle.tq_base.specs.KeySides.{state_of}
 use Rattle.tq_base.specs.Periods.{holds}
 use Rattle.tq_ops.specs.Differences.{lines_made, side_copies, AddsDifference, AreOfValues}
@@ -16,6 +17,7 @@ use Rattle.tq_ops.proofs.difference.add_differences.Goals as goal
 pub run_len-requires : goal.run_len-requires
 run_len-requires c = record {
   keys = subst (All (IsKey (state_of c.args.sides.now))) (sym (take_rest c.args.keys.now c.groups.start)) (All-drop (IsKey (state_of c.args.sides.now)) c.groups.start c.args.keys.now c.requires.keys.each);
+  marks = subst (AreMarked (state_of c.args.sides.now)) (sym (take_rest c.args.keys.now c.groups.start)) (marks_rest (state_of c.args.sides.now) c.args.keys.now c.groups.start c.requires.keys.marks);
 }
 
 pub add_difference-requires : goal.add_difference-requires

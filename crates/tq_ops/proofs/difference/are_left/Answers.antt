@@ -1,4 +1,4 @@
-use Rattle.std.proofs.Common.{◌≡◌, true, sym, ◌∙◌, subst}
+use Rattle.std.proofs.Common.{◌≡◌, true, sym, ◌∙◌, subst, false}
 use Rattle.std.specs.Prelude.{All}
 use Rattle.std.proofs.lemmas.List.{take_all}
 use Rattle.std.proofs.lemmas.List.Elements.{All-more}
@@ -9,7 +9,7 @@ use Rattle.tq_ops.proofs.difference.are_left.Goals as goal
 
 pub keys-preserved : goal.keys-preserved
 keys-preserved c =
-    let no_key : Key = record { rank = 0; start = 0; row = 0; side = Left } in
+    let no_key : Key = record { rank = 0; start = 0; row = 0; side = Left; begins = false } in
     All-more (λ (k : Key). is_same_side Left k.side ≡ true) c.args.group.now c.keys.key-index no_key c.keys-test.true c.keys.invariant (sym c.is_left.ensures ∙ c.if-not-is_left.false)
 
 pub returns : goal.returns

@@ -1,4 +1,4 @@
-use Rattle.std.proofs.Common.{rules, ◌≡◌, ◌<◌, length, get_or, map, refl, sym, ap, subst, arith, not, nat_le, ◌&&◌}
+use Rattle.std.proofs.Common.{rules, ◌≡◌, ◌<◌, length, get_or, map, refl, sym, ap, subst, arith, not, nat_le, ◌&&◌, false}
 use Rattle.std.proofs.lemmas.List.{get_or-map, length-map, take_all}
 use Rattle.std.proofs.lemmas.List.Sorted.{answers_always, sum_by-IsPermutation}
 use Rattle.tq_base.specs.declared.sides.Key.{Key}
@@ -13,7 +13,7 @@ use Rattle.tq_ops.proofs.Changing.{counts_on, counts_past, stays_even}
 use Rattle.tq_ops.proofs.difference.changes_of.Goals as goal
 
 abbrev no_key : Key
-no_key = record { rank = 0; start = 0; row = 0; side = Left }
+no_key = record { rank = 0; start = 0; row = 0; side = Left; begins = false }
 
 pub rows-preserved-in_default : goal.rows-preserved-in_default
 rows-preserved-in_default c =

@@ -9,7 +9,7 @@ use Rattle.tq_ops.proofs.difference.first_left.Goals as goal
 
 pub keys-preserved : goal.keys-preserved
 keys-preserved c =
-    let no_key : Key = record { rank = 0; start = 0; row = 0; side = Left } in
+    let no_key : Key = record { rank = 0; start = 0; row = 0; side = Left; begins = false } in
     All-more (λ (k : Key). is_same_side Left k.side ≡ false) c.args.group.now c.keys.key-index no_key c.keys-test.true c.keys.invariant (sym c.is_left.ensures ∙ c.if-is_left.false)
 
 pub returns-clause-none : goal.returns-clause-none

@@ -2,4 +2,5 @@ use Rattle.tq_plan.proofs.PlanLemmas.{left_stands, right_stands}
 use Rattle.tq_plan.proofs.laws.plans_stand.Goals as goal
 
 pub returns : goal.returns
-returns c = λ plan is. (left_stands plan is, λ query some. right_stands plan query is some)
+returns c = λ plan is.
+    ((left_stands is.catalogue plan (record { statement = is.statement; planned = is.planned })).items, λ query some. (right_stands is.catalogue plan query (record { statement = is.statement; planned = is.planned }) some).items)

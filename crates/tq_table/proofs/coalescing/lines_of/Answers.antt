@@ -1,15 +1,17 @@
-use Rattle.std.proofs.Common.{◌≡◌, ◌≢◌, ◌+◌, ◌-◌, ◌<◌, ◌≤◌, List, ap, ◌∙◌, subst, arith, drop, take, get_or, length, map}
+use Rattle.std.proofs.Common.{◌≡◌, ◌≢◌, ◌+◌, ◌-◌, ◌<◌, ◌≤◌, List, sym, ap, ◌∙◌, subst, arith, drop, take, get_or, length, map}
 use Rattle.std.specs.Prelude.{All}
 use Rattle.std.specs.List.{range_with_len}
 use Rattle.std.proofs.lemmas.List.{drop_all, drop-drop, length-drop, take_rest}
-use Rattle.std.proofs.lemmas.List.Elements.{All-drop, All-nil}
+use Rattle.std.proofs.lemmas.List.Elements.{All-drop, All-nil, All-take}
 use Rattle.tq_base.specs.declared.value.Value.{Value}
 use Rattle.tq_base.specs.declared.relation.Line.{Line}
+use Rattle.tq_base.specs.declared.sides.Key.{Key}
 use Rattle.tq_base.specs.Groups.{grouping_ends, Grouping}
-use Rattle.tq_base.specs.Keys.{key_row, key_values, SidesState}
+use Rattle.tq_base.specs.KeyLaws.{marks_rest}
+use Rattle.tq_base.specs.Keys.{key_row, key_values, IsKey, SidesState}
 use Rattle.tq_base.specs.Layering.{AddsLayers}
 use Rattle.tq_base.specs.Relations.{line_of}
-use Rattle.tq_table.proofs.KeyGroups.{all_whole, grouping_starts, end_key, takes_group, AreWhole}
+use Rattle.tq_table.proofs.KeyGroups.{all_stand, all_whole, grouping_starts, end_key, takes_group, AreWhole}
 use Rattle.tq_table.proofs.coalescing.lines_of.Goals as goal
 
 pub groups-init : goal.groups-init
@@ -24,6 +26,28 @@ groups-init c =
       stand = rw c.in_ok-table.ensures.items (All-nil (λ (line : Line). line.row < length rows));
       grouping = rw c.in_ok-table.ensures.items (grouping_starts s rows keys c.in_ok-keys.ensures.rows are_whole c.in_ok-keys.ensures.rises);
     }
+
+pub run_len-requires : goal.run_len-requires
+run_len-requires c =
+    let rows = c.args.rows.now.items in
+    let keys = c.in_ok-keys.keys.items in
+    let start = c.groups.start in
+    let s : SidesState = record { left = rows; right = rows; left_columns = c.deref.result.now; right_columns = c.deref-2.result.now } in
+    record {
+      keys = rw (c.deref-in-groups.ensures.value, take_rest keys start) (All-drop (IsKey s) start keys c.in_ok-keys.ensures.keys);
+      marks = rw (c.deref-in-groups.ensures.value, take_rest keys start) (marks_rest s keys start c.in_ok-keys.ensures.marks);
+    }
+
+pub add_layers-requires-clause-stand : goal.add_layers-requires-clause-stand
+add_layers-requires-clause-stand c =
+    let rows = c.args.rows.now.items in
+    let keys = c.in_ok-keys.keys.items in
+    let start = c.groups.start in
+    let len = c.groups.start + c.run_len.result - c.groups.start in
+    let s : SidesState = record { left = rows; right = rows; left_columns = c.deref.result.now; right_columns = c.deref-2.result.now } in
+    let Stands : Key → Type 0 = λ (k : Key). k.row < length rows in
+    subst (λ (l : List Key). All Stands (take len (drop start l))) (sym c.deref-in-groups-2.ensures.value)
+    (All-take Stands len (drop start keys) (All-drop Stands start keys (all_stand s keys c.in_ok-keys.ensures.keys c.in_ok-keys.ensures.left)))
 
 pub groups-preserved : goal.groups-preserved
 groups-preserved c =

@@ -1,28 +1,31 @@
-use Rattle.std.proofs.Common.{◌≡◌, ◌<◌, ◌+◌, ◌-◌, drop, get_or, refl, subst, sym, arith}
+use Rattle.std.proofs.Common.{◌≡◌, ◌<◌, ◌+◌, ◌-◌, drop, false, get_or, map, refl, subst, sym, arith}
 use Rattle.std.specs.Prelude.{All, IsPermutation, IsSorted}
 use Rattle.std.specs.Bool.{OnTrue}
-use Rattle.std.proofs.lemmas.List.Elements.{All-drop, All-take}
-use Rattle.std.proofs.lemmas.List.Sorted.{All-permutation, IsPermutation-put_mid, IsPermutation-trans}
+use borrow.Rule.Slice.PartMut.{mid_of}
+use Rattle.std.proofs.lemmas.List.Elements.{All-drop, All-map, All-take}
+use Rattle.std.proofs.lemmas.List.Sorted.{All-permutation, IsPermutation-map, IsPermutation-trans}
 use Rattle.tq_base.specs.declared.sides.Key.{Key}
 use Rattle.tq_base.specs.declared.sides.Side.TheVariants.{Left}
 use Rattle.tq_base.specs.KeySides.{state_of}
-use Rattle.tq_base.specs.Untold.{from_cmp, IsRanked}
-use Rattle.tq_base.proofs.UntoldLemmas.{back_same, back_sorted, run_part, run_some, runs_end, runs_more, runs_start, sorted_before}
+use Rattle.tq_base.specs.Keys.{AreMarked}
+use Rattle.tq_base.specs.Untold.{from_cmp, ranked, unmarked, AreUnmarked, IsRanked, SameKeys}
+use Rattle.tq_base.proofs.UntoldLemmas.{back_same, back_sorted, first_marked, marked_none, marked_ranks, marked_sorted, ranked_all, run_part, run_some, runs_end, runs_marked, runs_more, runs_start, same_put_mid, sorted_before}
 use Rattle.tq_base.proofs.sides.Sides.+untold.Goals as goal
 
 pub sort_ranked-runs-init : goal.sort_ranked-runs-init
 sort_ranked-runs-init t c = record {
-  same = c.sort_by_rank.ensures.same;
-  done = runs_start (state_of c.args.self.now) c.args.place c.args.offset c.sort_by_rank.new.keys c.sort_by_rank.ensures.order;
+  same = IsPermutation-map unmarked c.args.keys.now c.sort_by_rank.new.keys c.sort_by_rank.ensures.same;
+  done = runs_start (state_of c.args.self.now) c.args.place c.args.offset c.sort_by_rank.new.keys c.sort_by_rank.ensures.order
+      (All-permutation (λ (k : Key). k.begins ≡ false) c.args.keys.now c.sort_by_rank.new.keys c.sort_by_rank.ensures.same c.requires.unmarked);
 }
 
 pub sort_ranked-sort_next-start-requires : goal.sort_ranked-sort_next-start-requires
 sort_ranked-sort_next-start-requires t c =
-    (omega (arith, c.decreases), (All-permutation (IsRanked (state_of c.args.self.now) c.args.place c.args.offset) c.args.keys.now c.runs.keys c.runs.invariant.same c.requires, (c.runs.invariant.done, c.runs-test.true)))
+    (omega (arith, c.decreases), (ranked_all (state_of c.args.self.now) c.args.place c.args.offset c.args.keys.now c.runs.keys c.runs.invariant.same c.requires.ranks, (c.runs.invariant.done, c.runs-test.true)))
 
 pub sort_ranked-runs-preserved : goal.sort_ranked-runs-preserved
 sort_ranked-runs-preserved t c = record {
-  same = IsPermutation-trans c.args.keys.now c.runs.keys c.sort_next-start.new.keys c.runs.invariant.same c.sort_next-start.ensures.same;
+  same = IsPermutation-trans (map unmarked c.args.keys.now) (map unmarked c.runs.keys) (map unmarked c.sort_next-start.new.keys) c.runs.invariant.same c.sort_next-start.ensures.same;
   done = c.sort_next-start.ensures.done;
 }
 
@@ -33,54 +36,84 @@ pub sort_ranked-returns-clause-order : goal.sort_ranked-returns-clause-order
 sort_ranked-returns-clause-order t c =
     runs_end (state_of c.args.self.now) c.args.place c.args.offset c.runs.keys c.runs.start c.runs.invariant.done c.runs-test.false
 
+pub sort_ranked-returns-clause-marks : goal.sort_ranked-returns-clause-marks
+sort_ranked-returns-clause-marks t c =
+    runs_marked (state_of c.args.self.now) c.args.place c.args.offset c.runs.keys c.runs.start c.runs.invariant.done c.runs-test.false
+
 pub sort_next-sort_run-requires : goal.sort_next-sort_run-requires
 sort_next-sort_run-requires t c =
     let s = state_of c.args.self.now in
     let keys = c.args.keys.now in
     let start = c.args.start in
-    let P : Key → _ = λ (k : Key). k.rank ≡ (get_or keys start (record { rank = 0; start = 0; row = 0; side = Left })).rank in (
+    let P : Key → _ = λ (k : Key). k.rank ≡ (get_or keys start (record { rank = 0; start = 0; row = 0; side = Left; begins = false })).rank in (
       omega (arith, c.decreases),
       (
         subst (All P) (run_part keys start c.rank_run_len.result c.rank_run_len.ensures.within) c.rank_run_len.ensures.alike,
-        All-take (IsRanked s c.args.place c.args.offset) (start + c.rank_run_len.result - start) (drop start keys) (All-drop (IsRanked s c.args.place c.args.offset) start keys c.requires.ranks),
+        (
+          All-take (IsRanked s c.args.place c.args.offset) (start + c.rank_run_len.result - start) (drop start keys) (All-drop (IsRanked s c.args.place c.args.offset) start keys c.requires.ranks),
+          All-take (λ (k : Key). k.begins ≡ false) (start + c.rank_run_len.result - start) (drop start keys) c.requires.done.rest,
+        ),
       ),
     )
 
 pub sort_next-returns-clause-same : goal.sort_next-returns-clause-same
 sort_next-returns-clause-same t c =
-    IsPermutation-put_mid c.args.start (c.args.start + c.rank_run_len.result - c.args.start) c.args.keys.now c.sort_run.new.run c.sort_run.ensures.same
+    same_put_mid c.args.start (c.args.start + c.rank_run_len.result - c.args.start) c.args.keys.now c.mark_first.new.keys
+    (subst (IsPermutation (map unmarked (mid_of c.args.start (c.args.start + c.rank_run_len.result - c.args.start) c.args.keys.now))) (sym c.mark_first.ensures.same) c.sort_run.ensures.same)
 
 pub sort_next-returns-clause-done : goal.sort_next-returns-clause-done
 sort_next-returns-clause-done t c =
-    runs_more (state_of c.args.self.now) c.args.place c.args.offset c.args.keys.now c.sort_run.new.run c.args.start c.rank_run_len.result _
-    (record { rank = 0; start = 0; row = 0; side = Left }) c.requires.done c.requires.ranks c.requires.some refl
-    c.rank_run_len.ensures.within c.rank_run_len.ensures.alike c.rank_run_len.ensures.ends c.sort_run.ensures.same c.sort_run.ensures.order
+    let s = state_of c.args.self.now in
+    let sorted = c.sort_run.new.run in
+    let marked = c.mark_first.new.keys in
+    runs_more s c.args.place c.args.offset c.args.keys.now marked c.args.start c.rank_run_len.result _
+    (record { rank = 0; start = 0; row = 0; side = Left; begins = false }) c.requires.done c.requires.ranks c.requires.some refl
+    c.rank_run_len.ensures.within c.rank_run_len.ensures.alike c.rank_run_len.ensures.ends
+    (subst (IsPermutation (map unmarked (mid_of c.args.start (c.args.start + c.rank_run_len.result - c.args.start) c.args.keys.now))) (sym c.mark_first.ensures.same) c.sort_run.ensures.same)
+    (marked_sorted s c.args.place c.args.offset sorted marked (sym c.mark_first.ensures.same) c.sort_run.ensures.order)
+    (first_marked s sorted marked c.mark_first.ensures.same c.mark_first.ensures.others c.sort_run.ensures.marks)
 
 pub sort_next-returns-clause-further : goal.sort_next-returns-clause-further
 sort_next-returns-clause-further t c =
-    let some = run_some c.args.keys.now c.args.start c.rank_run_len.result _ (record { rank = 0; start = 0; row = 0; side = Left }) c.requires.some refl c.rank_run_len.ensures.ends in
+    let some = run_some c.args.keys.now c.args.start c.rank_run_len.result _ (record { rank = 0; start = 0; row = 0; side = Left; begins = false }) c.requires.some refl c.rank_run_len.ensures.ends in
     omega (arith, some)
 
 pub sort_run-sort_ranked-requires : goal.sort_run-sort_ranked-requires
 sort_run-sort_ranked-requires t c =
     let some : 0 < c.args.levels = subst (λ b. OnTrue b (0 < c.args.levels)) c.if-are_ranked_anew.true c.are_ranked_anew.ensures in
-    (omega (arith, c.decreases, some), c.rank_keys.ensures.ranks)
+    let s = state_of c.args.self.now in
+    let none : AreUnmarked (map (ranked s c.next_place-next.result.0 c.next_place-next.result.1) c.args.run.now) =
+    All-map (λ (k : Key). k.begins ≡ false) (ranked s c.next_place-next.result.0 c.next_place-next.result.1) c.args.run.now c.requires.unmarked in
+    (omega (arith, c.decreases, some), (c.rank_keys.ensures.ranks, subst AreUnmarked (sym c.rank_keys.ensures.keys) none))
 
 pub sort_run-returns-then-are_ranked_anew-clause-same : goal.sort_run-returns-then-are_ranked_anew-clause-same
 sort_run-returns-then-are_ranked_anew-clause-same t c =
     let s = state_of c.args.self.now in
-    subst (IsPermutation c.args.run.now) (sym c.set_ranks.ensures)
+    subst (SameKeys c.args.run.now) (sym c.set_ranks.ensures)
     (back_same s c.args.place c.args.offset c.next_place-next.result.0 c.next_place-next.result.1 c.args.rank c.args.run.now c.sort_ranked.new.keys
-    (subst (λ l. IsPermutation l c.sort_ranked.new.keys) c.rank_keys.ensures.keys c.sort_ranked.ensures.same) c.requires.alike)
+    (subst (λ l. SameKeys l c.sort_ranked.new.keys) c.rank_keys.ensures.keys c.sort_ranked.ensures.same) c.requires.alike)
 
 pub sort_run-returns-then-are_ranked_anew-clause-order : goal.sort_run-returns-then-are_ranked_anew-clause-order
 sort_run-returns-then-are_ranked_anew-clause-order t c =
     let s = state_of c.args.self.now in
     subst (IsSorted (from_cmp s c.args.place c.args.offset)) (sym c.set_ranks.ensures)
     (back_sorted s c.args.place c.args.offset c.next_place-next.result.0 c.next_place-next.result.1 c.args.rank c.args.run.now c.sort_ranked.new.keys
-    (subst (λ l. IsPermutation l c.sort_ranked.new.keys) c.rank_keys.ensures.keys c.sort_ranked.ensures.same) c.next_place-next.ensures c.sort_ranked.ensures.order)
+    (subst (λ l. SameKeys l c.sort_ranked.new.keys) c.rank_keys.ensures.keys c.sort_ranked.ensures.same) c.next_place-next.ensures c.sort_ranked.ensures.order)
 
 pub sort_run-returns-else-are_ranked_anew-clause-order : goal.sort_run-returns-else-are_ranked_anew-clause-order
 sort_run-returns-else-are_ranked_anew-clause-order t c =
     sorted_before (state_of c.args.self.now) c.args.place c.args.offset c.next_place-next.result.0 c.next_place-next.result.1 c.args.run.now c.sort_read.new.keys
     c.sort_read.ensures.same c.next_place-next.ensures c.sort_read.ensures.order
+
+pub sort_run-returns-then-are_ranked_anew-clause-marks : goal.sort_run-returns-then-are_ranked_anew-clause-marks
+sort_run-returns-then-are_ranked_anew-clause-marks t c =
+    subst (AreMarked (state_of c.args.self.now)) (sym c.set_ranks.ensures)
+    (marked_ranks (state_of c.args.self.now) c.args.rank c.sort_ranked.new.keys c.sort_ranked.ensures.marks)
+
+pub sort_run-returns-else-are_ranked_anew-clause-same : goal.sort_run-returns-else-are_ranked_anew-clause-same
+sort_run-returns-else-are_ranked_anew-clause-same t c = IsPermutation-map unmarked c.args.run.now c.sort_read.new.keys c.sort_read.ensures.same
+
+pub sort_run-returns-else-are_ranked_anew-clause-marks : goal.sort_run-returns-else-are_ranked_anew-clause-marks
+sort_run-returns-else-are_ranked_anew-clause-marks t c =
+    marked_none (state_of c.args.self.now) c.sort_read.new.keys
+    (All-permutation (λ (k : Key). k.begins ≡ false) c.args.run.now c.sort_read.new.keys c.sort_read.ensures.same c.requires.unmarked)

@@ -1,8 +1,7 @@
 -- The runs so far are sorted. A run is sorted at a level by keys that are ranked at a lower one.
 use Rattle.std.proofs.Common.{length, ◌-◌, ◌+◌, ◌*◌}
-use Rattle.std.specs.Prelude.{IsPermutation}
 use Rattle.tq_base.specs.KeySides.{state_of}
-use Rattle.tq_base.specs.Untold.{RunsDone}
+use Rattle.tq_base.specs.Untold.{RunsDone, SameKeys}
 use Rattle.tq_base.proofs.sides.Sides.+untold.Given as goal
 
 abbrev pub decreases-sort_ranked : goal.decreases-sort_ranked
@@ -16,7 +15,7 @@ decreases-sort_run l = l.levels * 3
 
 abbrev pub invariant-sort_ranked-runs : goal.invariant-sort_ranked-runs
 invariant-sort_ranked-runs l = record {
-  same : IsPermutation l.fn.keys l.keys;
+  same : SameKeys l.fn.keys l.keys;
   done : RunsDone (state_of l.self) l.place l.offset l.keys l.start;
 }
 

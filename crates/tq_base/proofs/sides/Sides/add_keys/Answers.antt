@@ -4,7 +4,7 @@ use Rattle.std.proofs.lemmas.List.{length-map}
 use Rattle.std.proofs.lemmas.List.Elements.{All-push}
 use Rattle.tq_base.specs.declared.fragment.Fragment.{Fragment}
 use Rattle.tq_base.specs.KeySides.{state_of}
-use Rattle.tq_base.specs.Keys.{is_within, no_row, rows_on, IsKey}
+use Rattle.tq_base.specs.Keys.{is_within, no_row, rows_on, IsFresh}
 use Rattle.tq_base.proofs.KeyLemmas.{adds_key, adds_none, period_here}
 use Rattle.tq_base.proofs.sides.Sides.add_keys.Goals as goal
 use Rattle.tq_base.proofs.sides.Sides.add_keys.Goals.{then-is_within, else-is_within}
@@ -27,7 +27,7 @@ rows-preserved c =
       | then-is_within w ↦
           record {
             rows = rw (w.keys-is, w.push_reserved.ensures.items) (adds_key s of window i less old mid w.key_of.result (test ∙ w.if-is_within.true) w.key_of.ensures.side w.key_of.ensures.row c.rows.invariant.rows);
-            are = λ before. rw (w.keys-is, w.push_reserved.ensures.items) (All-push (IsKey s) mid w.key_of.result (c.rows.invariant.are before) w.key_of.ensures.key);
+            are = λ before. rw (w.keys-is, w.push_reserved.ensures.items) (All-push (IsFresh s) mid w.key_of.result (c.rows.invariant.are before) w.key_of.ensures.key);
             room = rw w.keys-is (omega (arith, c.rows.invariant.room, w.push_reserved.ensures.len, w.push_reserved.ensures.capacity));
           }
       | else-is_within w ↦

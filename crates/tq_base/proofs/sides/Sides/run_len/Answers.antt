@@ -1,20 +1,19 @@
-use Rattle.std.proofs.Common.{sym, ap, ◌∙◌}
-use Rattle.std.specs.Ordering.{is_ne}
+use Rattle.std.proofs.Common.{sym, ◌∙◌}
 use Rattle.tq_base.specs.KeySides.{state_of}
-use Rattle.tq_base.proofs.KeyLemmas.{later, run_more, stands_apart}
+use Rattle.tq_base.proofs.KeyLemmas.{begins_there, goes_on_there}
 use Rattle.tq_base.proofs.sides.Sides.run_len.Goals as goal
 
-pub returns-then-is_ne-clause-some : goal.returns-then-is_ne-clause-some
-returns-then-is_ne-clause-some c = λ some.
+pub returns-then-begins_run-clause-some : goal.returns-then-begins_run-clause-some
+returns-then-begins_run-clause-some c = λ some.
     let item = c.in-Some.ensures.item in
-    later (state_of c.args.self.now) c.args.keys.now c.requires.keys c.in-Some.first.now item.3.0 item.3.1 c.keys.len _ c.keys-test.true (ap is_ne (sym c.compare_values.ensures) ∙ sym c.if-is_ne.ensures)
+    (begins_there (state_of c.args.self.now) c.args.keys.now c.requires.keys c.in-Some.first.now item.3.0 item.3.1 c.requires.marks c.keys.len _ c.keys-test.true (sym c.begins_run.ensures ∙ c.if-begins_run.true) c.keys.invariant).0
 
-pub returns-then-is_ne-clause-ends : goal.returns-then-is_ne-clause-ends
-returns-then-is_ne-clause-ends c = λ d less.
+pub returns-then-begins_run-clause-ends : goal.returns-then-begins_run-clause-ends
+returns-then-begins_run-clause-ends c = λ d less.
     let item = c.in-Some.ensures.item in
-    stands_apart (state_of c.args.self.now) c.args.keys.now c.requires.keys c.in-Some.first.now item.3.0 item.3.1 c.keys.len _ c.keys-test.true (ap is_ne (sym c.compare_values.ensures) ∙ sym c.if-is_ne.ensures) d
+    (begins_there (state_of c.args.self.now) c.args.keys.now c.requires.keys c.in-Some.first.now item.3.0 item.3.1 c.requires.marks c.keys.len _ c.keys-test.true (sym c.begins_run.ensures ∙ c.if-begins_run.true) c.keys.invariant).1 d
 
 pub keys-preserved : goal.keys-preserved
 keys-preserved c =
     let item = c.in-Some.ensures.item in
-    run_more (state_of c.args.self.now) c.args.keys.now c.requires.keys c.in-Some.first.now item.3.0 item.3.1 c.keys.len _ c.keys-test.true (ap is_ne (sym c.compare_values.ensures) ∙ sym c.if-is_ne.ensures) c.keys.invariant
+    goes_on_there (state_of c.args.self.now) c.args.keys.now c.requires.keys c.in-Some.first.now item.3.0 item.3.1 c.keys.len _ c.keys-test.true (sym c.begins_run.ensures ∙ c.if-begins_run.false) c.keys.invariant

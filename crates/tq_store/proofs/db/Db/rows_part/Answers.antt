@@ -14,14 +14,16 @@ use Rattle.tq_event.specs.Versions.{version_at}
 use Rattle.tq_scan.specs.declared.window.Part.{Part}
 use Rattle.tq_scan.specs.declared.window.Window.{Window}
 use Rattle.tq_scan.specs.Lists.{ListsJust}
-use Rattle.tq_scan.specs.Scans.{FoundIn, alive_at}
+use Rattle.tq_arena.specs.declared.arena.NodeNo.{NodeNo}
+use Rattle.tq_scan.specs.Scans.{FoundIn, IsMetLeaf, alive_at}
 use Rattle.tq_scan.specs.Windows.{whole_of}
 use Rattle.tq_store.specs.declared.index.Index.{Index}
-use Rattle.tq_store.specs.declared.key.KeyRange.{KeyRange}
+use Rattle.tq_base.specs.declared.key_range.KeyRange.{KeyRange}
 use Rattle.tq_store.specs.Index.{IsDb, IsIndexOf}
 use Rattle.tq_store.specs.Rows.{ArePartRows, window_part}
 use Rattle.tq_store.specs.Stored.{IsReadable, row_of_key, seen}
 use Rattle.tq_mvbt.specs.TreeState.{height_of}
+use Rattle.tq_store.proofs.LeafLemmas.{in_part, leaf_at, lower}
 use Rattle.tq_store.proofs.RowLemmas.{part_rows, readable}
 use Rattle.tq_store.proofs.VersionLemmas.{version_within}
 use Rattle.tq_store.proofs.db.Db.rows_part.Goals as goal
@@ -110,3 +112,28 @@ returns-clause-reads c = if_ok c.read_rows.result c.read_rows.ensures (λ rows s
     subst (λ k. c.scan.new.meter ≤ c.args.meter.now + 10 * (k / 5 + 2)) (sym keys)
     (few_reads c.args.meter.now c.scan.new.meter (height_of tree.roots c.args.part.now.last) (length found.leaves) (count_by (alive_at tree.nodes c.args.part.now.last) found.leaves) (length found.keys)
     c.in_ok-found.ensures.at_most (subst (λ h. h ≤ 10) levels low) (count_by-le-length (alive_at tree.nodes c.args.part.now.last) found.leaves) (c.in_ok-found.ensures.one_version one_version)))
+
+pub returns-clause-counted : goal.returns-clause-counted
+returns-clause-counted c = if_ok c.read_rows.result c.read_rows.ensures (λ rows same.
+    let leaves = c.in_ok-found.found.leaves in
+    let tree = c.index-index.result.now.tree in
+    let p = c.args.part.now in
+    let inside = c.requires.inside in
+    let high = inside.high in
+    let high_is = ap (λ (q : Part). q.high) c.make_window-window.ensures.window in
+    let in_keys = c.make_window-window.result.in_keys in
+    let wide = inside.wide in
+    let small_key : p.low < 79228162514264337593543950336 = omega (arith, wide, high, high_is, in_keys) in
+    let last = inside.last in
+    let within = version_within c.args.self.now.events c.args.n (c.args.period.now.end - 1) in
+    let view = ap (λ (r : Recorded). length r.events) c.self.view_is in
+    let known = c.requires.known in
+    let few = c.self.invariant.few in
+    let small_version : p.last < 4294967295 = omega (arith, last, within, view, known, few) in
+    let tiling = c.trees_tile.ensures tree.version tree.nodes tree.roots c.version-version.ensures.tree in
+    let leaf = leaf_at 0 p.low p.last tree.nodes small_version (tiling.one_region p.low p.last small_key small_version) in
+    let met : IsMetLeaf tree.nodes p leaf.number = record { node = leaf.node; stands = leaf.stands; leaf = leaf.leaf; key = p.low; version = p.last; held = leaf.held; inside = in_part p wide inside.long } in
+    let among = (c.in_ok-found.ensures.leaves.just leaf.number).1 met in
+    let place = among.1 in
+    let counted = length-map leaves (λ (n : NodeNo). n.0) in
+    lower (c.args.meter.now + 1) (c.args.meter.now + length leaves + (height_of tree.roots p.last - 1)) _ c.scan.new.meter (omega (arith, place, counted)) c.in_ok-found.ensures.at_least)

@@ -1,0 +1,68 @@
+//! Fills a history with rows, asks it for the rows of some keys at some instants as of some counts, and prints counts.
+//!
+//!     bench_store            2,000 rows, and 100 questions, both ways
+//!     bench_store fill N     N rows alone: N starts, and as many ends
+//!     bench_store ask N Q    the same, and Q statements, read, planned and answered
+//!     bench_store read N Q   the same, and the rows of Q questions alone, with the nodes that are read
+//!
+//! Each key has four rows, one after the other.
+#![tactic(auto)]
+
+mod fill;
+mod questions;
+
+use fill::fill;
+use questions::{Found, ask};
+use std::env;
+
+/// What is to be done, with how many rows and questions.
+#[derive(Clone, Copy)]
+struct Task {
+    rows: u32,
+    questions: u32,
+    asks: bool,
+    reads: bool,
+}
+
+// The task that the words name.
+fn task_of(rt: &HostRuntime) -> anyhow::Result<Task> {
+    let mut task = Task {
+        rows: 2000,
+        questions: 100,
+        asks: true,
+        reads: true,
+    };
+    for (place, word) in env::args(rt)?.enumerate() {
+        if place == 1 {
+            task.asks = word.as_str() == "ask";
+            task.reads = word.as_str() == "read";
+        } else if place == 2 {
+            task.rows = word.parse().unwrap_or(2000).min(8_000_000);
+        } else if place == 3 {
+            task.questions = word.parse().unwrap_or(100);
+        }
+    }
+    Ok(task)
+}
+
+fn print_found(rt: &HostRuntime, found: &Found) -> anyhow::Result<()> {
+    println!(rt; "rows found {}", found.rows)?;
+    println!(rt; "numbers found {}", found.numbers)?;
+    Ok(())
+}
+
+fn main(rt: HostRuntime) -> anyhow::Result<()> {
+    let alloc = rt.alloc();
+    let task = task_of(&rt)?;
+    let db = fill(alloc, task.rows)?;
+    println!(rt; "events {}", db.count())?;
+    if task.asks {
+        print_found(&rt, &ask(alloc, &db, task.questions, true)?)?;
+    }
+    if task.reads {
+        let found = ask(alloc, &db, task.questions, false)?;
+        print_found(&rt, &found)?;
+        println!(rt; "nodes read {}", found.reads)?;
+    }
+    Ok(())
+}

@@ -1,0 +1,142 @@
+//! Questions of one instant and some neighbouring keys, as of random counts of events.
+
+use crate::fill::ROWS_OF_A_KEY;
+use std::alloc::{AllocError, Global};
+use tq_arena::Meter;
+use tq_base::{Bound, Instant, KeyRange, Period, Seen};
+use tq_eval::answer;
+use tq_plan::plan;
+use tq_sql::read;
+use tq_store::Db;
+use tq_table::Table;
+
+/// How many neighbouring keys a question asks for.
+const NEIGHBOURS: u32 = 250;
+
+/// What questions found: rows, the sum of their numbers, and the reads of nodes, where these are counted.
+#[derive(Drop)]
+pub struct Found {
+    pub rows: u64,
+    pub numbers: u64,
+    pub reads: u64,
+}
+
+impl Found {
+    // A row of this number was found.
+    fn add(&mut self, number: u64) {
+        self.rows = self.rows.saturating_add(1);
+        self.numbers = self.numbers.saturating_add(number);
+    }
+}
+
+/// A linear congruential generator.
+#[derive(Drop)]
+struct Draws {
+    state: u64,
+}
+
+impl Draws {
+    // The next number below the limit.
+    fn next(&mut self, limit: u32) -> u32 {
+        self.state = self
+            .state
+            .wrapping_mul(6364136223846793005)
+            .wrapping_add(1442695040888963407);
+        ((self.state >> 32) % u64::from(limit.max(1))) as u32
+    }
+}
+
+/// A question: as of how many events, which keys, when.
+#[derive(Clone, Copy)]
+struct Question {
+    n: u32,
+    range: KeyRange,
+    period: Period,
+}
+
+// The next question of a history of so many events, each at the instant of its place.
+fn draw(draws: &mut Draws, events: u32) -> Option<Question> {
+    let keys = events / 2 / ROWS_OF_A_KEY;
+    let n = draws.next(events);
+    let at = u64::from(draws.next(events));
+    let low = i64::from(draws.next(keys.saturating_sub(NEIGHBOURS)));
+    let end = Bound::new(at.checked_add(1)?)?;
+    Some(Question {
+        n,
+        range: KeyRange::new(low, low.checked_add(i64::from(NEIGHBOURS) - 1)?)?,
+        period: Period::new(Instant::new(at)?, end)?,
+    })
+}
+
+// The rows of the first table, whose nodes are counted as they are read.
+fn read_one(
+    db: &Db,
+    question: &Question,
+    meter: &mut Meter,
+    found: &mut Found,
+) -> Result<(), AllocError> {
+    let Question { n, range, period } = question;
+    if *n > db.count() || db.catalogue().tables.get().is_empty() {
+        return Ok(());
+    }
+    let window = db.window(*n, 0, range, period);
+    let rows = db.rows_part(*n, 0, range, period, &window.whole(), meter)?;
+    for row in &rows {
+        found.add(u64::from(row.row));
+    }
+    Ok(())
+}
+
+// The numbers that stand in the table's first column.
+fn add_numbers(table: &Table<'_>, found: &mut Found) {
+    for line in 0..table.rows.len() {
+        match table.rows.row(line).at(0).seen() {
+            Seen::Int(number) => found.add(u64::try_from(number).unwrap_or(0)),
+            Seen::Text(_) => found.add(0),
+        }
+    }
+}
+
+// The answer of a statement that asks the same.
+fn answer_one(
+    alloc: Global,
+    db: &Db,
+    question: &Question,
+    found: &mut Found,
+) -> anyhow::Result<()> {
+    let Question { n, range, period } = question;
+    if *n > db.count() {
+        return Ok(());
+    }
+    let (from, to) = (period.start.number(), period.end.number());
+    let (low, high) = (range.low, range.high);
+    let statement = format!(in alloc;
+        "VALIDTIME PERIOD '[{from} - {to})' SELECT number FROM rows WHERE key >= {low} AND key <= {high}"
+    )?;
+    let plan = plan(alloc, db.catalogue(), &read(alloc, statement.as_bytes())?)?;
+    let table = answer(alloc, db, *n, &plan)?;
+    add_numbers(&table, found);
+    Ok(())
+}
+
+/// Has so many statements answered, or reads their rows alone and counts the nodes that are read.
+pub fn ask(alloc: Global, db: &Db, count: u32, answered: bool) -> anyhow::Result<Found> {
+    let mut draws = Draws { state: 12345 };
+    let mut meter = Meter::new();
+    let mut found = Found {
+        rows: 0,
+        numbers: 0,
+        reads: 0,
+    };
+    for _ in 0..count {
+        if let Some(question) = draw(&mut draws, db.count()) {
+            if answered {
+                answer_one(alloc, db, &question, &mut found)?;
+            } else {
+                read_one(db, &question, &mut meter, &mut found)?;
+            }
+        }
+    }
+    found.reads = meter.count();
+    Ok(found)
+}

@@ -1,0 +1,19 @@
+-- Keys of rows, and ranges of them. This project's own.
+use Rattle.std.specs.Prelude.{ℤ, pos, ◌≤ℤ◌, List, [], ◌∷◌, Option, IsSomeAnd}
+use Rattle.tq_base.specs.declared.value.Value.{Value}
+use Rattle.tq_base.specs.declared.key_range.KeyRange.{KeyRange}
+use Rattle.tq_base.specs.Contents.{Int, Text}
+
+-- the key of a row of these values: the first one where it is a number, else 0
+abbrev pub key_of : List Value → ℤ
+key_of [] = pos 0
+key_of (Int n ∷ values) = n
+key_of (Text t ∷ values) = pos 0
+
+-- the key is one of the range
+abbrev pub IsInRange : KeyRange → ℤ → Type 0
+IsInRange range key = (range.low ≤ℤ key) × (key ≤ℤ range.high)
+
+-- there is a range, and the key is one of it
+abbrev pub IsInSomeRange : Option KeyRange → ℤ → Type 0
+IsInSomeRange range key = IsSomeAnd range (λ r. IsInRange r key)

@@ -1,0 +1,55 @@
+//! The tables of a `Db` as of its first events.
+
+ghost use Rattle.std.specs.Prelude.{◌≤◌, IfOk, length};
+ghost use Rattle.tq_eval.specs.Answers.{as_of, IsPlanAnswer};
+ghost use Rattle.tq_plan.specs.Standing.{IsPlanOver};
+
+use crate::answering::{answer_over, detached};
+use crate::snapshot::Snapshot;
+use std::alloc::{AllocError, Global};
+use tq_base::{KeyRange, Period, Relation};
+use tq_plan::Plan;
+use tq_store::Db;
+use tq_table::Table;
+
+/// The tables of a `Db` as of its first `n` events; a table that is not there has no rows. Rows whose keys are not
+/// asked for are not read.
+#[derive(Clone, Copy)]
+pub struct AsOf<'a> {
+    pub db: &'a Db,
+    pub n: u32,
+    ghost within: { n ≤ length db.now.events },
+}
+
+impl<'a> Snapshot<'a> for AsOf<'a> {
+    ghost catalogue = { λ s. s.db.now.catalogue };
+
+    ghost valid = { λ s. as_of s.db.now.events s.n };
+
+    fn fit(&self) {
+        let _count = self.db.count();
+    }
+
+    fn rows(
+        &self,
+        alloc: Global,
+        table: u32,
+        keys: &KeyRange,
+        window: &Period,
+    ) -> Result<Relation<'a>, AllocError> {
+        let rows = self.db.rows_in(alloc, self.n, table, keys, window)?;
+        Relation::made(alloc, rows)
+    }
+}
+
+/// The answer of a statement's plan as of the first `n` events of the `Db`. It is owed that there are as many,
+/// and that the plan is one that `plan` gave over the `Db`'s catalogue. `AllocError` where a growth was refused.
+pub fn answer<'b>(alloc: Global, db: &Db, n: u32, plan: &Plan) -> Result<Table<'b>, AllocError>
+    requires within { n ≤ length db.now.events }
+    requires plan { IsPlanOver db.now.catalogue plan.now }
+    ensures { IfOk result (λ table. IsPlanAnswer db.now.events n plan.now table) }
+{
+    let _count = db.count();
+    let table = answer_over(alloc, &AsOf { db, n }, plan)?;
+    detached(alloc, table)
+}
