@@ -6,8 +6,8 @@ use std::process::Abort;
 use std::test::Fail;
 use tq_base::KeyRange;
 
-// A table whose first column holds texts.
-const PARTS: &[u8] = b"part:text,size:int,from,to
+// A table with numbers in its second column too.
+const PARTS: &[u8] = b"part:int,size:int,name:text,from,to
 ";
 
 // The keys that the statement leaves of the source on the side.
@@ -190,7 +190,7 @@ fn texts_and_other_columns_tell_no_keys(rt: HostRuntime) -> Result<(), Fail> {
                 i64::MAX,
             ),
             (
-                b"VALIDTIME SELECT COUNT(*) FROM parts WHERE part = 'seven'",
+                b"VALIDTIME SELECT COUNT(*) FROM parts WHERE name = 'seven'",
                 i64::MIN,
                 i64::MAX,
             ),

@@ -138,7 +138,7 @@ fn sources_stand_one_after_the_other(rt: HostRuntime) -> Result<(), Fail> {
         &[
             (b"emp", EMP),
             (b"pay", PAY),
-            (b"names", b"name:text,size:int,from,to\n"),
+            (b"names", b"size:int,name:text,from,to\n"),
         ],
         b"VALIDTIME SELECT COUNT(*) FROM pay, names, emp",
     )?;
@@ -153,7 +153,7 @@ fn sources_stand_one_after_the_other(rt: HostRuntime) -> Result<(), Fail> {
             table: 2,
             first: 3,
             width: 2,
-            numbered: false,
+            numbered: true,
         },
         QuerySource {
             table: 0,
