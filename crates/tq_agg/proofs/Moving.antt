@@ -12,6 +12,7 @@ use Rattle.std.proofs.lemmas.List.Sorted.{All-permutation, IsNonDecreasingBy-fro
 use Rattle.tq_base.specs.declared.period.Period.{Period}
 use Rattle.tq_base.specs.declared.fragment.Fragment.{Fragment}
 use Rattle.tq_base.specs.declared.sides.Key.{Key}
+use Rattle.tq_base.specs.declared.sides.Mark.TheVariants.{Unknown}
 use Rattle.tq_base.specs.declared.sides.Side.TheVariants.{Left}
 use Rattle.tq_base.specs.Keys.{key_row, no_row, IsKey, SidesState}
 use Rattle.tq_base.specs.Periods.{holds}
@@ -45,7 +46,7 @@ starts_in_order window keys rise = (
 )
   where
     no_key : Key
-    no_key = record { rank = 0; start = 0; row = 0; side = Left; begins = false }
+    no_key = record { rank = 0; start = 0; row = 0; side = Left; mark = Unknown }
 
 -- and so are the ends
 pub ends_in_order : (window : Period) (ends : List End) → IsSortedByKey (λ (e : End). e.at) nat_cmp ends → All (λ (e : End). (window.start ≤ e.at) × (e.at ≤ window.end)) ends

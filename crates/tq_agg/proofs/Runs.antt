@@ -12,6 +12,7 @@ use Rattle.std.proofs.lemmas.List.Sorted.{IsNonDecreasingBy-from_all_adjacent, I
 use Rattle.tq_base.specs.declared.period.Period.{Period}
 use Rattle.tq_base.specs.declared.fragment.Fragment.{Fragment}
 use Rattle.tq_base.specs.declared.sides.Key.{Key}
+use Rattle.tq_base.specs.declared.sides.Mark.TheVariants.{Unknown}
 use Rattle.tq_base.specs.declared.sides.Side.{Side}
 use Rattle.tq_base.specs.declared.sides.Side.TheVariants.{Left, Right}
 use Rattle.tq_base.specs.KeyLaws.{alike}
@@ -21,7 +22,7 @@ use Rattle.tq_agg.specs.GroupKeys.{key_of, AreOfKey}
 use Rattle.tq_agg.proofs.Grouping.{IsRun, RiseByKey}
 
 abbrev pub no_key : Key
-no_key = record { rank = 0; start = 0; row = 0; side = Left; begins = false }
+no_key = record { rank = 0; start = 0; row = 0; side = Left; mark = Unknown }
 
 second_of : (r s : Ordering) → r ≡ Equal → is_lt (ordering_then r s) ≡ false → is_lt s ≡ false
 second_of Less s equal is = cc

@@ -9,6 +9,7 @@ use Rattle.tq_base.specs.declared.fragment.Fragment.{Fragment}
 use Rattle.tq_base.specs.ValueOrder.{values_cmp}
 use Rattle.tq_base.specs.Periods.{holds}
 use Rattle.tq_base.specs.declared.sides.Key.{Key}
+use Rattle.tq_base.specs.declared.sides.Mark.TheVariants.{Unknown}
 use Rattle.tq_base.specs.Keys.{key_row, SidesState}
 use Rattle.tq_base.specs.Sweep.{upto}
 use Rattle.tq_ops.specs.Conditions.{value_at}
@@ -34,7 +35,7 @@ key_weight sides s k = weight_of s (key_row sides k).values
 
 -- the key of the row that ends
 abbrev pub end_key : End → Key
-end_key e = record { rank = 0; start = 0; row = e.row; side = e.side; begins = false }
+end_key e = record { rank = 0; start = 0; row = e.row; side = e.side; mark = Unknown }
 
 -- what the rows of the keys add, without those of the ends
 abbrev pub total_of : SidesState → Summand → List Key → List End → ℤ

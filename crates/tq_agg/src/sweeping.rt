@@ -18,7 +18,7 @@ use crate::bounds::{End, bound_at, ends_by, first_bound, starts_by};
 use crate::summands::{Summand, weight};
 use std::alloc::{AllocError, Global};
 use std::mem;
-use tq_base::{Bound, Instant, Key, Period, Row, Rows, Sides, Value};
+use tq_base::{Bound, Instant, Key, Mark, Period, Row, Rows, Sides, Value};
 
 // What stands before the totals in the rows of a group: the values of one of its rows in the key
 // columns.
@@ -87,7 +87,7 @@ fn added_ends(summand: Summand, sides: &Sides<'_>, ends: &[End]) -> i128
             start: 0,
             row: end.row,
             side: end.side,
-            begins: false,
+            mark: Mark::Unknown,
         };
         total += weight(summand, &sides.row(&key));
     }

@@ -15,8 +15,10 @@ use Rattle.tq_base.specs.declared.value.Value.{Value}
 use Rattle.tq_base.specs.declared.period.Period.{Period}
 use Rattle.tq_base.specs.declared.fragment.Fragment.{Fragment}
 use Rattle.tq_base.specs.declared.sides.Key.{Key}
+use Rattle.tq_base.specs.declared.sides.Mark.{Mark}
+use Rattle.tq_base.specs.declared.sides.Mark.TheVariants.{Unknown, Begins, GoesOn}
 use Rattle.tq_base.specs.declared.sides.Side.{Side}
-use Rattle.tq_base.specs.Keys.{begins_run, columns_on, held, held_on, is_overlap, is_within, key_cmp, key_row, key_values, no_row, overlapping, rank_tells, rows_on, told_cmp, value_at, value_key_cmp, values_left, within, AreMarked, AreTold, Held, IsKey, SidesState}
+use Rattle.tq_base.specs.Keys.{begins_by, begins_run, columns_on, held, held_on, is_overlap, is_within, key_cmp, key_row, key_values, no_row, overlapping, rank_tells, rows_on, told_cmp, value_at, value_key_cmp, values_left, within, AreMarked, AreTold, Held, IsKey, SidesState, TellsRight}
 use Rattle.tq_base.specs.KeyLaws.{alike, told}
 use Rattle.tq_base.specs.ValueOrder.{value_cmp, values_cmp}
 
@@ -155,46 +157,60 @@ module _ (s : SidesState) (keys : List Key) (are : All (IsKey s) keys) (first : 
       All-more (λ (k : Key). key_values s k ≡ key_values s first) keys i e less before
       (told s (get_or keys i e) first (are i e less) first_is (equal_from (value_key_cmp s (get_or keys i e) first) tie))
 
-  -- a key that is marked has other values than the first, where all before it have those of the first
-  marked_apart : AreMarked s keys → (i : ℕ) (e : Key) → i < length keys → 0 < i → (get_or keys i e).begins ≡ true
+  -- what the mark of a key says, the key before it having the values of the first
+  last_alike : (i : ℕ) (e : Key) → i < length keys → 0 < i → All (λ (k : Key). key_values s k ≡ key_values s first) (take i keys) → key_values s (get_or keys (i - 1) e) ≡ key_values s first
+  last_alike i e less after before =
+      ap (key_values s) (sym (get_or-take i keys (i - 1) e (omega (arith, after)))) ∙ before (i - 1) e (omega (arith, after, less, length-take i keys))
+
+  mark_tells : AreMarked s keys → (i : ℕ) (e : Key) → i < length keys → 0 < i → TellsRight s (get_or keys (i - 1) e) (get_or keys i e)
+  mark_tells marks i e less after =
+      let next : i - 1 + 1 ≡ i = omega (arith, after) in
+      subst (λ n. TellsRight s (get_or keys (i - 1) e) (get_or keys n e)) next (marks (i - 1) e (omega (arith, after, less)))
+
+  marked_apart : AreMarked s keys → (i : ℕ) (e : Key) → i < length keys → 0 < i → (get_or keys i e).mark ≡ Begins
       → All (λ (k : Key). key_values s k ≡ key_values s first) (take i keys) → (d : Key) → key_values s (get_or keys i d) ≢ key_values s (get_or keys 0 d)
   marked_apart marks i e less after begins before d same =
-      let next : i - 1 + 1 ≡ i = omega (arith, after) in
-      let last : key_values s (get_or keys (i - 1) e) ≡ key_values s first =
-      ap (key_values s) (sym (get_or-take i keys (i - 1) e (omega (arith, after)))) ∙ before (i - 1) e (omega (arith, after, less, length-take i keys)) in
-      let here : key_values s (get_or keys (i - 1 + 1) e) ≡ key_values s first =
-      ap (λ n. key_values s (get_or keys n e)) next ∙ ap (key_values s) (get_or_default keys i e d less) ∙ same ∙ ap (key_values s) (sym (is_first d)) in
-      marks (i - 1) e (omega (arith, after, less)) (ap (λ n. (get_or keys n e).begins) next ∙ begins) (last ∙ sym here)
+      let here : key_values s (get_or keys i e) ≡ key_values s first = ap (key_values s) (get_or_default keys i e d less) ∙ same ∙ ap (key_values s) (sym (is_first d)) in
+      (mark_tells marks i e less after).0 begins (last_alike i e less after before ∙ sym here)
+
+  marked_alike : AreMarked s keys → (i : ℕ) (e : Key) → i < length keys → 0 < i → (get_or keys i e).mark ≡ GoesOn
+      → All (λ (k : Key). key_values s k ≡ key_values s first) (take i keys) → All (λ (k : Key). key_values s k ≡ key_values s first) (take (i + 1) keys)
+  marked_alike marks i e less after goes before =
+      All-more (λ (k : Key). key_values s k ≡ key_values s first) keys i e less before
+      (sym ((mark_tells marks i e less after).1 goes) ∙ last_alike i e less after before)
+
+  -- what decides whether a key begins another run, where it isn't the first
+  abbrev decided : ℕ → Key → Bool
+  decided i e = begins_by (get_or keys i e).mark (is_ne (value_key_cmp s (get_or keys i e) first))
+
+  placed : (i : ℕ) (e : Key) → 0 < i → decided i e ≡ begins_run s i (get_or keys i e) first
+  placed i e after = let there : nat_lt 0 i ≡ true = search (rules, nat_tests, after) in sym (ap (λ b. b && decided i e) there)
 
   -- the key at a place begins another run
   pub begins_there : AreMarked s keys → (i : ℕ) (e : Key) → i < length keys → begins_run s i (get_or keys i e) first ≡ true
       → All (λ (k : Key). key_values s k ≡ key_values s first) (take i keys) → (0 < i) × ((d : Key) → key_values s (get_or keys i d) ≢ key_values s (get_or keys 0 d))
   begins_there marks i e less begins before = elim (cases_lt 0 i) [
-    | inl after ↦ (after, marked (get_or keys i e).begins refl after)
-    | inr none ↦ let zeroth : nat_lt 0 i ≡ false = search (rules, nat_tests, none) in absurd (cc (ap (λ b. b && ((get_or keys i e).begins || is_ne (value_key_cmp s (get_or keys i e) first))) (sym zeroth) ∙ begins))
+    | inl after ↦ (after, marked (get_or keys i e).mark refl (placed i e after ∙ begins) after)
+    | inr none ↦ let zeroth : nat_lt 0 i ≡ false = search (rules, nat_tests, none) in absurd (cc (ap (λ b. b && decided i e) (sym zeroth) ∙ begins))
   ]
     where
-      marked : (b : Bool) → (get_or keys i e).begins ≡ b → 0 < i → (d : Key) → key_values s (get_or keys i d) ≢ key_values s (get_or keys 0 d)
-      marked true is after = marked_apart marks i e less after is before
-      marked false is after =
-          let placed : nat_lt 0 i ≡ true = search (rules, nat_tests, after) in
-          stands_apart i e less
-          (sym (ap (λ b. b || is_ne (value_key_cmp s (get_or keys i e) first)) is)
-          ∙ sym (ap (λ b. b && ((get_or keys i e).begins || is_ne (value_key_cmp s (get_or keys i e) first))) placed) ∙ begins)
+      marked : (m : Mark) → (get_or keys i e).mark ≡ m → begins_by m (is_ne (value_key_cmp s (get_or keys i e) first)) ≡ true → 0 < i → (d : Key) → key_values s (get_or keys i d) ≢ key_values s (get_or keys 0 d)
+      marked Unknown is apart after = stands_apart i e less apart
+      marked Begins is apart after = marked_apart marks i e less after is before
+      marked GoesOn is apart after = cc
 
   -- or it goes on with the run
-  pub goes_on_there : (i : ℕ) (e : Key) → i < length keys → begins_run s i (get_or keys i e) first ≡ false
+  pub goes_on_there : AreMarked s keys → (i : ℕ) (e : Key) → i < length keys → begins_run s i (get_or keys i e) first ≡ false
       → All (λ (k : Key). key_values s k ≡ key_values s first) (take i keys) → All (λ (k : Key). key_values s k ≡ key_values s first) (take (i + 1) keys)
-  goes_on_there i e less goes_on before = elim (cases_lt 0 i) [
-    | inl after ↦
-        let placed : nat_lt 0 i ≡ true = search (rules, nat_tests, after) in
-        unmarked (get_or keys i e).begins (sym (ap (λ b. b && ((get_or keys i e).begins || is_ne (value_key_cmp s (get_or keys i e) first))) placed) ∙ goes_on)
+  goes_on_there marks i e less goes_on before = elim (cases_lt 0 i) [
+    | inl after ↦ marked (get_or keys i e).mark refl (placed i e after ∙ goes_on) after
     | inr none ↦
         let zeroth : i ≡ 0 = omega (arith, none) in
         All-more (λ (k : Key). key_values s k ≡ key_values s first) keys i e less before
         (ap (λ n. key_values s (get_or keys n e)) zeroth ∙ ap (key_values s) (sym (is_first e)))
   ]
     where
-      unmarked : (b : Bool) → (b || is_ne (value_key_cmp s (get_or keys i e) first)) ≡ false → All (λ (k : Key). key_values s k ≡ key_values s first) (take (i + 1) keys)
-      unmarked true is = cc
-      unmarked false is = run_more i e less is before
+      marked : (m : Mark) → (get_or keys i e).mark ≡ m → begins_by m (is_ne (value_key_cmp s (get_or keys i e) first)) ≡ false → 0 < i → All (λ (k : Key). key_values s k ≡ key_values s first) (take (i + 1) keys)
+      marked Unknown is apart after = run_more i e less apart before
+      marked Begins is apart after = cc
+      marked GoesOn is apart after = marked_alike marks i e less after is before

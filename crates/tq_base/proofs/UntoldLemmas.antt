@@ -1,5 +1,5 @@
 -- What is left to be compared of keys' values, and lists of keys that are sorted run by run.
-use Rattle.std.proofs.Common.{inl, inr, subst, ◌≡◌, ◌≢◌, ℕ, zero, suc, ◌+◌, ◌-◌, ◌<◌, ◌≤◌, true, false, List, [], ◌∷◌, ◌++◌, length, take, drop, map, get_or, refl, set, sym, ap, ◌∙◌, arith}
+use Rattle.std.proofs.Common.{inl, inr, subst, ◌≡◌, ◌≢◌, ℕ, zero, suc, ◌+◌, ◌-◌, ◌<◌, ◌≤◌, Bool, true, false, List, [], ◌∷◌, ◌++◌, length, take, drop, map, get_or, refl, set, sym, ap, ◌∙◌, arith}
 use Rattle.std.specs.Prelude.{All, IsPermutation, IsSorted}
 use Rattle.std.specs.Cmp.{IsTotalOrder, nat_cmp_total, on_total, ranked as ranked_by, then_total, tied_itself}
 use Rattle.std.specs.Cmp.Lexicographic.{slice_cmp}
@@ -15,12 +15,14 @@ use Rattle.std.proofs.lemmas.Slice.{drop-put_mid, take-put_mid}
 use borrow.Rule.Slice.PartMut.{mid_of, post_of, put_mid, put_same}
 use Rattle.tq_base.specs.declared.value.Value.{Value}
 use Rattle.tq_base.specs.declared.sides.Key.{Key}
+use Rattle.tq_base.specs.declared.sides.Mark.{Mark}
+use Rattle.tq_base.specs.declared.sides.Mark.TheVariants.{Unknown, Begins, GoesOn}
 use Rattle.tq_base.specs.declared.sides.Side.{Side}
 use Rattle.tq_base.specs.Contents.{Int, Text}
-use Rattle.tq_base.specs.Keys.{columns_on, first_rank, key_cmp, key_row, held, key_values, rank_tells, told_cmp, value_at, AreMarked, BeginsWithBytes, IsKey, SidesState}
-use Rattle.tq_base.specs.KeyLaws.{as_values, less_from_rank, told_firsts}
-use Rattle.tq_base.specs.Untold.{first_text, from_cmp, rank_cmp, ranked, unmarked, value_after, values_after, values_from, with_rank, AreUnmarked, IsRanked, RunsDone, SameKeys, SameOrder}
-use Rattle.tq_base.specs.ValueOrder.{value_cmp, values_cmp, values_total}
+use Rattle.tq_base.specs.Keys.{columns_on, first_rank, key_cmp, key_row, held, key_values, rank_tells, told_cmp, value_at, AreMarked, BeginsWithBytes, IsKey, SidesState, TellsRight}
+use Rattle.tq_base.specs.KeyLaws.{as_values, less_from_rank, tells_same, told_firsts}
+use Rattle.tq_base.specs.Untold.{first_text, from_cmp, goes_on, rank_cmp, ranked, unmarked, value_after, values_after, values_from, with_rank, AreUnmarked, IsRanked, IsSameOrder, RunsDone, SameKeys, SameOrder}
+use Rattle.tq_base.specs.ValueOrder.{value_cmp, values_cmp, values_same, values_total}
 use Rattle.tq_base.proofs.KeyLemmas.{compared_at}
 
 -- ---- what is left of values
@@ -101,25 +103,27 @@ next_column s place offset k =
 
 -- where a rank tells the first value of what is left, the other columns decide
 pub told_next : (s : SidesState) (place offset : ℕ) (a b : Key) → IsRanked s place offset a → IsRanked s place offset b → a.rank ≡ b.rank → rank_tells a.rank ≡ true
-    → from_cmp s (place + 1) 0 a b ≡ from_cmp s place offset a b
+    → IsSameOrder s place offset (place + 1) 0 a b
 told_next s place offset a b a_is b_is same tells =
     let u = values_from s place offset a in
     let v = values_from s place offset b in
     let decide : values_cmp (drop 1 u) (drop 1 v) ≡ values_cmp u v =
     told_firsts u v a_is.bytes b_is.bytes (sym a_is.rank ∙ same ∙ b_is.rank) (ap rank_tells (sym a_is.rank) ∙ tells) in
-    ap (λ o. ordering_then o (nat_cmp a.start b.start))
-    (ap (λ w. values_cmp w (values_from s (place + 1) 0 b)) (next_column s place offset a) ∙ ap (values_cmp (drop 1 u)) (next_column s place offset b) ∙ decide)
+    ap (λ w. values_cmp w (values_from s (place + 1) 0 b)) (next_column s place offset a) ∙ ap (values_cmp (drop 1 u)) (next_column s place offset b) ∙ decide
 
 -- where the texts begin with the same bytes, what follows decides
 pub shared_next : (s : SidesState) (place offset len next : ℕ) (a b : Key) → next ≡ offset + len → take len (first_text (values_from s place offset a)) ≡ take len (first_text (values_from s place offset b))
-    → from_cmp s place next a b ≡ from_cmp s place offset a b
+    → IsSameOrder s place offset place next a b
 shared_next s place offset len next a b next_is same =
     let later : (k : Key) → values_from s place next k ≡ values_after len (values_from s place offset k) =
     λ k. ap (λ n. values_after n (drop place (key_values s k))) next_is ∙ after_more offset len (drop place (key_values s k)) in
-    ap (λ o. ordering_then o (nat_cmp a.start b.start))
-    (ap (λ w. values_cmp w (values_from s place next b)) (later a)
+    ap (λ w. values_cmp w (values_from s place next b)) (later a)
     ∙ ap (values_cmp (values_after len (values_from s place offset a))) (later b)
-    ∙ left_same len (values_from s place offset a) (values_from s place offset b) same)
+    ∙ left_same len (values_from s place offset a) (values_from s place offset b) same
+
+-- then keys stand to each other as before too
+from_same : (s : SidesState) (place offset next next_offset : ℕ) (a b : Key) → IsSameOrder s place offset next next_offset a b → from_cmp s next next_offset a b ≡ from_cmp s place offset a b
+from_same s place offset next next_offset a b same = ap (λ o. ordering_then o (nat_cmp a.start b.start)) same
 
 rank_decides : (s : SidesState) (place offset : ℕ) (a b : Key) → IsRanked s place offset a → IsRanked s place offset b → a.rank < b.rank → from_cmp s place offset a b ≡ Less
 rank_decides s place offset a b a_is b_is lt =
@@ -193,17 +197,41 @@ rows_same s xs ys same =
     subst (λ l. IsPermutation l (map (held s) ys)) (held_unmarked s xs)
     (subst (IsPermutation (map (held s) (map unmarked xs))) (held_unmarked s ys) (IsPermutation-map (held s) (map unmarked xs) (map unmarked ys) same))
 
+-- marks are told apart
+is_begins : Mark → Bool
+is_begins Unknown = false
+is_begins Begins = true
+is_begins GoesOn = false
+
+is_unknown : Mark → Bool
+is_unknown Unknown = true
+is_unknown Begins = false
+is_unknown GoesOn = false
+
+unknown_tells : (s : SidesState) (last k : Key) → k.mark ≡ Unknown → TellsRight s last k
+unknown_tells s last k none = (
+  λ begins. absurd (let clash : is_unknown Unknown ≡ is_unknown Begins = ap is_unknown (sym none ∙ begins) in cc),
+  λ goes. absurd (let clash : is_unknown Unknown ≡ is_unknown GoesOn = ap is_unknown (sym none ∙ goes) in cc),
+)
+
+begins_tells : (s : SidesState) (last k : Key) → k.mark ≡ Begins → key_values s last ≢ key_values s k → TellsRight s last k
+begins_tells s last k is differ = (λ begins. differ, λ goes. absurd (let clash : is_begins Begins ≡ is_begins GoesOn = ap is_begins (sym is ∙ goes) in cc))
+
+goes_on_tells : (s : SidesState) (last k : Key) → key_values s last ≡ key_values s k → TellsRight s last (goes_on k)
+goes_on_tells s last k same = (λ begins. absurd (let clash : is_begins GoesOn ≡ is_begins Begins = ap is_begins begins in cc), λ goes. same)
+
 -- where no key is marked, no mark is wrong
 pub marked_none : (s : SidesState) (keys : List Key) → AreUnmarked keys → AreMarked s keys
-marked_none s keys none i d less begins same = let not : (get_or keys (i + 1) d).begins ≡ false = none (i + 1) d less in cc (not, begins)
+marked_none s keys none i d less = unknown_tells s (get_or keys i d) (get_or keys (i + 1) d) (none (i + 1) d less)
 
 -- marks stay right where ranks are given back
 pub marked_ranks : (s : SidesState) (rank : ℕ) (keys : List Key) → AreMarked s keys → AreMarked s (map (with_rank rank) keys)
-marked_ranks s rank keys marks i d less begins same =
+marked_ranks s rank keys marks i d less =
     let above : i + 1 < length keys = omega (arith, less, length-map keys (with_rank rank)) in
     let next : get_or (map (with_rank rank) keys) (i + 1) d ≡ with_rank rank (get_or keys (i + 1) d) = get_or-map (with_rank rank) keys (i + 1) d d above in
     let here : get_or (map (with_rank rank) keys) i d ≡ with_rank rank (get_or keys i d) = get_or-map (with_rank rank) keys i d d (omega (arith, above)) in
-    marks i d above (ap (λ (k : Key). k.begins) (sym next) ∙ begins) (ap (key_values s) (sym here) ∙ same ∙ ap (key_values s) next)
+    tells_same s (with_rank rank (get_or keys i d)) (with_rank rank (get_or keys (i + 1) d)) (get_or (map (with_rank rank) keys) i d) (get_or (map (with_rank rank) keys) (i + 1) d) (sym here) (sym next)
+    (marks i d above)
 
 marked_at : (xs ys : List Key) → map unmarked xs ≡ map unmarked ys → (i : ℕ) (d : Key) → i < length xs → unmarked (get_or xs i d) ≡ unmarked (get_or ys i d)
 marked_at xs ys same i d less =
@@ -221,15 +249,16 @@ marked_sorted s place offset xs ys same sorted k d low high =
 
 -- the first key may be marked
 pub first_marked : (s : SidesState) (xs ys : List Key) → map unmarked ys ≡ map unmarked xs → drop 1 ys ≡ drop 1 xs → AreMarked s xs → AreMarked s ys
-first_marked s xs ys same others marks i d less begins alike =
+first_marked s xs ys same others marks i d less =
     let long : length ys ≡ length xs = sym (length-map ys unmarked) ∙ ap length same ∙ length-map xs unmarked in
     let at : 1 + i ≡ i + 1 = omega arith in
     let next : get_or ys (i + 1) d ≡ get_or xs (i + 1) d =
     ap (λ n. get_or ys n d) (sym at) ∙ sym (get_or-drop 1 ys i d) ∙ ap (λ l. get_or l i d) others ∙ get_or-drop 1 xs i d ∙ ap (λ n. get_or xs n d) at in
     let here : key_values s (get_or ys i d) ≡ key_values s (get_or xs i d) = ap (key_values s) (marked_at ys xs same i d (omega (arith, less))) in
-    marks i d (omega (arith, less, long)) (ap (λ (k : Key). k.begins) (sym next) ∙ begins) (sym here ∙ alike ∙ ap (key_values s) next)
+    let tells : TellsRight s (get_or xs i d) (get_or ys (i + 1) d) = subst (TellsRight s (get_or xs i d)) (sym next) (marks i d (omega (arith, less, long))) in
+    (λ begins alike. tells.0 begins (sym here ∙ alike), λ goes. here ∙ tells.1 goes)
 
-pub mark_same : (keys : List Key) (first : Key) → map unmarked (set keys 0 (record { rank = (get_or keys 0 first).rank; start = (get_or keys 0 first).start; row = (get_or keys 0 first).row; side = (get_or keys 0 first).side; begins = true })) ≡ map unmarked keys
+pub mark_same : (keys : List Key) (first : Key) → map unmarked (set keys 0 (record { rank = (get_or keys 0 first).rank; start = (get_or keys 0 first).start; row = (get_or keys 0 first).row; side = (get_or keys 0 first).side; mark = Begins })) ≡ map unmarked keys
 mark_same [] first = refl
 mark_same (k ∷ keys) first = refl
 
@@ -243,31 +272,89 @@ ranks_differ s place offset a b a_is b_is lt same =
     let ranks : first_rank (values_from s place offset a) ≡ first_rank (values_from s place offset b) = ap (λ values. first_rank (values_after offset (drop place values))) same in
     absurd (omega (arith, lt, a_is.rank, b_is.rank, ranks))
 
--- marked lists one after the other, the second of which begins with other values
+-- marked lists one after the other, where the first mark of the second tells right of the last key of the first
 marked_join : (s : SidesState) (xs ys : List Key) → AreMarked s xs → AreMarked s ys
-    → ((d : Key) → 0 < length xs → 0 < length ys → key_values s (get_or xs (length xs - 1) d) ≢ key_values s (get_or ys 0 d)) → AreMarked s (xs ++ ys)
-marked_join s xs ys xs_marks ys_marks seam k d high begins same =
+    → ((d : Key) → 0 < length xs → 0 < length ys → TellsRight s (get_or xs (length xs - 1) d) (get_or ys 0 d)) → AreMarked s (xs ++ ys)
+marked_join s xs ys xs_marks ys_marks seam k d high =
     let wide : k + 1 < length xs + length ys = omega (arith, high, length-append xs ys) in
+    let here = get_or (xs ++ ys) k d in
+    let next = get_or (xs ++ ys) (k + 1) d in
     elim (cases_lt (k + 1) (length xs)) [
       | inl inside ↦
-          let next : get_or (xs ++ ys) (k + 1) d ≡ get_or xs (k + 1) d = get_or_append_left xs ys d (k + 1) inside in
-          xs_marks k d inside (ap (λ (k : Key). k.begins) (sym next) ∙ begins)
-          (ap (key_values s) (sym (get_or_append_left xs ys d k (omega (arith, inside)))) ∙ same ∙ ap (key_values s) next)
+          tells_same s (get_or xs k d) (get_or xs (k + 1) d) here next (sym (get_or_append_left xs ys d k (omega (arith, inside)))) (sym (get_or_append_left xs ys d (k + 1) inside))
+          (xs_marks k d inside)
       | inr past ↦ elim (cases_lt k (length xs)) [
         | inl last ↦
             let end : k ≡ length xs - 1 = omega (arith, past, last) in
             let first : k + 1 - length xs ≡ 0 = omega (arith, last) in
-            seam d (omega (arith, last)) (omega (arith, wide, past))
-            (ap (λ i. key_values s (get_or xs i d)) (sym end) ∙ ap (key_values s) (sym (get_or_append_left xs ys d k last)) ∙ same
-            ∙ ap (key_values s) (get_or-append_right xs ys (length xs) (k + 1) d refl past) ∙ ap (λ i. key_values s (get_or ys i d)) first)
+            tells_same s (get_or xs (length xs - 1) d) (get_or ys 0 d) here next
+            (ap (λ i. get_or xs i d) (sym end) ∙ sym (get_or_append_left xs ys d k last))
+            (ap (λ i. get_or ys i d) (sym first) ∙ sym (get_or-append_right xs ys (length xs) (k + 1) d refl past))
+            (seam d (omega (arith, last)) (omega (arith, wide, past)))
         | inr after ↦
             let following : k + 1 - length xs ≡ k - length xs + 1 = omega (arith, after) in
-            let next : get_or (xs ++ ys) (k + 1) d ≡ get_or ys (k - length xs + 1) d =
-            get_or-append_right xs ys (length xs) (k + 1) d refl past ∙ ap (λ i. get_or ys i d) following in
-            ys_marks (k - length xs) d (omega (arith, after, wide)) (ap (λ (k : Key). k.begins) (sym next) ∙ begins)
-            (ap (key_values s) (sym (get_or-append_right xs ys (length xs) k d refl after)) ∙ same ∙ ap (key_values s) next)
+            tells_same s (get_or ys (k - length xs) d) (get_or ys (k - length xs + 1) d) here next
+            (sym (get_or-append_right xs ys (length xs) k d refl after))
+            (ap (λ i. get_or ys i d) (sym following) ∙ sym (get_or-append_right xs ys (length xs) (k + 1) d refl past))
+            (ys_marks (k - length xs) d (omega (arith, after, wide)))
       ]
     ]
+
+-- ---- one order after another
+
+-- the order stays one between the same keys
+pub order_same : (s : SidesState) (place offset next next_offset : ℕ) (xs ys : List Key) → SameKeys xs ys → SameOrder s place offset next next_offset xs → SameOrder s place offset next next_offset ys
+order_same s place offset next next_offset xs ys moved same =
+    let Alike : Key → Key → Type 0 = IsSameOrder s place offset next next_offset in
+    same_all (λ a. All (Alike a) ys) xs ys (λ k is. is) (λ k is. is) moved
+    (λ i d less. same_all (Alike (get_or xs i d)) xs ys (λ k is. is) (λ k is. is) moved (same i d less))
+
+-- and where they get other ranks
+pub order_ranked : (s : SidesState) (place offset next next_offset rank_place rank_offset : ℕ) (keys : List Key) → SameOrder s place offset next next_offset keys
+    → SameOrder s place offset next next_offset (map (ranked s rank_place rank_offset) keys)
+order_ranked s place offset next next_offset rank_place rank_offset keys same =
+    let Alike : Key → Key → Type 0 = IsSameOrder s place offset next next_offset in
+    let to : Key → Key = ranked s rank_place rank_offset in
+    All-map (λ a. All (Alike a) (map to keys)) to keys (λ i d less. All-map (Alike (to (get_or keys i d))) to keys (same i d less))
+
+-- and between those of a part
+pub order_part : (s : SidesState) (place offset next next_offset start len : ℕ) (keys : List Key) → SameOrder s place offset next next_offset keys
+    → SameOrder s place offset next next_offset (mid_of start len keys)
+order_part s place offset next next_offset start len keys same =
+    let Alike : Key → Key → Type 0 = IsSameOrder s place offset next next_offset in
+    All-take (λ a. All (Alike a) (mid_of start len keys)) len (drop start keys)
+    (All-drop (λ a. All (Alike a) (mid_of start len keys)) start keys
+    (λ i d less. All-take (Alike (get_or keys i d)) len (drop start keys) (All-drop (Alike (get_or keys i d)) start keys (same i d less))))
+
+-- what decides as well as what decides as well as the whole does
+pub order_then : (s : SidesState) (place offset next next_offset : ℕ) (keys : List Key) → SameOrder s 0 0 place offset keys → SameOrder s place offset next next_offset keys → SameOrder s 0 0 next next_offset keys
+order_then s place offset next next_offset keys first second i d less j e below = second i d less j e below ∙ first i d less j e below
+
+-- where nothing is left, all values are the same
+all_alike : (s : SidesState) (place offset : ℕ) (keys : List Key) → ((of : Side) → length (columns_on s of) ≤ place) → SameOrder s 0 0 place offset keys
+    → (i j : ℕ) (d e : Key) → i < length keys → j < length keys → key_values s (get_or keys i d) ≡ key_values s (get_or keys j e)
+all_alike s place offset keys past same i j d e less below =
+    let a = get_or keys i d in
+    let b = get_or keys j e in
+    let none : values_cmp (values_from s place offset a) (values_from s place offset b) ≡ Equal =
+    ap (λ l. values_cmp l (values_from s place offset b)) (from_past s a (columns_on s a.side) place offset refl (past a.side))
+    ∙ ap (values_cmp []) (from_past s b (columns_on s b.side) place offset refl (past b.side)) in
+    sym (after_none (key_values s a))
+    ∙ values_same (values_from s 0 0 a) (values_from s 0 0 b) (sym (same i d less j e below) ∙ none)
+    ∙ after_none (key_values s b)
+
+-- so each goes on with the run
+pub going_on : (s : SidesState) (place offset : ℕ) (keys : List Key) → ((of : Side) → length (columns_on s of) ≤ place) → SameOrder s 0 0 place offset keys → AreMarked s (map goes_on keys)
+going_on s place offset keys past same i d less =
+    let above : i + 1 < length keys = omega (arith, less, length-map keys goes_on) in
+    let below : i < length keys = omega (arith, above) in
+    tells_same s (goes_on (get_or keys i d)) (goes_on (get_or keys (i + 1) d)) (get_or (map goes_on keys) i d) (get_or (map goes_on keys) (i + 1) d)
+    (sym (get_or-map goes_on keys i d d below)) (sym (get_or-map goes_on keys (i + 1) d d above))
+    (goes_on_tells s (goes_on (get_or keys i d)) (get_or keys (i + 1) d) (all_alike s place offset keys past same i (i + 1) d d below above))
+
+pub unmarked_going_on : (keys : List Key) → map unmarked (map goes_on keys) ≡ map unmarked keys
+unmarked_going_on [] = refl
+unmarked_going_on (k ∷ keys) = ap (λ l. unmarked k ∷ l) (unmarked_going_on keys)
 
 -- ---- order where nothing more is told
 
@@ -285,12 +372,9 @@ start_sorted s place offset keys past sorted k d low high =
     ap is_lt (sym (compared_past s place offset a b (from_past s a (columns_on s a.side) place offset refl (past a.side)) (from_past s b (columns_on s b.side) place offset refl (past b.side)))) ∙ sorted k d low high
 
 -- keys that stand to each other as before, sorted by what is left from a later place on
-pub sorted_before : (s : SidesState) (place offset next next_offset : ℕ) (run new : List Key) → IsPermutation run new → SameOrder s place offset next next_offset run → IsSorted (from_cmp s next next_offset) new → IsSorted (from_cmp s place offset) new
-sorted_before s place offset next next_offset run new moved same sorted k d low high =
-    let Alike : Key → Key → Type 0 = λ a b. from_cmp s next next_offset a b ≡ from_cmp s place offset a b in
-    let one : All (λ a. All (Alike a) new) run = λ i e less. All-permutation (Alike (get_or run i e)) run new moved (same i e less) in
-    let both : All (λ a. All (Alike a) new) new = All-permutation (λ a. All (Alike a) new) run new moved one in
-    ap is_lt (sym (both (k + 1) d high k d (omega (arith, high)))) ∙ sorted k d low high
+pub sorted_before : (s : SidesState) (place offset next next_offset : ℕ) (keys : List Key) → SameOrder s place offset next next_offset keys → IsSorted (from_cmp s next next_offset) keys → IsSorted (from_cmp s place offset) keys
+sorted_before s place offset next next_offset keys same sorted k d low high =
+    ap is_lt (sym (from_same s place offset next next_offset (get_or keys (k + 1) d) (get_or keys k d) (same (k + 1) d high k d (omega (arith, high))))) ∙ sorted k d low high
 
 -- ---- ranks taken anew, and given back
 
@@ -328,16 +412,8 @@ module _ (s : SidesState) (place offset next next_offset rank : ℕ) (run mid : 
       (subst (IsPermutation (map (with_rank rank) (map unmarked there))) (unmarked_ranks rank mid)
       (IsPermutation-map (with_rank rank) (map unmarked there) (map unmarked mid) moved))
 
-  abbrev Alike : Key → Key → Type 0
-  Alike a b = from_cmp s next next_offset a b ≡ from_cmp s place offset a b
-
-  order_here : SameOrder s place offset next next_offset run → All (λ a. All (Alike a) mid) mid
-  order_here same =
-      let after : All (λ a. All (Alike a) (map (ranked s next next_offset) run)) (map (ranked s next next_offset) run) =
-      All-map (λ a. All (Alike a) (map (ranked s next next_offset) run)) (ranked s next next_offset) run
-      (λ i d less. All-map (Alike (ranked s next next_offset (get_or run i d))) (ranked s next next_offset) run (same i d less)) in
-      same_all (λ a. All (Alike a) mid) (map (ranked s next next_offset) run) mid (λ k is. is) (λ k is. is) moved
-      (λ i d less. same_all (Alike (get_or (map (ranked s next next_offset) run) i d)) (map (ranked s next next_offset) run) mid (λ k is. is) (λ k is. is) moved (after i d less))
+  order_here : SameOrder s place offset next next_offset run → SameOrder s place offset next next_offset mid
+  order_here same = order_same s place offset next next_offset (map (ranked s next next_offset) run) mid moved (order_ranked s place offset next next_offset next next_offset run same)
 
   pub back_sorted : SameOrder s place offset next next_offset run → IsSorted (from_cmp s next next_offset) mid → IsSorted (from_cmp s place offset) (map (with_rank rank) mid)
   back_sorted same sorted k d low high =
@@ -345,7 +421,7 @@ module _ (s : SidesState) (place offset next next_offset rank : ℕ) (run mid : 
       let below : k < length mid = omega (arith, above) in
       ap (λ a. is_lt (from_cmp s place offset a (get_or (map (with_rank rank) mid) k d))) (get_or-map (with_rank rank) mid (k + 1) d d above)
       ∙ ap (λ b. is_lt (from_cmp s place offset (get_or mid (k + 1) d) b)) (get_or-map (with_rank rank) mid k d d below)
-      ∙ ap is_lt (sym (order_here same (k + 1) d above k d below))
+      ∙ ap is_lt (sym (from_same s place offset next next_offset (get_or mid (k + 1) d) (get_or mid k d) (order_here same (k + 1) d above k d below)))
       ∙ sorted k d low above
 
 -- a loop over all keys has come to their end
@@ -425,6 +501,10 @@ above_it m n not_below differ = split (nat_cmp n m) refl
     split Equal is = absurd (differ (ranked_by n m Equal (sym is)))
     split Greater is = ranked_by n m Greater (sym is)
 
+-- the first key, if there is one, is marked as one that begins a run
+abbrev pub BeginsRun : List Key → Type 0
+BeginsRun keys = (d : Key) → 0 < length keys → (get_or keys 0 d).mark ≡ Begins
+
 module _ (start len rank : ℕ) (keys run : List Key) (inside : start + len ≤ length keys) (moved : SameKeys (mid_of start len keys) run) (alike : All (λ (k : Key). k.rank ≡ rank) (mid_of start len keys)) where
   abbrev joined : List Key
   joined = put_mid start len keys run
@@ -478,7 +558,7 @@ module _ (start len rank : ℕ) (keys run : List Key) (inside : start + len ≤ 
   rest_joined : AreUnmarked (drop start keys) → AreUnmarked (drop (start + len) joined)
   rest_joined rest =
       subst AreUnmarked (drop-drop len start keys ∙ sym (drop-put_mid start len keys run (start + len) (omega arith) (omega (arith, inside)) run_len))
-      (All-drop (λ (k : Key). k.begins ≡ false) len (drop start keys) rest)
+      (All-drop (λ (k : Key). k.mark ≡ Unknown) len (drop start keys) rest)
 
   module _ (s : SidesState) (place offset : ℕ) (some : 0 < len) (ranks : All (IsRanked s place offset) keys)
       (before : (d : Key) → 0 < start → start < length keys → (get_or keys (start - 1) d).rank < (get_or keys start d).rank) where
@@ -511,13 +591,13 @@ module _ (start len rank : ℕ) (keys run : List Key) (inside : start + len ≤ 
         let less : from_cmp s place offset a b ≡ Less = rank_decides s place offset a b (before_is d) (first_is d some_run) (lower d has some_run) in
         ap (λ x. is_lt (from_cmp s place offset b x)) (last_before d has) ∙ ap is_lt ((from_cmp_total s place offset).antisymm b a ∙ ap ordering_reverse less)))
 
-    marks_joined : AreMarked s (take start keys) → AreMarked s run → AreMarked s (take (start + len) joined)
-    marks_joined done marks =
+    marks_joined : AreMarked s (take start keys) → AreMarked s run → BeginsRun run → AreMarked s (take (start + len) joined)
+    marks_joined done marks first =
         subst (AreMarked s) all_before
         (marked_join s (take start keys) run done marks
-        (λ d has some_run same.
-        ranks_differ s place offset (get_or keys (start - 1) d) (get_or run 0 d) (before_is d) (first_is d some_run) (lower d has some_run)
-        (ap (key_values s) (sym (last_before d has)) ∙ same)))
+        (λ d has some_run. begins_tells s (get_or (take start keys) (length (take start keys) - 1) d) (get_or run 0 d) (first d some_run)
+        (λ same. ranks_differ s place offset (get_or keys (start - 1) d) (get_or run 0 d) (before_is d) (first_is d some_run) (lower d has some_run)
+        (ap (key_values s) (sym (last_before d has)) ∙ same))))
 
 pub runs_start : (s : SidesState) (place offset : ℕ) (keys : List Key) → IsSorted rank_cmp keys → AreUnmarked keys → RunsDone s place offset keys 0
 runs_start s place offset keys rise none = record {
@@ -576,9 +656,9 @@ pub runs_more : (s : SidesState) (place offset : ℕ) (keys run : List Key) (sta
     → start < length keys → rank ≡ (get_or keys start e).rank → len ≤ length (take (length keys - start) (drop start keys))
     → All (λ (k : Key). k.rank ≡ rank) (take len (take (length keys - start) (drop start keys)))
     → Ends (take (length keys - start) (drop start keys)) len rank
-    → SameKeys (mid_of start (start + len - start) keys) run → IsSorted (from_cmp s place offset) run → AreMarked s run
+    → SameKeys (mid_of start (start + len - start) keys) run → IsSorted (from_cmp s place offset) run → AreMarked s run → BeginsRun run
     → RunsDone s place offset (put_mid start (start + len - start) keys run) (start + len)
-runs_more s place offset keys run start len rank e before ranks less is within alike ends moved sorted marks =
+runs_more s place offset keys run start len rank e before ranks less is within alike ends moved sorted marks first =
     let here : SameKeys (mid_of start len keys) run = subst (λ m. SameKeys (mid_of start m keys) run) (same_size start len) moved in
     let fits : len ≤ length (drop start keys) = subst (λ l. len ≤ length l) (rest_is keys start) within in
     let inside : start + len ≤ length keys = omega (arith, fits, less, length-drop start keys) in
@@ -591,7 +671,7 @@ runs_more s place offset keys run start len rank e before ranks less is within a
       within = omega (arith, inside, same_length keys (put_mid start len keys run) joined_same);
       rise = rise_joined start len rank keys run inside here one before.rise;
       done = done_joined start len rank keys run inside here one s place offset some ranks before.apart before.done sorted;
-      marks = marks_joined start len rank keys run inside here one s place offset some ranks before.apart before.marks marks;
+      marks = marks_joined start len rank keys run inside here one s place offset some ranks before.apart before.marks marks first;
       rest = rest_joined start len rank keys run inside here one before.rest;
       apart = apart_joined start len rank keys run inside here one some before.rise stop;
     })

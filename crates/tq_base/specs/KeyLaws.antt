@@ -16,7 +16,7 @@ use Rattle.tq_base.specs.declared.sides.Key.{Key}
 use Rattle.tq_base.specs.Contents.{Int, Text, has_exact_rank}
 use Rattle.tq_base.specs.Ranks.{prefix, ranks_rise, ranks_tell, value_rank, HasBytes}
 use Rattle.tq_base.specs.ValueOrder.{value_cmp, value_total, values_cmp, values_same, values_total}
-use Rattle.tq_base.specs.Keys.{columns_on, first_rank, key_row, value_at, key_cmp, key_values, rank_tells, value_key_cmp, values_left, AreMarked, BeginsWithBytes, IsKey, Rises, SidesState}
+use Rattle.tq_base.specs.Keys.{columns_on, first_rank, key_row, value_at, key_cmp, key_values, rank_tells, value_key_cmp, values_left, AreMarked, BeginsWithBytes, IsKey, Rises, SidesState, TellsRight}
 
 -- ---- what ranks tell
 
@@ -148,12 +148,17 @@ rises s keys sorted are i j d before short above =
     let below : is_lt (key_cmp s b a) ≡ true = ap (λ o. is_lt (ordering_then o (nat_cmp b.start a.start))) less in
     cc (not_below, below)
 
+-- what a mark says of one key and the one before it, it says of the same two
+pub tells_same : (s : SidesState) (a b x y : Key) → a ≡ x → b ≡ y → TellsRight s a b → TellsRight s x y
+tells_same s a b x y a_is b_is tells = subst (λ k. TellsRight s k y) a_is (subst (TellsRight s a) b_is tells)
+
 -- the keys from a place on are marked as the whole
 pub marks_rest : (s : SidesState) (keys : List Key) (start : ℕ) → AreMarked s keys → AreMarked s (drop start keys)
-marks_rest s keys start marks i d less begins same =
+marks_rest s keys start marks i d less =
     let here : get_or (drop start keys) i d ≡ get_or keys (start + i) d = get_or-drop start keys i d in
     let next : get_or (drop start keys) (i + 1) d ≡ get_or keys (start + i + 1) d = get_or-drop start keys (i + 1) d ∙ ap (λ n. get_or keys n d) (let at : start + (i + 1) ≡ start + i + 1 = omega arith in at) in
-    marks (start + i) d (omega (arith, less, length-drop start keys)) (ap (λ (k : Key). k.begins) (sym next) ∙ begins) (ap (key_values s) (sym here) ∙ same ∙ ap (key_values s) next)
+    tells_same s (get_or keys (start + i) d) (get_or keys (start + i + 1) d) (get_or (drop start keys) i d) (get_or (drop start keys) (i + 1) d) (sym here) (sym next)
+    (marks (start + i) d (omega (arith, less, length-drop start keys)))
 
 -- ---- all columns
 

@@ -9,6 +9,8 @@ use Rattle.tq_base.specs.declared.value.Value.{Value}
 use Rattle.tq_base.specs.declared.period.Period.{Period}
 use Rattle.tq_base.specs.declared.fragment.Fragment.{Fragment}
 use Rattle.tq_base.specs.declared.sides.Key.{Key}
+use Rattle.tq_base.specs.declared.sides.Mark.{Mark}
+use Rattle.tq_base.specs.declared.sides.Mark.TheVariants.{Unknown, Begins, GoesOn}
 use Rattle.tq_base.specs.declared.sides.Side.{Side}
 use Rattle.tq_base.specs.declared.sides.Side.TheVariants as side
 use Rattle.tq_base.specs.Contents.{Int}
@@ -128,16 +130,24 @@ pub record IsKey (s : SidesState) (k : Key) : Type 0 where
 -- the key of a row, of which it is not known whether it begins a run
 pub record IsFresh (s : SidesState) (k : Key) : Type 0 where
   pub key : IsKey s k
-  pub unmarked : k.begins ≡ false
+  pub unmarked : k.mark ≡ Unknown
 
--- a key that is marked has other values than the one before it
+-- a key that is marked has other values than the one before it, or the same, as the mark says
+abbrev pub TellsRight : SidesState → Key → Key → Type 0
+TellsRight s last k = (k.mark ≡ Begins → key_values s last ≢ key_values s k) × (k.mark ≡ GoesOn → key_values s last ≡ key_values s k)
+
 abbrev pub AreMarked : SidesState → List Key → Type 0
-AreMarked s keys = (i : ℕ) (d : Key) → i + 1 < length keys → (slice_index_or keys (i + 1) d).begins ≡ true
-    → key_values s (slice_index_or keys i d) ≢ key_values s (slice_index_or keys (i + 1) d)
+AreMarked s keys = (i : ℕ) (d : Key) → i + 1 < length keys → TellsRight s (slice_index_or keys i d) (slice_index_or keys (i + 1) d)
 
--- whether the key at the place is marked or stands apart from the first
+-- what the mark says, and where it says nothing, whether the key stands apart
+abbrev pub begins_by : Mark → Bool → Bool
+begins_by Unknown apart = apart
+begins_by Begins apart = true
+begins_by GoesOn apart = false
+
+-- whether the key at the place begins another run, by its mark or since it stands apart from the first
 abbrev pub begins_run : SidesState → ℕ → Key → Key → Bool
-begins_run s place k first = nat_lt 0 place && (k.begins || is_ne (value_key_cmp s k first))
+begins_run s place k first = nat_lt 0 place && begins_by k.mark (is_ne (value_key_cmp s k first))
 
 -- no key's values are above those of a later one
 abbrev pub Rises : SidesState → List Key → Type 0

@@ -1,10 +1,11 @@
 -- What is left to be compared of keys' values where ranks did not tell all: from a column on, and of the text that stands
 -- there from a byte on. This project's own.
-use Rattle.std.specs.Prelude.{◌≡◌, ◌<◌, ◌≤◌, ◌-◌, ℕ, false, List, [], ◌∷◌, drop, length, map, slice_index_or, take, All, IsPermutation, IsSorted}
+use Rattle.std.specs.Prelude.{◌≡◌, ◌<◌, ◌≤◌, ◌-◌, ℕ, List, [], ◌∷◌, drop, length, map, slice_index_or, take, All, IsPermutation, IsSorted}
 use Rattle.std.specs.Ordering.{nat_cmp, on, then_cmp}
 use Rattle.std.specs.declared.cmp.Ordering.{Ordering}
 use Rattle.tq_base.specs.declared.value.Value.{Value}
 use Rattle.tq_base.specs.declared.sides.Key.{Key}
+use Rattle.tq_base.specs.declared.sides.Mark.TheVariants.{Unknown, GoesOn}
 use Rattle.tq_base.specs.Contents.{Int, Text}
 use Rattle.tq_base.specs.ValueOrder.{values_cmp}
 use Rattle.tq_base.specs.Keys.{first_rank, key_values, AreMarked, BeginsWithBytes, SidesState}
@@ -43,7 +44,7 @@ rank_cmp = on (λ k. k.rank) nat_cmp
 
 -- the key with another rank
 abbrev pub with_rank : ℕ → Key → Key
-with_rank rank k = record { rank = rank; start = k.start; row = k.row; side = k.side; begins = k.begins }
+with_rank rank k = record { rank = rank; start = k.start; row = k.row; side = k.side; mark = k.mark }
 
 -- the key with the rank of what is left
 abbrev pub ranked : SidesState → ℕ → ℕ → Key → Key
@@ -51,11 +52,15 @@ ranked s place offset k = with_rank (first_rank (values_from s place offset k)) 
 
 -- the key without its mark
 abbrev pub unmarked : Key → Key
-unmarked k = record { rank = k.rank; start = k.start; row = k.row; side = k.side; begins = false }
+unmarked k = record { rank = k.rank; start = k.start; row = k.row; side = k.side; mark = Unknown }
+
+-- the key, which goes on with a run
+abbrev pub goes_on : Key → Key
+goes_on k = record { rank = k.rank; start = k.start; row = k.row; side = k.side; mark = GoesOn }
 
 -- no key is marked
 abbrev pub AreUnmarked : List Key → Type 0
-AreUnmarked keys = All (λ k. k.begins ≡ false) keys
+AreUnmarked keys = All (λ k. k.mark ≡ Unknown) keys
 
 -- the same keys in some order, whichever are marked
 abbrev pub SameKeys : List Key → List Key → Type 0
@@ -71,10 +76,14 @@ abbrev pub Share : SidesState → ℕ → ℕ → ℕ → List Key → Type 0
 Share s place offset len keys =
     All (λ a. All (λ b. take len (first_text (values_from s place offset a)) ≡ take len (first_text (values_from s place offset b))) keys) keys
 
+-- the values that are left of two keys from a later place on stand to each other as those from an earlier one
+abbrev pub IsSameOrder : SidesState → ℕ → ℕ → ℕ → ℕ → Key → Key → Type 0
+IsSameOrder s place offset next next_offset a b =
+    values_cmp (values_from s next next_offset a) (values_from s next next_offset b) ≡ values_cmp (values_from s place offset a) (values_from s place offset b)
+
 -- what is left from a later place on decides just as well between these keys
 abbrev pub SameOrder : SidesState → ℕ → ℕ → ℕ → ℕ → List Key → Type 0
-SameOrder s place offset next next_offset keys =
-    All (λ a. All (λ b. from_cmp s next next_offset a b ≡ from_cmp s place offset a b) keys) keys
+SameOrder s place offset next next_offset keys = All (λ a. All (IsSameOrder s place offset next next_offset a) keys) keys
 
 -- the keys before the place are sorted by what is left and marked, and have lower ranks than those from there on
 pub record RunsDone (s : SidesState) (place offset : ℕ) (keys : List Key) (start : ℕ) : Type 0 where

@@ -13,7 +13,7 @@ use crate::period::{Bound, Instant, Period};
 use crate::rank::rank_of;
 use crate::relation::Relation;
 use crate::row::Row;
-use crate::sides::{Key, Side, Sides};
+use crate::sides::{Key, Mark, Side, Sides};
 use std::alloc::{AllocError, Global};
 use std::cmp::Ordering;
 
@@ -228,7 +228,7 @@ impl<'a> Sides<'a> {
             start,
             row,
             side,
-            begins: false,
+            mark: Mark::Unknown,
         }
     }
 
@@ -274,9 +274,9 @@ impl<'a> Sides<'a> {
         }
     }
 
-    /// Sorts the keys by the values that are compared, then by start, and marks keys that are seen to begin a run.
-    /// What is in order already is not sorted. `AllocError` where a growth was refused: then the keys stand as
-    /// before.
+    /// Sorts the keys by the values that are compared, then by start, and marks keys that are seen to begin a run
+    /// or to go on with it. What is in order already is not sorted. `AllocError` where a growth was refused: then
+    /// the keys stand as before.
     pub fn sort(&self, keys: &mut Vec<Key>) -> Result<(), AllocError>
         requires keys { All (IsFresh (state_of self.now)) keys.old.items }
         ensures rows { OnOk result (IsPermutation (map (held (state_of self.now)) keys.old.items) (map (held (state_of self.now)) keys.new.items)) }
@@ -302,7 +302,14 @@ impl<'a> Sides<'a> {
     fn begins_run(&self, place: usize, key: &Key, first: &Key) -> bool
         ensures { result ≡ begins_run (state_of self.now) place key.now first.now }
     {
-        place > 0 && (key.begins || self.compare_values(key, first).is_ne())
+        if place == 0 {
+            return false;
+        }
+        match key.mark {
+            Mark::Unknown => self.compare_values(key, first).is_ne(),
+            Mark::Begins => true,
+            Mark::GoesOn => false,
+        }
     }
 
     /// How many keys at the front have the values of the first in the columns that are compared.

@@ -38,6 +38,6 @@ pub use rank::rank_of;
 pub use relation::{Line, Pair, Relation};
 pub use row::Row;
 pub use rows::Rows;
-pub use sides::{Key, Side, Sides, all_columns};
+pub use sides::{Key, Mark, Side, Sides, all_columns};
 pub use value::{Seen, Text, Value};
 pub use values::Values;

@@ -13,15 +13,24 @@ pub enum Side {
     Right,
 }
 
+/// What sorting told of a row's values beside those of the key before it: nothing, that the row begins a run of its
+/// own, or that it goes on with the run.
+#[derive(Clone, Copy, PartialEq, Eq, Debug)]
+pub enum Mark {
+    Unknown,
+    Begins,
+    GoesOn,
+}
+
 /// A row as it is sorted: the rank of its first value that is compared, its start, its number and its side, and
-/// whether it is known to begin a run: that its values are not those of the key before it.
+/// what is known of it beside the key before it.
 #[derive(Clone, Copy, Debug)]
 pub struct Key {
     pub rank: u128,
     pub start: u64,
     pub row: u32,
     pub side: Side,
-    pub begins: bool,
+    pub mark: Mark,
 }
 
 /// The rows of two relations, and as many columns of each, by which rows are compared.

@@ -1,27 +1,26 @@
 //! Sorting of keys whose first ranks do not tell all that is compared: keys of one rank get the rank of what comes
 //! next, which is the next column or what follows the common beginning of their texts, and are sorted by that. The
-//! first key of each run of one such rank is marked: its values differ from those of the key before it.
+//! first key of each run of one such rank is marked, since its values differ from those of the key before it; and where
+//! nothing is left to be compared, the others are, since theirs are the same.
 
 ghost use Rattle.std.specs.Prelude.{◌≡◌, ◌≢◌, ◌<◌, ◌≤◌, All, IsPermutation, IsSorted, drop, length, map, slice_index_or, take};
 ghost use Rattle.std.specs.Bool.{OnTrue};
 ghost use Rattle.tq_base.specs.declared.sides.Key.{Key};
+ghost use Rattle.tq_base.specs.declared.sides.Mark.TheVariants.{Begins};
 ghost use Rattle.tq_base.specs.KeySides.{state_of};
 ghost use Rattle.tq_base.specs.Keys.{first_rank, value_at, AreMarked, BeginsWithBytes};
 ghost use Rattle.tq_base.specs.Ranks.{value_rank, HasBytes};
-ghost use Rattle.tq_base.specs.Untold.{first_text, from_cmp, rank_cmp, ranked, text_of, unmarked, value_after, values_from, with_rank, AreUnmarked, IsRanked, RunsDone, SameKeys, SameOrder, Share};
+ghost use Rattle.tq_base.specs.Untold.{first_text, from_cmp, goes_on, rank_cmp, ranked, text_of, unmarked, value_after, values_from, with_rank, AreUnmarked, IsRanked, RunsDone, SameKeys, SameOrder, Share};
 ghost use Rattle.tq_base.specs.ValueOrder.{value_cmp};
 
 use crate::keys::{compare_told, rank_tells};
 use crate::rank::{compare_after, rank_after, text_after};
 use crate::row::Row;
-use crate::sides::{Key, Sides};
+use crate::sides::{Key, Mark, Sides};
 use std::cmp::Ordering;
 
 // How often the ranks of one key are taken anew: what they do not tell then is read.
 const LEVELS: u32 = 256;
-
-// Runs of fewer keys are sorted by comparisons.
-const SHORT_RUN: usize = 16;
 
 // The rank of the value in the column, or of its text from the offset on.
 fn rank_there(row: &Row<'_>, column: u32, offset: usize) -> u128
@@ -107,9 +106,19 @@ fn set_ranks(keys: &mut [Key], rank: u128)
 fn mark_first(keys: &mut [Key])
     ensures same { map unmarked keys.new ≡ map unmarked keys.old }
     ensures others { drop 1 keys.new ≡ drop 1 keys.old }
+    ensures first { (d : Key) → 0 < length keys.new → (slice_index_or keys.new 0 d).mark ≡ Begins }
 {
     if !keys.is_empty() {
-        keys[0].begins = true;
+        keys[0].mark = Mark::Begins;
+    }
+}
+
+// Marks all keys as those that go on with a run.
+fn mark_going_on(keys: &mut [Key])
+    ensures { keys.new ≡ map goes_on keys.old }
+{
+    'keys: for key in keys.iter_mut() {
+        key.mark = Mark::GoesOn;
     }
 }
 
@@ -198,20 +207,17 @@ impl<'a> Sides<'a> {
         if rank_tells(rank) {
             return (place + 1, 0);
         }
-        if run.len() < SHORT_RUN {
-            return (place, offset);
-        }
         match offset.checked_add(self.shared_len(run, place, offset)) {
             Some(next) => (place, next),
             None => (place, offset),
         }
     }
 
-    // Whether so many keys of one rank are ranked anew at the next place, and not sorted by comparisons.
-    fn are_ranked_anew(&self, levels: u32, len: usize, next: usize, is_further: bool) -> bool
+    // Whether keys of one rank are ranked anew at the next place, and not sorted by comparisons.
+    fn are_ranked_anew(&self, levels: u32, next: usize, is_further: bool) -> bool
         ensures { OnTrue result (0 < levels) }
     {
-        levels > 0 && is_further && len >= SHORT_RUN && next < self.left_columns.len()
+        levels > 0 && is_further && next < self.left_columns.len()
     }
 
     // Sorts the keys by comparisons of what they have from there on.
@@ -226,13 +232,29 @@ impl<'a> Sides<'a> {
         }
     }
 
-    // Sorts keys of one rank by what they have from there on, and marks those that are seen to begin a run. The
-    // levels bound how often ranks are taken anew.
+    // The same of keys whose order is that of what they have from there on. Where nothing is left, their values are
+    // the same, and they are marked.
+    fn sort_rest(&self, keys: &mut [Key], place: usize, offset: usize)
+        requires unmarked { AreUnmarked keys.old }
+        requires decides { SameOrder (state_of self.now) 0 0 place offset keys.old }
+        ensures same { SameKeys keys.old keys.new }
+        ensures order { IsSorted (from_cmp (state_of self.now) place offset) keys.new }
+        ensures marks { AreMarked (state_of self.now) keys.new }
+    {
+        self.sort_read(keys, place, offset);
+        if place >= self.left_columns.len() {
+            mark_going_on(keys);
+        }
+    }
+
+    // Sorts keys of one rank by what they have from there on, and marks those that are seen to begin a run or to go
+    // on with it. The levels bound how often ranks are taken anew.
     #[cycle(untold)]
     fn sort_run(&self, levels: u32, rank: u128, run: &mut [Key], place: usize, offset: usize)
         requires alike { All (λ k. k.rank ≡ rank) run.old }
         requires ranks { All (IsRanked (state_of self.now) place offset) run.old }
         requires unmarked { AreUnmarked run.old }
+        requires decides { SameOrder (state_of self.now) 0 0 place offset run.old }
         ensures same { SameKeys run.old run.new }
         ensures order { IsSorted (from_cmp (state_of self.now) place offset) run.new }
         ensures marks { AreMarked (state_of self.now) run.new }
@@ -242,12 +264,12 @@ impl<'a> Sides<'a> {
         }
         let (next, next_offset) = self.next_place(rank, run, place, offset);
         let is_further = next > place || next_offset > offset;
-        if self.are_ranked_anew(levels, run.len(), next, is_further) {
+        if self.are_ranked_anew(levels, next, is_further) {
             self.rank_keys(run, next, next_offset);
             self.sort_ranked(levels - 1, run, next, next_offset);
             set_ranks(run, rank);
         } else {
-            self.sort_read(run, next, next_offset);
+            self.sort_rest(run, next, next_offset);
         }
     }
 
@@ -264,6 +286,7 @@ impl<'a> Sides<'a> {
         requires ranks { All (IsRanked (state_of self.now) place offset) keys.old }
         requires done { RunsDone (state_of self.now) place offset keys.old start }
         requires some { start < length keys.old }
+        requires decides { SameOrder (state_of self.now) 0 0 place offset keys.old }
         ensures same { SameKeys keys.old keys.new }
         ensures done { RunsDone (state_of self.now) place offset keys.new result }
         ensures further { start < result }
@@ -277,11 +300,12 @@ impl<'a> Sides<'a> {
     }
 
     // Sorts keys that have the ranks of what they have from there on by these, and then each run of equal ranks,
-    // and marks those that are seen to begin a run.
+    // and marks those that are seen to begin a run or to go on with it.
     #[cycle(untold)]
     fn sort_ranked(&self, levels: u32, keys: &mut [Key], place: usize, offset: usize)
         requires ranks { All (IsRanked (state_of self.now) place offset) keys.old }
         requires unmarked { AreUnmarked keys.old }
+        requires decides { SameOrder (state_of self.now) 0 0 place offset keys.old }
         ensures same { SameKeys keys.old keys.new }
         ensures order { IsSorted (from_cmp (state_of self.now) place offset) keys.new }
         ensures marks { AreMarked (state_of self.now) keys.new }
@@ -293,7 +317,8 @@ impl<'a> Sides<'a> {
         }
     }
 
-    // Sorts keys whose first ranks do not tell all that is compared, and marks those that are seen to begin a run.
+    // Sorts keys whose first ranks do not tell all that is compared, and marks those that are seen to begin a run or
+    // to go on with it.
     pub(crate) fn sort_untold(&self, keys: &mut Vec<Key>)
         requires ranks { All (IsRanked (state_of self.now) 0 0) keys.old.items }
         requires unmarked { AreUnmarked keys.old.items }

@@ -10,6 +10,7 @@ use Rattle.tq_base.specs.declared.value.Value.{Value}
 use Rattle.tq_base.specs.declared.period.Period.{Period}
 use Rattle.tq_base.specs.declared.fragment.Fragment.{Fragment}
 use Rattle.tq_base.specs.declared.sides.Key.{Key}
+use Rattle.tq_base.specs.declared.sides.Mark.TheVariants.{Unknown}
 use Rattle.tq_base.specs.declared.sides.Side.{Side}
 use Rattle.tq_base.specs.declared.sides.Side.TheVariants.{Left, Right}
 use Rattle.tq_base.specs.Keys.{held, held_on, is_overlap, is_same_side, key_row, key_values, overlapping, rows_on, Held, Rises, SidesState}
@@ -24,7 +25,7 @@ use Rattle.tq_ops.proofs.Grouping.{adds_group, group_ends, group_not_empty, item
 use Rattle.tq_ops.proofs.Products.{sum_by-overlapping, sum_by-side}
 
 abbrev no_key : Key
-no_key = record { rank = 0; start = 0; row = 0; side = Left; begins = false }
+no_key = record { rank = 0; start = 0; row = 0; side = Left; mark = Unknown }
 
 module _ (s : SidesState) (keys : List Key) (whole : All (λ k. key_values s k ≡ (key_row s k).values) keys) where
   -- the row of a key

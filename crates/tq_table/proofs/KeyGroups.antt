@@ -9,6 +9,7 @@ use Rattle.std.proofs.lemmas.List.Sorted.{All-permutation, IsPermutation-map}
 use Rattle.tq_base.specs.declared.value.Value.{Value}
 use Rattle.tq_base.specs.declared.fragment.Fragment.{Fragment}
 use Rattle.tq_base.specs.declared.sides.Key.{Key}
+use Rattle.tq_base.specs.declared.sides.Mark.TheVariants.{Unknown}
 use Rattle.tq_base.specs.declared.sides.Side.TheVariants as side
 use Rattle.tq_base.specs.ValueOrder.{values_cmp}
 use Rattle.tq_base.specs.Copies.{copies-IsPermutation}
@@ -28,7 +29,7 @@ AreWhole s keys = All (λ k. key_values s k ≡ (key_row s k).values) keys
 
 -- a key, as it is read past the end of a list
 abbrev pub end_key : Key
-end_key = record { rank = 0; start = 0; row = 0; side = side.Left; begins = false }
+end_key = record { rank = 0; start = 0; row = 0; side = side.Left; mark = Unknown }
 
 -- ---- what is gathered
 

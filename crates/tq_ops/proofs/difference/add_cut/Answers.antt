@@ -3,6 +3,7 @@ use Rattle.std.proofs.lemmas.List.{get_or-map, length-map, take_all}
 use Rattle.std.proofs.lemmas.List.Elements.{All-map}
 use Rattle.tq_base.specs.declared.relation.Line.{Line}
 use Rattle.tq_base.specs.declared.sides.Key.{Key}
+use Rattle.tq_base.specs.declared.sides.Mark.TheVariants.{Unknown}
 use Rattle.tq_base.specs.declared.sides.Side.TheVariants.{Left}
 use Rattle.tq_base.specs.Keys.{held, is_same_side, Held}
 use Rattle.tq_base.specs.KeySides.{state_of}
@@ -13,7 +14,7 @@ use Rattle.tq_ops.specs.Differences.{lines_made}
 use Rattle.tq_ops.proofs.difference.add_cut.Goals as goal
 
 abbrev no_key : Key
-no_key = record { rank = 0; start = 0; row = 0; side = Left; begins = false }
+no_key = record { rank = 0; start = 0; row = 0; side = Left; mark = Unknown }
 
 pub rows-init : goal.rows-init
 rows-init c = record {

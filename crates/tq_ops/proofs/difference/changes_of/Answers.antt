@@ -2,6 +2,7 @@ use Rattle.std.proofs.Common.{rules, ◌≡◌, ◌<◌, length, get_or, map, re
 use Rattle.std.proofs.lemmas.List.{get_or-map, length-map, take_all}
 use Rattle.std.proofs.lemmas.List.Sorted.{answers_always, sum_by-IsPermutation}
 use Rattle.tq_base.specs.declared.sides.Key.{Key}
+use Rattle.tq_base.specs.declared.sides.Mark.TheVariants.{Unknown}
 use Rattle.tq_base.specs.declared.sides.Side.TheVariants.{Left, Right}
 use Rattle.tq_base.specs.Keys.{held}
 use Rattle.tq_base.specs.KeySides.{state_of}
@@ -13,7 +14,7 @@ use Rattle.tq_ops.proofs.Changing.{counts_on, counts_past, stays_even}
 use Rattle.tq_ops.proofs.difference.changes_of.Goals as goal
 
 abbrev no_key : Key
-no_key = record { rank = 0; start = 0; row = 0; side = Left; begins = false }
+no_key = record { rank = 0; start = 0; row = 0; side = Left; mark = Unknown }
 
 pub rows-preserved-in_default : goal.rows-preserved-in_default
 rows-preserved-in_default c =

@@ -16,4 +16,4 @@ returns-then-begins_run-clause-ends c = λ d less.
 pub keys-preserved : goal.keys-preserved
 keys-preserved c =
     let item = c.in-Some.ensures.item in
-    goes_on_there (state_of c.args.self.now) c.args.keys.now c.requires.keys c.in-Some.first.now item.3.0 item.3.1 c.keys.len _ c.keys-test.true (sym c.begins_run.ensures ∙ c.if-begins_run.false) c.keys.invariant
+    goes_on_there (state_of c.args.self.now) c.args.keys.now c.requires.keys c.in-Some.first.now item.3.0 item.3.1 c.requires.marks c.keys.len _ c.keys-test.true (sym c.begins_run.ensures ∙ c.if-begins_run.false) c.keys.invariant

@@ -2,6 +2,7 @@ use Rattle.std.proofs.Common.{false, get_or, map, subst}
 use Rattle.std.specs.Prelude.{◌≡◌, [], All, IsSorted}
 use Rattle.std.proofs.lemmas.List.Sorted.{All-permutation, IsPermutation-map, IsPermutation-refl}
 use Rattle.tq_base.specs.declared.sides.Key.{Key}
+use Rattle.tq_base.specs.declared.sides.Mark.TheVariants.{Unknown}
 use Rattle.tq_base.specs.KeySides.{state_of}
 use Rattle.tq_base.specs.Keys.{held, key_cmp, key_values, values_left, AreTold, IsFresh, IsKey, SidesState}
 use Rattle.tq_base.specs.KeyLaws.{rises}
@@ -44,7 +45,7 @@ pub returns-in_ok-sort_told-clause-marks : goal.returns-in_ok-sort_told-clause-m
 returns-in_ok-sort_told-clause-marks c =
     let s = state_of c.args.self.now in
     marked_none s c.sort_told.new.keys.items
-    (All-permutation (λ (k : Key). k.begins ≡ false) c.args.keys.now.items c.sort_told.new.keys.items c.in_ok-sort_told.ensures.same (are_unmarked s c.args.keys.now.items c.requires.keys))
+    (All-permutation (λ (k : Key). k.mark ≡ Unknown) c.args.keys.now.items c.sort_told.new.keys.items c.in_ok-sort_told.ensures.same (are_unmarked s c.args.keys.now.items c.requires.keys))
 
 pub returns-in_ok-sort_told-clause-order : goal.returns-in_ok-sort_told-clause-order
 returns-in_ok-sort_told-clause-order c =
