@@ -1,5 +1,5 @@
 -- The index of a table after one more event, and which rows it tells to be open.
-use Rattle.std.proofs.Common.{◌≡◌, ◌≢◌, ℕ, zero, suc, ◌+◌, ◌*◌, ◌<◌, ◌≤◌, ◌==◌, ◌&&◌, not, Bool, true, false, List, [], ◌∷◌, ◌++◌, Option, Some, None, length, map, slice_get, slice_set, refl, sym, ap, subst, ◌∙◌, ◌⊎◌, inl, inr, arith, rules, length-append}
+use Rattle.std.proofs.Common.{◌≡◌, ◌≢◌, ℕ, zero, suc, ◌+◌, ◌*◌, ◌%◌, ◌<◌, ◌≤◌, ◌==◌, ◌&&◌, not, Bool, true, false, List, [], ◌∷◌, ◌++◌, Option, Some, None, length, map, slice_get, slice_set, refl, sym, ap, subst, ◌∙◌, ◌⊎◌, inl, inr, arith, rules, length-append}
 use Rattle.std.specs.Prelude.{◌||◌, IfSome, IsSomeAnd, FitsSigned, OnOk, OnErr, Result, Ok, Err, is_some}
 use Rattle.std.specs.Option.{option_map, option_map_or}
 use Rattle.std.specs.Ordering.{eq_by_cmp, nat_cmp}
@@ -9,7 +9,6 @@ use Rattle.std.proofs.lemmas.Option.{slice_get-map, slice_get_within, slice_get_
 use Rattle.std.proofs.lemmas.List.{map-append}
 use Rattle.tq_base.specs.declared.period.TheConstants.{FOREVER}
 use Rattle.tq_base.specs.declared.value.Value.{Value}
-use Rattle.tq_base.specs.ValueOrder.{values_cmp}
 use Rattle.tq_event.specs.declared.event.Event.{Event}
 use Rattle.tq_event.specs.declared.event.Event.TheVariants.{Start, End}
 use Rattle.tq_event.specs.Recorded.{table_of}
@@ -22,9 +21,9 @@ use Rattle.tq_store.specs.declared.index.Index.{Index}
 use Rattle.tq_store.specs.declared.index.RowEvents.{RowEvents}
 use Rattle.tq_base.specs.KeyRanges.{key_of}
 use Rattle.tq_store.specs.Keys.{shifted, tree_key}
-use Rattle.tq_store.specs.Index.{AreIndexes, Begins, Ends, HasRows, IsIndexOf, IsKeyOf, IsOpenAt, IsRowLife, dead_of, events_of, is_open_at, is_open_of}
-use Rattle.tq_store.specs.Open.{HasSame, has}
-use Rattle.tq_store.proofs.OpenRowsLemmas.{and-false, and-yes, number_other, number_same, or-false}
+use Rattle.tq_store.specs.Index.{AreIndexes, Begins, Ends, HasRows, IsIndexOf, IsKeyOf, IsOpenAt, IsRowLife, dead_of, events_of, is_open_as, is_open_under}
+use Rattle.tq_store.specs.Open.{HasSame, has, place_key}
+use Rattle.tq_store.proofs.OpenRowsLemmas.{and-false, and-yes, number_other, or-false, place_row}
 use Rattle.tq_store.proofs.LifeLemmas.{IsTold, StandsAt, ended_at, eqb-other, eqb-same, lives_end, lives_other, lives_start, lives_told}
 
 -- ---- lists
@@ -240,46 +239,54 @@ get_push_other (x ∷ xs) y zero other = refl
 get_push_other (x ∷ xs) y (suc i) other = get_push_other xs y i (λ same. other (ap suc same))
 
 -- whether the rows of a list with one more row are open
-open_push : (ls : List Life) (l : Life) (v : List Value) (r : ℕ) → is_open_at (ls ++ l ∷ []) v r ≡ (is_open_at ls v r || (is_open_of v l && eq_by_cmp nat_cmp (length ls) r))
-open_push ls l v r = by (r == length ls) refl
+open_push : (ls : List Life) (l : Life) (k : ℕ) → length ls < 4294967296 → is_open_under (ls ++ l ∷ []) k ≡ (is_open_under ls k || (not (is_some l.ending) && eq_by_cmp nat_cmp (place_key l.values (length ls)) k))
+open_push ls l k small = by (k % 4294967296 == length ls) refl
   where
-    last : is_open_at (ls ++ l ∷ []) v (length ls) ≡ (is_open_at ls v (length ls) || (is_open_of v l && eq_by_cmp nat_cmp (length ls) (length ls)))
-    last =
-        ap (λ o. option_map_or (is_open_of v) o false) (get_last ls l) ∙ sym (and-yes (is_open_of v l))
-        ∙ sym (ap (λ b. is_open_of v l && b) (number_same (length ls)))
-        ∙ sym (ap (λ o. option_map_or (is_open_of v) o false || (is_open_of v l && eq_by_cmp nat_cmp (length ls) (length ls))) (slice_get_past ls (length ls) (omega arith)))
+    last : Bool
+    last = not (is_some l.ending) && eq_by_cmp nat_cmp (place_key l.values (length ls)) k
 
-    by : (b : Bool) → (r == length ls) ≡ b → is_open_at (ls ++ l ∷ []) v r ≡ (is_open_at ls v r || (is_open_of v l && eq_by_cmp nat_cmp (length ls) r))
-    by true is = subst (λ n. is_open_at (ls ++ l ∷ []) v n ≡ (is_open_at ls v n || (is_open_of v l && eq_by_cmp nat_cmp (length ls) n))) (sym (eqb-true r (length ls) is)) last
+    by : (b : Bool) → (k % 4294967296 == length ls) ≡ b → is_open_under (ls ++ l ∷ []) k ≡ (is_open_under ls k || (not (is_some l.ending) && eq_by_cmp nat_cmp (place_key l.values (length ls)) k))
+    by true is =
+        let at_last : k % 4294967296 ≡ length ls = eqb-true (k % 4294967296) (length ls) is in
+        let with_it : is_open_under (ls ++ l ∷ []) k ≡ last =
+        ap (λ r. option_map_or (is_open_as k) (slice_get (ls ++ l ∷ []) r) false) at_last ∙ ap (λ o. option_map_or (is_open_as k) o false) (get_last ls l)
+        ∙ ap (λ r. not (is_some l.ending) && eq_by_cmp nat_cmp (place_key l.values r) k) at_last in
+        let without : is_open_under ls k ≡ false =
+        ap (λ r. option_map_or (is_open_as k) (slice_get ls r) false) at_last ∙ ap (λ o. option_map_or (is_open_as k) o false) (slice_get_past ls (length ls) (omega arith)) in
+        with_it ∙ sym (ap (λ b. b || last) without)
     by false is =
-        let other : r ≢ length ls = λ same. let wrong : true ≡ false = sym (eqb-same r) ∙ ap (λ n. r == n) same ∙ is in cc in
-        ap (λ o. option_map_or (is_open_of v) o false) (get_push_other ls l r other) ∙ sym (or-false (is_open_at ls v r))
-        ∙ sym (ap (λ b. is_open_at ls v r || b) (ap (λ b. is_open_of v l && b) (number_other (length ls) r (λ same. other (sym same))) ∙ and-false (is_open_of v l)))
+        let other : k % 4294967296 ≢ length ls = λ same. let wrong : true ≡ false = sym (eqb-same (k % 4294967296)) ∙ ap (λ n. k % 4294967296 == n) same ∙ is in cc in
+        let away = number_other (place_key l.values (length ls)) k (λ same. other (sym (ap (λ n. n % 4294967296) same) ∙ place_row l.values (length ls) small)) in
+        ap (λ o. option_map_or (is_open_as k) o false) (get_push_other ls l (k % 4294967296) other) ∙ sym (or-false (is_open_under ls k))
+        ∙ sym (ap (λ b. is_open_under ls k || b) (ap (λ b. not (is_some l.ending) && b) away ∙ and-false (not (is_some l.ending))))
 
-shut : (a e : Bool) → ((a && e) && not (e && true)) ≡ false
+shut : (a e : Bool) → ((a && e) && not e) ≡ false
 shut true true = refl
 shut true false = refl
 shut false true = refl
 shut false false = refl
 
 -- whether the rows of a list are open of which one ended
-open_set : (ls : List Life) (i : ℕ) (l new : Life) (v : List Value) (r : ℕ) → slice_get ls i ≡ Some l → is_open_of v new ≡ false
-    → is_open_at (slice_set ls i new) v r ≡ (is_open_at ls v r && not (eq_by_cmp values_cmp l.values v && eq_by_cmp nat_cmp i r))
-open_set ls i l new v r stands ended = by (r == i) refl
+open_set : (ls : List Life) (i : ℕ) (l new : Life) (k : ℕ) → i < 4294967296 → slice_get ls i ≡ Some l → is_open_as k new ≡ false
+    → is_open_under (slice_set ls i new) k ≡ (is_open_under ls k && not (eq_by_cmp nat_cmp (place_key l.values i) k))
+open_set ls i l new k small stands ended = by (k % 4294967296 == i) refl
   where
-    here : is_open_at (slice_set ls i new) v i ≡ (is_open_at ls v i && not (eq_by_cmp values_cmp l.values v && eq_by_cmp nat_cmp i i))
-    here =
-        ap (λ o. option_map_or (is_open_of v) o false) (get_set_same ls i new (slice_get_within ls i l stands)) ∙ ended
-        ∙ sym (shut (not (is_some l.ending)) (eq_by_cmp values_cmp l.values v))
-        ∙ sym (ap (λ b. is_open_of v l && not (eq_by_cmp values_cmp l.values v && b)) (number_same i))
-        ∙ sym (ap (λ o. option_map_or (is_open_of v) o false && not (eq_by_cmp values_cmp l.values v && eq_by_cmp nat_cmp i i)) stands)
-
-    by : (b : Bool) → (r == i) ≡ b → is_open_at (slice_set ls i new) v r ≡ (is_open_at ls v r && not (eq_by_cmp values_cmp l.values v && eq_by_cmp nat_cmp i r))
-    by true is = subst (λ n. is_open_at (slice_set ls i new) v n ≡ (is_open_at ls v n && not (eq_by_cmp values_cmp l.values v && eq_by_cmp nat_cmp i n))) (sym (eqb-true r i is)) here
+    by : (b : Bool) → (k % 4294967296 == i) ≡ b → is_open_under (slice_set ls i new) k ≡ (is_open_under ls k && not (eq_by_cmp nat_cmp (place_key l.values i) k))
+    by true is =
+        let at_i : k % 4294967296 ≡ i = eqb-true (k % 4294967296) i is in
+        let test : Bool = eq_by_cmp nat_cmp (place_key l.values i) k in
+        let old_one : is_open_under ls k ≡ (not (is_some l.ending) && test) =
+        ap (λ r. option_map_or (is_open_as k) (slice_get ls r) false) at_i ∙ ap (λ o. option_map_or (is_open_as k) o false) stands
+        ∙ ap (λ r. not (is_some l.ending) && eq_by_cmp nat_cmp (place_key l.values r) k) at_i in
+        ap (λ r. option_map_or (is_open_as k) (slice_get (slice_set ls i new) r) false) at_i
+        ∙ ap (λ o. option_map_or (is_open_as k) o false) (get_set_same ls i new (slice_get_within ls i l stands)) ∙ ended
+        ∙ sym (shut (not (is_some l.ending)) test)
+        ∙ sym (ap (λ b. b && not test) old_one)
     by false is =
-        let other : r ≢ i = λ same. let wrong : true ≡ false = sym (eqb-same r) ∙ ap (λ n. r == n) same ∙ is in cc in
-        ap (λ o. option_map_or (is_open_of v) o false) (get_set_other ls i r new other) ∙ sym (and-yes (is_open_at ls v r))
-        ∙ sym (ap (λ b. is_open_at ls v r && not b) (ap (λ b. eq_by_cmp values_cmp l.values v && b) (number_other i r (λ same. other (sym same))) ∙ and-false (eq_by_cmp values_cmp l.values v)))
+        let other : k % 4294967296 ≢ i = λ same. let wrong : true ≡ false = sym (eqb-same (k % 4294967296)) ∙ ap (λ n. k % 4294967296 == n) same ∙ is in cc in
+        let away = number_other (place_key l.values i) k (λ same. other (sym (ap (λ n. n % 4294967296) same) ∙ place_row l.values i small)) in
+        ap (λ o. option_map_or (is_open_as k) o false) (get_set_other ls i (k % 4294967296) new other) ∙ sym (and-yes (is_open_under ls k))
+        ∙ sym (ap (λ b. is_open_under ls k && not b) away)
 
 -- ---- the index of a table
 
@@ -294,20 +301,20 @@ rows_counted es t index is = ap length is.rows ∙ mapped (row_lives es t)
     mapped (l ∷ ls) = ap suc (mapped ls)
 
 pub index_start : (es : List Event) (t : ℕ) (v : List Value) (at : ℕ) (old new : Index) → length es < 16777216 → IsIndexOf es t old → FitsSigned w64 (key_of v) → at < FOREVER
-    → new.rows.items ≡ old.rows.items ++ record { start = length es; end = None } ∷ [] → Begins old.tree new.tree (tree_key v (length old.rows.items)) (length es + 1)
-    → ((w : List Value) (r : ℕ) → has new.opened w r ≡ (has old.opened w r || (eq_by_cmp values_cmp v w && eq_by_cmp nat_cmp (length old.rows.items) r)))
+    → new.rows.items ≡ old.rows.items ++ record { start = length es; end = None; from = at; to = FOREVER } ∷ [] → Begins old.tree new.tree (tree_key v (length old.rows.items)) (length es + 1)
+    → ((k : ℕ) → has new.opened k ≡ (has old.opened k || eq_by_cmp nat_cmp (place_key v (length old.rows.items)) k))
     → IsIndexOf (es ++ Start t v at ∷ []) t new
 index_start es t v at old new small is fits less rows begins opened = record {
-  rows = rows ∙ ap (λ r. r ++ record { start = length es; end = None } ∷ []) is.rows ∙ sym (map-append events_of (row_lives es t) (l ∷ [])) ∙ sym (ap (map events_of) more);
+  rows = rows ∙ ap (λ r. r ++ record { start = length es; end = None; from = at; to = FOREVER } ∷ []) is.rows ∙ sym (map-append events_of (row_lives es t) (l ∷ [])) ∙ sym (ap (map events_of) more);
   tree = subst (λ ls. HasRows ls (length (es ++ Start t v at ∷ [])) new.tree.version new.tree.nodes) (sym more)
       (subst (λ c. HasRows (row_lives es t ++ l ∷ []) c new.tree.version new.tree.nodes) (sym (length_push es (Start t v at)))
       (begun_rows (row_lives es t) (length es) old.tree new.tree l small is.tree
       (subst (λ n. Begins old.tree new.tree (tree_key v n) (length es + 1)) (rows_counted es t old is) begins) refl refl
       (record { key = fits; finite = less; lasts = tt; ends = tt })));
-  opened = λ w r.
-      opened w r ∙ ap (λ b. b || (eq_by_cmp values_cmp v w && eq_by_cmp nat_cmp (length old.rows.items) r)) (is.opened w r)
-      ∙ ap (λ n. is_open_at (row_lives es t) w r || (eq_by_cmp values_cmp v w && eq_by_cmp nat_cmp n r)) (rows_counted es t old is)
-      ∙ sym (open_push (row_lives es t) l w r) ∙ sym (ap (λ ls. is_open_at ls w r) more);
+  opened = λ k.
+      opened k ∙ ap (λ b. b || eq_by_cmp nat_cmp (place_key v (length old.rows.items)) k) (is.opened k)
+      ∙ ap (λ n. is_open_under (row_lives es t) k || eq_by_cmp nat_cmp (place_key v n) k) (rows_counted es t old is)
+      ∙ sym (open_push (row_lives es t) l k (let le = is.tree.few in omega (arith, le, small))) ∙ sym (ap (λ ls. is_open_under ls k) more);
 }
   where
     l : Life
@@ -318,18 +325,19 @@ index_start es t v at old new small is fits less rows begins opened = record {
 
 pub index_end : (es : List Event) (t row at : ℕ) (old new : Index) (l : Life) → length es < 16777216 → IsIndexOf es t old → at < FOREVER
     → slice_get (row_lives es t) row ≡ Some l → l.ending ≡ None → l.from < at
-    → new.rows.items ≡ slice_set old.rows.items row (record { start = l.start; end = Some (length es) }) → Ends old.tree new.tree (tree_key l.values row) (length es + 1)
-    → ((w : List Value) (r : ℕ) → has new.opened w r ≡ (has old.opened w r && not (eq_by_cmp values_cmp l.values w && eq_by_cmp nat_cmp row r)))
+    → new.rows.items ≡ slice_set old.rows.items row (record { start = l.start; end = Some (length es); from = l.from; to = at }) → Ends old.tree new.tree (tree_key l.values row) (length es + 1)
+    → ((k : ℕ) → has new.opened k ≡ (has old.opened k && not (eq_by_cmp nat_cmp (place_key l.values row) k)))
     → IsIndexOf (es ++ End t row at ∷ []) t new
 index_end es t row at old new l small is finite stands none less rows ends opened = record {
-  rows = rows ∙ ap (λ r. slice_set r row (record { start = l.start; end = Some (length es) })) is.rows ∙ sym (map_set events_of (row_lives es t) row (ended_at (length es) at l)) ∙ sym (ap (map events_of) more);
+  rows = rows ∙ ap (λ r. slice_set r row (record { start = l.start; end = Some (length es); from = l.from; to = at })) is.rows ∙ sym (map_set events_of (row_lives es t) row (ended_at (length es) at l)) ∙ sym (ap (map events_of) more);
   tree = subst (λ ls. HasRows ls (length (es ++ End t row at ∷ [])) new.tree.version new.tree.nodes) (sym more)
       (subst (λ c. HasRows (slice_set (row_lives es t) row (ended_at (length es) at l)) c new.tree.version new.tree.nodes) (sym (length_push es (End t row at)))
       (ended_rows (row_lives es t) (length es) row at old.tree new.tree l small is.tree stands none ends
       (record { key = good.key; finite = good.finite; lasts = (less, earlier); ends = finite })));
-  opened = λ w r.
-      opened w r ∙ ap (λ b. b && not (eq_by_cmp values_cmp l.values w && eq_by_cmp nat_cmp row r)) (is.opened w r)
-      ∙ sym (open_set (row_lives es t) row l (ended_at (length es) at l) w r stands refl) ∙ sym (ap (λ ls. is_open_at ls w r) more);
+  opened = λ k.
+      opened k ∙ ap (λ b. b && not (eq_by_cmp nat_cmp (place_key l.values row) k)) (is.opened k)
+      ∙ sym (open_set (row_lives es t) row l (ended_at (length es) at l) k (let within = slice_get_within (row_lives es t) row l stands in let le = is.tree.few in omega (arith, within, le, small)) stands refl)
+      ∙ sym (ap (λ ls. is_open_under ls k) more);
 }
   where
     good : IsRowLife l
@@ -346,7 +354,7 @@ index_other es t e index is other = record {
   rows = is.rows ∙ sym (ap (map events_of) same);
   tree = subst (λ ls. HasRows ls (length (es ++ e ∷ [])) index.tree.version index.tree.nodes) (sym same)
       (subst (λ c. HasRows (row_lives es t) c index.tree.version index.tree.nodes) (sym (length_push es e)) (same_rows (row_lives es t) (length es) index.tree.version index.tree.nodes is.tree));
-  opened = λ w r. is.opened w r ∙ sym (ap (λ ls. is_open_at ls w r) same);
+  opened = λ k. is.opened k ∙ sym (ap (λ ls. is_open_under ls k) same);
 }
   where
     same : row_lives (es ++ e ∷ []) t ≡ row_lives es t
@@ -357,12 +365,12 @@ pub index_like : (es : List Event) (t : ℕ) (old new : Index) → new.tree ≡ 
 index_like es t old new tree rows open_like is = record {
   rows = rows ∙ is.rows;
   tree = subst (λ (s : TreeState). HasRows (row_lives es t) (length es) s.version s.nodes) (sym tree) is.tree;
-  opened = λ w r. open_like w r ∙ is.opened w r;
+  opened = λ k. open_like k ∙ is.opened k;
 }
 
 -- no event
 pub index_none : (t : ℕ) (index : Index) → index.rows.items ≡ [] → index.tree.version ≡ 0 → ((k v : ℕ) → lives_of index.tree.nodes k v ≡ false)
-    → ((w : List Value) (r : ℕ) → has index.opened w r ≡ false) → IsIndexOf [] t index
+    → ((k : ℕ) → has index.opened k ≡ false) → IsIndexOf [] t index
 index_none t index rows version none shut_all = record {
   rows = rows;
   tree = record {
@@ -416,10 +424,14 @@ end_stands es t row l e stands is =
     ap (slice_get es) (let number = told.number_is in omega (arith, number)) ∙ told.event_is
 
 -- no open row has the number of the next one
-pub not_yet_open : (es : List Event) (t : ℕ) (index : Index) → IsIndexOf es t index → (w : List Value) → has index.opened w (length index.rows.items) ≡ false
-not_yet_open es t index is w =
-    is.opened w (length index.rows.items)
-    ∙ ap (λ o. option_map_or (is_open_of w) o false) (slice_get_past (row_lives es t) (length index.rows.items) (let len = rows_counted es t index is in omega (arith, len)))
+pub not_yet_open : (es : List Event) (t : ℕ) (index : Index) → length es < 16777216 → IsIndexOf es t index → (v : List Value) → has index.opened (place_key v (length index.rows.items)) ≡ false
+not_yet_open es t index small is v =
+    let key : ℕ = place_key v (length index.rows.items) in
+    let len = rows_counted es t index is in
+    let le = is.tree.few in
+    is.opened key
+    ∙ ap (λ r. option_map_or (is_open_as key) (slice_get (row_lives es t) r) false) (place_row v (length index.rows.items) (omega (arith, len, le, small)))
+    ∙ ap (λ o. option_map_or (is_open_as key) o false) (slice_get_past (row_lives es t) (length index.rows.items) (omega (arith, len)))
 
 -- ---- results
 

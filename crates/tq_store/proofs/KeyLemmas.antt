@@ -1,5 +1,9 @@
 -- Keys and the keys of the tree: one rises with the other.
-use Rattle.std.proofs.Common.{◌≡◌, ℕ, ◌+◌, ◌*◌, ◌%◌, ◌<◌, ◌≤◌, arith}
+use Rattle.std.proofs.Common.{◌≡◌, ℕ, ◌+◌, ◌*◌, ◌%◌, ◌<◌, ◌≤◌, true, false, ap, sym, ◌∙◌, inl, inr, arith}
+use Rattle.std.specs.Cmp.{nat_cmp_is}
+use Rattle.std.specs.Ordering.{is_le, is_lt, nat_cmp}
+use Rattle.std.specs.declared.cmp.Ordering.TheVariants.{Less, Equal, Greater}
+use Rattle.std.proofs.lemmas.Bool.{cases_lt}
 use Rattle.std.specs.Prelude.{ℤ, pos, negsuc, ◌≤ℤ◌, FitsSigned}
 use Rattle.std.specs.Int.{w64}
 use Rattle.std.proofs.lemmas.Int.{ints}
@@ -19,3 +23,26 @@ unshifted-le (negsuc m) (negsuc n) fits_a fits_b le = omega (arith, ints, fits_a
 
 pub key_row : (a r : ℕ) → r < 4294967296 → (a * 4294967296 + r) % 4294967296 ≡ r
 key_row a r less = omega (arith, less)
+
+-- ---- comparisons of numbers
+
+pub is_less : (a b : ℕ) → a < b → is_lt (nat_cmp a b) ≡ true
+is_less a b less = ap is_lt (sym (nat_cmp_is a b Less less))
+
+pub not_is_less : (a b : ℕ) → b ≤ a → is_lt (nat_cmp a b) ≡ false
+not_is_less a b le = elim (cases_lt b a) [
+  | inl less ↦ ap is_lt (sym (nat_cmp_is a b Greater less))
+  | inr up ↦ ap is_lt (sym (nat_cmp_is a b Equal (omega (arith, le, up))))
+]
+
+pub from_is_less : (a b : ℕ) → is_lt (nat_cmp a b) ≡ true → a < b
+from_is_less a b is = elim (cases_lt a b) [
+  | inl less ↦ less
+  | inr le ↦ absurd (let wrong : true ≡ false = sym is ∙ not_is_less a b le in cc)
+]
+
+pub is_least : (a b : ℕ) → a ≤ b → is_le (nat_cmp a b) ≡ true
+is_least a b le = elim (cases_lt a b) [
+  | inl less ↦ ap is_le (sym (nat_cmp_is a b Less less))
+  | inr up ↦ ap is_le (sym (nat_cmp_is a b Equal (omega (arith, le, up))))
+]

@@ -7,6 +7,8 @@ pub mod RowLemmas
 pub mod PartLemmas
 pub mod OpenRowsLemmas
 pub mod OpenLemmas
+pub mod FirstLemmas
 pub mod CountLemmas
 pub mod ValidLemmas
 pub mod LeafLemmas
+pub mod ReadLemmas

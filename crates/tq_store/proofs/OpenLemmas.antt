@@ -21,8 +21,7 @@ use Rattle.tq_event.specs.Opening.{is_open_like, open_row}
 use Rattle.tq_event.specs.Versions.{Ending, Life, row_lives}
 use Rattle.tq_store.specs.declared.index.Index.{Index}
 use Rattle.tq_store.specs.declared.index.RowEvents.{RowEvents}
-use Rattle.tq_store.specs.Index.{IsIndexOf, IsOpenAt, events_of, is_open_of}
-use Rattle.tq_store.specs.Open.{has}
+use Rattle.tq_store.specs.Index.{IsIndexOf, IsOpenAt, events_of, is_open_at, is_open_of}
 use Rattle.tq_store.specs.Stored.{ends_row, open_like, starts_like, starts_of}
 use Rattle.tq_store.proofs.LifeLemmas.{and-true, as_of, end_by, eqb-other, eqb-same, known_by, rows_known, starts_rise}
 use Rattle.tq_store.proofs.IndexLemmas.{end_stands, kept_row, known_row, start_stands}
@@ -143,11 +142,20 @@ not_ended None is = refl
 not_ended (Some e) is = absurd (cc)
 
 -- the row is open, and has these values
-record IsOpenOf (es : List Event) (t row : ℕ) (values : List Value) : Type 0 where
-  life : Life
-  stands : slice_get (row_lives es t) row ≡ Some life
-  none : life.ending ≡ None
-  like : eq_by_cmp values_cmp life.values values ≡ true
+pub record IsOpenOf (es : List Event) (t row : ℕ) (values : List Value) : Type 0 where
+  pub life : Life
+  pub stands : slice_get (row_lives es t) row ≡ Some life
+  pub none : life.ending ≡ None
+  pub like : eq_by_cmp values_cmp life.values values ≡ true
+
+pub open_of : (es : List Event) (t : ℕ) (values : List Value) (row : ℕ) → is_open_at (row_lives es t) values row ≡ true → IsOpenOf es t row values
+open_of es t values row so = by (slice_get (row_lives es t) row) refl so
+  where
+    by : (o : Option Life) → slice_get (row_lives es t) row ≡ o → option_map_or (is_open_of values) o false ≡ true → IsOpenOf es t row values
+    by None stands here = absurd (cc)
+    by (Some l) stands here =
+        let both = and-true (not (is_some l.ending)) (eq_by_cmp values_cmp l.values values) here in
+        record { life = l; stands = stands; none = not_ended l.ending both.0; like = both.1 }
 
 -- a later row starts no earlier
 from_rises : (es : List Event) (t i j : ℕ) (l m : Life) → IsNonDecreasingBy time_of es → i ≤ j → slice_get (row_lives es t) i ≡ Some l → slice_get (row_lives es t) j ≡ Some m → l.from ≤ m.from
@@ -169,15 +177,6 @@ from_rises es t i j l m ordered le here there = elim (cases_lt i j) [
 ]
 
 module _ (es : List Event) (t : ℕ) (index : Index) (is : IsIndexOf es t index) (values : List Value) (at : ℕ) where
-  open_of : (row : ℕ) → has index.opened values row ≡ true → IsOpenOf es t row values
-  open_of row so = by (slice_get (row_lives es t) row) refl (sym (is.opened values row) ∙ so)
-    where
-      by : (o : Option Life) → slice_get (row_lives es t) row ≡ o → option_map_or (is_open_of values) o false ≡ true → IsOpenOf es t row values
-      by None stands here = absurd (cc)
-      by (Some l) stands here =
-          let both = and-true (not (is_some l.ending)) (eq_by_cmp values_cmp l.values values) here in
-          record { life = l; stands = stands; none = not_ended l.ending both.0; like = both.1 }
-
   like_is : (row : ℕ) (l : Life) → slice_get (row_lives es t) row ≡ Some l → open_like es values at (events_of l) ≡ (not (is_some (events_of l).end) && (nat_lt l.from at && eq_by_cmp values_cmp l.values values))
   like_is row l stands = ap (λ o. option_map_or (λ e. not (is_some (events_of l).end) && starts_like values at e) o false) (start_stands es t row l stands)
 
@@ -187,12 +186,12 @@ module _ (es : List Event) (t : ℕ) (index : Index) (is : IsIndexOf es t index)
       ∙ ap (λ o. not (is_some (option_map (λ (e : Ending). e.event) o)) && (nat_lt l.from at && eq_by_cmp values_cmp l.values values)) none
       ∙ ap (λ b. b && eq_by_cmp values_cmp l.values values) (less_is l.from at less) ∙ like
 
-  passed : (row : ℕ) (l : Life) → slice_get (row_lives es t) row ≡ Some l → open_like es values at (events_of l) ≡ true → (has index.opened values row ≡ true) × (l.from < at)
+  passed : (row : ℕ) (l : Life) → slice_get (row_lives es t) row ≡ Some l → open_like es values at (events_of l) ≡ true → (is_open_at (row_lives es t) values row ≡ true) × (l.from < at)
   passed row l stands so =
       let both = and-true (not (is_some (events_of l).end)) (nat_lt l.from at && eq_by_cmp values_cmp l.values values) (sym (like_is row l stands) ∙ so) in
       let tests = and-true (nat_lt l.from at) (eq_by_cmp values_cmp l.values values) both.1 in
       let none : l.ending ≡ None = no_ending l.ending both.0 in (
-        is.opened values row ∙ ap (λ o. option_map_or (is_open_of values) o false) stands
+        ap (λ o. option_map_or (is_open_of values) o false) stands
             ∙ ap (λ o. not (is_some o) && eq_by_cmp values_cmp l.values values) none ∙ tests.1,
         elim (cases_lt l.from at) [
           | inl less ↦ less
@@ -201,14 +200,14 @@ module _ (es : List Event) (t : ℕ) (index : Index) (is : IsIndexOf es t index)
       )
 
   -- the row that passes is open, and its number is known
-  seen_open : (k : ℕ) (y : RowEvents) → slice_get index.rows.items k ≡ Some y → open_like es values at y ≡ true → has index.opened values k ≡ true
+  seen_open : (k : ℕ) (y : RowEvents) → slice_get index.rows.items k ≡ Some y → open_like es values at y ≡ true → is_open_at (row_lives es t) values k ≡ true
   seen_open k y there so =
       let known = known_row es t k index y is there in
       (passed k known.life known.stands (sym (ap (open_like es values at) known.same) ∙ so)).0
 
-  pub first_is : (row : ℕ) → has index.opened values row ≡ true → ((r : ℕ) → has index.opened values r ≡ true → row ≤ r) → IsOpenAt es t row at → Some row ≡ open_row es t values at
+  pub first_is : (row : ℕ) → is_open_at (row_lives es t) values row ≡ true → ((r : ℕ) → is_open_at (row_lives es t) values r ≡ true → row ≤ r) → IsOpenAt es t row at → Some row ≡ open_row es t values at
   first_is row so least open_there =
-      let o = open_of row so in
+      let o = open_of es t values row so in
       let here = subst (λ x. IsSomeAnd x (λ (l : Life). (l.ending ≡ None) × (l.from < at))) o.stands open_there in
       sym (position_first (open_like es values at) index.rows.items row (events_of o.life) (kept_row es t row index o.life is o.stands)
       (passes row o.life o.stands o.none here.1 o.like) before)
@@ -221,7 +220,7 @@ module _ (es : List Event) (t : ℕ) (index : Index) (is : IsIndexOf es t index)
           by true passed_there = let from = least k (seen_open k y there passed_there) in absurd (omega (arith, from, less))
           by false not_so = not_so
 
-  pub none_is : ((r : ℕ) → has index.opened values r ≡ false) → None ≡ open_row es t values at
+  pub none_is : ((r : ℕ) → is_open_at (row_lives es t) values r ≡ false) → None ≡ open_row es t values at
   none_is none = sym (position_none (open_like es values at) index.rows.items every) ∙ open_row_is es t index is values at
     where
       every : (k : ℕ) (y : RowEvents) → slice_get index.rows.items k ≡ Some y → open_like es values at y ≡ false
@@ -231,11 +230,11 @@ module _ (es : List Event) (t : ℕ) (index : Index) (is : IsIndexOf es t index)
           by true passed_there = absurd (let wrong : true ≡ false = sym (seen_open k y there passed_there) ∙ none k in cc)
           by false not_so = not_so
 
-  pub late_is : (row : ℕ) → IsNonDecreasingBy time_of es → has index.opened values row ≡ true → ((r : ℕ) → has index.opened values r ≡ true → row ≤ r) → (IsOpenAt es t row at → ⊥) → None ≡ open_row es t values at
+  pub late_is : (row : ℕ) → IsNonDecreasingBy time_of es → is_open_at (row_lives es t) values row ≡ true → ((r : ℕ) → is_open_at (row_lives es t) values r ≡ true → row ≤ r) → (IsOpenAt es t row at → ⊥) → None ≡ open_row es t values at
   late_is row ordered so least late = sym (position_none (open_like es values at) index.rows.items every) ∙ open_row_is es t index is values at
     where
       o : IsOpenOf es t row values
-      o = open_of row so
+      o = open_of es t values row so
 
       from_at : at ≤ o.life.from
       from_at = elim (cases_lt o.life.from at) [

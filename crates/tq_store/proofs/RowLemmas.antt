@@ -6,7 +6,7 @@ use Rattle.std.specs.Option.{option_map, option_map_or}
 use Rattle.std.specs.List.Sorted.{IsNonDecreasingBy, IsStrictlyIncreasing}
 use Rattle.std.proofs.lemmas.Bool.{cases_lt}
 use Rattle.std.proofs.lemmas.Bool.Decides.{nat_tests}
-use Rattle.std.proofs.lemmas.Option.{get_or_from_slice_get, slice_get-get_or, slice_get_within}
+use Rattle.std.proofs.lemmas.Option.{get_or_from_slice_get, slice_get-get_or, slice_get-map, slice_get_within}
 use Rattle.tq_base.specs.declared.period.Period.{Period}
 use Rattle.tq_base.specs.declared.period.TheConstants.{FOREVER}
 use Rattle.tq_event.specs.declared.event.Event.{Event}
@@ -21,13 +21,12 @@ use Rattle.tq_scan.specs.declared.window.Window.{Window}
 use Rattle.tq_scan.specs.Lists.{ListsJust}
 use Rattle.tq_scan.specs.Scans.{FoundIn}
 use Rattle.tq_scan.specs.Windows.{lies_in, whole_of}
-use Rattle.tq_store.specs.declared.index.Index.{Index}
 use Rattle.tq_base.specs.declared.key_range.KeyRange.{KeyRange}
 use Rattle.tq_base.specs.KeyRanges.{key_of}
 use Rattle.tq_store.specs.Keys.{shifted, tree_key}
-use Rattle.tq_store.specs.Index.{HasRows, IsKeyOf, IsRowLife, dead_of, events_of}
+use Rattle.tq_store.specs.Index.{HasRows, IsKeyOf, IsRowLife, dead_of, events_of, rows_kept}
 use Rattle.tq_store.specs.Rows.{ArePartRows, IsPartRow, row_key, window_part}
-use Rattle.tq_store.specs.Stored.{IsReadable, IsStart, IsStored, end_as_of, row_of_key, stored_row, time_at, values_in}
+use Rattle.tq_store.specs.Stored.{IsReadable, IsStart, IsStored, end_as_of, row_of_key, stored_row, values_in}
 use Rattle.tq_store.proofs.IndexLemmas.{end_stands, start_stands}
 use Rattle.tq_store.proofs.KeyLemmas.{key_row, shifted-le, unshifted-le}
 use Rattle.tq_store.proofs.LifeLemmas.{and-true, as_of, end_by, known_by, rows_known}
@@ -98,34 +97,27 @@ same_birth nodes k b d c e one other =
 
 module _ (es : List Event) (t : ℕ) where
   -- what is read of the events of a row is the row
-  stored_end : (n row : ℕ) (l : Life) → slice_get (row_lives es t) row ≡ Some l → end_as_of es n (events_of l).end ≡ end_by n l.ending
-  stored_end n row l stands = by l.ending refl
+  stored_end : (n : ℕ) (l : Life) → end_as_of n (events_of l).end (events_of l).to ≡ end_by n l.ending
+  stored_end n l = by l.ending
     where
-      by : (o : Option Ending) → l.ending ≡ o → end_as_of es n (option_map (λ (e : Ending). e.event) o) ≡ end_by n o
-      by None is = refl
-      by (Some e) is = ap (λ o. if nat_lt e.event n then option_map_or time_of o 0 else FOREVER) (end_stands es t row l e stands is)
+      by : (o : Option Ending) → end_as_of n (option_map (λ (e : Ending). e.event) o) (option_map_or (λ (e : Ending). e.at) o FOREVER) ≡ end_by n o
+      by None = refl
+      by (Some e) = refl
 
   pub stored_is : (n row : ℕ) (l : Life) → slice_get (row_lives es t) row ≡ Some l → stored_row es n row (events_of l) ≡ as_of n row l
   stored_is n row l stands =
-      ap (λ o. record { number = row; values = option_map_or values_in o []; from = option_map_or time_of o 0; to = end_as_of es n (events_of l).end }) (start_stands es t row l stands)
-      ∙ ap (λ e. record { number = row; values = l.values; from = l.from; to = e }) (stored_end n row l stands)
+      ap (λ o. record { number = row; values = option_map_or values_in o []; from = l.from; to = end_as_of n (events_of l).end (events_of l).to }) (start_stands es t row l stands)
+      ∙ ap (λ e. record { number = row; values = l.values; from = l.from; to = e }) (stored_end n l)
 
   pub stored_well : (row : ℕ) (l : Life) → slice_get (row_lives es t) row ≡ Some l → IsRowLife l → IsStored es (events_of l)
   stored_well row l stands good = record {
     starts = subst (λ o. IsSomeAnd o IsStart) (sym (start_stands es t row l stands)) tt;
-    within = by_within l.ending refl;
-    lasts = by_lasts l.ending refl good.lasts;
+    lasts = by l.ending good.lasts;
   }
     where
-      by_within : (o : Option Ending) → l.ending ≡ o → IfSome (option_map (λ (e : Ending). e.event) o) (λ e. e < length es)
-      by_within None is = tt
-      by_within (Some e) is = slice_get_within es e.event (End t row e.at) (end_stands es t row l e stands is)
-
-      by_lasts : (o : Option Ending) → l.ending ≡ o → IfSome o (λ (e : Ending). (l.from < e.at) × (l.start < e.event)) → IfSome (option_map (λ (e : Ending). e.event) o) (λ e. time_at es l.start < time_at es e)
-      by_lasts None is lasts = tt
-      by_lasts (Some e) is lasts =
-          subst (λ o. option_map_or time_of o 0 < time_at es e.event) (sym (start_stands es t row l stands))
-          (subst (λ o. l.from < option_map_or time_of o 0) (sym (end_stands es t row l e stands is)) lasts.0)
+      by : (o : Option Ending) → IfSome o (λ (e : Ending). (l.from < e.at) × (l.start < e.event)) → l.from < option_map_or (λ (e : Ending). e.at) o FOREVER
+      by None lasts = good.finite
+      by (Some e) lasts = lasts.0
 
   -- ---- the rows of a table as of the first n events
 
@@ -351,64 +343,63 @@ module _ (es : List Event) (n t : ℕ) (range : KeyRange) (period : Period) (nod
 
   -- ---- the list of rows
 
-  module _ (index : Index) (rows_are : index.rows.items ≡ map events_of (row_lives es t)) where
-    kept : (row : ℕ) (l : Life) → slice_get (row_lives es t) row ≡ Some l → slice_get index.rows.items row ≡ Some (events_of l)
-    kept row l stands = ap (λ r. slice_get r row) rows_are ∙ Rattle.std.proofs.lemmas.Option.slice_get-map events_of (row_lives es t) row ∙ ap (option_map events_of) stands
+  kept : (row : ℕ) (l : Life) → slice_get (row_lives es t) row ≡ Some l → slice_get (rows_kept es t) row ≡ Some (events_of l)
+  kept row l stands = slice_get-map events_of (row_lives es t) row ∙ ap (option_map events_of) stands
 
-    -- what is read of a found key is its row
-    read_is : (key : ℕ) → (found : IsFoundRow es n t range period p key) → row_of_key es index.rows.items n key ≡ as_of n found.row found.life
-    read_is key found =
-        let at_row : key % 4294967296 ≡ found.row = ap (λ k. k % 4294967296) found.same ∙ tree_key_row found.life.values found.row found.small in
-        ap (λ r. stored_row es n r (get_or index.rows.items r (record { start = 0; end = None }))) at_row
-        ∙ ap (stored_row es n found.row) (get_or_from_slice_get index.rows.items found.row (events_of found.life) (record { start = 0; end = None }) (kept found.row found.life found.stands))
-        ∙ stored_is es t n found.row found.life found.stands
+  -- what is read of a found key is its row
+  read_is : (key : ℕ) → (found : IsFoundRow es n t range period p key) → row_of_key es (rows_kept es t) n key ≡ as_of n found.row found.life
+  read_is key found =
+      let at_row : key % 4294967296 ≡ found.row = ap (λ k. k % 4294967296) found.same ∙ tree_key_row found.life.values found.row found.small in
+      ap (λ r. stored_row es n r (get_or (rows_kept es t) r (record { start = 0; end = None; from = 0; to = 0 }))) at_row
+      ∙ ap (stored_row es n found.row) (get_or_from_slice_get (rows_kept es t) found.row (events_of found.life) (record { start = 0; end = None; from = 0; to = 0 }) (kept found.row found.life found.stands))
+      ∙ stored_is es t n found.row found.life found.stands
 
-    pub readable : (key : ℕ) → FoundIn nodes w p key → IsReadable es index.rows.items key
-    readable key found =
-        let one = found_row key found in
-        let at_row : key % 4294967296 ≡ one.row = ap (λ k. k % 4294967296) one.same ∙ tree_key_row one.life.values one.row one.small in
-        subst (λ r. IsSomeAnd (slice_get index.rows.items r) (IsStored es)) (sym at_row)
-        (subst (λ o. IsSomeAnd o (IsStored es)) (sym (kept one.row one.life one.stands)) (stored_well es t one.row one.life one.stands one.good))
+  pub readable : (key : ℕ) → FoundIn nodes w p key → IsReadable es (rows_kept es t) key
+  readable key found =
+      let one = found_row key found in
+      let at_row : key % 4294967296 ≡ one.row = ap (λ k. k % 4294967296) one.same ∙ tree_key_row one.life.values one.row one.small in
+      subst (λ r. IsSomeAnd (slice_get (rows_kept es t) r) (IsStored es)) (sym at_row)
+      (subst (λ o. IsSomeAnd o (IsStored es)) (sym (kept one.row one.life one.stands)) (stored_well es t one.row one.life one.stands one.good))
 
-    key_kept : (key : ℕ) → FoundIn nodes w p key → row_key (row_of_key es index.rows.items n key) ≡ key
-    key_kept key found = let one = found_row key found in ap row_key (read_is key one) ∙ sym one.same
+  key_kept : (key : ℕ) → FoundIn nodes w p key → row_key (row_of_key es (rows_kept es t) n key) ≡ key
+  key_kept key found = let one = found_row key found in ap row_key (read_is key one) ∙ sym one.same
 
-    keys_kept : (keys : List ℕ) → ((key : ℕ) → Contains keys key → FoundIn nodes w p key) → map row_key (map (row_of_key es index.rows.items n) keys) ≡ keys
-    keys_kept [] found = refl
-    keys_kept (k ∷ keys) found =
-        ap (λ x. x ∷ map row_key (map (row_of_key es index.rows.items n) keys)) (key_kept k (found k (0, omega arith, refl)))
-        ∙ ap (λ l. k ∷ l) (keys_kept keys (λ key there. found key (suc there.0, let less = there.1 in omega (arith, less), there.2)))
+  keys_kept : (keys : List ℕ) → ((key : ℕ) → Contains keys key → FoundIn nodes w p key) → map row_key (map (row_of_key es (rows_kept es t) n) keys) ≡ keys
+  keys_kept [] found = refl
+  keys_kept (k ∷ keys) found =
+      ap (λ x. x ∷ map row_key (map (row_of_key es (rows_kept es t) n) keys)) (key_kept k (found k (0, omega arith, refl)))
+      ∙ ap (λ l. k ∷ l) (keys_kept keys (λ key there. found key (suc there.0, let less = there.1 in omega (arith, less), there.2)))
 
-    has_row : (f : ℕ → Row) (keys : List ℕ) (row : Row) → Contains (map f keys) row → (key : ℕ) × (Contains keys key) × (row ≡ f key)
-    has_row f [] row (i, less, same) = absurd (omega (arith, less))
-    has_row f (k ∷ keys) row (zero, less, same) = (k, (0, omega arith, refl), sym same)
-    has_row f (k ∷ keys) row (suc i, less, same) = let one = has_row f keys row (i, omega (arith, less), same) in (one.0, (suc one.1.0, let within = one.1.1 in omega (arith, within), one.1.2), one.2)
+  has_row : (f : ℕ → Row) (keys : List ℕ) (row : Row) → Contains (map f keys) row → (key : ℕ) × (Contains keys key) × (row ≡ f key)
+  has_row f [] row (i, less, same) = absurd (omega (arith, less))
+  has_row f (k ∷ keys) row (zero, less, same) = (k, (0, omega arith, refl), sym same)
+  has_row f (k ∷ keys) row (suc i, less, same) = let one = has_row f keys row (i, omega (arith, less), same) in (one.0, (suc one.1.0, let within = one.1.1 in omega (arith, within), one.1.2), one.2)
 
-    row_stands : (f : ℕ → Row) (keys : List ℕ) (key : ℕ) → Contains keys key → Contains (map f keys) (f key)
-    row_stands f [] key (i, less, same) = absurd (omega (arith, less))
-    row_stands f (k ∷ keys) key (zero, less, same) = (0, omega arith, ap f same)
-    row_stands f (k ∷ keys) key (suc i, less, same) = let one = row_stands f keys key (i, omega (arith, less), same) in (suc one.0, let within = one.1 in omega (arith, within), one.2)
+  row_stands : (f : ℕ → Row) (keys : List ℕ) (key : ℕ) → Contains keys key → Contains (map f keys) (f key)
+  row_stands f [] key (i, less, same) = absurd (omega (arith, less))
+  row_stands f (k ∷ keys) key (zero, less, same) = (0, omega arith, ap f same)
+  row_stands f (k ∷ keys) key (suc i, less, same) = let one = row_stands f keys key (i, omega (arith, less), same) in (suc one.0, let within = one.1 in omega (arith, within), one.2)
 
-    -- the row of its own key
-    own_row : (row : Row) → (is : IsPartRow es n t range period p row) → row_of_key es index.rows.items n (row_key row) ≡ row
-    own_row row is =
-        let of_row = life_of_row es t n row is.known in
-        let small = few_rows row.number of_row.life of_row.stands in
-        let at_row : row_key row % 4294967296 ≡ row.number = tree_key_row row.values row.number small in
-        ap (λ r. stored_row es n r (get_or index.rows.items r (record { start = 0; end = None }))) at_row
-        ∙ ap (stored_row es n row.number) (get_or_from_slice_get index.rows.items row.number (events_of of_row.life) (record { start = 0; end = None }) (kept row.number of_row.life of_row.stands))
-        ∙ stored_is es t n row.number of_row.life of_row.stands
-        ∙ sym of_row.same
+  -- the row of its own key
+  own_row : (row : Row) → (is : IsPartRow es n t range period p row) → row_of_key es (rows_kept es t) n (row_key row) ≡ row
+  own_row row is =
+      let of_row = life_of_row es t n row is.known in
+      let small = few_rows row.number of_row.life of_row.stands in
+      let at_row : row_key row % 4294967296 ≡ row.number = tree_key_row row.values row.number small in
+      ap (λ r. stored_row es n r (get_or (rows_kept es t) r (record { start = 0; end = None; from = 0; to = 0 }))) at_row
+      ∙ ap (stored_row es n row.number) (get_or_from_slice_get (rows_kept es t) row.number (events_of of_row.life) (record { start = 0; end = None; from = 0; to = 0 }) (kept row.number of_row.life of_row.stands))
+      ∙ stored_is es t n row.number of_row.life of_row.stands
+      ∙ sym of_row.same
 
-    pub part_rows : (keys : List ℕ) → ListsJust (FoundIn nodes w p) keys → ArePartRows es n t range period p (map (row_of_key es index.rows.items n) keys)
-    part_rows keys just = record {
-      ordered = subst IsStrictlyIncreasing (sym (keys_kept keys (λ key there. (just.just key).0 there))) just.ascending;
-      just = λ row. (
-        λ there.
-            let one = has_row (row_of_key es index.rows.items n) keys row there in
-            let found = found_row one.0 ((just.just one.0).0 one.1) in
-            subst (IsPartRow es n t range period p) (sym (one.2 ∙ read_is one.0 found)) found.part,
-        λ is. subst (Contains (map (row_of_key es index.rows.items n) keys)) (own_row row is)
-            (row_stands (row_of_key es index.rows.items n) keys (row_key row) ((just.just (row_key row)).1 (row_found row is))),
-      );
-    }
+  pub part_rows : (keys : List ℕ) → ListsJust (FoundIn nodes w p) keys → ArePartRows es n t range period p (map (row_of_key es (rows_kept es t) n) keys)
+  part_rows keys just = record {
+    ordered = subst IsStrictlyIncreasing (sym (keys_kept keys (λ key there. (just.just key).0 there))) just.ascending;
+    just = λ row. (
+      λ there.
+          let one = has_row (row_of_key es (rows_kept es t) n) keys row there in
+          let found = found_row one.0 ((just.just one.0).0 one.1) in
+          subst (IsPartRow es n t range period p) (sym (one.2 ∙ read_is one.0 found)) found.part,
+      λ is. subst (Contains (map (row_of_key es (rows_kept es t) n) keys)) (own_row row is)
+          (row_stands (row_of_key es (rows_kept es t) n) keys (row_key row) ((just.just (row_key row)).1 (row_found row is))),
+    );
+  }

@@ -8,7 +8,6 @@ use Rattle.std.specs.List.Sorted.{IsNonDecreasingBy}
 use Rattle.std.proofs.lemmas.Bool.Decides.{nat_tests}
 use Rattle.std.proofs.lemmas.List.{length-take}
 use Rattle.std.specs.Option.{option_map}
-use Rattle.std.proofs.lemmas.List.Elements.{All-map}
 use Rattle.std.proofs.lemmas.Option.{get_or_from_slice_get, slice_get-get_or, slice_get-map, slice_get_past, slice_get_within}
 use Rattle.tq_base.specs.declared.catalogue.Catalogue.{Catalogue}
 use Rattle.tq_base.specs.declared.catalogue.Column.{Column}
@@ -26,12 +25,11 @@ use Rattle.tq_event.specs.History.{IsHistory, Row, end_of, rows_from, rows_of, t
 use Rattle.tq_event.specs.Recorded.{HasTable}
 use Rattle.tq_event.specs.Versions.{Life, birth_of, version_at}
 use Rattle.tq_base.specs.declared.key_range.KeyRange.{KeyRange}
-use Rattle.tq_store.specs.declared.row.Row as declared
+use Rattle.tq_scan.specs.declared.window.Part.{Part}
 use Rattle.tq_base.specs.KeyRanges.{key_of}
 use Rattle.tq_store.specs.Keys.{shifted}
 use Rattle.tq_store.specs.Rows.{ArePartRows, HasReference, IsPartRow, row_key, window_part}
-use Rattle.tq_store.specs.Stored.{seen}
-use Rattle.tq_store.specs.Valid.{AreValid, AreValidIn, AreWhole, HasKeyIn, fragment_of_row}
+use Rattle.tq_store.specs.Valid.{AreValid, AreValidIn, AreWhole, HasKeyIn, shown, unnumbered}
 use Rattle.tq_store.proofs.AdmissibleLemmas.{fit_key, ordered_push}
 use Rattle.tq_store.proofs.CountLemmas.{IsThere, apart_placed, apart_rising, at_most, count_kept, count_made}
 use Rattle.tq_store.proofs.IndexLemmas.{start_stands}
@@ -222,11 +220,11 @@ module _ (c : Catalogue) (es : List Event) (history : IsHistory c es) (few : len
       → ((row : Row) → Contains (rows_of es n t) row → row.values ≡ v → HasKeyIn range row.values)
       → copies fragments v at ≡ occurrences (valid_at es n t at) v
   same_copies fragments whole at v inside keys =
-      ap (λ l. copies l v at) whole.same
-      ∙ count_kept (λ u. eq_by_cmp values_cmp u v) (λ (f : Fragment). f.values) (λ (f : Fragment). holds f.period at) (map fragment_of_row whole.rows)
-      ∙ count_made (λ (f : Fragment). holds f.period at && eq_by_cmp values_cmp f.values v) fragment_of_row whole.rows
-      ∙ sym (count_made (counts at v) seen whole.rows)
-      ∙ same_count (map seen whole.rows) whole.are at v inside keys
+      count_kept (λ u. eq_by_cmp values_cmp u v) (λ (f : Fragment). f.values) (λ (f : Fragment). holds f.period at) fragments
+      ∙ sym (count_made (counts at v) shown fragments)
+      ∙ ap (count_by (counts at v)) whole.same
+      ∙ count_made (counts at v) unnumbered whole.rows
+      ∙ same_count whole.rows whole.are at v inside keys
       ∙ sym (count_kept (λ u. eq_by_cmp values_cmp u v) (λ (row : Row). row.values) (λ (row : Row). nat_le row.from at && nat_lt at row.to) (rows_of es n t))
 
   pub valid_in : (fragments : List Fragment) → AreWhole es n t range period fragments → AreValidIn es n t range period fragments
@@ -237,22 +235,23 @@ module _ (c : Catalogue) (es : List Event) (history : IsHistory c es) (few : len
 
 -- ---- all rows that are handed out
 
-each_seen : (rows : List declared.Row) (P : Row → Type 0) → ((row : Row) → Contains (map seen rows) row → P row) → All (λ (r : declared.Row). P (seen r)) rows
-each_seen rows P each k d less =
-    each (seen (get_or rows k d)) (contains_of (map seen rows) k (seen (get_or rows k d)) (slice_get-map seen rows k ∙ ap (option_map seen) (slice_get-get_or rows k d less)))
-
 -- their keys lie in the range
 pub keys_in : (es : List Event) (n t : ℕ) (range : KeyRange) (period : Period) (fragments : List Fragment) → AreWhole es n t range period fragments → All (λ (f : Fragment). HasKeyIn range f.values) fragments
-keys_in es n t range period fragments whole =
-    subst (All (λ (f : Fragment). HasKeyIn range f.values)) (sym whole.same)
-    (All-map (λ (f : Fragment). HasKeyIn range f.values) fragment_of_row whole.rows
-    (each_seen whole.rows (λ (row : Row). HasKeyIn range row.values) (λ row there. let part = (whole.are.just row).0 there in record { low = part.low; high = part.high })))
+keys_in es n t range period fragments whole k d less = by (slice_get whole.rows k) refl (sym (slice_get-map unnumbered whole.rows k) ∙ sym (ap (λ l. slice_get l k) whole.same) ∙ slice_get-map shown fragments k ∙ ap (option_map shown) (slice_get-get_or fragments k d less))
+  where
+    by : (o : Option Row) → slice_get whole.rows k ≡ o → option_map unnumbered o ≡ Some (shown (get_or fragments k d)) → HasKeyIn range (get_or fragments k d).values
+    by None stands same = absurd (cc)
+    by (Some row) stands same =
+        let part = (whole.are.just row).0 (contains_of whole.rows k row stands) in
+        let both : unnumbered row ≡ shown (get_or fragments k d) = cc in
+        subst (HasKeyIn range) (ap (λ (r : Row). r.values) both) (record { low = part.low; high = part.high })
 
--- they have a value for each column of their table
-pub widths : (c : Catalogue) (es : List Event) (n t : ℕ) (range : KeyRange) (period : Period) (s : Schema) (rows : List declared.Row) → IsHistory c es → slice_get c.tables t ≡ Some s
-    → ArePartRows es n t range period (window_part es n range period) (map seen rows) → All (λ (r : declared.Row). length r.values ≡ length s.columns) rows
-widths c es n t range period s rows history some are =
-    each_seen rows (λ (row : Row). length row.values ≡ length s.columns) (λ row there. row_width c es history n t s some row ((are.just row).0 there).known)
+-- the rows of keys have as many values as those of the table
+pub key_widths : (es : List Event) (n t : ℕ) (range : KeyRange) (period : Period) (p : Part) (f : ℕ → Row) (keys : List ℕ) (width : ℕ) → ArePartRows es n t range period p (map f keys)
+    → ((row : Row) → Contains (rows_of es n t) row → length row.values ≡ width) → All (λ key. length (f key).values ≡ width) keys
+key_widths es n t range period p f keys width are wide k d less =
+    wide (f (get_or keys k d))
+    ((are.just (f (get_or keys k d))).0 (contains_of (map f keys) k (f (get_or keys k d)) (slice_get-map f keys k ∙ ap (option_map f) (slice_get-get_or keys k d less)))).known
 
 -- a table that is not there has none
 pub none_there : (c : Catalogue) (es : List Event) (n t : ℕ) (range : KeyRange) (period : Period) (fragments : List Fragment) → IsHistory c es → length c.tables ≤ t → fragments ≡ [] → AreWhole es n t range period fragments
@@ -262,5 +261,5 @@ none_there c es n t range period fragments history past none = record {
     ordered = λ k less. absurd (omega (arith, less));
     just = λ row. ((λ there. absurd (let less = there.1 in omega (arith, less))), (λ is. absurd (no_rows c es history n t (slice_get_past c.tables t past) row is.known)));
   };
-  same = none;
+  same = ap (map shown) none;
 }

@@ -1,9 +1,9 @@
 -- The tree of a table, and the events of its rows: what holds of them by the events so far. This project's own.
-use Rattle.std.specs.Prelude.{◌≡◌, ◌≢◌, ℕ, ◌+◌, ◌<◌, ◌≤◌, ◌&&◌, not, is_some, Bool, List, map, length, slice_get, true, false, Option, Some, None, IsSomeAnd, IfSome, FitsSigned}
+use Rattle.std.specs.Prelude.{◌≡◌, ◌≢◌, ℕ, ◌+◌, ◌%◌, ◌<◌, ◌≤◌, ◌&&◌, not, is_some, Bool, List, map, length, slice_get, true, false, Option, Some, None, IsSomeAnd, IfSome, FitsSigned}
 use Rattle.std.specs.Int.{w64}
 use Rattle.std.specs.List.Sorted.{IsNonDecreasingBy}
 use Rattle.std.specs.Option.{option_map, option_map_or}
-use Rattle.std.specs.Ordering.{eq_by_cmp}
+use Rattle.std.specs.Ordering.{eq_by_cmp, nat_cmp}
 use Rattle.tq_base.specs.declared.catalogue.Catalogue.{Catalogue}
 use Rattle.tq_base.specs.declared.period.TheConstants.{FOREVER}
 use Rattle.tq_base.specs.declared.value.Value.{Value}
@@ -19,7 +19,7 @@ use Rattle.tq_store.specs.declared.index.Index.{Index}
 use Rattle.tq_store.specs.declared.index.RowEvents.{RowEvents}
 use Rattle.tq_base.specs.KeyRanges.{key_of}
 use Rattle.tq_store.specs.Keys.{tree_key}
-use Rattle.tq_store.specs.Open.{has}
+use Rattle.tq_store.specs.Open.{has, place_key}
 
 -- the first version at which a row that so ends is dead
 abbrev pub dead_of : Option Ending → ℕ
@@ -28,7 +28,11 @@ dead_of (Some e) = e.event + 1
 
 -- the events of a row
 abbrev pub events_of : Life → RowEvents
-events_of l = record { start = l.start; end = option_map (λ e. e.event) l.ending }
+events_of l = record { start = l.start; end = option_map (λ e. e.event) l.ending; from = l.from; to = option_map_or (λ e. e.at) l.ending FOREVER }
+
+-- the events of each row of the table
+abbrev pub rows_kept : List Event → ℕ → List RowEvents
+rows_kept events table = map events_of (row_lives events table)
 
 -- whether a row of this life is open and has these values
 abbrev pub is_open_of : List Value → Life → Bool
@@ -38,9 +42,17 @@ is_open_of values l = not (is_some l.ending) && eq_by_cmp values_cmp l.values va
 abbrev pub is_open_at : List Life → List Value → ℕ → Bool
 is_open_at lives values row = option_map_or (is_open_of values) (slice_get lives row) false
 
--- the row, ended by the event of this number
-abbrev pub ended : ℕ → RowEvents → RowEvents
-ended number row = record row { end = Some number }
+-- whether a row of this life is open under the key, which has its number
+abbrev pub is_open_as : ℕ → Life → Bool
+is_open_as key l = not (is_some l.ending) && eq_by_cmp nat_cmp (place_key l.values (key % 4294967296)) key
+
+-- whether the row of the key's number is
+abbrev pub is_open_under : List Life → ℕ → Bool
+is_open_under lives key = option_map_or (is_open_as key) (slice_get lives (key % 4294967296)) false
+
+-- the row, ended by the event of this number and time
+abbrev pub ended : ℕ → ℕ → RowEvents → RowEvents
+ended number at row = record row { end = Some number; to = at }
 
 -- a row's key has 64 signed bits, and the row ends later than it starts, if it ends
 pub record IsRowLife (l : Life) : Type 0 where
@@ -67,9 +79,9 @@ pub record HasRows (lives : List Life) (count version : ℕ) (nodes : List NodeS
 
 -- the tree, the rows and the open ones among them are those of the table by these events
 pub record IsIndexOf (events : List Event) (table : ℕ) (index : Index) : Type 0 where
-  pub rows : index.rows.items ≡ map events_of (row_lives events table)
+  pub rows : index.rows.items ≡ rows_kept events table
   pub tree : HasRows (row_lives events table) (length events) index.tree.version index.tree.nodes
-  pub opened : (values : List Value) (row : ℕ) → has index.opened values row ≡ is_open_at (row_lives events table) values row
+  pub opened : (key : ℕ) → has index.opened key ≡ is_open_under (row_lives events table) key
 
 -- they are the indexes of the tables of their numbers
 pub record AreIndexes (events : List Event) (indexes : List Index) : Type 0 where

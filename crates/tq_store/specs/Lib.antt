@@ -1,4 +1,5 @@
 pub mod Keys
+pub mod Digests
 pub mod Open
 pub mod Index
 pub mod Rows

@@ -23,30 +23,25 @@ values_in (End t r at) = []
 abbrev pub values_at : List Event → ℕ → List Value
 values_at events number = option_map_or values_in (slice_get events number) []
 
--- the time of the event of this number
-abbrev pub time_at : List Event → ℕ → ℕ
-time_at events number = option_map_or time_of (slice_get events number) 0
-
 -- the event starts a row
 abbrev pub IsStart : Event → Type 0
 IsStart (Start t v at) = ⊤
 IsStart (End t r at) = ⊥
 
--- these are the numbers of an event that starts a row, and of a later one that ends it
+-- this is the number of an event that starts a row, which ends later
 pub record IsStored (events : List Event) (row : RowEvents) : Type 0 where
   pub starts : IsSomeAnd (slice_get events row.start) IsStart
-  pub within : IfSome row.end (λ e. e < length events)
-  pub lasts : IfSome row.end (λ e. time_at events row.start < time_at events e)
+  pub lasts : row.from < row.to
 
--- when a row ends by the first n events, if the event of this number ends it
-abbrev pub end_as_of : List Event → ℕ → Option ℕ → ℕ
-end_as_of events n None = FOREVER
-end_as_of events n (Some e) = if nat_lt e n then time_at events e else FOREVER
+-- when a row ends by the first n events, if the event of this number ends it at this time
+abbrev pub end_as_of : ℕ → Option ℕ → ℕ → ℕ
+end_as_of n None at = FOREVER
+end_as_of n (Some e) at = if nat_lt e n then at else FOREVER
 
 -- the row of this number as of the first n events
 abbrev pub stored_row : List Event → ℕ → ℕ → RowEvents → Row
 stored_row events n number row =
-    record { number = number; values = values_at events row.start; from = time_at events row.start; to = end_as_of events n row.end }
+    record { number = number; values = values_at events row.start; from = row.from; to = end_as_of n row.end row.to }
 
 -- the key is that of a row
 abbrev pub IsReadable : List Event → List RowEvents → ℕ → Type 0
@@ -55,7 +50,7 @@ IsReadable events rows key = IsSomeAnd (slice_get rows (key % 4294967296)) (IsSt
 -- the row of the key as of the first n events
 abbrev pub row_of_key : List Event → List RowEvents → ℕ → ℕ → Row
 row_of_key events rows n key =
-    stored_row events n (key % 4294967296) (slice_index_or rows (key % 4294967296) (record { start = 0; end = None }))
+    stored_row events n (key % 4294967296) (slice_index_or rows (key % 4294967296) (record { start = 0; end = None; from = 0; to = 0 }))
 
 -- whether the event starts a row of these values before the instant
 abbrev pub starts_like : List Value → ℕ → Event → Bool

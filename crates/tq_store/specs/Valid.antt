@@ -6,12 +6,10 @@ use Rattle.tq_base.specs.declared.value.Value.{Value}
 use Rattle.tq_base.specs.Fragments.{copies, occurrences}
 use Rattle.tq_base.specs.Periods.{holds}
 use Rattle.tq_event.specs.declared.event.Event.{Event}
-use Rattle.tq_event.specs.History.{valid_at}
+use Rattle.tq_event.specs.History.{Row, valid_at}
 use Rattle.tq_base.specs.declared.key_range.KeyRange.{KeyRange}
-use Rattle.tq_store.specs.declared.row.Row as declared
 use Rattle.tq_base.specs.KeyRanges.{key_of}
 use Rattle.tq_store.specs.Rows.{ArePartRows, window_part}
-use Rattle.tq_store.specs.Stored.{seen}
 
 -- the values have a key of the range
 pub record HasKeyIn (range : KeyRange) (values : List Value) : Type 0 where
@@ -28,12 +26,16 @@ abbrev pub AreValidIn : List Event → ℕ → ℕ → KeyRange → Period → L
 AreValidIn history n table range period rows =
     (t : ℕ) (v : List Value) → HasKeyIn range v → IsTrue (holds period t) → copies rows v t ≡ occurrences (valid_at history n table t) v
 
--- the values and the period of a row
-abbrev pub fragment_of_row : declared.Row → Fragment
-fragment_of_row row = record { values = row.values; period = row.period }
+-- a row without its number
+abbrev pub unnumbered : Row → Row
+unnumbered row = record row { number = 0 }
+
+-- the same of values and a period
+abbrev pub shown : Fragment → Row
+shown fragment = record { number = 0; values = fragment.values; from = fragment.period.start; to = fragment.period.end }
 
 -- they are the rows of all of a window
 pub record AreWhole (history : List Event) (n table : ℕ) (range : KeyRange) (period : Period) (fragments : List Fragment) : Type 0 where
-  pub rows : List declared.Row
-  pub are : ArePartRows history n table range period (window_part history n range period) (map seen rows)
-  pub same : fragments ≡ map fragment_of_row rows
+  pub rows : List Row
+  pub are : ArePartRows history n table range period (window_part history n range period) rows
+  pub same : map shown fragments ≡ map unnumbered rows

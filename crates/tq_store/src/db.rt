@@ -1,27 +1,29 @@
 //! Tables as of any count of events.
 
-ghost use Rattle.std.specs.Prelude.{ℕ, ◌≡◌, ◌↔◌, ◌+◌, ◌*◌, ◌/◌, ◌<◌, ◌≤◌, ◌∷◌, ◌++◌, [], IsTrue, IfOk, OnOk, OnErr, if◌then◌else◌, length, map, min};
+ghost use Rattle.std.specs.Prelude.{ℕ, All, Contains, ◌≡◌, ◌↔◌, ◌+◌, ◌*◌, ◌/◌, ◌<◌, ◌≤◌, ◌∷◌, ◌++◌, [], IsTrue, IfOk, OnOk, OnErr, if◌then◌else◌, length, map, min};
 ghost use Rattle.tq_base.specs.declared.period.TheConstants.{FOREVER};
-ghost use Rattle.tq_event.specs.History.{CanHappen, IsAdmissible, IsHistory, IsNotBefore, time_of};
+ghost use Rattle.tq_event.specs.History as rows;
+ghost use Rattle.tq_event.specs.History.{CanHappen, IsAdmissible, IsHistory, IsNotBefore, rows_of, time_of};
 ghost use Rattle.tq_event.specs.Opening.{open_row};
 ghost use Rattle.tq_event.specs.Recorded.{HasTable};
 ghost use Rattle.tq_event.specs.Versions.{version_at};
 ghost use Rattle.tq_scan.specs.Windows.{whole_of};
-ghost use Rattle.tq_store.specs.Index.{AreIndexes, CanEnd};
+ghost use Rattle.tq_store.specs.Index.{AreIndexes, CanEnd, rows_kept};
 ghost use Rattle.tq_store.specs.Rows.{ArePartRows, IsWithin, window_part};
-ghost use Rattle.tq_store.specs.Stored.{seen};
+ghost use Rattle.tq_store.specs.Stored.{IsReadable, row_of_key, seen};
+ghost use Rattle.tq_store.specs.Valid.{AreWhole};
 
 use crate::index::{Index, no_indexes, take};
-use crate::read::{find_version, make_window, read_rows};
+use crate::read::{find_version, make_window, read_rows, read_side_by_side};
 use crate::row::Row;
 use crate::stored::time;
 use std::alloc::{AllocError, Global};
 use std::marker::Model;
 use tq_arena::Meter;
-use tq_base::{Catalogue, Instant, KeyRange, Period, Values};
+use tq_base::{Catalogue, Instant, KeyRange, Period, Rows, Values};
 use tq_event::Event;
 use tq_mvbt::trees_tile;
-use tq_scan::{Part, Window, scan};
+use tq_scan::{Found, Part, Window, scan};
 
 /// A history that answers as of any count of its events: a catalogue, and the events that it took, in order.
 #[derive(Drop)]
@@ -178,6 +180,33 @@ impl Db {
         make_window(&self.events, n, range, period)
     }
 
+    // The keys that the table's tree has for the rows of the part of the window. The meter counts the reads of nodes,
+    // at least one. Out of memory: nothing is given.
+    fn find(
+        &self,
+        n: u32,
+        table: u32,
+        range: &KeyRange,
+        period: &Period,
+        part: &Part,
+        meter: &mut Meter,
+    ) -> Result<Found, AllocError>
+        requires known { n ≤ length self.now.events }
+        requires table { table < length self.now.catalogue.tables }
+        requires inside { IsWithin (window_part self.now.events n range.now period.now) part.now }
+        ensures readable { IfOk result (λ found. All (IsReadable self.now.events (rows_kept self.now.events table)) found.keys) }
+        ensures rows { IfOk result (λ found. ArePartRows self.now.events n table range.now period.now part.now (map (row_of_key self.now.events (rows_kept self.now.events table) n) found.keys)) }
+        ensures counted { IfOk result (λ found. min (meter.old + 1) u64.MAX ≤ meter.new) }
+        ensures reads { IfOk result (λ found. period.now.end ≡ period.now.start + 1 → meter.new ≤ meter.old + 10 * (length found.keys / 5 + 2)) }
+    {
+        let window = make_window(&self.events, n, range, period);
+        let index = &self.indexes[table as usize];
+        let _levels = index.tree.levels(part.last);
+        let _version = index.tree.version();
+        trees_tile();
+        scan(self.alloc, &index.tree, &window, part, meter)
+    }
+
     /// The rows of the table as of the first n events whose key lies in the range and whose period overlaps the
     /// given one, as far as their reference point lies in the part of the window; in the order of their keys, and
     /// of their numbers where these are equal. The meter counts the reads of nodes, at least one.
@@ -198,12 +227,29 @@ impl Db {
         ensures counted { IfOk result (λ rows. min (meter.old + 1) u64.MAX ≤ meter.new) }
         ensures reads { IfOk result (λ rows. period.now.end ≡ period.now.start + 1 → meter.new ≤ meter.old + 10 * (length rows.items / 5 + 2)) }
     {
-        let window = make_window(&self.events, n, range, period);
+        let found = self.find(n, table, range, period, part, meter)?;
         let index = &self.indexes[table as usize];
-        let _levels = index.tree.levels(part.last);
-        let _version = index.tree.version();
-        trees_tile();
-        let found = scan(self.alloc, &index.tree, &window, part, meter)?;
         read_rows(self.alloc, &self.events, &index.rows, found.keys.get(), n)
+    }
+
+    // The rows of all of the window, of so many values each, side by side. Out of memory: nothing is given.
+    pub(crate) fn whole(
+        &self,
+        alloc: Global,
+        n: u32,
+        table: u32,
+        range: &KeyRange,
+        period: &Period,
+        width: usize,
+    ) -> Result<Rows, AllocError>
+        requires known { n ≤ length self.now.events }
+        requires table { table < length self.now.catalogue.tables }
+        requires width { (row : rows.Row) → Contains (rows_of self.now.events n table) row → length row.values ≡ width }
+        ensures { IfOk result (λ rows. AreWhole self.now.events n table range.now period.now rows.items) }
+    {
+        let part = self.window(n, table, range, period).whole();
+        let found = self.find(n, table, range, period, &part, &mut Meter::new())?;
+        let index = &self.indexes[table as usize];
+        read_side_by_side(alloc, &self.events, &index.rows, found.keys.get(), n, width)
     }
 }

@@ -1,33 +1,35 @@
 //! A table's rows as of every count of events: a tree of their keys, the events that start and end each, and the
 //! open ones by their values.
 
-ghost use Rattle.std.specs.Prelude.{◌≡◌, ℕ, ◌+◌, ◌^◌, ◌<◌, ◌≤◌, ◌&&◌, ◌||◌, ◌++◌, ◌∷◌, [], true, false, not, length, List, slice_index_or, slice_set, ◌↔◌, IsTrue, IfOk, OnOk, OnErr};
+ghost use Rattle.std.specs.Prelude.{◌≡◌, ℕ, ◌+◌, ◌^◌, ◌<◌, ◌≤◌, ◌&&◌, ◌||◌, ◌++◌, ◌∷◌, [], true, false, not, length, slice_get, Some, slice_index_or, slice_set, ◌↔◌, IsTrue, IfOk, MatchOption, OnOk, OnErr};
 ghost use Rattle.std.specs.List.Sorted.{IsNonDecreasingBy};
 ghost use Rattle.std.specs.Ordering.{eq_by_cmp, nat_cmp};
-ghost use Rattle.tq_base.specs.declared.value.Value.{Value as OneValue};
+ghost use Rattle.tq_base.specs.declared.period.TheConstants.{FOREVER};
 ghost use Rattle.tq_base.specs.ValueOrder.{values_cmp};
 ghost use Rattle.tq_mvbt.specs.TreeState.{lives_of};
 ghost use Rattle.tq_event.specs.History.{time_of};
 ghost use Rattle.tq_event.specs.Opening as opening;
 ghost use Rattle.tq_event.specs.Recorded.{table_of};
+ghost use Rattle.tq_event.specs.Versions.{Life, row_lives};
 ghost use Rattle.tq_store.specs.Keys.{tree_key};
-ghost use Rattle.tq_store.specs.Index.{AreIndexes, Begins, CanTake, Ends, IsIndexOf, IsOpenAt, ended};
-ghost use Rattle.tq_store.specs.Open.{HasSame, has};
-ghost use Rattle.tq_store.specs.Stored.{values_at};
+ghost use Rattle.tq_store.specs.Index.{AreIndexes, Begins, CanTake, Ends, IsIndexOf, IsOpenAt, ended, is_open_at};
+ghost use Rattle.tq_store.specs.Open.{HasSame, has, place_key};
 
-use crate::key::row_key;
+use crate::key::{ROWS, open_key, row_key};
 use crate::open::OpenRows;
-use crate::stored::{table, time, values};
+use crate::stored::{table, values};
 use std::alloc::{AllocError, Global};
-use tq_base::{Instant, Values};
+use tq_base::{Bound, FOREVER, Instant, Values};
 use tq_event::Event;
 use tq_mvbt::Tree;
 
-/// The numbers of the events that start and end a row, if it has ended.
+/// The numbers and times of the events that start and end a row; no number and `forever` where it has not ended.
 #[derive(Clone, Copy, Debug)]
 pub struct RowEvents {
     pub start: u32,
     pub end: Option<u32>,
+    pub from: Instant,
+    pub to: Bound,
 }
 
 /// The tree of a table, the events of its rows by the rows' numbers, and its open rows.
@@ -50,82 +52,85 @@ impl Index {
         })
     }
 
-    // The key of a row of these values lives from the version on, and the row is open.
+    // The key of a row lives from the version on, and the row is open under a key of its own.
     // Out of memory: all is as before.
-    fn begin(
-        &mut self,
-        key: u128,
-        version: u32,
-        values: &Values,
-        row: u32,
-    ) -> Result<(), AllocError>
+    fn begin(&mut self, key: u128, version: u32, place: u128) -> Result<(), AllocError>
         requires later { self.old.tree.version < version }
         requires small { version ≤ 16777216 }
         requires key { key < 2 ^ 96 }
         requires never { (v : ℕ) → lives_of self.old.tree.nodes key v ≡ false }
-        requires new { (v : List OneValue) → has self.old.opened v row ≡ false }
+        requires new { has self.old.opened place ≡ false }
         ensures rows { self.new.rows ≡ self.old.rows }
         ensures tree { OnOk result (Begins self.old.tree self.new.tree key version) }
-        ensures opened { OnOk result ((v : List OneValue) (r : ℕ) → has self.new.opened v r ≡ (has self.old.opened v r || (eq_by_cmp values_cmp values.now v && eq_by_cmp nat_cmp row r))) }
+        ensures opened { OnOk result ((k : ℕ) → has self.new.opened k ≡ (has self.old.opened k || eq_by_cmp nat_cmp place k)) }
         ensures same_tree { OnErr result (self.new.tree ≡ self.old.tree) }
         ensures same_opened { OnErr result (HasSame self.old.opened self.new.opened) }
     {
-        self.opened.insert(values, row)?;
+        self.opened.insert(place)?;
         match self.tree.insert(key, version) {
             Ok(()) => Ok(()),
             Err(refused) => {
-                self.opened.remove(values, row);
+                self.opened.remove(place);
                 Err(refused)
             }
         }
     }
 
-    // A row of these values starts by the event of this number. Out of memory: all is as before.
-    fn start(&mut self, number: u32, values: &Values) -> Result<(), AllocError>
+    // A row of these values starts by the event of this number and time. Out of memory: all is as before.
+    fn start(&mut self, number: u32, values: &Values, at: Instant) -> Result<(), AllocError>
         requires later { self.old.tree.version ≤ number }
         requires small { number < 16777216 }
         requires few { length self.old.rows.items ≤ number }
         requires never { (v : ℕ) → lives_of self.old.tree.nodes (tree_key values.now (length self.old.rows.items)) v ≡ false }
-        requires new { (v : List OneValue) → has self.old.opened v (length self.old.rows.items) ≡ false }
-        ensures rows { OnOk result (self.new.rows.items ≡ self.old.rows.items ++ record { start = number; end = None } ∷ []) }
+        requires new { has self.old.opened (place_key values.now (length self.old.rows.items)) ≡ false }
+        ensures rows { OnOk result (self.new.rows.items ≡ self.old.rows.items ++ record { start = number; end = None; from = at; to = FOREVER } ∷ []) }
         ensures tree { OnOk result (Begins self.old.tree self.new.tree (tree_key values.now (length self.old.rows.items)) (number + 1)) }
-        ensures opened { OnOk result ((v : List OneValue) (r : ℕ) → has self.new.opened v r ≡ (has self.old.opened v r || (eq_by_cmp values_cmp values.now v && eq_by_cmp nat_cmp (length self.old.rows.items) r))) }
+        ensures opened { OnOk result ((k : ℕ) → has self.new.opened k ≡ (has self.old.opened k || eq_by_cmp nat_cmp (place_key values.now (length self.old.rows.items)) k)) }
         ensures same_tree { OnErr result (self.new.tree ≡ self.old.tree) }
         ensures same_rows { OnErr result (self.new.rows.items ≡ self.old.rows.items) }
         ensures same_opened { OnErr result (HasSame self.old.opened self.new.opened) }
     {
         self.rows.reserve(1)?;
         let row = self.rows.len() as u32;
-        let key = row_key(values, row);
-        self.begin(key, number + 1, values, row)?;
+        let place = open_key(values, row);
+        self.begin(row_key(values, row), number + 1, place)?;
         self.rows.push_reserved(RowEvents {
             start: number,
             end: None,
+            from: at,
+            to: Bound::new(FOREVER).unwrap(),
         });
         Ok(())
     }
 
-    // The row, which is of these values, ends by the event of this number. Out of memory: all is as before.
-    fn end(&mut self, number: u32, row: u32, values: &Values) -> Result<(), AllocError>
+    // The row, which is of these values, ends by the event of this number and time. Out of memory: all is as before.
+    fn end(
+        &mut self,
+        number: u32,
+        row: u32,
+        values: &Values,
+        at: Instant,
+    ) -> Result<(), AllocError>
         requires later { self.old.tree.version ≤ number }
         requires small { number < 16777216 }
         requires row { row < length self.old.rows.items }
         requires alive { lives_of self.old.tree.nodes (tree_key values.now row) self.old.tree.version ≡ true }
-        ensures rows { OnOk result ((d : RowEvents) → self.new.rows.items ≡ slice_set self.old.rows.items row (ended number (slice_index_or self.old.rows.items row d))) }
+        ensures rows { OnOk result ((d : RowEvents) → self.new.rows.items ≡ slice_set self.old.rows.items row (ended number at (slice_index_or self.old.rows.items row d))) }
         ensures tree { OnOk result (Ends self.old.tree self.new.tree (tree_key values.now row) (number + 1)) }
-        ensures opened { OnOk result ((v : List OneValue) (r : ℕ) → has self.new.opened v r ≡ (has self.old.opened v r && not (eq_by_cmp values_cmp values.now v && eq_by_cmp nat_cmp row r))) }
+        ensures opened { OnOk result ((k : ℕ) → has self.new.opened k ≡ (has self.old.opened k && not (eq_by_cmp nat_cmp (place_key values.now row) k))) }
         ensures same_tree { OnErr result (self.new.tree ≡ self.old.tree) }
         ensures same_rows { OnErr result (self.new.rows.items ≡ self.old.rows.items) }
         ensures same_opened { OnErr result (HasSame self.old.opened self.new.opened) }
     {
-        let key = row_key(values, row);
-        self.tree.delete(key, number + 1)?;
-        let start = self.rows[row as usize].start;
+        self.tree.delete(row_key(values, row), number + 1)?;
+        let RowEvents { start, from, .. } = self.rows[row as usize];
         self.rows[row as usize] = RowEvents {
             start,
             end: Some(number),
+            from,
+            to: Bound::new(at.number()).unwrap(),
         };
-        self.opened.remove(values, row);
+        self.opened.remove(open_key(values, row));
         Ok(())
     }
 }
@@ -141,12 +146,38 @@ impl Index {
     {
         let number = events.len() as u32;
         match event {
-            Event::Start { values, .. } => self.start(number, values),
-            Event::End { row, .. } => {
+            Event::Start { values, at, .. } => self.start(number, values, *at),
+            Event::End { row, at, .. } => {
                 let start = self.rows[*row as usize].start;
-                self.end(number, *row, values(events, start))
+                self.end(number, *row, values(events, start), *at)
             }
         }
+    }
+
+    // Whether the row, which is one of the table, has these values.
+    fn is_like(&self, events: &[Event], table: u32, row: u32, wanted: &Values) -> bool
+        requires index { IsIndexOf events.now table self.now }
+        requires row { row < length self.now.rows.items }
+        ensures { (life : Life) → slice_get (row_lives events.now table) row ≡ Some life → result ≡ eq_by_cmp values_cmp life.values wanted.now }
+    {
+        values(events, self.rows[row as usize].start) == wanted
+    }
+
+    // The number of the first open row of these values.
+    fn first_like(&self, events: &[Event], table: u32, wanted: &Values) -> Option<u32>
+        requires index { IsIndexOf events.now table self.now }
+        requires few { length events.now ≤ 16777216 }
+        ensures member { MatchOption result ((r : ℕ) → is_open_at (row_lives events.now table) wanted.now r ≡ false) (λ first. is_open_at (row_lives events.now table) wanted.now first ≡ true) }
+        ensures least { MatchOption result ((r : ℕ) → is_open_at (row_lives events.now table) wanted.now r ≡ false) (λ first. (r : ℕ) → is_open_at (row_lives events.now table) wanted.now r ≡ true → first ≤ r) }
+    {
+        let least = open_key(wanted, 0);
+        'keys: for key in self.opened.keys.range(least..=least + (ROWS - 1)) {
+            let row = (*key % ROWS) as u32;
+            if self.is_like(events, table, row, wanted) {
+                return Some(row);
+            }
+        }
+        None
     }
 
     /// The number of the first open row of these values, if it started before the instant.
@@ -158,10 +189,11 @@ impl Index {
         at: Instant,
     ) -> Option<u32>
         requires index { IsIndexOf events.now table self.now }
+        requires few { length events.now ≤ 16777216 }
         requires ordered { IsNonDecreasingBy time_of events.now }
         ensures { result ≡ opening.open_row events.now table values.now at }
     {
-        match self.opened.first(values) {
+        match self.first_like(events, table, values) {
             Some(row) => {
                 if self.is_open_before(events, table, row, at) {
                     Some(row)
@@ -179,17 +211,10 @@ impl Index {
         ensures { IsTrue result ↔ IsOpenAt events.now table row at }
     {
         match self.rows.get(row as usize) {
-            Some(known) => known.end.is_none() && starts_before(&events[known.start as usize], at),
+            Some(known) => known.end.is_none() && known.from < at,
             None => false,
         }
     }
-}
-
-// Whether the event comes before the instant.
-fn starts_before(event: &Event, at: Instant) -> bool
-    ensures { IsTrue result ↔ (time_of event.now < at) }
-{
-    time(event) < at
 }
 
 // No rows of any table.

@@ -1,9 +1,11 @@
-//! The keys under which a tree has rows.
+//! The keys under which a tree has rows, and those under which open rows stand.
 
 ghost use Rattle.std.specs.Prelude.{◌≡◌, ◌+◌, ◌*◌, ◌<◌, ◌^◌};
 ghost use Rattle.tq_base.specs.KeyRanges.{key_of};
 ghost use Rattle.tq_store.specs.Keys.{shifted, tree_key};
+ghost use Rattle.tq_store.specs.Open.{place_key};
 
+use crate::digest::digest;
 use tq_base::{Seen, Values};
 
 /// How far the numbers of 64 signed bits go beyond 0: 2^63.
@@ -13,7 +15,7 @@ const SPAN: i128 = 0x8000_0000_0000_0000;
 pub(crate) const ROWS: u128 = 4_294_967_296;
 
 // The number, from 0 on in place of the least number of 64 signed bits.
-fn shift(number: i128) -> u128
+pub(crate) fn shift(number: i128) -> u128
     ensures value { result ≡ shifted number }
     ensures small { result < 2 ^ 64 }
 {
@@ -47,4 +49,11 @@ pub(crate) fn row_key(values: &Values, row: u32) -> u128
     ensures small { result < 2 ^ 96 }
 {
     shift(key(values)) * ROWS + u128::from(row)
+}
+
+// The key under which the open row of this number stands.
+pub(crate) fn open_key(values: &Values, row: u32) -> u128
+    ensures { result ≡ place_key values.now row }
+{
+    (shift(key(values)) * ROWS + digest(values)) * ROWS + u128::from(row)
 }

@@ -3,10 +3,11 @@
 //! A `Db` is a history: a catalogue and the events that it took, each where it was admissible. It answers what
 //! the rows of a table were as of its first n events, over a range of keys and a period of time, without a look
 //! at other rows: for each table it keeps a multiversion tree of its rows' keys, whose versions are the counts
-//! of events, and for each row the numbers of the events that start and end it.
+//! of events, and for each row the events that start and end it.
 #![tactic(auto)]
 
 mod db;
+mod digest;
 mod index;
 mod key;
 mod laws;

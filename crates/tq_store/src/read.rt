@@ -9,13 +9,14 @@ ghost use Rattle.tq_event.specs.Versions.{version_at};
 ghost use Rattle.tq_scan.specs.Windows.{whole_of};
 ghost use Rattle.tq_store.specs.Rows.{window_part};
 ghost use Rattle.tq_store.specs.Stored.{IsReadable, row_of_key, seen};
+ghost use Rattle.tq_store.specs.Valid.{shown, unnumbered};
 
 use crate::index::RowEvents;
 use crate::key::{ROWS, shift_key};
 use crate::row::Row;
-use crate::stored::{read_row, time};
+use crate::stored::{period, read_row, time, values};
 use std::alloc::{AllocError, Global};
-use tq_base::{KeyRange, Period};
+use tq_base::{KeyRange, Period, Rows};
 use tq_event::Event;
 use tq_scan::Window;
 
@@ -61,6 +62,27 @@ pub(crate) fn read_rows(
     'keys: for key in keys {
         let number = (*key % ROWS) as u32;
         found.push(read_row(events, &rows[number as usize], number, n)?)?;
+    }
+    Ok(found)
+}
+
+// The same rows, of so many values each, side by side.
+pub(crate) fn read_side_by_side(
+    alloc: Global,
+    events: &[Event],
+    rows: &[RowEvents],
+    keys: &[u128],
+    n: u32,
+    width: usize,
+) -> Result<Rows, AllocError>
+    requires readable { All (IsReadable events.now rows.now) keys.now }
+    requires width { All (λ key. length (row_of_key events.now rows.now n key).values ≡ width) keys.now }
+    ensures { IfOk result (λ found. map shown found.items ≡ map (λ key. unnumbered (row_of_key events.now rows.now n key)) keys.now) }
+{
+    let mut found = Rows::new(alloc, width);
+    'keys: for key in keys {
+        let row = &rows[(*key % ROWS) as usize];
+        found.push_copy(values(events, row.start).get(), period(row, n))?;
     }
     Ok(found)
 }

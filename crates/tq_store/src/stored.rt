@@ -1,10 +1,9 @@
 //! What the events tell of a row whose start and end they are.
 
-ghost use Rattle.std.specs.Prelude.{◌≡◌, ◌<◌, length, slice_get, IsSomeAnd, IfSome, IfOk};
-ghost use Rattle.tq_base.specs.declared.period.TheConstants.{FOREVER};
+ghost use Rattle.std.specs.Prelude.{◌≡◌, ◌<◌, slice_get, IsSomeAnd, IfOk};
 ghost use Rattle.tq_event.specs.History.{time_of};
 ghost use Rattle.tq_event.specs.Recorded.{table_of};
-ghost use Rattle.tq_store.specs.Stored.{IsStart, IsStored, end_as_of, seen, stored_row, time_at, values_at};
+ghost use Rattle.tq_store.specs.Stored.{IsStart, IsStored, end_as_of, seen, stored_row, values_at};
 
 use crate::index::RowEvents;
 use crate::row::Row;
@@ -42,26 +41,23 @@ pub(crate) fn values(events: &[Event], start: u32) -> &Values
 }
 
 // When the row ends by the first n events, or forever.
-fn end(events: &[Event], end: Option<u32>, n: u32) -> Bound
-    requires { IfSome end (λ e. e < length events.now) }
-    ensures { result ≡ end_as_of events.now n end }
+fn end(row: &RowEvents, n: u32) -> Bound
+    ensures { result ≡ end_as_of n row.now.end row.now.to }
 {
-    let number = match end {
-        Some(event) if event < n => time(&events[event as usize]).number(),
-        _ => FOREVER,
-    };
-    Bound::new(number).unwrap()
+    match row.end {
+        Some(event) if event < n => row.to,
+        _ => Bound::new(FOREVER).unwrap(),
+    }
 }
 
-// When the row is valid as of the first n events.
-fn period(events: &[Event], row: &RowEvents, n: u32) -> Period
-    requires { IsStored events.now row.now }
-    ensures start { result.start ≡ time_at events.now row.now.start }
-    ensures end { result.end ≡ end_as_of events.now n row.now.end }
+/// When the row is valid as of the first n events.
+pub(crate) fn period(row: &RowEvents, n: u32) -> Period
+    requires { row.now.from < row.now.to }
+    ensures start { result.start ≡ row.now.from }
+    ensures end { result.end ≡ end_as_of n row.now.end row.now.to }
 {
-    let start = time(&events[row.start as usize]);
-    let end = end(events, row.end, n);
-    Period::new(start, end).unwrap()
+    let _finite = row.from.number();
+    Period::new(row.from, end(row, n)).unwrap()
 }
 
 // The row of this number as of the first n events.
@@ -77,6 +73,6 @@ pub(crate) fn read_row(
     Ok(Row {
         row: number,
         values: values(events, row.start).try_copy()?,
-        period: period(events, row, n),
+        period: period(row, n),
     })
 }

@@ -1,17 +1,14 @@
 //! The rows of a table at the instants of a period, side by side in one list.
 
-ghost use Rattle.std.specs.Prelude.{◌≡◌, ◌≤◌, All, FitsSigned, IfOk, List, length, map};
+ghost use Rattle.std.specs.Prelude.{◌≤◌, All, FitsSigned, IfOk, List, length};
 ghost use Rattle.std.specs.Int.{w64};
 ghost use Rattle.tq_base.specs.declared.fragment.Fragment.{Fragment};
 ghost use Rattle.tq_base.specs.declared.value.Value.{Value};
-ghost use Rattle.tq_store.specs.declared.row.Row as declared;
 ghost use Rattle.tq_base.specs.KeyRanges.{key_of};
-ghost use Rattle.tq_store.specs.Valid.{AreValid, AreValidIn, AreWhole, HasKeyIn, fragment_of_row};
+ghost use Rattle.tq_store.specs.Valid.{AreValid, AreValidIn, AreWhole, HasKeyIn};
 
 use crate::db::Db;
-use crate::row::Row;
 use std::alloc::{AllocError, Global};
-use tq_arena::Meter;
 use tq_base::{KeyRange, Period, Rows};
 
 // The keys of 64 signed bits.
@@ -19,18 +16,6 @@ fn all_keys() -> KeyRange
     ensures { (v : List Value) → FitsSigned w64 (key_of v) → HasKeyIn result v }
 {
     KeyRange::new(i64::MIN, i64::MAX).unwrap()
-}
-
-// The rows, of so many values each, side by side.
-fn side_by_side(alloc: Global, width: usize, rows: &[Row]) -> Result<Rows, AllocError>
-    requires { All (λ (row : declared.Row). length row.values ≡ width) rows.now }
-    ensures { IfOk result (λ out. out.items ≡ map fragment_of_row rows.now) }
-{
-    let mut out = Rows::new(alloc, width);
-    'rows: for row in rows {
-        out.push_copy(row.values.get(), row.period)?;
-    }
-    Ok(out)
 }
 
 // The rows of all of the window of the range and the period.
@@ -49,10 +34,7 @@ fn whole_rows(
     let Some(schema) = db.catalogue().tables.get().get(table as usize) else {
         return Ok(Rows::new(alloc, 0));
     };
-    let window = db.window(n, table, range, period);
-    let mut meter = Meter::new();
-    let rows = db.rows_part(n, table, range, period, &window.whole(), &mut meter)?;
-    side_by_side(alloc, schema.columns.get().len(), &rows)
+    db.whole(alloc, n, table, range, period, schema.columns.get().len())
 }
 
 impl Db {

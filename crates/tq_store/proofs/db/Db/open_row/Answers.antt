@@ -1,4 +1,4 @@
-use Rattle.std.proofs.Common.{◌≡◌, ℕ, ◌<◌, ◌∙◌, arith, length, refl, sym, ap, subst}
+use Rattle.std.proofs.Common.{◌≡◌, ℕ, ◌<◌, ◌≤◌, ◌∙◌, arith, length, refl, sym, ap, subst}
 use Rattle.std.specs.Prelude.{List, slice_index_or}
 use Rattle.std.specs.List.Sorted.{IsNonDecreasingBy}
 use Rattle.std.proofs.lemmas.Option.{slice_get_read}
@@ -25,6 +25,7 @@ first_open-requires c =
     let in_catalogue : c.args.table < length c.self.inside.catalogue.tables = subst (λ (r : Recorded). c.args.table < length r.catalogue.tables) view c.requires in
     record {
       index = subst (λ l. IsIndexOf l c.args.table index) (sym c.deref.ensures.value) (index_of c.self.inside.catalogue es c.self.inside.indexes.items c.args.table index c.self.invariant in_catalogue c.index-index.ensures);
+      few = subst (λ (l : List Event). length l ≤ 16777216) (sym c.deref.ensures.value) c.self.invariant.few;
       ordered = subst (IsNonDecreasingBy time_of) (sym c.deref.ensures.value) c.self.invariant.ordered;
     }
 

@@ -1,37 +1,26 @@
 use Rattle.std.proofs.Common.{◌≡◌, ◌<◌, ◌∙◌, ◌↔◌, IsTrue, true, false, not, length, subst, refl, sym, ap, Some, ℕ}
 use Rattle.std.specs.Prelude.{List, slice_get, slice_index_or, is_some}
-use Rattle.std.proofs.lemmas.Option.{get_or_from_slice_get, slice_get_read, slice_get_within}
+use Rattle.std.proofs.lemmas.Option.{slice_get_read}
 use Rattle.tq_event.specs.declared.event.Event.{Event}
-use Rattle.tq_event.specs.declared.event.Event.TheVariants.{Start}
-use Rattle.tq_event.specs.History.{time_of}
 use Rattle.tq_store.specs.declared.index.Index.{Index}
 use Rattle.tq_store.specs.declared.index.RowEvents.{RowEvents}
 use Rattle.tq_store.specs.Index.{IsIndexOf}
-use Rattle.tq_store.proofs.IndexLemmas.{IsKnown, known_row, known_start, not_opened, opened, opens}
+use Rattle.tq_store.proofs.KeyLemmas.{from_is_less, is_less}
+use Rattle.tq_store.proofs.IndexLemmas.{IsKnown, known_row, not_opened, opened, opens}
 use Rattle.tq_store.proofs.index.Index.is_open_before.Goals as goal
 
 found : (es : List Event) (t row : ℕ) (index : Index) (rows : List RowEvents) (known : RowEvents) → IsIndexOf es t index → rows ≡ index.rows.items → row < length rows → known ≡ slice_index_or rows row known
     → IsKnown es t row known
 found es t row index rows known is same less at_row = known_row es t row index known is (subst (λ r. slice_get r row ≡ Some known) same (slice_get_read rows (length rows) row known refl less at_row))
 
--- the time of the event that starts a known row
-start_time : (es : List Event) (t row : ℕ) (known : RowEvents) (e : Event) → (is : IsKnown es t row known) → e ≡ slice_index_or es known.start e → time_of e ≡ is.life.from
-start_time es t row known e is at_start = ap time_of (at_start ∙ get_or_from_slice_get es known.start (Start t is.life.values is.life.from) e (known_start es t row known is))
-
-pub bounds-events-known : goal.bounds-events-known
-bounds-events-known c =
-    let look = c.in-Some.ensures.lookup in
-    let is = found c.args.events.now c.args.table c.args.row c.args.self.now c.deref.result.now c.in-Some.known.now c.requires c.deref.ensures.value look.3.0 look.1 in
-    slice_get_within c.args.events.now c.in-Some.known.now.start (Start c.args.table is.life.values is.life.from) (known_start c.args.events.now c.args.table c.args.row c.in-Some.known.now is)
-
 pub returns-then-is_none : goal.returns-then-is_none
 returns-then-is_none c =
     let look = c.in-Some.ensures.lookup in
     let is = found c.args.events.now c.args.table c.args.row c.args.self.now c.deref.result.now c.in-Some.known.now c.requires c.deref.ensures.value look.3.0 look.1 in
-    let from = start_time c.args.events.now c.args.table c.args.row c.in-Some.known.now c.index-events-known.result is c.index-events-known.is in
+    let from = ap (λ (k : RowEvents). k.from) is.same in
     let none : is_some c.in-Some.known.now.end ≡ false = c.is_none.ensures ∙ ap not c.if-is_none.true in (
-      λ yes. opens c.args.events.now c.args.table c.args.row c.args.at c.in-Some.known.now is none (subst (λ n. n < c.args.at) from (c.starts_before.ensures.0 yes)),
-      λ open_there. c.starts_before.ensures.1 (subst (λ n. n < c.args.at) (sym from) (opened c.args.events.now c.args.table c.args.row c.args.at c.in-Some.known.now is open_there).1),
+      λ yes. opens c.args.events.now c.args.table c.args.row c.args.at c.in-Some.known.now is none (subst (λ n. n < c.args.at) from (from_is_less c.in-Some.known.now.from c.args.at (sym c.lt.ensures ∙ yes))),
+      λ open_there. let less = subst (λ n. n < c.args.at) (sym from) (opened c.args.events.now c.args.table c.args.row c.args.at c.in-Some.known.now is open_there).1 in c.lt.ensures ∙ is_less c.in-Some.known.now.from c.args.at less,
     )
 
 pub returns-else-is_none : goal.returns-else-is_none

@@ -4,7 +4,6 @@ use Rattle.std.specs.Option.{option_map_or}
 use Rattle.std.specs.Ordering.{eq_by_cmp, nat_cmp}
 use Rattle.std.proofs.lemmas.Option.{get_or_from_slice_get}
 use Rattle.tq_base.specs.declared.value.Value.{Value}
-use Rattle.tq_base.specs.ValueOrder.{values_cmp}
 use Rattle.tq_event.specs.declared.event.Event.{Event}
 use Rattle.tq_event.specs.declared.event.Event.TheVariants.{End}
 use Rattle.tq_event.specs.Recorded.{table_of}
@@ -13,7 +12,7 @@ use Rattle.tq_store.specs.declared.index.Index.{Index}
 use Rattle.tq_store.specs.declared.index.RowEvents.{RowEvents}
 use Rattle.tq_store.specs.Index.{CanTake, IsIndexOf, Ends, ended, events_of}
 use Rattle.tq_store.specs.Keys.{tree_key}
-use Rattle.tq_store.specs.Open.{has}
+use Rattle.tq_store.specs.Open.{has, place_key}
 use Rattle.tq_store.specs.Stored.{IsStart, values_at, values_in}
 use Rattle.tq_store.proofs.IndexLemmas.{IsOpenRow, index_end, index_like, index_start, not_yet_open, on_three, on_three_err, open_row}
 use Rattle.tq_store.proofs.index.Index.take.Goals as goal
@@ -63,12 +62,12 @@ returns-in-End-clause-ok c = on_three c.end.result c.end.ensures.rows c.end.ensu
     let old_row = get_or_from_slice_get c.args.self.now.rows.items c.in-End.row (events_of row.life) (events_of row.life) row.kept in
     subst (λ e. IsIndexOf (es ++ e ∷ []) (table_of e) c.end.new.self) (sym c.in-End.is)
     (index_end es c.in-End.table c.in-End.row c.in-End.at c.args.self.now c.end.new.self row.life c.requires.few of_table can.1 row.stands row.none row.from
-    (rows (events_of row.life) ∙ ap (λ (k : RowEvents). Rattle.std.specs.Prelude.slice_set c.args.self.now.rows.items c.in-End.row (ended (length es) k)) old_row)
+    (rows (events_of row.life) ∙ ap (λ (k : RowEvents). Rattle.std.specs.Prelude.slice_set c.args.self.now.rows.items c.in-End.row (ended (length es) c.in-End.at k)) old_row)
     (subst (λ v. Ends c.args.self.now.tree c.end.new.self.tree (tree_key v c.in-End.row) (length es + 1)) values tree)
-    (subst (λ v. (w : List Value) (r : ℕ) → has c.end.new.self.opened w r ≡ (has c.args.self.now.opened w r && not (eq_by_cmp values_cmp v w && eq_by_cmp nat_cmp c.in-End.row r))) values opened)))
+    (subst (λ v. (k : ℕ) → has c.end.new.self.opened k ≡ (has c.args.self.now.opened k && not (eq_by_cmp nat_cmp (place_key v c.in-End.row) k))) values opened)))
 
 pub start-requires-clause-new : goal.start-requires-clause-new
-start-requires-clause-new c = not_yet_open c.args.events.now (table_of c.args.event.now) c.args.self.now c.requires.index
+start-requires-clause-new c = not_yet_open c.args.events.now (table_of c.args.event.now) c.args.self.now c.requires.few c.requires.index c.in-Start.values
 
 pub returns-in-Start-clause-err : goal.returns-in-Start-clause-err
 returns-in-Start-clause-err c = on_three_err c.start.result c.start.ensures.same_tree c.start.ensures.same_rows c.start.ensures.same_opened (λ tree rows same.

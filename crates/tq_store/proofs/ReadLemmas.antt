@@ -1,0 +1,24 @@
+-- What is read of one key after the other.
+use Rattle.std.proofs.Common.{◌≡◌, ℕ, ◌+◌, ◌%◌, ◌<◌, List, [], ◌∷◌, ◌++◌, Option, Some, None, map, take, length, get_or, slice_get, refl, sym, ap, subst, ◌∙◌}
+use Rattle.std.specs.Prelude.{All, IsSomeAnd}
+use Rattle.std.proofs.lemmas.List.{map-append, take_more}
+use Rattle.std.proofs.lemmas.Option.{get_or_from_slice_get}
+use Rattle.tq_event.specs.declared.event.Event.{Event}
+use Rattle.tq_event.specs.History.{Row}
+use Rattle.tq_store.specs.declared.index.RowEvents.{RowEvents}
+use Rattle.tq_store.specs.Stored.{IsReadable, IsStored, row_of_key, stored_row}
+
+-- the row that stands at the key's number
+pub row_there : (es : List Event) (rows : List RowEvents) (key : ℕ) (row d : RowEvents) → IsReadable es rows key → row ≡ get_or rows (key % 4294967296) row → row ≡ get_or rows (key % 4294967296) d
+row_there es rows key row d readable is = by (slice_get rows (key % 4294967296)) refl readable
+  where
+    by : (o : Option RowEvents) → slice_get rows (key % 4294967296) ≡ o → IsSomeAnd o (IsStored es) → row ≡ get_or rows (key % 4294967296) d
+    by None stands there = absurd there
+    by (Some r) stands there = is ∙ get_or_from_slice_get rows (key % 4294967296) r row stands ∙ sym (get_or_from_slice_get rows (key % 4294967296) r d stands)
+
+-- one more of what is made of keys
+pub one_more : {X Y : Type 0} → (made : X → Y) (f : ℕ → Y) (xs new : List X) (x : X) (keys : List ℕ) (i : ℕ) → i < length keys → new ≡ xs ++ x ∷ [] → map made xs ≡ map f (take i keys)
+    → made x ≡ f (get_or keys i 0) → map made new ≡ map f (take (i + 1) keys)
+one_more made f xs new x keys i less pushed before same =
+    ap (map made) pushed ∙ map-append made xs (x ∷ []) ∙ ap (λ l. l ++ made x ∷ []) before ∙ ap (λ y. map f (take i keys) ++ y ∷ []) same
+    ∙ sym (map-append f (take i keys) (get_or keys i 0 ∷ [])) ∙ sym (ap (map f) (take_more keys i 0 less))
