@@ -104,13 +104,7 @@ impl Index {
     }
 
     // The row, which is of these values, ends by the event of this number and time. Out of memory: all is as before.
-    fn end(
-        &mut self,
-        number: u32,
-        row: u32,
-        values: &Values,
-        at: Instant,
-    ) -> Result<(), AllocError>
+    fn end(&mut self, number: u32, row: u32, values: &Values, at: Instant) -> Result<(), AllocError>
         requires later { self.old.tree.version ≤ number }
         requires small { number < 16777216 }
         requires row { row < length self.old.rows.items }
