@@ -5,6 +5,6 @@ ghost use Rattle.tq_core.specs.Machine.{RunsAreUnique};
 use crate::oracle::Oracle;
 
 /// The state before some steps decides their replies and the state after them.
-pub fn runs_are_unique<O: Oracle>()
-    ensures { RunsAreUnique O.value }
+pub fn runs_are_unique<O: Oracle>(_oracle: &O)
+    ensures { RunsAreUnique (O.value _oracle.now) }
 {}

@@ -21,8 +21,8 @@ pub trait Oracle {
     // Whether the query fits the catalogue.
     ghost fits: { Tables → Self.Query → Type 0 };
 
-    // The answer to a query over these events.
-    ghost value: { Tables → List AnEvent → Self.Query → Self.Answer };
+    // The oracle's answer to a query over these events.
+    ghost value: { Self → Tables → List AnEvent → Self.Query → Self.Answer };
 
     /// The answer to the query over the first `n` events. `AllocError` where a growth was refused.
     fn answer(
@@ -38,5 +38,5 @@ pub trait Oracle {
         requires few { length events.now ≤ 16777216 }
         requires within { n ≤ length events.now }
         requires fits { fits catalogue.now query.now }
-        ensures { IfOk result (λ answer. answer ≡ value catalogue.now (take n events.now) query.now) };
+        ensures { IfOk result (λ answer. answer ≡ value self.now catalogue.now (take n events.now) query.now) };
 }

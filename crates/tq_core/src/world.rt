@@ -120,7 +120,7 @@ impl World {
         pieces: u32,
     ) -> Result<Reply<O::Answer>, AllocError>
         requires { O.fits self.old.catalogue query.now }
-        ensures step { IfOk result (λ reply. Asks O.value reader n query.now pieces self.old reply self.new) }
+        ensures step { IfOk result (λ reply. Asks (O.value oracle.now) reader n query.now pieces self.old reply self.new) }
         ensures err { OnErr result (self.new ≡ self.old) }
     {
         let reader = reader as usize;
@@ -176,7 +176,7 @@ impl World {
         step: &Step<O::Query>,
     ) -> Result<Reply<O::Answer>, AllocError>
         requires { AsksFittingly O.fits self.old.catalogue step.now }
-        ensures step { IfOk result (λ reply. IsStep O.value step.now self.old reply self.new) }
+        ensures step { IfOk result (λ reply. IsStep (O.value oracle.now) step.now self.old reply self.new) }
         ensures err { OnErr result (self.new ≡ self.old) }
     {
         match step {
@@ -205,14 +205,14 @@ impl World {
     where
         O::Answer: Drop,
         requires { All (AsksFittingly O.fits self.old.catalogue) steps.now }
-        ensures steps { IfOk result (λ replies. IsRun O.value steps.now self.old replies.items self.new) }
+        ensures steps { IfOk result (λ replies. IsRun (O.value oracle.now) steps.now self.old replies.items self.new) }
         ensures published { IfOk result (λ replies. PublishesUpToLast steps.now self.old replies.items self.new) }
-        ensures answers { IfOk result (λ replies. AnswersOverLast O.value steps.now replies.items self.new) }
+        ensures answers { IfOk result (λ replies. AnswersOverLast (O.value oracle.now) steps.now replies.items self.new) }
         ensures agree { IfOk result (λ replies. AnswersAgree steps.now replies.items) }
         ensures asks { IfOk result (λ replies. AsksUpToShown steps.now self.old replies.items) }
         ensures claims { IfOk result (λ replies. ClaimsInOrder steps.now self.old replies.items self.new) }
         ensures finishes { IfOk result (λ replies. FinishesWhole steps.now replies.items self.new) }
-        ensures err { OnErr result (IsRunBefore O.value steps.now self.old self.new) }
+        ensures err { OnErr result (IsRunBefore (O.value oracle.now) steps.now self.old self.new) }
     {
         let mut replies = Vec::with_capacity(self.alloc, steps.len())?;
         'steps: for step in steps {

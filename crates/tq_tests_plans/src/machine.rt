@@ -31,7 +31,7 @@ impl Oracle for Starts {
 
     ghost fits = { λ catalogue query. Unit {0} };
 
-    ghost value = { λ catalogue events query. start_count events };
+    ghost value = { λ oracle catalogue events query. start_count events };
 
     fn answer(
         &self,
