@@ -16,7 +16,7 @@ use crate::key::{ROWS, shift_key};
 use crate::row::Row;
 use crate::stored::{period, read_row, time, values};
 use std::alloc::{AllocError, Global};
-use tq_base::{KeyRange, Period, Rows};
+use tq_base::{KeyRange, Period, Rows, Values};
 use tq_event::Event;
 use tq_scan::Window;
 
@@ -66,6 +66,25 @@ pub(crate) fn read_rows(
     Ok(found)
 }
 
+// The values of the rows, lent. One row after the other lies somewhere else: in a loop that does no more than this,
+// the processor waits for many of them at once.
+fn lend_values<'a>(
+    alloc: Global,
+    events: &'a [Event],
+    rows: &[RowEvents],
+    keys: &[u128],
+) -> Result<Vec<&'a Values>, AllocError>
+    requires { All (IsReadable events.now rows.now) keys.now }
+    ensures { IfOk result (λ lent. map (λ values. values.now) lent.items ≡ map (λ key. (row_of_key events.now rows.now 0 key).values) keys.now) }
+{
+    let mut lent = Vec::with_capacity(alloc, keys.len())?;
+    'keys: for key in keys {
+        let row = &rows[(*key % ROWS) as usize];
+        lent.push(values(events, row.start))?;
+    }
+    Ok(lent)
+}
+
 // The same rows, of so many values each, side by side.
 pub(crate) fn read_side_by_side(
     alloc: Global,
@@ -79,10 +98,11 @@ pub(crate) fn read_side_by_side(
     requires width { All (λ key. length (row_of_key events.now rows.now n key).values ≡ width) keys.now }
     ensures { IfOk result (λ found. map shown found.items ≡ map (λ key. unnumbered (row_of_key events.now rows.now n key)) keys.now) }
 {
+    let lent = lend_values(alloc, events, rows, keys)?;
     let mut found = Rows::new(alloc, width);
-    'keys: for key in keys {
-        let row = &rows[(*key % ROWS) as usize];
-        found.push_copy(values(events, row.start).get(), period(row, n))?;
+    'keys: for place in 0..keys.len() {
+        let row = &rows[(keys[place] % ROWS) as usize];
+        found.push_copy(lent[place].get(), period(row, n))?;
     }
     Ok(found)
 }
