@@ -1,5 +1,5 @@
 -- The first open row of some values, among the keys of open rows.
-use Rattle.std.proofs.Common.{◌≡◌, ℕ, zero, suc, drop, [], ◌∷◌, ◌+◌, ◌*◌, ◌%◌, ◌<◌, ◌≤◌, ◌&&◌, not, Bool, true, false, List, Option, Some, None, length, get_or, slice_get, inl, inr, refl, sym, ap, subst, ◌∙◌, arith, rules}
+use Rattle.std.proofs.Common.{◌≡◌, ℕ, zero, suc, drop, [], ◌∷◌, ◌+◌, ◌*◌, ◌%◌, ◌<◌, ◌≤◌, ◌&&◌, not, Bool, true, false, List, Option, Some, None, length, slice_get, inl, inr, refl, sym, ap, subst, ◌∙◌, arith}
 use Rattle.std.specs.Prelude.{Contains, is_some, filter}
 use Rattle.std.specs.BTreeMap.{is_at}
 use Rattle.std.specs.BTreeMap.Range.{range_contains}
@@ -18,11 +18,11 @@ use Rattle.tq_base.specs.declared.value.Value.{Value}
 use Rattle.tq_base.specs.KeyRanges.{key_of}
 use Rattle.tq_base.specs.ValueOrder.{same_from_eq, values_cmp}
 use Rattle.tq_event.specs.declared.event.Event.{Event}
-use Rattle.tq_event.specs.Versions.{Ending, Life, row_lives}
+use Rattle.tq_event.specs.Versions.{Life, row_lives}
 use Rattle.tq_store.specs.declared.index.Index.{Index}
 use Rattle.tq_store.specs.Digests.{digest_of}
 use Rattle.tq_store.specs.Keys.{shifted}
-use Rattle.tq_store.specs.Index.{IsIndexOf, is_open_as, is_open_at, is_open_of, is_open_under}
+use Rattle.tq_store.specs.Index.{IsIndexOf, is_open_as, is_open_at, is_open_of}
 use Rattle.tq_store.specs.Open.{has, place_key}
 use Rattle.tq_store.proofs.KeyLemmas.{is_least, is_less, not_is_less}
 use Rattle.tq_store.proofs.LifeLemmas.{and-true}

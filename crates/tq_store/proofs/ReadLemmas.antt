@@ -1,14 +1,13 @@
 -- What is read of one key after the other.
-use Rattle.std.proofs.Common.{Bor, ◌≡◌, ℕ, ◌+◌, ◌%◌, ◌<◌, List, [], ◌∷◌, ◌++◌, Option, Some, None, map, take, length, get_or, slice_get, refl, sym, ap, subst, ◌∙◌}
-use Rattle.std.specs.Prelude.{All, IsSomeAnd}
+use Rattle.std.proofs.Common.{Bor, ◌≡◌, ℕ, ◌+◌, ◌%◌, ◌<◌, List, [], ◌∷◌, ◌++◌, Option, Some, None, map, take, length, get_or, slice_get, refl, sym, ap, ◌∙◌}
+use Rattle.std.specs.Prelude.{IsSomeAnd}
 use Rattle.std.specs.Option.{option_map}
 use Rattle.std.proofs.lemmas.List.{length-map, map-append, take_more}
 use Rattle.std.proofs.lemmas.Option.{get_or_from_slice_get, slice_get-get_or, slice_get-map}
 use Rattle.tq_base.specs.declared.value.Value.{Value}
 use Rattle.tq_event.specs.declared.event.Event.{Event}
-use Rattle.tq_event.specs.History.{Row}
 use Rattle.tq_store.specs.declared.index.RowEvents.{RowEvents}
-use Rattle.tq_store.specs.Stored.{IsReadable, IsStored, row_of_key, stored_row}
+use Rattle.tq_store.specs.Stored.{IsReadable, IsStored}
 
 -- the row that stands at the key's number
 pub row_there : (es : List Event) (rows : List RowEvents) (key : ℕ) (row d : RowEvents) → IsReadable es rows key → row ≡ get_or rows (key % 4294967296) row → row ≡ get_or rows (key % 4294967296) d

@@ -1,5 +1,5 @@
 -- What the events tell of a row whose start and end they are. This project's own.
-use Rattle.std.specs.Prelude.{ℕ, ◌%◌, ◌<◌, ◌&&◌, ◌==◌, not, is_some, Bool, false, List, [], length, slice_get, slice_index_or, nat_lt, if◌then◌else◌, Option, Some, None, IsSomeAnd, IfSome, ⊤}
+use Rattle.std.specs.Prelude.{ℕ, ◌%◌, ◌<◌, ◌&&◌, ◌==◌, not, is_some, Bool, false, List, [], slice_get, slice_index_or, nat_lt, if◌then◌else◌, Option, Some, None, IsSomeAnd, ⊤}
 use Rattle.std.specs.Option.{option_map_or}
 use Rattle.std.specs.Ordering.{eq_by_cmp}
 use Rattle.tq_base.specs.declared.period.TheConstants.{FOREVER}
@@ -7,7 +7,7 @@ use Rattle.tq_base.specs.declared.value.Value.{Value}
 use Rattle.tq_base.specs.ValueOrder.{values_cmp}
 use Rattle.tq_event.specs.declared.event.Event.{Event}
 use Rattle.tq_event.specs.declared.event.Event.TheVariants.{Start, End}
-use Rattle.tq_event.specs.History.{Row, time_of}
+use Rattle.tq_event.specs.History.{Row}
 use Rattle.tq_store.specs.declared.index.RowEvents.{RowEvents}
 use Rattle.tq_store.specs.declared.row.Row as declared
 

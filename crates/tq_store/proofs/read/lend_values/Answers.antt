@@ -1,4 +1,4 @@
-use Rattle.std.proofs.Common.{Bor, ◌≡◌, ◌%◌, ◌∙◌, ℕ, List, None, ap, get_or, sym}
+use Rattle.std.proofs.Common.{Bor, ◌∙◌, ℕ, List, None, ap, get_or}
 use Rattle.tq_base.specs.declared.value.Value.{Value}
 use Rattle.tq_store.specs.declared.index.RowEvents.{RowEvents}
 use Rattle.tq_store.specs.Stored.{row_of_key, values_at}

@@ -1,4 +1,4 @@
-use Rattle.std.proofs.Common.{◌≡◌, ◌%◌, ◌∙◌, ℕ, None, ap, get_or, sym}
+use Rattle.std.proofs.Common.{◌%◌, ◌∙◌, ℕ, None, ap, get_or}
 use Rattle.tq_store.specs.declared.index.RowEvents.{RowEvents}
 use Rattle.tq_store.specs.Stored.{row_of_key, seen, stored_row}
 use Rattle.tq_store.proofs.ReadLemmas.{one_more, row_there}

@@ -1,9 +1,9 @@
-use Rattle.std.proofs.Common.{◌≡◌, ◌%◌, ◌∙◌, ℕ, List, None, ap, get_or, length, sym}
+use Rattle.std.proofs.Common.{◌∙◌, ℕ, List, None, ap, get_or, length, sym}
 use Rattle.tq_base.specs.declared.value.Value.{Value}
 use Rattle.tq_store.specs.declared.index.RowEvents.{RowEvents}
 use Rattle.tq_store.specs.Stored.{end_as_of, row_of_key}
 use Rattle.tq_store.specs.Valid.{shown, unnumbered}
-use Rattle.tq_store.proofs.ReadLemmas.{as_many, lent_at, one_more, row_there}
+use Rattle.tq_store.proofs.ReadLemmas.{lent_at, one_more, row_there}
 use Rattle.tq_store.proofs.read.read_side_by_side.Goals as goal
 
 pub push_copy-requires : goal.push_copy-requires

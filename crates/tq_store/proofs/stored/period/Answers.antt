@@ -1,4 +1,4 @@
-use Rattle.std.proofs.Common.{◌≡◌, ◌<◌, ◌∙◌, ℕ, Bool, true, false, Option, Some, None, nat_lt, subst, sym, if◌then◌else◌}
+use Rattle.std.proofs.Common.{◌<◌, ℕ, Bool, true, false, Option, Some, None, nat_lt, subst, sym, if◌then◌else◌}
 use Rattle.tq_base.specs.declared.period.TheConstants.{FOREVER}
 use Rattle.tq_store.specs.Stored.{end_as_of}
 use Rattle.tq_store.proofs.stored.period.Goals as goal

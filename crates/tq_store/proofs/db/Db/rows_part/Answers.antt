@@ -1,15 +1,14 @@
 use Rattle.std.proofs.Common.{◌≡◌, ◌<◌, ◌≤◌, ◌+◌, ◌*◌, ◌/◌, ◌∙◌, arith, length, map, refl, sym, ap, subst, ℕ, List}
-use Rattle.std.specs.Prelude.{All, IfOk, Result, Ok, Err, slice_index_or}
+use Rattle.std.specs.Prelude.{IfOk, Result, Ok, Err, slice_index_or}
 use Rattle.std.proofs.lemmas.List.{length-map}
 use Rattle.std.proofs.lemmas.Option.{slice_get_read}
 use Rattle.tq_base.specs.declared.catalogue.Catalogue.{Catalogue}
 use Rattle.tq_event.specs.declared.event.Event.{Event}
 use Rattle.tq_event.specs.Recorded.{Recorded}
 use Rattle.tq_store.specs.declared.index.Index.{Index}
-use Rattle.tq_store.specs.declared.index.RowEvents.{RowEvents}
 use Rattle.tq_store.specs.Index.{IsDb, rows_kept}
 use Rattle.tq_store.specs.Rows.{ArePartRows}
-use Rattle.tq_store.specs.Stored.{IsReadable, row_of_key, seen}
+use Rattle.tq_store.specs.Stored.{row_of_key, seen}
 use Rattle.tq_store.proofs.db.Db.rows_part.Goals as goal
 
 if_ok : {T E : Type 0} → (r : Result T E) {P Q : T → Type 0} → IfOk r P → ((x : T) → P x → Q x) → IfOk r Q

@@ -1,18 +1,16 @@
 use Rattle.std.proofs.Common.{◌≡◌, ◌<◌, ◌∙◌, ℕ, List, arith, length, map, refl, sym, ap, subst}
-use Rattle.std.specs.Prelude.{All, Contains, slice_index_or}
+use Rattle.std.specs.Prelude.{All, slice_index_or}
 use Rattle.std.proofs.lemmas.Simd.{map-map}
 use Rattle.std.proofs.lemmas.Option.{slice_get_read}
 use Rattle.std.proofs.lemmas.Result.{IfOk-weaker}
 use Rattle.tq_base.specs.declared.catalogue.Catalogue.{Catalogue}
 use Rattle.tq_event.specs.declared.event.Event.{Event}
-use Rattle.tq_event.specs.History.{Row, rows_of}
 use Rattle.tq_event.specs.Recorded.{Recorded}
 use Rattle.tq_store.specs.declared.index.Index.{Index}
-use Rattle.tq_store.specs.declared.index.RowEvents.{RowEvents}
 use Rattle.tq_store.specs.Index.{IsDb, rows_kept}
-use Rattle.tq_store.specs.Rows.{ArePartRows, window_part}
+use Rattle.tq_store.specs.Rows.{ArePartRows}
 use Rattle.tq_store.specs.Stored.{row_of_key}
-use Rattle.tq_store.specs.Valid.{AreWhole, unnumbered}
+use Rattle.tq_store.specs.Valid.{unnumbered}
 use Rattle.tq_store.proofs.ValidLemmas.{key_widths}
 use Rattle.tq_store.proofs.db.Db.whole.Goals as goal
 

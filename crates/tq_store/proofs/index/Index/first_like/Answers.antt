@@ -1,9 +1,8 @@
-use Rattle.std.proofs.Common.{◌≡◌, ◌+◌, ◌%◌, ◌∷◌, ◌∙◌, ◌<◌, ℕ, List, [], length, ap, subst, sym, true, false}
-use Rattle.std.specs.Prelude.{filter, slice_get}
+use Rattle.std.proofs.Common.{◌+◌, ◌%◌, ◌∙◌, ◌<◌, ap, subst, sym}
+use Rattle.std.specs.Prelude.{filter}
 use Rattle.std.specs.Ordering.{eq_by_cmp, nat_cmp}
 use Rattle.std.proofs.lemmas.Option.{slice_get_within}
-use Rattle.tq_base.specs.ValueOrder.{values_cmp}
-use Rattle.tq_event.specs.Versions.{Life, row_lives}
+use Rattle.tq_event.specs.Versions.{row_lives}
 use Rattle.tq_store.proofs.FirstLemmas.{IsLeft, all_left, between, left_least, left_member, left_next, left_under, none_left}
 use Rattle.tq_store.proofs.IndexLemmas.{rows_counted}
 use Rattle.tq_store.proofs.index.Index.first_like.Goals as goal

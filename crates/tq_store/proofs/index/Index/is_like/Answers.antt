@@ -10,7 +10,7 @@ use Rattle.tq_store.specs.declared.index.Index.{Index}
 use Rattle.tq_store.specs.declared.index.RowEvents.{RowEvents}
 use Rattle.tq_store.specs.Index.{IsIndexOf, events_of}
 use Rattle.tq_store.specs.Stored.{IsStart, values_at, values_in}
-use Rattle.tq_store.proofs.IndexLemmas.{IsKnown, kept_row, known_row, known_start, start_stands}
+use Rattle.tq_store.proofs.IndexLemmas.{kept_row, known_row, known_start, start_stands}
 use Rattle.tq_store.proofs.index.Index.is_like.Goals as goal
 
 at_row : (index : Index) (row : ℕ) (known : RowEvents) → row < length index.rows.items → known ≡ slice_index_or index.rows.items row known → slice_get index.rows.items row ≡ Some known
