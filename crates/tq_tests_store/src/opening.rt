@@ -1,34 +1,47 @@
 //! The first open row of some values, beside a plain list of rows.
 
-use crate::random::{Draws, Known, two_tables};
-use std::alloc::Global;
-use std::process::Abort;
-use std::test::Fail;
+use crate::asking::instant_of;
+use crate::history::{Draws, Known};
+use crate::telling::tell_nothing;
+use std::alloc::{AllocError, Global};
+use std::fmt::Write;
 use tq_base::{Instant, Value, Values};
 use tq_store::{Db, open_row};
 
-fn values(alloc: Global, key: i64) -> Result<Values, Fail> {
-    let mut items = Vec::new(alloc);
-    items.push(Value::int(key))?;
-    Ok(Values::of(items))
-}
-
-// What the history answers, and the same of a walk over its events.
-fn answer<R: Abort>(
-    rt: &R,
+// What the history answers, if a walk over its events answers the same.
+fn open(
     alloc: Global,
     db: &Db,
     table: u32,
     key: i64,
-    at: u64,
-) -> Result<Option<u32>, Fail> {
-    let values = values(alloc, key)?;
-    let at = Instant::new(at).ok_or("no instant")?;
-    assert!(rt; (table as usize) < db.catalogue().tables.get().len());
-    assert!(rt; db.events().len() <= 16777216);
+    at: Instant,
+) -> Result<Option<Option<u32>>, AllocError> {
+    let mut values = Vec::new(alloc);
+    values.push(Value::int(key))?;
+    let values = Values::of(values);
+    if (table as usize) >= db.catalogue().tables.get().len() || db.events().len() > 16777216 {
+        return Ok(None);
+    }
     let found = db.open_row(table, &values, at);
-    assert_eq!(rt; found, open_row(db.events(), table, &values, at));
-    Ok(found)
+    let same = found == open_row(db.events(), table, &values, at);
+    Ok(if same { Some(found) } else { None })
+}
+
+/// The number of the first open row of the table and the key, which started before the instant.
+pub(crate) fn tell_open(
+    alloc: Global,
+    db: &Db,
+    [table, key, at]: [i64; 3],
+    out: &mut String,
+) -> Result<(), AllocError> {
+    let (Ok(table), Some(at)) = (u32::try_from(table), instant_of(at)) else {
+        return tell_nothing(out);
+    };
+    match open(alloc, db, table, key, at)? {
+        Some(Some(row)) => writeln!(out, "    row {row}"),
+        Some(None) => writeln!(out, "    none"),
+        None => writeln!(out, "    it differs from a walk over the events"),
+    }
 }
 
 // What a plain list of rows answers.
@@ -42,79 +55,53 @@ fn expected(known: &Known, table: u32, key: i64, at: u64) -> Option<u32> {
     None
 }
 
-// The table, the key and the instant have this answer.
-fn check<R: Abort>(
-    rt: &R,
+// A row of one of three keys starts, or one of the rows ends.
+fn step(alloc: Global, known: &mut Known, draws: &mut Draws) -> Result<(), AllocError> {
+    let at = known.last.saturating_add(draws.next(4) / 3);
+    if known.rows.is_empty() || draws.next(16) < 9 {
+        let table = draws.next(2) as u32;
+        let key = draws.next(3) as i64;
+        known.start(alloc, table, key, at)
+    } else {
+        let place = draws.next(known.rows.len() as u64) as usize;
+        known.end(place, at)
+    }
+}
+
+// Asks for a random row that started before one of the last instants; how many were found.
+fn ask(alloc: Global, known: &mut Known, draws: &mut Draws, back: u64) -> Result<u32, AllocError> {
+    let at = known.last.saturating_add(1).saturating_sub(back);
+    let table = draws.next(2) as u32;
+    let key = draws.next(4) as i64;
+    let row = expected(known, table, key, at);
+    let found = match Instant::new(at) {
+        Some(at) => open(alloc, &known.db, table, key, at)?,
+        None => None,
+    };
+    known.expect(found == Some(row));
+    Ok(u32::from(row.is_some()))
+}
+
+/// Random events of few keys, and three random questions after each: whether all answers were those of a list of
+/// rows, whether there were a thousand events, and whether of 6,000 questions 2,000 to 5,000 found a row.
+pub(crate) fn random_open(
     alloc: Global,
-    db: &Db,
-    (table, key, at): (u32, i64, u64),
-    row: Option<u32>,
-) -> Result<(), Fail> {
-    assert_eq!(rt; answer(rt, alloc, db, table, key, at)?, row);
-    Ok(())
-}
-
-fn no_rows(alloc: Global) -> Result<Known, Fail> {
-    Ok(Known {
-        db: Db::new(alloc, two_tables(alloc)?)?,
-        rows: Vec::new(alloc),
-        last: 0,
-    })
-}
-
-#[test]
-fn agrees_with_the_rows(rt: HostRuntime) -> Result<(), Fail> {
-    let alloc = rt.alloc();
-    let mut draws = Draws { state: 5 };
-    let mut known = no_rows(alloc)?;
+    seed: i64,
+    rounds: i64,
+    out: &mut String,
+) -> Result<(), AllocError> {
+    let mut draws = Draws::new(seed);
+    let Some(mut known) = Known::new(alloc)? else {
+        return tell_nothing(out);
+    };
     let mut found: u32 = 0;
-    for _ in 0..2000 {
-        let at = known.last.saturating_add(draws.next(4) / 3);
-        if known.rows.is_empty() || draws.next(16) < 9 {
-            let table = draws.next(2) as u32;
-            let key = draws.next(3) as i64;
-            known.start(&rt, alloc, table, key, at)?;
-        } else {
-            let place = draws.next(known.rows.len() as u64) as usize;
-            known.end(&rt, place, at)?;
-        }
+    for _ in 0..rounds {
+        step(alloc, &mut known, &mut draws)?;
         for back in 0..3 {
-            let at = known.last.saturating_add(1).saturating_sub(back);
-            let table = draws.next(2) as u32;
-            let key = draws.next(4) as i64;
-            let row = expected(&known, table, key, at);
-            assert_eq!(rt; answer(&rt, alloc, &known.db, table, key, at)?, row);
-            found = found.saturating_add(u32::from(row.is_some()));
+            found = found.saturating_add(ask(alloc, &mut known, &mut draws, back)?);
         }
     }
-    assert!(rt; known.db.count() >= 1000);
-    assert!(rt; 2000 < found && found < 5000);
-    Ok(())
-}
-
-#[test]
-fn the_first_row_by_its_number(rt: HostRuntime) -> Result<(), Fail> {
-    let alloc = rt.alloc();
-    let mut known = no_rows(alloc)?;
-    check(&rt, alloc, &known.db, (0, 7, 99), None)?;
-    for (table, key, from) in [(0, 7, 10), (0, 7, 10), (0, 7, 12), (1, 7, 13), (0, 8, 13)] {
-        known.start(&rt, alloc, table, key, from)?;
-    }
-    check(&rt, alloc, &known.db, (0, 7, 10), None)?;
-    check(&rt, alloc, &known.db, (0, 7, 11), Some(0))?;
-    check(&rt, alloc, &known.db, (1, 7, 13), None)?;
-    check(&rt, alloc, &known.db, (1, 7, 14), Some(0))?;
-    check(&rt, alloc, &known.db, (0, 8, 14), Some(3))?;
-    check(&rt, alloc, &known.db, (1, 8, 14), None)?;
-    known.end(&rt, 1, 14)?;
-    check(&rt, alloc, &known.db, (0, 7, 15), Some(0))?;
-    known.end(&rt, 0, 14)?;
-    check(&rt, alloc, &known.db, (0, 7, 12), None)?;
-    check(&rt, alloc, &known.db, (0, 7, 13), Some(2))?;
-    known.end(&rt, 2, 15)?;
-    check(&rt, alloc, &known.db, (0, 7, 99), None)?;
-    known.start(&rt, alloc, 0, 7, 15)?;
-    check(&rt, alloc, &known.db, (0, 7, 15), None)?;
-    check(&rt, alloc, &known.db, (0, 7, 16), Some(4))?;
-    Ok(())
+    known.tell(out)?;
+    let some = 2000 < found && found < 5000;
+    writeln!(out, "    2,000 to 5,000 rows found: {some}")
 }

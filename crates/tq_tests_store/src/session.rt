@@ -1,0 +1,255 @@
+//! A history that a script makes and asks.
+
+use crate::asking::{instant_of, period_of, question_of};
+use crate::opening::{random_open, tell_open};
+use crate::random::random_rows;
+use crate::telling::{tell_list, tell_nothing, tell_reads, tell_rows, tell_version};
+use std::alloc::{AllocError, Global};
+use std::fmt::Write;
+use std::mem;
+use tq_base::{Catalogue, FOREVER, Instant, Items, Value, Values};
+use tq_event::{Event, MAX_EVENTS, TableFile, load};
+use tq_store::Db;
+
+/// A table file as far as its lines are known.
+#[derive(Drop)]
+struct File {
+    name: Vec<u8>,
+    bytes: Vec<u8>,
+}
+
+/// The files of the next load, the history, and the events that its files hold and have not happened.
+#[derive(Drop)]
+pub(crate) struct Session {
+    files: Vec<File>,
+    db: Db,
+    events: Items<Event>,
+    taken: usize,
+}
+
+// What is said of an event that was told to be admissible, was taken, and is one more.
+const HAPPENS: &str = "it happens";
+
+// The number that a word is.
+fn number_of(word: &str) -> Option<i64> {
+    match word {
+        "least" => Some(i64::MIN),
+        "most" => Some(i64::MAX),
+        "forever" => Some(FOREVER as i64),
+        _ => word.parse().ok(),
+    }
+}
+
+// The numbers that words are, up to the first that is none.
+fn numbers_of(alloc: Global, words: &str) -> Result<Vec<i64>, AllocError> {
+    let mut numbers = Vec::new(alloc);
+    for word in words.split_whitespace() {
+        match number_of(word) {
+            Some(number) => numbers.push(number)?,
+            None => return Ok(numbers),
+        }
+    }
+    Ok(numbers)
+}
+
+// The start of a row of these numbers in the table.
+fn start_of(alloc: Global, table: i64, at: Instant, numbers: &[i64]) -> Result<Event, AllocError> {
+    let mut values = Vec::new(alloc);
+    for number in numbers {
+        values.push(Value::int(*number))?;
+    }
+    Ok(Event::Start {
+        table: u32::try_from(table).unwrap_or(u32::MAX),
+        values: Values::of(values),
+        at,
+    })
+}
+
+// The event of these numbers: `start TABLE AT NUMBER..`, or `end TABLE ROW AT`.
+fn event_of(alloc: Global, word: &str, numbers: &[i64]) -> Result<Option<Event>, AllocError> {
+    match (word, numbers) {
+        ("start", [table, at, values @ ..]) => match instant_of(*at) {
+            Some(at) => Ok(Some(start_of(alloc, *table, at, values)?)),
+            None => Ok(None),
+        },
+        ("end", [table, row, at]) => Ok(instant_of(*at).map(|at| Event::End {
+            table: u32::try_from(*table).unwrap_or(u32::MAX),
+            row: u32::try_from(*row).unwrap_or(u32::MAX),
+            at,
+        })),
+        _ => Ok(None),
+    }
+}
+
+// The event happens if it may; whether it did, and whether that was told before.
+fn happens(db: &mut Db, event: &Event) -> Result<&'static str, AllocError> {
+    let admitted = db.admits(event);
+    let before = db.count();
+    if before >= MAX_EVENTS {
+        return Ok("there are too many events");
+    }
+    let taken = db.apply(event)?;
+    let more = db.count().saturating_sub(before);
+    Ok(match (admitted, taken, more) {
+        (true, true, 1) => HAPPENS,
+        (false, false, 0) => "it may not happen",
+        _ => "it happens in part",
+    })
+}
+
+impl Session {
+    /// No history.
+    pub(crate) fn new(alloc: Global) -> Result<Session, AllocError> {
+        let tables = Items::of(Vec::new(alloc));
+        Ok(Session {
+            files: Vec::new(alloc),
+            db: Db::new(alloc, Catalogue { tables })?,
+            events: Items::of(Vec::new(alloc)),
+            taken: 0,
+        })
+    }
+
+    fn begin_file(&mut self, alloc: Global, name: &str) -> Result<(), AllocError> {
+        self.files.push(File {
+            name: name.as_bytes().to_vec(alloc)?,
+            bytes: Vec::new(alloc),
+        })?;
+        Ok(())
+    }
+
+    fn add_lines(&mut self, count: u32, text: &str) -> Result<(), AllocError> {
+        if let Some(file) = self.files.last_mut() {
+            for _ in 0..count {
+                file.bytes.extend_from_slice(text.as_bytes())?;
+                file.bytes.push(b'\n')?;
+            }
+        }
+        Ok(())
+    }
+
+    // A new history of the files' tables.
+    fn load(&mut self, alloc: Global, out: &mut String) -> Result<(), AllocError> {
+        let mut files = Vec::new(alloc);
+        for file in mem::replace(&mut self.files, Vec::new(alloc)) {
+            files.push(TableFile {
+                name: Items::of(file.name),
+                bytes: Items::of(file.bytes),
+            })?;
+        }
+        match load(alloc, files, MAX_EVENTS) {
+            Ok(loaded) => {
+                self.db = Db::new(alloc, loaded.catalogue)?;
+                self.events = loaded.events;
+                self.taken = 0;
+                Ok(())
+            }
+            Err(fault) => writeln!(out, "    {fault}"),
+        }
+    }
+
+    // The next events of the files happen; how many of them did.
+    fn take(&mut self, count: i64, out: &mut String) -> Result<(), AllocError> {
+        let count = usize::try_from(count).unwrap_or(0);
+        let mut happened: u32 = 0;
+        for event in self.events.get().iter().skip(self.taken).take(count) {
+            if happens(&mut self.db, event)? == HAPPENS {
+                happened = happened.saturating_add(1);
+            }
+        }
+        self.taken = self.taken.saturating_add(count);
+        writeln!(out, "    {happened} events happen")
+    }
+
+    // The rows of a question, or of all keys, side by side.
+    fn list(&self, alloc: Global, numbers: &[i64], out: &mut String) -> Result<(), AllocError> {
+        if let [n, table, start, end] = numbers {
+            return match (
+                u32::try_from(*n),
+                u32::try_from(*table),
+                period_of(*start, *end),
+            ) {
+                (Ok(n), Ok(table), Some(period)) if n <= self.db.count() => {
+                    tell_list(&self.db.rows_over(alloc, n, table, &period)?, out)
+                }
+                _ => tell_nothing(out),
+            };
+        }
+        match question_of(numbers) {
+            Some(it) if it.n <= self.db.count() => {
+                let rows = self
+                    .db
+                    .rows_in(alloc, it.n, it.table, &it.range, &it.period)?;
+                tell_list(&rows, out)
+            }
+            _ => tell_nothing(out),
+        }
+    }
+
+    // What a line of this word and these numbers asks.
+    fn ask(
+        &self,
+        alloc: Global,
+        word: &str,
+        numbers: &[i64],
+        out: &mut String,
+    ) -> Result<(), AllocError> {
+        match (word, numbers) {
+            ("count", []) => writeln!(out, "    {}", self.db.count()),
+            ("version", [n, at]) => tell_version(&self.db, *n, *at, out),
+            ("reads", [n, at]) => tell_reads(&self.db, *n, *at, out),
+            ("list", _) => self.list(alloc, numbers, out),
+            ("rows", _) => match question_of(numbers) {
+                Some(question) => tell_rows(&self.db, &question, out),
+                None => tell_nothing(out),
+            },
+            ("open", [table, key, at]) => tell_open(alloc, &self.db, [*table, *key, *at], out),
+            _ => Ok(()),
+        }
+    }
+
+    // What a line of this word and these numbers does or asks.
+    fn answer(
+        &mut self,
+        alloc: Global,
+        word: &str,
+        numbers: &[i64],
+        out: &mut String,
+    ) -> Result<(), AllocError> {
+        match (word, numbers) {
+            ("take", [count]) => self.take(*count, out),
+            ("start" | "end", _) => match event_of(alloc, word, numbers)? {
+                Some(event) => {
+                    let said = happens(&mut self.db, &event)?;
+                    writeln!(out, "    {said}")
+                }
+                None => tell_nothing(out),
+            },
+            ("random-rows", [seed, rounds]) => random_rows(alloc, *seed, *rounds, out),
+            ("random-open", [seed, rounds]) => random_open(alloc, *seed, *rounds, out),
+            _ => self.ask(alloc, word, numbers, out),
+        }
+    }
+
+    /// Does what the line says, and writes what it answers.
+    pub(crate) fn run(
+        &mut self,
+        alloc: Global,
+        line: &str,
+        out: &mut String,
+    ) -> Result<(), AllocError> {
+        let (word, rest) = line.split_once(' ').unwrap_or((line, ""));
+        match word {
+            "file" => self.begin_file(alloc, rest),
+            "line" => self.add_lines(1, rest),
+            "lines" => {
+                let (count, text) = rest.split_once(' ').unwrap_or((rest, ""));
+                self.add_lines(count.parse().unwrap_or(0), text)
+            }
+            "load" => self.load(alloc, out),
+            _ => {
+                let numbers = numbers_of(alloc, rest)?;
+                self.answer(alloc, word, &numbers, out)
+            }
+        }
+    }
+}
