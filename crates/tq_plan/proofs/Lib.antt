@@ -1,3 +1,4 @@
 pub mod ConditionLemmas
+pub mod CutLemmas
 pub mod ScopeLemmas
 pub mod PlanLemmas

@@ -5,4 +5,5 @@ pub mod Steps
 pub mod Seen
 pub mod Windows
 pub mod Plans
+pub mod Cuts
 pub mod Standing

@@ -1,6 +1,7 @@
 -- Which items of a query may stand and where its sources do, and that those of a statement's plan do.
 use Rattle.std.specs.Prelude.{◌≡◌, ℕ, ◌+◌, Bool, true, false, not, All, IsSomeAnd, List, ◌∷◌, [], Ok, Some, length, slice_get}
 use Rattle.std.specs.List.{list_all, list_any}
+use Rattle.std.proofs.Props.{props}
 use Rattle.tq_base.specs.declared.catalogue.Catalogue.{Catalogue}
 use Rattle.tq_base.specs.declared.catalogue.Schema.{Schema}
 use Rattle.tq_sql.specs.declared.statement.Statement.{Statement}
@@ -59,6 +60,10 @@ pub record IsQueryOver (catalogue : Catalogue) (query : QueryPlan) : Type 0 wher
   pub sources : StandFrom 0 query.sources
   pub columns : All (HasColumns catalogue) query.sources
 
+-- both queries of the plan are queries over the catalogue
+abbrev pub AreQueriesOver : Catalogue → Plan → Type 0
+AreQueriesOver catalogue plan = IsQueryOver catalogue plan.left × ((query : QueryPlan) → plan.right ≡ Some query → IsQueryOver catalogue query)
+
 -- ---- laws
 
 -- the items of both queries of a statement's plan may stand
@@ -71,4 +76,20 @@ SourcesStand = (plan : Plan) → IsPlan plan → StandFrom 0 plan.left.sources �
 
 -- both queries of a statement's plan over a catalogue are queries over it
 abbrev pub QueriesStand : Type 0
-QueriesStand = (catalogue : Catalogue) (plan : Plan) → IsPlanOver catalogue plan → IsQueryOver catalogue plan.left × ((query : QueryPlan) → plan.right ≡ Some query → IsQueryOver catalogue query)
+QueriesStand = (catalogue : Catalogue) (plan : Plan) → IsPlanOver catalogue plan → AreQueriesOver catalogue plan
+
+-- ---- queries stand over a catalogue in one way at most
+
+sources_prop : (place : ℕ) (sources : List QuerySource) → IsProp (StandFrom place sources)
+sources_prop place [] = hlevel props
+sources_prop place (source ∷ sources) =
+    let rest = sources_prop (place + source.width) sources in
+    hlevel (props, rest)
+
+query_prop : (catalogue : Catalogue) (query : QueryPlan) → IsProp (IsQueryOver catalogue query)
+query_prop catalogue query =
+    let sources = sources_prop 0 query.sources in
+    hlevel (props, sources)
+
+pub queries_prop : (catalogue : Catalogue) (plan : Plan) → IsProp (AreQueriesOver catalogue plan)
+queries_prop catalogue plan = hlevel (props, query_prop)

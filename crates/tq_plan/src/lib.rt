@@ -5,6 +5,7 @@
 #![tactic(auto)]
 
 mod conditions;
+mod cuts;
 mod fault;
 mod key_range;
 pub mod laws;

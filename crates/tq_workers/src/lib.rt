@@ -1,0 +1,21 @@
+//! Answers worked out by several workers.
+//!
+//! The window of a plan is cut into periods, each of them a piece of work: the plan's rows in the period,
+//! coalesced. Whichever worker took which piece, the layers of all pieces together are the one answer. Over a
+//! `Db` the rows of the plan's sources are read in pieces beforehand, a part of a source's keys each.
+//!
+//! `answer_among` and `answer_with` promise what `answer_tables` and `answer` of the evaluator do, word for word,
+//! for every number of workers and every gate.
+#![tactic(auto)]
+
+mod among;
+mod asked;
+mod edges;
+mod fetched;
+mod fetching;
+mod pieces;
+mod prepared;
+mod with;
+
+pub use among::answer_among;
+pub use with::answer_with;
