@@ -37,8 +37,7 @@ impl Plain {
     /// What it answers over the events of a history is the answer of the plan as of all of them. It does nothing.
     pub fn answers(&self)
         ensures { (events : List AnyEvent) (plan : AnyPlan) → IsPlanAnswer events (length events) plan (plain_answer self.now.decided events plan) }
-    {
-    }
+    {}
 }
 
 // A `Db` of the first n events.

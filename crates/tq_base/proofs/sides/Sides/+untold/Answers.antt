@@ -90,8 +90,7 @@ sort_run-sort_ranked-requires t c =
     All-map (λ (k : Key). k.mark ≡ Unknown) (ranked s c.next_place-next.result.0 c.next_place-next.result.1) c.args.run.now c.requires.unmarked in
     let next = c.next_place-next.result.0 in
     let next_offset = c.next_place-next.result.1 in
-    let decides = order_ranked s 0 0 next next_offset next next_offset c.args.run.now (order_then s c.args.place c.args.offset next next_offset c.args.run.now c.requires.decides c.next_place-next.ensures) in
-    (
+    let decides = order_ranked s 0 0 next next_offset next next_offset c.args.run.now (order_then s c.args.place c.args.offset next next_offset c.args.run.now c.requires.decides c.next_place-next.ensures) in (
       omega (arith, c.decreases, some),
       (c.rank_keys.ensures.ranks, (subst AreUnmarked (sym c.rank_keys.ensures.keys) none, subst (SameOrder s 0 0 next next_offset) (sym c.rank_keys.ensures.keys) decides)),
     )
