@@ -1,7 +1,6 @@
 // What is answered to a plan over the events of a file.
 
 ghost use Rattle.std.specs.Prelude.{IfOk};
-ghost use Rattle.tq_event.specs.Loading.{IsLoaded};
 ghost use Rattle.tq_plan.specs.Standing.{IsPlanOver};
 
 use crate::plain::Plain;
