@@ -6,6 +6,7 @@ use Rattle.std.proofs.lemmas.Grind.{drop_more_same}
 use Rattle.std.proofs.lemmas.List.{drop-set-lt, get_or-append_right, get_or-drop, get_or_append_left, get_or-map, length-map, map-append, same_lists, take_more, take_more_set}
 use Rattle.std.proofs.lemmas.List.Elements.{All-append, All-head, All-map, All-tail}
 use Rattle.std.proofs.lemmas.Simd.{map-map}
+use Rattle.std.proofs.Math.ListN as list
 use Rattle.tq_base.specs.declared.value.Value.{Value}
 use Rattle.tq_base.specs.declared.fragment.Fragment.{Fragment}
 use Rattle.tq_base.specs.declared.period.Period.{Period}
@@ -16,7 +17,7 @@ use Rattle.tq_base.specs.declared.relation.Pair.{Pair}
 use Rattle.tq_base.specs.KeyLaws.{all_values}
 use Rattle.tq_base.specs.Keys.{no_row, value_at}
 use Rattle.tq_base.specs.Parts.{cell, cells, chosen_column, first_column, moved_column, part_values, rows_at, rows_by_number, source_list, IsIn}
-use Rattle.tq_base.specs.Relations.{line_of, pair_of, projected, values_at_number}
+use Rattle.tq_base.specs.Relations.{line_of, pair_of, projected, row_at, values_at_number}
 
 -- ---- rows by number
 
@@ -116,6 +117,29 @@ picked_rows old new columns periods lines same within =
     ∙ values-rows_by_number old columns periods number no_row stands
     ∙ ap (λ n. cells (rows_at old n) columns) (sym row)
     ∙ ap (λ l. cells l columns) (sym (same k below)))
+  where
+    rows : List Fragment
+    rows = rows_by_number old columns 0 periods
+
+-- ---- numbers
+
+pub numbered_rows : (old new : List Part) (columns : List (Option Place)) (periods : List Period) (numbers : List ℕ)
+    → ((k : ℕ) → k < length numbers → rows_at new k ≡ rows_at old (get_or numbers k 0))
+    → All (λ number. number < length (rows_by_number old columns 0 periods)) numbers
+    → rows_by_number new columns 0 (map (λ number. get_or (map (λ (row : Fragment). row.period) (rows_by_number old columns 0 periods)) number no_row.period) numbers)
+    ≡ map (row_at (rows_by_number old columns 0 periods)) numbers
+numbered_rows old new columns periods numbers same within =
+    ap (rows_by_number new columns 0) (λ i. map (λ number. list.get_or-map (λ (row : Fragment). row.period) rows number no_row i) numbers)
+    ∙ same_rows new columns (map (λ number. (row_at rows number).period) numbers) (map (row_at rows) numbers)
+    (map-map (λ (row : Fragment). row.period) (row_at rows) numbers)
+    (λ k d less.
+    let inside : k < length numbers = omega (arith, less, length-map numbers (row_at rows)) in
+    let here : get_or (map (row_at rows) numbers) k d ≡ row_at rows (get_or numbers k 0) = get_or-map (row_at rows) numbers k 0 d inside in
+    let number = get_or numbers k 0 in
+    let stands : number < length periods = omega (arith, within k 0 inside, length-rows_by_number old columns 0 periods) in
+    ap (λ (row : Fragment). row.values) here
+    ∙ values-rows_by_number old columns periods number no_row stands
+    ∙ ap (λ l. cells l columns) (sym (same k inside)))
   where
     rows : List Fragment
     rows = rows_by_number old columns 0 periods

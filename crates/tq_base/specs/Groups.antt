@@ -40,13 +40,13 @@ pairs_right R (x ∷ xs) ys h = pairs_right R xs ys (pairs_tail R x (xs ++ ys) h
 
 -- ---- the order of values
 
-abbrev Below : List Value → List Value → Type 0
+abbrev pub Below : List Value → List Value → Type 0
 Below u v = values_cmp u v ≡ Less
 
-abbrev NotAbove : List Value → List Value → Type 0
+abbrev pub NotAbove : List Value → List Value → Type 0
 NotAbove u v = values_cmp u v ≢ Greater
 
-below_differs : (u v : List Value) → Below u v → u ≢ v
+pub below_differs : (u v : List Value) → Below u v → u ≢ v
 below_differs u v below same =
     let self : Below v v = subst (λ w. Below w v) same below in
     let flip = values_total.antisymm v v in
@@ -61,7 +61,7 @@ below_from u v not_above differs = split (values_cmp u v) refl
     split Equal e = absurd (differs (values_same u v e))
     split Greater e = absurd (not_above e)
 
-below_then : (u v w : List Value) → Below u v → NotAbove v w → Below u w
+pub below_then : (u v w : List Value) → Below u v → NotAbove v w → Below u w
 below_then u v w below not_above = split (values_cmp v w) refl
   where
     split : (r : Ordering) → values_cmp v w ≡ r → Below u w
@@ -120,7 +120,7 @@ pub record Grouping (rows rest table : List Fragment) : Type 0 where
   pub ordered : IsSorted fragment_cmp table
 
 -- two sorted lists, where nothing of the second is less than anything of the first
-sorted-append : {X : Type 0} (lt : X → X → Bool) (xs ys : List X) → IsSortedBy lt xs → IsSortedBy lt ys → All (λ y. All (λ x. lt y x ≡ false) xs) ys → IsSortedBy lt (xs ++ ys)
+pub sorted-append : {X : Type 0} (lt : X → X → Bool) (xs ys : List X) → IsSortedBy lt xs → IsSortedBy lt ys → All (λ y. All (λ x. lt y x ≡ false) xs) ys → IsSortedBy lt (xs ++ ys)
 sorted-append {X} lt xs ys first second across k d low high = elim (cases_lt (k + 1) (length xs)) [
   | inl inside ↦
       let one : k < length xs = omega arith in
@@ -140,7 +140,7 @@ sorted-append {X} lt xs ys first second across k d low high = elim (cases_lt (k 
 ]
 
 -- rows of values below are less
-not_less : (f g : Fragment) → Below f.values g.values → is_lt (fragment_cmp g f) ≡ false
+pub not_less : (f g : Fragment) → Below f.values g.values → is_lt (fragment_cmp g f) ≡ false
 not_less f g below =
     let above : values_cmp g.values f.values ≡ Greater = values_total.antisymm g.values f.values ∙ ap ordering_reverse below in
     ap (λ r. is_lt (ordering_then (ordering_then r (nat_cmp g.period.start f.period.start)) (nat_cmp g.period.end f.period.end))) above

@@ -13,6 +13,7 @@ pub mod Names
 pub mod Numbers
 pub mod Parts
 pub mod Periods
+pub mod Ranges
 pub mod Ranks
 pub mod Relations
 pub mod Results

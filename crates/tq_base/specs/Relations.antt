@@ -10,6 +10,10 @@ use Rattle.tq_base.specs.Keys.{no_row, value_at}
 abbrev pub values_at_number : List Fragment → ℕ → List Value
 values_at_number rows number = (slice_index_or rows number no_row).values
 
+-- the row of this number, no row where there is none
+abbrev pub row_at : List Fragment → ℕ → Fragment
+row_at rows number = slice_index_or rows number no_row
+
 -- the values of the row of the line's number, at the line's period
 abbrev pub line_of : List Fragment → Line → Fragment
 line_of rows line = record { values = values_at_number rows line.row; period = line.period }

@@ -104,6 +104,16 @@ impl Part<'_> {
         self.numbers = Some(numbers_of(alloc, &self.numbers, places)?);
         Ok(())
     }
+
+    // The rows at these places, lent.
+    pub(crate) fn picked(&self, alloc: Global, places: &[u32]) -> Result<Part<'_>, AllocError>
+        ensures { (k : ℕ) → k < length places.now → IfOk result (λ part. part_values part k ≡ part_values self.now (slice_index_or places.now k 0)) }
+    {
+        Ok(Part {
+            source: Source::Lent(self.source.rows()),
+            numbers: Some(numbers_of(alloc, &self.numbers, places)?),
+        })
+    }
 }
 
 // The value of the column in the row at the place; one that stands nowhere is the number 0.

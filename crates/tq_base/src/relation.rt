@@ -3,8 +3,9 @@
 ghost use Rattle.std.specs.Prelude.{◌≡◌, ◌<◌, ◌≤◌, ◌+◌, ◌++◌, ℕ, All, IfOk, OnOk, length, map, slice_index_or};
 ghost use Rattle.std.specs.List.{range_with_len};
 ghost use Rattle.tq_base.specs.declared.fragment.Fragment.{Fragment};
+ghost use Rattle.tq_base.specs.Keys.{no_row};
 ghost use Rattle.tq_base.specs.Parts.{chosen_column, first_column, first_periods, moved_column, periods_of, rows_at, source_list};
-ghost use Rattle.tq_base.specs.Relations.{line_of, pair_of, projected, values_at_number};
+ghost use Rattle.tq_base.specs.Relations.{line_of, pair_of, projected, row_at, values_at_number};
 
 use crate::parts::{Part, Place, Source};
 use crate::period::Period;
@@ -131,6 +132,22 @@ fn renumber(alloc: Global, parts: &mut Vec<Part<'_>>, places: &[u32]) -> Result<
     Ok(())
 }
 
+// The rows at these places of each part, lent.
+fn picked_parts<'a>(
+    alloc: Global,
+    parts: &'a [Part<'_>],
+    places: &[u32],
+) -> Result<Vec<Part<'a>>, AllocError>
+    ensures len { IfOk result (λ picked. length picked.items ≡ length parts.now) }
+    ensures rows { (k : ℕ) → k < length places.now → IfOk result (λ picked. rows_at picked.items k ≡ rows_at parts.now (slice_index_or places.now k 0)) }
+{
+    let mut picked = Vec::with_capacity(alloc, parts.len())?;
+    'parts: for part in parts {
+        picked.push(part.picked(alloc, places)?)?;
+    }
+    Ok(picked)
+}
+
 // The periods of the rows of the first part's source.
 fn first_periods<'a>(parts: &'a [Part<'_>]) -> &'a [Period]
     ensures { result.now ≡ first_periods parts.now }
@@ -149,6 +166,18 @@ fn periods_of<'a>(parts: &'a [Part<'_>], periods: &'a Periods) -> &'a [Period]
         Periods::First => first_periods(parts),
         Periods::Own(periods) => periods.as_slice(),
     }
+}
+
+// The periods of these numbers.
+fn periods_at(alloc: Global, periods: &[Period], numbers: &[u32]) -> Result<Vec<Period>, AllocError>
+    requires { All (λ number. number < length periods.now) numbers.now }
+    ensures { IfOk result (λ chosen. chosen.items ≡ map (λ number. slice_index_or periods.now number no_row.period) numbers.now) }
+{
+    let mut chosen = Vec::with_capacity(alloc, numbers.len())?;
+    'numbers: for number in numbers {
+        chosen.push(periods[*number as usize])?;
+    }
+    Ok(chosen)
 }
 
 // The rows of lines.
@@ -295,6 +324,25 @@ impl<'a> Relation<'a> {
         let mut out = self;
         out.set_lines(alloc, lines)?;
         Ok(out)
+    }
+
+    /// The rows of these numbers, in their order, lent. `AllocError` where a growth was refused, or where there are
+    /// 2^32 numbers or more.
+    pub fn picked(&self, alloc: Global, numbers: &[u32]) -> Result<Relation<'_>, AllocError>
+        requires { All (λ number. number < length self.now.items) numbers.now }
+        ensures width { IfOk result (λ out. out.width ≡ self.now.width) }
+        ensures rows { IfOk result (λ out. out.items ≡ map (row_at self.now.items) numbers.now) }
+    {
+        if numbers.len() > MAX_ROWS {
+            return Err(AllocError);
+        }
+        let periods = periods_at(alloc, self.periods(), numbers)?;
+        Ok(Relation {
+            parts: picked_parts(alloc, &self.parts, numbers)?,
+            columns: self.columns.to_vec(alloc)?,
+            periods: Periods::Own(periods),
+            zero: Value::int(0),
+        })
     }
 
     // Of each pair the values of its left row, then those of its right one, at the pair's period, take the place of

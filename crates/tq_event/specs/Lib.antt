@@ -2,6 +2,7 @@ pub mod Entries
 pub mod History
 pub mod Laws
 pub mod Loading
+pub mod OneRecord
 pub mod Opening
 pub mod Reading
 pub mod Recorded

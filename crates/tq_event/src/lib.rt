@@ -3,9 +3,10 @@
 //! `load` reads a file of CSV and gives the catalogue and the one list of events that its records
 //! make, ordered by time, or the first fault in the order of tables, records and checks. `load_tables`
 //! gives the catalogue and, for each table, its rows with their periods in the order of their records,
-//! or that same fault. `History` takes events one by one, each just where it may follow. What a history
-//! means, the rows of a table as of its first n events and the values valid at an instant, stands in
-//! `specs/`.
+//! or that same fault. `read_values` reads the values of a row that are written as one record. `History`
+//! takes events one by one, each just where it may follow. What a history means, the rows of a table as of
+//! its first n events and the values valid at an instant, stands in `specs/`. `steps` has the steps of
+//! loading for who takes them in another order.
 #![tactic(auto)]
 
 mod entry;
@@ -17,13 +18,16 @@ mod history;
 pub mod laws;
 mod loading;
 mod mark;
+mod one_record;
 mod order;
 mod reading;
 mod records;
 mod starts;
+pub mod steps;
 
 pub use event::Event;
 pub use fault::{LoadFault, LoadFaultKind};
 pub use file::{Loaded, TableFile, Tables};
 pub use history::History;
 pub use loading::{MAX_EVENTS, MAX_TABLES, load, load_tables};
+pub use one_record::read_values;

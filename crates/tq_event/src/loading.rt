@@ -132,8 +132,8 @@ fn has_table(tables: &[Schema], name: &[u8]) -> bool
     tables.iter().any(|table| table.name.bytes() == name)
 }
 
-// The name of the table after these.
-fn read_name(alloc: Global, tables: &[Schema], name: &[u8]) -> Result<Name, LoadFaultKind>
+/// The name of the table after these.
+pub fn read_name(alloc: Global, tables: &[Schema], name: &[u8]) -> Result<Name, LoadFaultKind>
     ensures ok { IfOk result (λ read. next_name tables.now name.now ≡ Ok read) }
     ensures few { OnOk result (length tables.now < 16) }
     ensures fault { IfErr result (λ fault. fault ≢ LoadFaultKind.OutOfMemory → next_name tables.now name.now ≡ Err fault) }

@@ -42,18 +42,18 @@ fn read_value(alloc: Global, kind: Kind, field: &[u8]) -> Result<Value, LoadFaul
     }
 }
 
-// The values that the record holds, one for each column, in place of those in the list.
-fn read_values(
+/// The values that the first fields of the record hold, one for each column, in place of those in the list.
+pub fn read_fields(
     alloc: Global,
     columns: &[Column],
     record: &ByteRecord,
     values: &mut Vec<Value>,
 ) -> Result<(), LoadFaultKind>
-    requires { length (fields_of record.now) ≡ length columns.now + 2 }
-    ensures ok { OnOk result (values_after [] columns.now (value_fields (fields_of record.now)) ≡ Ok values.new.items) }
+    requires { length columns.now ≤ length (fields_of record.now) }
+    ensures ok { OnOk result (values_after [] columns.now (fields_of record.now) ≡ Ok values.new.items) }
     ensures width { OnOk result (length values.new.items ≡ length columns.now) }
     ensures fault { IfErr result (λ fault. fault ≢ LoadFaultKind.OutOfMemory
-        → values_after [] columns.now (value_fields (fields_of record.now)) ≡ Err fault) }
+        → values_after [] columns.now (fields_of record.now) ≡ Err fault) }
 {
     values.clear();
     'columns: for (place, column) in columns.iter().enumerate() {
@@ -107,6 +107,6 @@ pub fn read_entry(
     if width < 2 || width - 2 != columns.len() {
         return Err(LoadFaultKind::FieldCount);
     }
-    read_values(alloc, columns, record, values)?;
+    read_fields(alloc, columns, record, values)?;
     read_period(record)
 }

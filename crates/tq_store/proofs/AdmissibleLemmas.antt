@@ -22,7 +22,7 @@ use Rattle.tq_event.specs.Recorded.{table_of}
 use Rattle.tq_event.specs.Versions.{Ending, Life, row_lives}
 use Rattle.tq_store.specs.declared.index.Index.{Index}
 use Rattle.tq_base.specs.KeyRanges.{key_of}
-use Rattle.tq_store.specs.Index.{AreIndexes, CanEnd, CanTake, IsIndexOf, IsOpenAt}
+use Rattle.tq_store.specs.Index.{AreIndexes, AreRowLives, CanEnd, CanTake, IsIndexOf, IsOpenAt}
 use Rattle.tq_store.proofs.LifeLemmas.{as_of, end_by, known_by, rows_known}
 use Rattle.tq_store.proofs.IndexLemmas.{end_stands, start_stands}
 
@@ -45,7 +45,7 @@ fit_key (c ∷ columns) (Text t ∷ v) fits = search rules
 less_is : (a b : ℕ) → a < b → nat_lt a b ≡ true
 less_is a b less = search (rules, nat_tests, less)
 
-open_before : (es : List Event) (t r at : ℕ) → IsOpenAt es t r at → IsOpenBefore es t r at
+pub open_before : (es : List Event) (t r at : ℕ) → IsOpenAt es t r at → IsOpenBefore es t r at
 open_before es t r at open_there = by (slice_get (row_lives es t) r) refl open_there
   where
     n : ℕ
@@ -59,8 +59,8 @@ open_before es t r at open_there = by (slice_get (row_lives es t) r) refl open_t
         rows_known t 0 0 (length es) (length es) r r es (omega arith) (omega arith) ∙ ap (known_by (length es) r) is ∙ ap (λ b. if b then Some (as_of (length es) r l) else None) (less_is l.start (length es) started) in
         (as_of (length es) r l, (r, slice_get_within (rows_of es (length es) t) r (as_of (length es) r l) row_is, get_or_from_slice_get (rows_of es (length es) t) r (as_of (length es) r l) (as_of (length es) r l) row_is), refl, ap (end_by (length es)) here.0, here.1)
 
-open_at : (es : List Event) (t r at : ℕ) (index : Index) → IsIndexOf es t index → IsOpenBefore es t r at → IsOpenAt es t r at
-open_at es t r at index are (row, there, number, forever, less) = by (slice_get (row_lives es t) i) refl known
+pub open_at : (es : List Event) (t r at : ℕ) → AreRowLives es t → IsOpenBefore es t r at → IsOpenAt es t r at
+open_at es t r at rows_good (row, there, number, forever, less) = by (slice_get (row_lives es t) i) refl known
   where
     n : ℕ
     n = length es
@@ -84,7 +84,7 @@ open_at es t r at index are (row, there, number, forever, less) = by (slice_get 
             let ended : e.event < n = slice_get_within es e.event (End t i e.at) (end_stands es t i l e is some) in
             let to : end_by n l.ending ≡ FOREVER = ap (λ (x : Row). x.to) same ∙ forever in
             let at_end : e.at ≡ FOREVER = sym (ap (λ b. if b then e.at else FOREVER) (less_is e.event n ended)) ∙ sym (ap (end_by n) some) ∙ to in
-            let good = are.tree.rows i l is in
+            let good = rows_good i l is in
             let finite = subst (λ o. IfSome o (λ (x : Ending). x.at < FOREVER)) some good.ends in
             absurd (omega (arith, finite, at_end))
 
@@ -112,11 +112,11 @@ end_possible c es indexes t r at tables can = (let less = can.0 in omega (arith,
 pub possible_end : (c : Catalogue) (es : List Event) (indexes : List Index) (t r at : ℕ) → length indexes ≡ length c.tables → AreIndexes es indexes → (t < length c.tables) × IsOpenBefore es t r at → CanEnd (length indexes) es t r at
 possible_end c es indexes t r at tables are (less, open_there) =
     let within : t < length indexes = omega (arith, less, tables) in
-    (within, at_index es indexes t (IsOpenAt es t r at) are within (λ index is. open_at es t r at index is open_there))
+    (within, at_index es indexes t (IsOpenAt es t r at) are within (λ index is. open_at es t r at is.tree.rows open_there))
 
 -- ---- what an admissible event brings
 
-known_table : (c : Catalogue) (es : List Event) (e : Event) → CanHappen c es e → table_of e < length c.tables
+pub known_table : (c : Catalogue) (es : List Event) (e : Event) → CanHappen c es e → table_of e < length c.tables
 known_table c es (Start t v at) can = by (slice_get c.tables t) refl can
   where
     by : (o : Option Schema) → slice_get c.tables t ≡ o → IsSomeAnd o (λ (s : Schema). Fit s.columns v) → t < length c.tables

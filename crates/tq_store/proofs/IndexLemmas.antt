@@ -21,7 +21,7 @@ use Rattle.tq_store.specs.declared.index.Index.{Index}
 use Rattle.tq_store.specs.declared.index.RowEvents.{RowEvents}
 use Rattle.tq_base.specs.KeyRanges.{key_of}
 use Rattle.tq_store.specs.Keys.{shifted, tree_key}
-use Rattle.tq_store.specs.Index.{AreIndexes, Begins, Ends, HasRows, IsIndexOf, IsKeyOf, IsOpenAt, IsRowLife, dead_of, events_of, is_open_as, is_open_under}
+use Rattle.tq_store.specs.Index.{AreIndexes, AreOpenRows, Begins, Ends, HasRows, IsIndexOf, IsKeyOf, IsOpenAt, IsRowLife, dead_of, events_of, is_open_as, is_open_under}
 use Rattle.tq_store.specs.Open.{HasSame, has, place_key}
 use Rattle.tq_store.proofs.OpenRowsLemmas.{and-false, and-yes, number_other, or-false, place_row}
 use Rattle.tq_store.proofs.LifeLemmas.{IsTold, StandsAt, ended_at, eqb-other, eqb-same, lives_end, lives_other, lives_start, lives_told}
@@ -239,7 +239,7 @@ get_push_other (x ∷ xs) y zero other = refl
 get_push_other (x ∷ xs) y (suc i) other = get_push_other xs y i (λ same. other (ap suc same))
 
 -- whether the rows of a list with one more row are open
-open_push : (ls : List Life) (l : Life) (k : ℕ) → length ls < 4294967296 → is_open_under (ls ++ l ∷ []) k ≡ (is_open_under ls k || (not (is_some l.ending) && eq_by_cmp nat_cmp (place_key l.values (length ls)) k))
+pub open_push : (ls : List Life) (l : Life) (k : ℕ) → length ls < 4294967296 → is_open_under (ls ++ l ∷ []) k ≡ (is_open_under ls k || (not (is_some l.ending) && eq_by_cmp nat_cmp (place_key l.values (length ls)) k))
 open_push ls l k small = by (k % 4294967296 == length ls) refl
   where
     last : Bool
@@ -267,7 +267,7 @@ shut false true = refl
 shut false false = refl
 
 -- whether the rows of a list are open of which one ended
-open_set : (ls : List Life) (i : ℕ) (l new : Life) (k : ℕ) → i < 4294967296 → slice_get ls i ≡ Some l → is_open_as k new ≡ false
+pub open_set : (ls : List Life) (i : ℕ) (l new : Life) (k : ℕ) → i < 4294967296 → slice_get ls i ≡ Some l → is_open_as k new ≡ false
     → is_open_under (slice_set ls i new) k ≡ (is_open_under ls k && not (eq_by_cmp nat_cmp (place_key l.values i) k))
 open_set ls i l new k small stands ended = by (k % 4294967296 == i) refl
   where
@@ -290,7 +290,7 @@ open_set ls i l new k small stands ended = by (k % 4294967296 == i) refl
 
 -- ---- the index of a table
 
-length_push : {X : Type 0} → (xs : List X) (x : X) → length (xs ++ x ∷ []) ≡ length xs + 1
+pub length_push : {X : Type 0} → (xs : List X) (x : X) → length (xs ++ x ∷ []) ≡ length xs + 1
 length_push xs x = length-append xs (x ∷ [])
 
 pub rows_counted : (es : List Event) (t : ℕ) (index : Index) → IsIndexOf es t index → length index.rows.items ≡ length (row_lives es t)
@@ -422,6 +422,10 @@ pub end_stands : (es : List Event) (t row : ℕ) (l : Life) (e : Ending) → sli
 end_stands es t row l e stands is =
     let told = subst (λ o. IfSome o (λ (x : Ending). StandsAt es 0 x.event (End t row x.at))) is (row_told es t row l stands).ending in
     ap (slice_get es) (let number = told.number_is in omega (arith, number)) ∙ told.event_is
+
+-- the keys of the open rows are those of the table
+pub open_rows : (es : List Event) (t : ℕ) (index : Index) → IsIndexOf es t index → AreOpenRows es t index.opened
+open_rows es t index is = record { few = is.tree.few; opened = is.opened }
 
 -- no open row has the number of the next one
 pub not_yet_open : (es : List Event) (t : ℕ) (index : Index) → length es < 16777216 → IsIndexOf es t index → (v : List Value) → has index.opened (place_key v (length index.rows.items)) ≡ false

@@ -12,3 +12,4 @@ pub mod CountLemmas
 pub mod ValidLemmas
 pub mod LeafLemmas
 pub mod ReadLemmas
+pub mod OpenIndexLemmas

@@ -19,12 +19,11 @@ use Rattle.tq_event.specs.declared.event.Event.TheVariants.{Start, End}
 use Rattle.tq_event.specs.History.{end_of, rows_from, rows_of, time_of}
 use Rattle.tq_event.specs.Opening.{is_open_like, open_row}
 use Rattle.tq_event.specs.Versions.{Ending, Life, row_lives}
-use Rattle.tq_store.specs.declared.index.Index.{Index}
 use Rattle.tq_store.specs.declared.index.RowEvents.{RowEvents}
-use Rattle.tq_store.specs.Index.{IsIndexOf, IsOpenAt, events_of, is_open_at, is_open_of}
+use Rattle.tq_store.specs.Index.{AreRowLives, IsOpenAt, events_of, is_open_at, is_open_of, rows_kept}
 use Rattle.tq_store.specs.Stored.{ends_row, open_like, starts_like, starts_of}
 use Rattle.tq_store.proofs.LifeLemmas.{and-true, as_of, end_by, eqb-other, eqb-same, known_by, rows_known, starts_rise}
-use Rattle.tq_store.proofs.IndexLemmas.{end_stands, kept_row, known_row, start_stands}
+use Rattle.tq_store.proofs.IndexLemmas.{IsKnown, end_stands, start_stands}
 
 -- ---- positions
 
@@ -65,7 +64,7 @@ same_position p q xs ys alike =
 less_is : (a b : ℕ) → a < b → nat_lt a b ≡ true
 less_is a b less = search (rules, nat_tests, less)
 
-module _ (es : List Event) (t : ℕ) (index : Index) (is : IsIndexOf es t index) (values : List Value) (at : ℕ) where
+module _ (es : List Event) (t : ℕ) (good : AreRowLives es t) (values : List Value) (at : ℕ) where
   open_end : (i : ℕ) (l : Life) → slice_get (row_lives es t) i ≡ Some l → not (is_some (events_of l).end) ≡ (end_by (length es) l.ending == FOREVER)
   open_end i l stands = by l.ending refl
     where
@@ -73,7 +72,7 @@ module _ (es : List Event) (t : ℕ) (index : Index) (is : IsIndexOf es t index)
       by None none = sym (eqb-same FOREVER)
       by (Some e) some =
           let ended = less_is e.event (length es) (slice_get_within es e.event (End t i e.at) (end_stands es t i l e stands some)) in
-          let finite = subst (λ o. IfSome o (λ (x : Ending). x.at < FOREVER)) some (is.tree.rows i l stands).ends in
+          let finite = subst (λ o. IfSome o (λ (x : Ending). x.at < FOREVER)) some (good i l stands).ends in
           sym (ap (λ b. (if b then e.at else FOREVER) == FOREVER) ended ∙ eqb-other e.at FOREVER (λ same. omega (arith, same, finite)))
 
   one_row : (i : ℕ) (l : Life) → slice_get (row_lives es t) i ≡ Some l → open_like es values at (events_of l) ≡ is_open_like values at (as_of (length es) i l)
@@ -81,8 +80,8 @@ module _ (es : List Event) (t : ℕ) (index : Index) (is : IsIndexOf es t index)
       ap (λ o. option_map_or (λ e. not (is_some (events_of l).end) && starts_like values at e) o false) (start_stands es t i l stands)
       ∙ ap (λ b. b && (nat_lt l.from at && eq_by_cmp values_cmp l.values values)) (open_end i l stands)
 
-  alike : (i : ℕ) → option_map (open_like es values at) (slice_get index.rows.items i) ≡ option_map (is_open_like values at) (slice_get (rows_of es (length es) t) i)
-  alike i = ap (λ r. option_map (open_like es values at) (slice_get r i)) is.rows ∙ ap (option_map (open_like es values at)) (slice_get-map events_of (row_lives es t) i)
+  alike : (i : ℕ) → option_map (open_like es values at) (slice_get (rows_kept es t) i) ≡ option_map (is_open_like values at) (slice_get (rows_of es (length es) t) i)
+  alike i = ap (option_map (open_like es values at)) (slice_get-map events_of (row_lives es t) i)
       ∙ by (slice_get (row_lives es t) i) refl ∙ sym (ap (option_map (is_open_like values at)) (rows_known t 0 0 (length es) (length es) i i es (omega arith) (omega arith)))
     where
       by : (o : Option Life) → slice_get (row_lives es t) i ≡ o → option_map (open_like es values at) (option_map events_of o) ≡ option_map (is_open_like values at) (known_by (length es) i o)
@@ -91,8 +90,20 @@ module _ (es : List Event) (t : ℕ) (index : Index) (is : IsIndexOf es t index)
           ap (λ b. Some b) (one_row i l stands)
           ∙ sym (ap (λ b. option_map (is_open_like values at) (if b then Some (as_of (length es) i l) else None)) (less_is l.start (length es) (slice_get_within es l.start (Start t l.values l.from) (start_stands es t i l stands))))
 
-  pub open_row_is : position (open_like es values at) index.rows.items ≡ open_row es t values at
-  open_row_is = same_position (open_like es values at) (is_open_like values at) index.rows.items (rows_of es (length es) t) alike
+  pub open_row_is : position (open_like es values at) (rows_kept es t) ≡ open_row es t values at
+  open_row_is = same_position (open_like es values at) (is_open_like values at) (rows_kept es t) (rows_of es (length es) t) alike
+
+-- ---- the events of the rows
+
+known_kept : (es : List Event) (t row : ℕ) (known : RowEvents) → slice_get (rows_kept es t) row ≡ Some known → IsKnown es t row known
+known_kept es t row known here = by (slice_get (row_lives es t) row) refl (sym (slice_get-map events_of (row_lives es t) row) ∙ here)
+  where
+    by : (o : Option Life) → slice_get (row_lives es t) row ≡ o → option_map events_of o ≡ Some known → IsKnown es t row known
+    by None stands there = absurd (cc)
+    by (Some l) stands there = record { life = l; stands = stands; same = let same : events_of l ≡ known = cc in sym same }
+
+kept_there : (es : List Event) (t row : ℕ) (l : Life) → slice_get (row_lives es t) row ≡ Some l → slice_get (rows_kept es t) row ≡ Some (events_of l)
+kept_there es t row l stands = slice_get-map events_of (row_lives es t) row ∙ ap (option_map events_of) stands
 
 -- ---- the first position
 
@@ -176,7 +187,7 @@ from_rises es t i j l m ordered le here there = elim (cases_lt i j) [
       omega (arith, from_is)
 ]
 
-module _ (es : List Event) (t : ℕ) (index : Index) (is : IsIndexOf es t index) (values : List Value) (at : ℕ) where
+module _ (es : List Event) (t : ℕ) (good : AreRowLives es t) (values : List Value) (at : ℕ) where
   like_is : (row : ℕ) (l : Life) → slice_get (row_lives es t) row ≡ Some l → open_like es values at (events_of l) ≡ (not (is_some (events_of l).end) && (nat_lt l.from at && eq_by_cmp values_cmp l.values values))
   like_is row l stands = ap (λ o. option_map_or (λ e. not (is_some (events_of l).end) && starts_like values at e) o false) (start_stands es t row l stands)
 
@@ -200,20 +211,20 @@ module _ (es : List Event) (t : ℕ) (index : Index) (is : IsIndexOf es t index)
       )
 
   -- the row that passes is open, and its number is known
-  seen_open : (k : ℕ) (y : RowEvents) → slice_get index.rows.items k ≡ Some y → open_like es values at y ≡ true → is_open_at (row_lives es t) values k ≡ true
+  seen_open : (k : ℕ) (y : RowEvents) → slice_get (rows_kept es t) k ≡ Some y → open_like es values at y ≡ true → is_open_at (row_lives es t) values k ≡ true
   seen_open k y there so =
-      let known = known_row es t k index y is there in
+      let known = known_kept es t k y there in
       (passed k known.life known.stands (sym (ap (open_like es values at) known.same) ∙ so)).0
 
   pub first_is : (row : ℕ) → is_open_at (row_lives es t) values row ≡ true → ((r : ℕ) → is_open_at (row_lives es t) values r ≡ true → row ≤ r) → IsOpenAt es t row at → Some row ≡ open_row es t values at
   first_is row so least open_there =
       let o = open_of es t values row so in
       let here = subst (λ x. IsSomeAnd x (λ (l : Life). (l.ending ≡ None) × (l.from < at))) o.stands open_there in
-      sym (position_first (open_like es values at) index.rows.items row (events_of o.life) (kept_row es t row index o.life is o.stands)
+      sym (position_first (open_like es values at) (rows_kept es t) row (events_of o.life) (kept_there es t row o.life o.stands)
       (passes row o.life o.stands o.none here.1 o.like) before)
-      ∙ open_row_is es t index is values at
+      ∙ open_row_is es t good values at
     where
-      before : (k : ℕ) (y : RowEvents) → k < row → slice_get index.rows.items k ≡ Some y → open_like es values at y ≡ false
+      before : (k : ℕ) (y : RowEvents) → k < row → slice_get (rows_kept es t) k ≡ Some y → open_like es values at y ≡ false
       before k y less there = by (open_like es values at y) refl
         where
           by : (b : Bool) → open_like es values at y ≡ b → open_like es values at y ≡ false
@@ -221,9 +232,9 @@ module _ (es : List Event) (t : ℕ) (index : Index) (is : IsIndexOf es t index)
           by false not_so = not_so
 
   pub none_is : ((r : ℕ) → is_open_at (row_lives es t) values r ≡ false) → None ≡ open_row es t values at
-  none_is none = sym (position_none (open_like es values at) index.rows.items every) ∙ open_row_is es t index is values at
+  none_is none = sym (position_none (open_like es values at) (rows_kept es t) every) ∙ open_row_is es t good values at
     where
-      every : (k : ℕ) (y : RowEvents) → slice_get index.rows.items k ≡ Some y → open_like es values at y ≡ false
+      every : (k : ℕ) (y : RowEvents) → slice_get (rows_kept es t) k ≡ Some y → open_like es values at y ≡ false
       every k y there = by (open_like es values at y) refl
         where
           by : (b : Bool) → open_like es values at y ≡ b → open_like es values at y ≡ false
@@ -231,7 +242,7 @@ module _ (es : List Event) (t : ℕ) (index : Index) (is : IsIndexOf es t index)
           by false not_so = not_so
 
   pub late_is : (row : ℕ) → IsNonDecreasingBy time_of es → is_open_at (row_lives es t) values row ≡ true → ((r : ℕ) → is_open_at (row_lives es t) values r ≡ true → row ≤ r) → (IsOpenAt es t row at → ⊥) → None ≡ open_row es t values at
-  late_is row ordered so least late = sym (position_none (open_like es values at) index.rows.items every) ∙ open_row_is es t index is values at
+  late_is row ordered so least late = sym (position_none (open_like es values at) (rows_kept es t) every) ∙ open_row_is es t good values at
     where
       o : IsOpenOf es t row values
       o = open_of es t values row so
@@ -242,12 +253,12 @@ module _ (es : List Event) (t : ℕ) (index : Index) (is : IsIndexOf es t index)
         | inr le ↦ le
       ]
 
-      every : (k : ℕ) (y : RowEvents) → slice_get index.rows.items k ≡ Some y → open_like es values at y ≡ false
+      every : (k : ℕ) (y : RowEvents) → slice_get (rows_kept es t) k ≡ Some y → open_like es values at y ≡ false
       every k y there = by (open_like es values at y) refl
         where
           by : (b : Bool) → open_like es values at y ≡ b → open_like es values at y ≡ false
           by true passed_there =
-              let known = known_row es t k index y is there in
+              let known = known_kept es t k y there in
               let both = passed k known.life known.stands (sym (ap (open_like es values at) known.same) ∙ passed_there) in
               let early = both.1 in
               let rises = from_rises es t row k o.life known.life ordered (least k both.0) o.stands known.stands in

@@ -19,6 +19,7 @@ use Rattle.tq_store.specs.declared.index.Index.{Index}
 use Rattle.tq_store.specs.declared.index.RowEvents.{RowEvents}
 use Rattle.tq_base.specs.KeyRanges.{key_of}
 use Rattle.tq_store.specs.Keys.{tree_key}
+use Rattle.tq_store.specs.declared.open.OpenRows.{OpenRows}
 use Rattle.tq_store.specs.Open.{has, place_key}
 
 -- the first version at which a row that so ends is dead
@@ -76,6 +77,15 @@ pub record HasRows (lives : List Life) (count version : ℕ) (nodes : List NodeS
   pub rows : (row : ℕ) (l : Life) → slice_get lives row ≡ Some l → IsRowLife l
   pub up_to : version ≤ count
   pub few : length lives ≤ count
+
+-- the rows of the table are rows that end later than they start
+abbrev pub AreRowLives : List Event → ℕ → Type 0
+AreRowLives events table = (row : ℕ) (l : Life) → slice_get (row_lives events table) row ≡ Some l → IsRowLife l
+
+-- the keys of the open rows of the table
+pub record AreOpenRows (events : List Event) (table : ℕ) (rows : OpenRows) : Type 0 where
+  pub few : length (row_lives events table) ≤ length events
+  pub opened : (key : ℕ) → has rows key ≡ is_open_under (row_lives events table) key
 
 -- the tree, the rows and the open ones among them are those of the table by these events
 pub record IsIndexOf (events : List Event) (table : ℕ) (index : Index) : Type 0 where

@@ -12,6 +12,7 @@ mod index;
 mod key;
 mod laws;
 mod open;
+mod open_index;
 mod opening;
 mod read;
 mod row;
@@ -20,6 +21,7 @@ mod valid;
 
 pub use db::Db;
 pub use laws::rows_come_once;
+pub use open_index::OpenIndex;
 pub use opening::open_row;
 pub use row::Row;
 pub use tq_base::KeyRange;

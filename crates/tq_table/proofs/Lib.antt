@@ -1,3 +1,4 @@
 pub mod Apart
 pub mod KeyGroups
 pub mod MergeLemmas
+pub mod RangeLemmas

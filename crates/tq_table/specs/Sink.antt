@@ -1,5 +1,7 @@
 -- What a contract sees of a sink, and what a call of one does to the bytes of its writer.
 use Rattle.std.specs.Prelude.{ℕ, ◌+◌, ◌-◌, ◌^◌, ◌≡◌, ◌++◌, List, min, Option, refl}
+use Rattle.std.specs.Global.{Vec}
+use Rattle.std.specs.List.{flat_map}
 use Rattle.std.specs.Coded.{Coded, code_by, coded×, coded_ℕ}
 use Rattle.std.specs.Io.KnownBytes.{Appends}
 
@@ -20,3 +22,7 @@ one_more count = min (count + 1) (2 ^ 64 - 1)
 -- Known bytes grow by a prefix of these bytes, which may be none or all of them. (This project's own.)
 abbrev pub AppendsPrefix : Option (List ℕ) → Option (List ℕ) → List ℕ → Type 0
 AppendsPrefix old new bytes = (sent : List ℕ) × (unsent : List ℕ) × (bytes ≡ sent ++ unsent) × Appends old new sent
+
+-- All bytes of some texts, one text after the other. (This project's own.)
+abbrev pub bytes_of : List (Vec ℕ) → List ℕ
+bytes_of texts = flat_map (λ (text : Vec ℕ). text.items) texts

@@ -1,5 +1,5 @@
 -- The text of a table: CSV (RFC 4180) as the `csv` crate writes it by its defaults, lines ended by LF.
-use Rattle.std.specs.Prelude.{ℕ, ◌==◌, if◌then◌else◌, List, [], ◌∷◌, ◌++◌, map, decimal, codes, true}
+use Rattle.std.specs.Prelude.{◌≡◌, ℕ, ◌==◌, if◌then◌else◌, List, [], ◌∷◌, ◌++◌, map, decimal, codes, true}
 use Rattle.std.specs.Fmt.{signed_decimal}
 use Rattle.std.specs.List.{flat_map}
 use Rattle.csv.specs.Writing.{default_writer, row_text, with_flexible}
@@ -31,7 +31,18 @@ row_fields row = map value_field row.values ++ (decimal row.period.start ∷ bou
 abbrev pub header_fields : List (List ℕ) → List (List ℕ)
 header_fields columns = columns ++ (codes "from" ∷ codes "to" ∷ [])
 
+-- the header's line
+abbrev pub header_text : List (List ℕ) → List ℕ
+header_text columns = row_text answer_format (header_fields columns)
+
+-- a line for each row
+abbrev pub rows_text : List Fragment → List ℕ
+rows_text rows = flat_map (λ row. row_text answer_format (row_fields row)) rows
+
 -- the header's line, and a line for each row
 abbrev pub text_of : Table → List ℕ
-text_of table =
-    row_text answer_format (header_fields table.columns) ++ flat_map (λ row. row_text answer_format (row_fields row)) table.rows
+text_of table = header_text table.columns ++ rows_text table.rows
+
+-- the bytes are the text of such a table
+abbrev pub IsTextOf : (Table → Type 0) → List ℕ → Type 0
+IsTextOf Is text = (table : Table) × Is table × (text ≡ text_of table)

@@ -11,6 +11,7 @@ mod coalescing;
 mod layering;
 mod lines;
 mod merging;
+mod ranges;
 mod sending;
 mod sink;
 mod table;
@@ -18,7 +19,8 @@ mod text;
 
 pub use coalescing::coalesce;
 pub use lines::Lines;
-pub use merging::merge;
+pub use merging::{chained, merge};
+pub use ranges::is_below;
 pub use sink::{Sink, WriteFault};
 pub use table::Table;
-pub use text::{table_text, write_table};
+pub use text::{header_text, rows_text, table_text, write_table};

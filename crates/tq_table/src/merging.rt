@@ -26,10 +26,12 @@ fn followed(rows: Rows, other: Rows) -> Result<Rows, AllocError>
     rows.followed_by(other)
 }
 
-// The rows of all lists, one list after the other.
-fn chained(alloc: Global, width: usize, lists: Vec<Rows>) -> Result<Rows, AllocError>
+/// The rows of all lists, one list after the other. It is owed that each row has as many values as `width` says.
+/// No value is copied. `AllocError` where a growth was refused, or where there are 2^32 rows or more.
+pub fn chained(alloc: Global, width: usize, lists: Vec<Rows>) -> Result<Rows, AllocError>
     requires { All (AreOfWidth width) lists.items }
-    ensures { IfOk result (λ rows. rows.items ≡ all_rows lists.items) }
+    ensures width { IfOk result (λ rows. rows.width ≡ width) }
+    ensures rows { IfOk result (λ rows. rows.items ≡ all_rows lists.items) }
 {
     let mut all = Rows::new(alloc, width);
     'lists: for rows in lists {

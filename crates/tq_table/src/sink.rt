@@ -92,7 +92,7 @@ impl<W: Write> Sink<W> {
     }
 
     /// One flush. A failure is counted.
-    pub(crate) fn flush(&mut self) -> Result<(), WriteFault>
+    pub fn flush(&mut self) -> Result<(), WriteFault>
         ensures kept { Keeps (W.contents self.old.writer) (W.contents self.new.writer) }
         ensures fault { IfErr result (λ e. e ≡ WriteFault.Write) }
         ensures failed { self.new.failed ≡ (if is_err result then one_more self.old.failed else self.old.failed) }

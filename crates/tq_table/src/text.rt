@@ -4,10 +4,11 @@ ghost use Rattle.std.specs.Prelude.{◌≡◌, [], ◌++◌, ◌∷◌, IfOk, Li
 ghost use Rattle.std.specs.Io.KnownBytes.{Appends};
 ghost use Rattle.csv.specs.Records.{fields_of, partial_of};
 ghost use Rattle.csv.specs.Writing.{row_text};
-ghost use Rattle.tq_table.specs.Text.{answer_format, bound_field, header_fields, row_fields, text_of, value_field};
+ghost use Rattle.tq_table.specs.Text.{answer_format, bound_field, header_fields, header_text, row_fields, rows_text, text_of, value_field};
 ghost use Rattle.tq_table.specs.Sink.{AppendsPrefix, one_more};
 ghost use Rattle.tq_table.specs.Writing.{HasWritten};
 
+use crate::lines::Lines;
 use crate::sink::{Sink, WriteFault};
 use crate::table::Table;
 use csv::{ByteRecord, Writer, WriterBuilder};
@@ -74,6 +75,64 @@ fn write_line(writer: &mut Writer<Vec<u8>>, record: &ByteRecord) -> Result<(), A
     }
 }
 
+// Writes a line for each row.
+fn write_rows(
+    writer: &mut Writer<Vec<u8>>,
+    record: &mut ByteRecord,
+    rows: &Lines<'_>,
+) -> Result<(), AllocError>
+    ensures { (text : List ℕ) → HasWritten writer.old text → OnOk result (HasWritten writer.new (text ++ rows_text rows.now)) }
+{
+    'rows: for row in 0..rows.len() {
+        fill_row(record, &rows.row(row), rows.period(row))?;
+        write_line(writer, record)?;
+    }
+    Ok(())
+}
+
+// A writer of lines, which has written none.
+fn line_writer(alloc: Global) -> Writer<Vec<u8>>
+    ensures { HasWritten result [] }
+{
+    WriterBuilder::new()
+        .flexible(true)
+        .from_writer(Vec::new(alloc))
+}
+
+// What was written.
+fn text_written(writer: Writer<Vec<u8>>) -> Result<Vec<u8>, AllocError>
+    ensures { (text : List ℕ) → HasWritten writer text → IfOk result (λ written. written.items ≡ text) }
+{
+    match writer.into_inner() {
+        Ok(text) => Ok(text),
+        Err(_) => Err(AllocError),
+    }
+}
+
+/// The line of the column names, `from` and `to`. `AllocError` where a growth was refused.
+#[inline(never)]
+pub fn header_text(alloc: Global, columns: &[Name]) -> Result<Vec<u8>, AllocError>
+    ensures { IfOk result (λ text. text.items ≡ header_text columns.now) }
+{
+    let mut writer = line_writer(alloc);
+    let mut record = ByteRecord::new(alloc);
+    fill_header(&mut record, columns)?;
+    write_line(&mut writer, &record)?;
+    text_written(writer)
+}
+
+/// A line for each row: what the text of a table with these rows holds after its header. `AllocError` where a
+/// growth was refused.
+#[inline(never)]
+pub fn rows_text(alloc: Global, rows: &Lines<'_>) -> Result<Vec<u8>, AllocError>
+    ensures { IfOk result (λ text. text.items ≡ rows_text rows.now) }
+{
+    let mut writer = line_writer(alloc);
+    let mut record = ByteRecord::new(alloc);
+    write_rows(&mut writer, &mut record, rows)?;
+    text_written(writer)
+}
+
 /// The text of a table: a line of the column names, `from` and `to`, and a line for each row, its
 /// values, start and end; CSV after RFC 4180, lines ended by LF, fields quoted where they have to be.
 /// `AllocError` where a growth was refused. Not inlined, so that the writer's buffers leave the stack
@@ -82,20 +141,12 @@ fn write_line(writer: &mut Writer<Vec<u8>>, record: &ByteRecord) -> Result<(), A
 pub fn table_text(alloc: Global, table: &Table<'_>) -> Result<Vec<u8>, AllocError>
     ensures { IfOk result (λ text. text.items ≡ text_of table.now) }
 {
-    let mut writer = WriterBuilder::new()
-        .flexible(true)
-        .from_writer(Vec::new(alloc));
+    let mut writer = line_writer(alloc);
     let mut record = ByteRecord::new(alloc);
     fill_header(&mut record, table.columns.get())?;
     write_line(&mut writer, &record)?;
-    'rows: for row in 0..table.rows.len() {
-        fill_row(&mut record, &table.rows.row(row), table.rows.period(row))?;
-        write_line(&mut writer, &record)?;
-    }
-    match writer.into_inner() {
-        Ok(text) => Ok(text),
-        Err(_) => Err(AllocError),
-    }
+    write_rows(&mut writer, &mut record, &table.rows)?;
+    text_written(writer)
 }
 
 /// Writes the text of a table, made whole first. `Write` comes where the sink's writer failed, and a

@@ -3,6 +3,7 @@
 mod faults;
 mod loading;
 mod tables;
+mod values;
 
 use std::alloc::{AllocError, Global};
 use std::fmt::Write;

@@ -20,7 +20,7 @@ use tq_run::{Gate, Open};
 use tq_sql::read;
 use tq_store::Db;
 use tq_table::table_text;
-use tq_workers::{answer_among, answer_with};
+use tq_workers::{answer_among, answer_with, text_by_ranges};
 
 const EMP: &str = "emp:int,name:text,dept:text,from,to
 1,ann,toys,10,20
@@ -129,7 +129,35 @@ fn text_with<R: Threads + Sync, G: Gate + Sync>(
     Ok(table_text(alloc, &table)?)
 }
 
-// Whether these workers answer the statement with this text, over the table and as of all events of the `Db`.
+// The same over the table, with ranges of values from the first row on.
+fn text_in_ranges<R: Threads + Sync, G: Gate + Sync>(
+    rt: &R,
+    alloc: Global,
+    tables: &Tables,
+    statement: &str,
+    workers: u32,
+    gate: &G,
+) -> Result<Vec<u8>, Fail>
+    requires fit { AreAllFitting tables.now.catalogue (lists_of tables.now.rows) }
+    requires some { 1 ≤ workers }
+    requires at_most { workers ≤ 16 }
+{
+    let plan = plan(
+        alloc,
+        &tables.catalogue,
+        &read(alloc, statement.as_bytes())?,
+    )?;
+    let rows = tables.rows.get();
+    let text = text_by_ranges(rt, alloc, &tables.catalogue, rows, &plan, workers, 1, gate)?;
+    let mut bytes = Vec::new(alloc);
+    for part in text.parts() {
+        bytes.extend_from_slice(part)?;
+    }
+    Ok(bytes)
+}
+
+// Whether these workers answer the statement with this text, over the table, in ranges of values, and as of all
+// events of the `Db`.
 fn is_answered<R: Threads + Sync>(
     rt: &R,
     alloc: Global,
@@ -144,8 +172,9 @@ fn is_answered<R: Threads + Sync>(
     requires at_most { workers ≤ 16 }
 {
     let among = text_among(rt, alloc, tables, statement, workers, &Open)?;
+    let ranges = text_in_ranges(rt, alloc, tables, statement, workers, &Open)?;
     let with = text_with(rt, alloc, db, statement, workers, &Open)?;
-    Ok(among.as_slice() == wanted && with.as_slice() == wanted)
+    Ok(among.as_slice() == wanted && ranges.as_slice() == wanted && with.as_slice() == wanted)
 }
 
 // The same for each of these numbers of workers.
@@ -251,6 +280,19 @@ fn two_workers_have_a_piece_at_once_in_each_run(rt: HostRuntime) -> Result<(), F
     Ok(())
 }
 
+#[test]
+fn two_workers_have_a_range_of_values_at_once(rt: HostRuntime) -> Result<(), Fail> {
+    let text = many_rows(rt.alloc())?;
+    let statement = "VALIDTIME SELECT k FROM emp";
+    let tables = tables_of(rt.alloc(), &text)?;
+    let gate = Turns::new();
+    let ranges = text_in_ranges(&rt, rt.alloc(), &tables, statement, 2, &gate)?;
+    assert!(rt; !gate.limit_met.load(Ordering::SeqCst));
+    assert_eq!(rt; gate.seconds.load(Ordering::SeqCst), 2);
+    assert_eq!(rt; ranges, text_here(rt.alloc(), &tables, statement)?);
+    Ok(())
+}
+
 // ---- random tables
 
 // The next number of a linear congruential generator, below the limit.
@@ -303,7 +345,7 @@ fn are_answered<R: Threads + Sync>(rt: &R, alloc: Global, text: &str) -> Result<
 #[test]
 fn random_tables_are_answered_as_by_one_thread(rt: HostRuntime) -> Result<(), Fail> {
     let mut state = 5;
-    for _ in 0..10 {
+    for _ in 0..170 {
         let text = random_rows(rt.alloc(), &mut state)?;
         assert!(rt; are_answered(&rt, rt.alloc(), &text)?, "{text}");
     }

@@ -1,2 +1,3 @@
 pub mod FetchLemmas
 pub mod PieceLemmas
+pub mod RangeLemmas

@@ -53,7 +53,7 @@ impl Work for TablePieces<'_> {
 }
 
 // The plan's rows in each of the periods, worked out by these workers.
-fn pieces_of<'p, R: Threads + Sync, G: Gate + Sync>(
+pub(crate) fn pieces_of<'p, R: Threads + Sync, G: Gate + Sync>(
     rt: &R,
     alloc: Global,
     snapshot: TablesOfRows<'p>,

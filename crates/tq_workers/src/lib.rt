@@ -5,7 +5,8 @@
 //! `Db` the rows of the plan's sources are read in pieces beforehand, a part of a source's keys each.
 //!
 //! `answer_among` and `answer_with` promise what `answer_tables` and `answer` of the evaluator do, word for word,
-//! for every number of workers and every gate.
+//! for every number of workers and every gate. `text_among` promises the text of the answer; it parts a long one into
+//! ranges of values, whose lines and text are pieces of work too.
 #![tactic(auto)]
 
 mod among;
@@ -13,9 +14,14 @@ mod asked;
 mod edges;
 mod fetched;
 mod fetching;
+mod parting;
 mod pieces;
+mod pivots;
 mod prepared;
+mod ranges;
+mod text;
 mod with;
 
 pub use among::answer_among;
+pub use text::{AnswerText, text_among, text_by_ranges};
 pub use with::answer_with;

@@ -22,8 +22,8 @@ lists-preserved c =
       rows = c.in_ok-all.ensures.rows ∙ ap (λ l. l ++ c.in-Some.rows.items) c.lists.invariant.rows ∙ sym (all_and_next c.lists.yielded c.in-Some.rows);
     }
 
-pub returns : goal.returns
-returns c =
+pub returns-clause-rows : goal.returns-clause-rows
+returns-clause-rows c =
     let rest = into_iter_items c.lists.rows-iterator in
     let none : length rest ≡ 0 = sym c.lists.rows-iterator.rest.ok.0 ∙ c.in-None.ensures.steps.0 in
     let all : c.lists.yielded ≡ c.args.lists.items = sym (append-nil c.lists.yielded) ∙ ap (λ l. c.lists.yielded ++ l) (sym (nil_from_length rest none)) ∙ c.lists.invariant.reads in

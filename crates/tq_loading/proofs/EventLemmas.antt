@@ -1,0 +1,34 @@
+-- How many events rows make.
+use Rattle.std.proofs.Common.{◌≡◌, ◌+◌, ◌<◌, ◌++◌, ◌∷◌, ℕ, List, [], length, map, sum_by, take, refl, sym, ap, ◌∙◌, arith}
+use Rattle.std.proofs.lemmas.List.{length-take-le, take_more}
+use Rattle.std.proofs.lemmas.List.Sums.{sum_by-append, sum_by-cons, sum_by_push}
+use Rattle.std.specs.Prelude.{slice_index_or}
+use Rattle.tq_base.specs.declared.fragment.Fragment.{Fragment}
+use Rattle.tq_base.specs.declared.period.Period.{Period}
+use Rattle.tq_base.specs.RowLists.{RowList}
+use Rattle.tq_event.specs.Loading.{event_count}
+use Rattle.tq_event.specs.Tables.{entries_from, told_by}
+use Rattle.tq_event.proofs.TableLemmas.{entries_put}
+use Rattle.tq_loading.specs.Together.{period_events}
+
+-- the rows make the events of their periods, whatever their table
+pub told_events : (table : ℕ) (rows : List Fragment) → sum_by event_count (map (told_by table) rows) ≡ sum_by period_events (map (λ (row : Fragment). row.period) rows)
+told_events table [] = refl
+told_events table (row ∷ rows) =
+    sum_by-cons event_count (told_by table row) (map (told_by table) rows)
+    ∙ ap (λ n. event_count (told_by table row) + n) (told_events table rows)
+    ∙ sym (sum_by-cons period_events row.period (map (λ (r : Fragment). r.period) rows))
+
+-- one period more
+pub one_more_period : (periods : List Period) (place : ℕ) (period : Period) → place < length periods → period ≡ slice_index_or periods place period
+    → sum_by period_events (take (place + 1) periods) ≡ sum_by period_events (take place periods) + period_events period
+one_more_period periods place period here is =
+    ap (sum_by period_events) (take_more periods place period here ∙ ap (λ (p : Period). take place periods ++ p ∷ []) (sym is)) ∙ sum_by_push period_events (take place periods) period
+
+-- one table more
+pub one_more_table : (tables : List RowList) (place : ℕ) (rows : RowList) → place < length tables → rows ≡ slice_index_or tables place rows
+    → sum_by event_count (entries_from 0 (take (place + 1) tables)) ≡ sum_by event_count (entries_from 0 (take place tables)) + sum_by event_count (map (told_by place) rows.items)
+one_more_table tables place rows here is =
+    let put : take (place + 1) tables ≡ take place tables ++ rows ∷ [] = take_more tables place rows here ∙ ap (λ (r : RowList). take place tables ++ r ∷ []) (sym is) in
+    ap (sum_by event_count) (entries_put (take place tables) (take (place + 1) tables) rows place put (length-take-le place tables (omega (arith, here))))
+    ∙ sum_by-append event_count (entries_from 0 (take place tables)) (map (told_by place) rows.items)

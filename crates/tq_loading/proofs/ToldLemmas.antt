@@ -1,0 +1,121 @@
+-- What files hold whose records tell the rows of their tables.
+use Rattle.std.proofs.Common.{◌≡◌, ◌≤◌, ◌<◌, ◌+◌, ◌++◌, ◌∷◌, ℕ, zero, suc, List, [], Some, None, Ok, Result, ◌⊎◌, inl, inr, drop, take, map, length, slice_get, sum_by, refl, sym, ap, ◌∙◌, arith, append-nil, append_assoc}
+use Rattle.std.proofs.lemmas.List.{drop_more, length-drop, length-take-le, take_all, take_more}
+use Rattle.std.proofs.lemmas.List.Sums.{sum_by-append, sum_by-cons}
+use Rattle.std.proofs.lemmas.Option.{get_or_from_slice_get, slice_get-get_or, slice_get_cases, slice_get_within}
+use Rattle.std.specs.Prelude.{slice_index_or}
+use Rattle.tq_base.specs.declared.catalogue.Column.{Column}
+use Rattle.tq_base.specs.declared.catalogue.Schema.{Schema}
+use Rattle.tq_base.specs.declared.fragment.Fragment.{Fragment}
+use Rattle.tq_base.specs.RowLists.{RowList}
+use Rattle.tq_event.specs.declared.fault.LoadFault.{LoadFault}
+use Rattle.tq_event.specs.declared.file.TableFile.{TableFile}
+use Rattle.tq_event.specs.Entries.{Entry}
+use Rattle.tq_event.specs.Loading.{Contents, contents_after, contents_of, csv_records, entries_after, entry_of, event_count, next_contents, next_name, table_contents}
+use Rattle.tq_event.specs.Tables.{AreRead, entries_from, told_by}
+use Rattle.tq_event.proofs.LoadLemmas.{add_ok, next_ok, read_ok}
+use Rattle.tq_event.proofs.TableLemmas.{entries_put}
+use Rattle.tq_loading.specs.Parts.{AreHeaded, AreRowsOfTable, AreTold, TellRows}
+
+-- ---- records
+
+first_told : (table : ℕ) (columns : List Column) (fields : List (List ℕ)) (records : List (List (List ℕ))) (row : Fragment) (rows : List Fragment) → TellRows columns (fields ∷ records) (row ∷ rows)
+    → entry_of table columns fields ≡ Ok (told_by table row)
+first_told table columns fields records row rows tell = cc (tell table)
+
+rest_told : (columns : List Column) (fields : List (List ℕ)) (records : List (List (List ℕ))) (row : Fragment) (rows : List Fragment) → TellRows columns (fields ∷ records) (row ∷ rows) → TellRows columns records rows
+rest_told columns fields records row rows tell table = cc (tell table)
+
+-- records that tell rows make their entries, where the events stay within the limit
+pub told_entries : (limit table : ℕ) (columns : List Column) (number : ℕ) (before : List Entry) (records : List (List (List ℕ))) (rows : List Fragment) → TellRows columns records rows
+    → sum_by event_count (before ++ map (told_by table) rows) ≤ limit → entries_after limit table columns number before records ≡ Ok (before ++ map (told_by table) rows)
+told_entries limit table columns number before [] [] tell within = ap (λ (es : List Entry). let r : Result (List Entry) LoadFault = Ok es in r) (sym (append-nil before))
+told_entries limit table columns number before [] (row ∷ rows) tell within = cc (tell table)
+told_entries limit table columns number before (fields ∷ records) [] tell within = cc (tell table)
+told_entries limit table columns number before (fields ∷ records) (row ∷ rows) tell within =
+    let entry : Entry = told_by table row in
+    let told : List Entry = map (told_by table) rows in
+    let assoc : (before ++ entry ∷ []) ++ told ≡ before ++ entry ∷ told = append_assoc before (entry ∷ []) told in
+    let counted : sum_by event_count before + event_count entry ≤ limit = omega (arith, sum_by-append event_count before (entry ∷ told), sum_by-cons event_count entry told, within) in
+    add_ok limit table columns number before fields records (fields ∷ records) refl entry (before ++ entry ∷ []) (first_told table columns fields records row rows tell)
+    (next_ok limit before entry (sum_by event_count before + event_count entry) refl counted)
+    ∙ told_entries limit table columns (number + 1) (before ++ entry ∷ []) records rows (rest_told columns fields records row rows tell) (omega (arith, ap (sum_by event_count) assoc, within))
+    ∙ ap (λ (es : List Entry). let r : Result (List Entry) LoadFault = Ok es in r) assoc
+
+-- ---- files
+
+-- the first tables make no more events than all
+some_events : (number n : ℕ) (tables : List RowList) → sum_by event_count (entries_from number (take n tables)) ≤ sum_by event_count (entries_from number tables)
+unfolding entries_from
+some_events number zero tables = omega arith
+some_events number (suc n) [] = omega arith
+some_events number (suc n) (rows ∷ tables) =
+    let told : List Entry = map (told_by number) rows.items in
+    omega (arith, sum_by-append event_count told (entries_from (number + 1) (take n tables)), sum_by-append event_count told (entries_from (number + 1) tables), some_events (number + 1) n tables)
+
+one_more : {A : Type 0} (xs : List A) (t : ℕ) (x : A) → slice_get xs t ≡ Some x → t < length xs → take (t + 1) xs ≡ take t xs ++ x ∷ []
+one_more {A} xs t x is within = take_more xs t x within ∙ ap (λ (y : A). take t xs ++ y ∷ []) (get_or_from_slice_get xs t x x is)
+
+item_at : {A : Type 0} (xs : List A) (t : ℕ) → t < length xs → (x : A) × (slice_get xs t ≡ Some x)
+item_at {A} xs t here = by (slice_get_cases xs t).1
+  where
+    by : ((x : A) × (t < length xs) × (slice_get xs t ≡ Some x) × (slice_index_or xs t x ≡ x)) ⊎ ((length xs ≤ t) × (slice_get xs t ≡ None)) → (x : A) × (slice_get xs t ≡ Some x)
+    by (inl (x, less, is, same)) = (x, is)
+    by (inr (past, none)) = absurd (omega (arith, past, here))
+
+module _ (files : List TableFile) (limit : ℕ) (schemas : List Schema) (tables : List RowList) (headed : AreHeaded files schemas) (told : AreTold files schemas tables)
+    (within : sum_by event_count (entries_from 0 tables) ≤ limit) where
+  abbrev so_far : ℕ → Contents
+  so_far t = record { tables = take t schemas; entries = entries_from 0 (take t tables) }
+
+  step_on : (t : ℕ) (file : TableFile) (schema : Schema) (rows : RowList) → t < length files → slice_get files t ≡ Some file → slice_get schemas t ≡ Some schema → slice_get tables t ≡ Some rows
+      → next_contents limit (so_far t) file ≡ Ok (so_far (t + 1))
+  step_on t file schema rows here is_file is_schema is_rows =
+      let number : length (take t schemas) ≡ t = length-take-le t schemas (omega (arith, here, headed.many)) in
+      let many : length (take t tables) ≡ t = length-take-le t tables (omega (arith, here, told.many)) in
+      let more_schemas : take (t + 1) schemas ≡ take t schemas ++ schema ∷ [] = one_more schemas t schema is_schema (omega (arith, here, headed.many)) in
+      let more_tables : take (t + 1) tables ≡ take t tables ++ rows ∷ [] = one_more tables t rows is_rows (omega (arith, here, told.many)) in
+      let before : List Entry = entries_from 0 (take t tables) in
+      let put : entries_from 0 (take (t + 1) tables) ≡ before ++ map (told_by t) rows.items = entries_put (take t tables) (take (t + 1) tables) rows t more_tables many in
+      let of_table : AreRowsOfTable schema.columns file.bytes rows = told.each t rows is_rows file schema is_file is_schema in
+      let few : sum_by event_count (before ++ map (told_by t) rows.items) ≤ limit = omega (arith, ap (sum_by event_count) put, some_events 0 (t + 1) tables, within) in
+      let contents : table_contents limit t before file.bytes ≡ Ok (schema.columns, before ++ map (told_by t) rows.items) =
+      read_ok limit t before file.bytes schema.columns (before ++ map (told_by t) rows.items) (headed.headed t file schema is_file is_schema)
+      (told_entries limit t schema.columns 2 before (drop 1 (csv_records file.bytes)) rows.items of_table.told few) in
+      let named : next_name (take t schemas) file.name ≡ Ok schema.name = headed.named t file schema is_file is_schema in
+      rw (named, number, contents, more_schemas, put) refl
+
+  rest_on : (left : List TableFile) (t : ℕ) → drop t files ≡ left → t ≤ length files → contents_after limit (so_far t) left ≡ Ok (record { tables = schemas; entries = entries_from 0 tables })
+  rest_on [] t is upto =
+      let past : length files ≤ t = omega (arith, length-drop t files, ap length is) in
+      rw (take_all t schemas (omega (arith, past, headed.many)), take_all t tables (omega (arith, past, told.many))) refl
+  rest_on (file ∷ left) t is upto =
+      let here : t < length files = omega (arith, length-drop t files, ap length is) in
+      let split : slice_index_or files t file ∷ drop (t + 1) files ≡ file ∷ left = sym (drop_more files t file here) ∙ is in
+      let same : slice_index_or files t file ≡ file = cc split in
+      let is_file : slice_get files t ≡ Some file = slice_get-get_or files t file here ∙ ap Some same in
+      let (schema, is_schema) = item_at schemas t (omega (arith, here, headed.many)) in
+      let (rows, is_rows) = item_at tables t (omega (arith, here, told.many)) in
+      rw (step_on t file schema rows here is_file is_schema is_rows) (rest_on left (t + 1) (cc split) (omega (arith, here)))
+
+  pub all_contents : contents_of files limit ≡ Ok (record { tables = schemas; entries = entries_from 0 tables })
+  unfolding entries_from
+  all_contents = rest_on files 0 refl (omega arith)
+
+-- ---- widths
+
+all_wide : (schemas : List Schema) (tables : List RowList) → length tables ≡ length schemas
+    → ((t : ℕ) (s : Schema) (r : RowList) → slice_get schemas t ≡ Some s → slice_get tables t ≡ Some r → r.width ≡ length s.columns) → AreRead schemas tables
+all_wide [] [] many wide = refl
+all_wide [] (r ∷ tables) many wide = absurd (omega (arith, many))
+all_wide (s ∷ schemas) [] many wide = absurd (omega (arith, many))
+all_wide (s ∷ schemas) (r ∷ tables) many wide =
+    let first : r.width ≡ length s.columns = wide zero s r refl refl in
+    let rest : AreRead schemas tables = all_wide schemas tables (omega (arith, many)) (λ t. wide (suc t)) in
+    rw (first, rest) refl
+
+-- the rows of each table are as wide as its schema
+pub as_wide : (files : List TableFile) (schemas : List Schema) (tables : List RowList) → AreHeaded files schemas → AreTold files schemas tables → AreRead schemas tables
+as_wide files schemas tables headed told = all_wide schemas tables (told.many ∙ sym headed.many) (λ t s r is_schema is_rows.
+    let (file, is_file) = item_at files t (omega (arith, slice_get_within tables t r is_rows, told.many)) in
+    (told.each t r is_rows file s is_file is_schema).wide)

@@ -1,0 +1,14 @@
+-- The parts so far were put together, and whatever they all are the rows put together are too.
+use Rattle.std.proofs.Common.{◌≡◌, ◌++◌, List}
+use Rattle.std.specs.Prelude.{All, IfSome}
+use Rattle.std.specs.Vec.Iter.{into_iter_items}
+use Rattle.tq_base.specs.declared.catalogue.Schema.{Schema}
+use Rattle.tq_event.specs.declared.file.TableFile.{TableFile}
+use Rattle.tq_loading.specs.Parts.{IsRead}
+use Rattle.tq_loading.proofs.together.side_by_side.Given as goal
+
+abbrev pub invariant-parts : goal.invariant-parts
+invariant-parts l = record {
+  reads : l.yielded ++ into_iter_items l.part-iterator ≡ l.fn.parts.items;
+  all : (files : List TableFile) (schemas : List Schema) → All (λ one. IfSome one (IsRead files schemas)) l.fn.parts.items → All (IsRead files schemas) l.all.items;
+}

@@ -1,0 +1,89 @@
+-- Parts of the files of tables, and the rows that their records tell. This project's own.
+use Rattle.std.specs.Prelude.{◌≡◌, ◌≢◌, ◌≤◌, ◌<◌, ◌-◌, ℕ, zero, suc, false, List, [], ◌∷◌, All, length, map, take, drop, slice_get, slice_index, slice_range, Some, Ok}
+use Rattle.std.proofs.Props.{props}
+use Rattle.tq_base.specs.declared.catalogue.Column.{Column}
+use Rattle.tq_base.specs.declared.catalogue.Schema.{Schema}
+use Rattle.tq_base.specs.declared.fragment.Fragment.{Fragment}
+use Rattle.tq_base.specs.RowLists.{RowList}
+use Rattle.tq_event.specs.declared.file.TableFile.{TableFile}
+use Rattle.tq_event.specs.Loading.{begins_with_mark, columns_of, csv_records, entry_of, next_name}
+use Rattle.tq_event.specs.Tables.{told_by}
+use Rattle.tq_loading.specs.declared.part.Part.{Part}
+use Rattle.tq_loading.specs.declared.part.PartRows.{PartRows}
+
+-- ---- where files are cut
+
+-- no byte is a quote, and the last one is a line feed
+pub record AreLines (bytes : List ℕ) : Type 0 where
+  pub unquoted : All (λ b. b ≢ 34) bytes
+  pub ended : slice_index bytes (length bytes - 1) ≡ 10
+
+-- at the place a line begins: there is no quote, a line feed stands before it, and no byte order mark behind
+pub record IsCut (bytes : List ℕ) (place : ℕ) : Type 0 where
+  pub unquoted : All (λ b. b ≢ 34) bytes
+  pub ended : slice_index bytes (place - 1) ≡ 10
+  pub unmarked : begins_with_mark (drop place bytes) ≡ false
+
+-- a part of the bytes, which begins where they do or at a cut
+pub record IsPart (bytes : List ℕ) (part : Part) : Type 0 where
+  pub ordered : part.start ≤ part.end
+  pub within : part.end ≤ length bytes
+  pub begins : part.start ≢ 0 → IsCut bytes part.start
+
+-- a part of one of the files
+pub record IsPartOf (files : List TableFile) (part : Part) : Type 0 where
+  pub table : part.table < length files
+  pub of_file : (file : TableFile) → slice_get files part.table ≡ Some file → IsPart file.bytes part
+
+-- ---- what they tell
+
+-- the records tell the rows, one each
+abbrev pub TellRows : List Column → List (List (List ℕ)) → List Fragment → Type 0
+TellRows columns records rows = (table : ℕ) → map (entry_of table columns) records ≡ map (λ row. Ok (told_by table row)) rows
+
+-- the same of the records of a part from this place on, of which the first one of a file is the header
+abbrev pub PartTells : ℕ → List Column → List (List (List ℕ)) → List Fragment → Type 0
+PartTells zero columns [] rows = ⊥
+PartTells zero columns (header ∷ records) rows = TellRows columns records rows
+PartTells (suc start) columns records rows = TellRows columns records rows
+
+-- the rows of a part of a table's bytes
+pub record AreRowsOfPart (columns : List Column) (bytes : List ℕ) (part : Part) (rows : RowList) : Type 0 where
+  pub part_of : IsPart bytes part
+  pub wide : rows.width ≡ length columns
+  pub told : PartTells part.start columns (csv_records (slice_range bytes part.start part.end)) rows.items
+
+-- it holds of the file and the schema of the table
+abbrev pub HoldsAt : List TableFile → List Schema → ℕ → (TableFile → Schema → Type 0) → Type 0
+HoldsAt files schemas table holds = (file : TableFile) (schema : Schema) → slice_get files table ≡ Some file → slice_get schemas table ≡ Some schema → holds file schema
+
+-- the rows are those of their part
+abbrev pub IsRead : List TableFile → List Schema → PartRows → Type 0
+IsRead files schemas read = HoldsAt files schemas read.part.table (λ file schema. AreRowsOfPart schema.columns file.bytes read.part read.rows)
+
+-- the schemas are those that the names and headers of the files make
+pub record AreHeaded (files : List TableFile) (schemas : List Schema) : Type 0 where
+  pub many : length schemas ≡ length files
+  pub named : (table : ℕ) → HoldsAt files schemas table (λ file schema. next_name (take table schemas) file.name ≡ Ok schema.name)
+  pub headed : (table : ℕ) → HoldsAt files schemas table (λ file schema. columns_of file.bytes ≡ Ok schema.columns)
+
+-- the rows of a table are those that the records behind its header tell
+pub record AreRowsOfTable (columns : List Column) (bytes : List ℕ) (rows : RowList) : Type 0 where
+  pub wide : rows.width ≡ length columns
+  pub told : TellRows columns (drop 1 (csv_records bytes)) rows.items
+
+-- there are rows of each table
+pub record AreTold (files : List TableFile) (schemas : List Schema) (tables : List RowList) : Type 0 where
+  pub many : length tables ≡ length files
+  pub each : (table : ℕ) (rows : RowList) → slice_get tables table ≡ Some rows → HoldsAt files schemas table (λ file schema. AreRowsOfTable schema.columns file.bytes rows)
+
+-- ---- a part is one in one way at most
+
+cut_prop : (bytes : List ℕ) (place : ℕ) → IsProp (IsCut bytes place)
+cut_prop bytes place = hlevel props
+
+part_prop : (bytes : List ℕ) (part : Part) → IsProp (IsPart bytes part)
+part_prop bytes part = hlevel (props, cut_prop)
+
+pub part_of_prop : (files : List TableFile) (part : Part) → IsProp (IsPartOf files part)
+part_of_prop files part = hlevel (props, part_prop)

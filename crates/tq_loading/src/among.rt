@@ -1,0 +1,101 @@
+// Loading files by several workers.
+
+ghost use Rattle.std.specs.Prelude.{◌≡◌, ◌≢◌, ◌≤◌, Err, IfErr, IfOk, IfSome};
+ghost use Rattle.tq_event.specs.Loading.{contents_of, out_of_memory};
+ghost use Rattle.tq_event.specs.Tables.{AreTables};
+
+use crate::cut::{cut, part_len};
+use crate::headers::read_schemas;
+use crate::together::{is_within, side_by_side, whole_tables};
+use crate::well::well;
+use crate::work::read_parts;
+use std::alloc::{AllocError, Global};
+use std::thread::Threads;
+use tq_base::{Catalogue, Items};
+use tq_event::{LoadFault, LoadFaultKind, MAX_EVENTS, TableFile, Tables, load_tables};
+use tq_run::Gate;
+
+// No part is made shorter, so that a small file stays whole.
+const LEAST_PART: usize = 65_536;
+
+// The tables of the files, whose parts of at least this length these workers read; `None` where something is amiss.
+fn tables_of_parts<R: Threads + Sync, G: Gate + Sync>(
+    rt: &R,
+    alloc: Global,
+    files: &[TableFile],
+    limit: u32,
+    workers: u32,
+    least: usize,
+    gate: &G,
+) -> Result<Option<Tables>, AllocError>
+    requires some { 1 ≤ workers }
+    requires at_most { workers ≤ 16 }
+    ensures { IfOk result (λ found. IfSome found (AreTables files.now limit)) }
+{
+    let Some(schemas) = well(read_schemas(alloc, files))? else {
+        return Ok(None);
+    };
+    let parts = cut(alloc, files, part_len(files, workers, least))?;
+    let read = read_parts(rt, alloc, limit, files, &schemas, &parts, workers, gate)?;
+    let Some(read) = side_by_side(alloc, read)? else {
+        return Ok(None);
+    };
+    let Some(rows) = whole_tables(alloc, files, read)? else {
+        return Ok(None);
+    };
+    if !is_within(limit, &rows) {
+        return Ok(None);
+    }
+    Ok(Some(Tables {
+        catalogue: Catalogue {
+            tables: Items::of(schemas),
+        },
+        rows: Items::of(rows),
+    }))
+}
+
+/// The same as `load_tables_among`, with parts of at least this length in place of 64 KiB.
+pub fn load_tables_by_parts<R: Threads + Sync, G: Gate + Sync>(
+    rt: &R,
+    alloc: Global,
+    files: Vec<TableFile>,
+    limit: u32,
+    workers: u32,
+    least: usize,
+    gate: &G,
+) -> Result<Tables, LoadFault>
+    requires limit { limit ≤ MAX_EVENTS }
+    requires some { 1 ≤ workers }
+    requires at_most { workers ≤ 16 }
+    ensures tables { IfOk result (AreTables files.items limit) }
+    ensures fault { IfErr result (λ fault. fault.kind ≢ LoadFaultKind.OutOfMemory → contents_of files.items limit ≡ Err fault) }
+    ensures out_of_memory { IfErr result (λ fault. fault.kind ≡ LoadFaultKind.OutOfMemory → fault ≡ out_of_memory) }
+{
+    if workers > 1
+        && let Some(tables) = tables_of_parts(rt, alloc, &files, limit, workers, least, gate)?
+    {
+        return Ok(tables);
+    }
+    load_tables(alloc, files, limit)
+}
+
+/// Loads files into their tables by 1 to 16 workers, the calling thread among them: what `load_tables` answers.
+/// The gate is told of each part of the files before its records are read, and is not asked where one worker
+/// loads, or where the files are loaded again for their first fault. `OutOfMemory` where a growth was refused.
+pub fn load_tables_among<R: Threads + Sync, G: Gate + Sync>(
+    rt: &R,
+    alloc: Global,
+    files: Vec<TableFile>,
+    limit: u32,
+    workers: u32,
+    gate: &G,
+) -> Result<Tables, LoadFault>
+    requires limit { limit ≤ MAX_EVENTS }
+    requires some { 1 ≤ workers }
+    requires at_most { workers ≤ 16 }
+    ensures tables { IfOk result (AreTables files.items limit) }
+    ensures fault { IfErr result (λ fault. fault.kind ≢ LoadFaultKind.OutOfMemory → contents_of files.items limit ≡ Err fault) }
+    ensures out_of_memory { IfErr result (λ fault. fault.kind ≡ LoadFaultKind.OutOfMemory → fault ≡ out_of_memory) }
+{
+    load_tables_by_parts(rt, alloc, files, limit, workers, LEAST_PART, gate)
+}

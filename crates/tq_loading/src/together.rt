@@ -1,0 +1,133 @@
+// Putting the rows of parts together.
+
+ghost use Rattle.std.specs.Prelude.{◌≡◌, ◌≤◌, ◌+◌, All, IfOk, IfSome, IsTrue, List, OnOk, OnSome, length, map, sum_by};
+ghost use Rattle.tq_base.specs.declared.catalogue.Schema.{Schema as Heading};
+ghost use Rattle.tq_event.specs.declared.file.TableFile.{TableFile as File};
+ghost use Rattle.tq_event.specs.Loading.{event_count};
+ghost use Rattle.tq_event.specs.Tables.{entries_from, told_by};
+ghost use Rattle.tq_loading.specs.Parts.{AreTold, IsRead};
+ghost use Rattle.tq_loading.specs.Together.{IsWhole, LeadsTo, period_events};
+
+use crate::part::{Part, PartRows};
+use std::alloc::{AllocError, Global};
+use tq_base::{FOREVER, Period, Rows};
+use tq_event::TableFile;
+
+// Whether the other part follows on this one, with rows as wide.
+fn leads_to(read: &PartRows, other: &PartRows) -> bool
+    ensures { IsTrue result → LeadsTo read.now other.now }
+{
+    read.part.table == other.part.table
+        && read.part.end == other.part.start
+        && read.rows.width() == other.rows.width()
+}
+
+// The rows of both parts, of which the other follows on this one.
+fn both(read: PartRows, other: PartRows) -> Result<PartRows, AllocError>
+    requires { LeadsTo read other }
+    ensures { (files : List File) (schemas : List Heading) → IsRead files schemas read → IsRead files schemas other → IfOk result (IsRead files schemas) }
+{
+    let part = Part {
+        table: read.part.table,
+        start: read.part.start,
+        end: other.part.end,
+    };
+    let rows = read.rows.followed_by(other.rows)?;
+    Ok(PartRows { part, rows })
+}
+
+// The rows go to the end of the list, into the last of it where they follow on that.
+fn add(all: &mut Vec<PartRows>, next: PartRows) -> Result<(), AllocError>
+    ensures { (files : List File) (schemas : List Heading) → All (IsRead files schemas) all.old.items → IsRead files schemas next → OnOk result (All (IsRead files schemas) all.new.items) }
+{
+    let Some(last) = all.pop() else {
+        all.push(next)?;
+        return Ok(());
+    };
+    if leads_to(&last, &next) {
+        all.push(both(last, next)?)?;
+    } else {
+        all.push(last)?;
+        all.push(next)?;
+    }
+    Ok(())
+}
+
+/// The rows of the parts, those of parts that follow on one another side by side; `None` where one is amiss.
+pub fn side_by_side(
+    alloc: Global,
+    parts: Vec<Option<PartRows>>,
+) -> Result<Option<Vec<PartRows>>, AllocError>
+    ensures { (files : List File) (schemas : List Heading) → All (λ one. IfSome one (IsRead files schemas)) parts.items → IfOk result (λ found. IfSome found (λ all. All (IsRead files schemas) all.items)) }
+{
+    let mut all = Vec::new(alloc);
+    'parts: for part in parts {
+        let Some(part) = part else {
+            return Ok(None);
+        };
+        add(&mut all, part)?;
+    }
+    Ok(Some(all))
+}
+
+// Whether the rows are those of the whole file of this table.
+fn is_whole(read: &PartRows, table: usize, bytes: &[u8]) -> bool
+    ensures { IsTrue result → IsWhole table bytes.now read.now.part }
+{
+    read.part.table as usize == table && read.part.start == 0 && read.part.end == bytes.len()
+}
+
+/// The rows of each table, where they are those of the whole files; else `None`.
+pub fn whole_tables(
+    alloc: Global,
+    files: &[TableFile],
+    parts: Vec<PartRows>,
+) -> Result<Option<Vec<Rows>>, AllocError>
+    ensures { (schemas : List Heading) → All (IsRead files.now schemas) parts.items → IfOk result (λ found. IfSome found (λ tables. AreTold files.now schemas tables.items)) }
+{
+    if parts.len() != files.len() {
+        return Ok(None);
+    }
+    let mut tables = Vec::with_capacity(alloc, parts.len())?;
+    'parts: for part in parts {
+        let table = tables.len();
+        if !is_whole(&part, table, files[table].bytes.get()) {
+            return Ok(None);
+        }
+        tables.push(part.rows)?;
+    }
+    Ok(Some(tables))
+}
+
+// How many events a row makes that is valid in the period.
+fn events_of(period: &Period) -> u32
+    ensures { result ≡ period_events period.now }
+{
+    if period.end.number() == FOREVER { 1 } else { 2 }
+}
+
+// How many events are left of so many once the rows have made theirs; `None` where they make more.
+fn events_left(left: u32, rows: &Rows) -> Option<u32>
+    ensures { (table : _) → IfSome result (λ rest. rest + sum_by event_count (map (told_by table) rows.now.items) ≡ left) }
+{
+    let mut rest = left;
+    let periods = rows.periods();
+    'rows: for period in periods {
+        rest = rest.checked_sub(events_of(period))?;
+    }
+    Some(rest)
+}
+
+/// Whether the rows of the tables make no more events than this.
+pub fn is_within(limit: u32, tables: &[Rows]) -> bool
+    ensures { IsTrue result → sum_by event_count (entries_from 0 tables.now) ≤ limit }
+{
+    let mut left = limit;
+    'tables: for rows in tables {
+        match events_left(left, rows) {
+            Some(rest) => left = rest,
+            None => return false,
+        }
+    }
+    true
+}

@@ -1,0 +1,17 @@
+// What is well or amiss.
+
+ghost use Rattle.std.specs.Prelude.{◌≡◌, IfOk, IfSome, Ok};
+
+use std::alloc::AllocError;
+use tq_event::LoadFaultKind;
+
+/// What was read, or `None` where something is amiss, whatever that is. `AllocError` where a growth was refused.
+pub fn well<T: Drop>(read: Result<T, LoadFaultKind>) -> Result<Option<T>, AllocError>
+    ensures { IfOk result (λ found. IfSome found (λ x. read ≡ Ok x)) }
+{
+    match read {
+        Ok(x) => Ok(Some(x)),
+        Err(LoadFaultKind::OutOfMemory) => Err(AllocError),
+        Err(_) => Ok(None),
+    }
+}

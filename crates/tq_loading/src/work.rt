@@ -1,0 +1,98 @@
+// The parts of files as pieces of work.
+
+ghost use Rattle.std.specs.Prelude.{◌≡◌, ◌≤◌, All, IfOk, IfSome, length};
+ghost use Rattle.std.proofs.Props.{props};
+ghost use Rattle.tq_loading.specs.Parts.{IsPartOf, IsRead, part_of_prop};
+
+use crate::part::{Part, PartRows};
+use crate::reading::read_part;
+use crate::well::well;
+use std::alloc::{AllocError, Global};
+use std::thread::Threads;
+use tq_base::Schema;
+use tq_event::TableFile;
+use tq_run::{Gate, Work, run_with};
+
+// The rows of a part, or `None` where something is amiss with it.
+fn part_rows(
+    alloc: Global,
+    limit: u32,
+    files: &[TableFile],
+    schemas: &[Schema],
+    part: Part,
+) -> Result<Option<PartRows>, AllocError>
+    requires part { IsPartOf files.now part }
+    requires many { length schemas.now ≡ length files.now }
+    ensures { IfOk result (λ read. IfSome read (IsRead files.now schemas.now)) }
+{
+    let columns = schemas[part.table as usize].columns.get();
+    let bytes = files[part.table as usize].bytes.get();
+    let bytes = &bytes[part.start..part.end];
+    match well(read_part(alloc, limit, columns, bytes, part.start))? {
+        Some(rows) => Ok(Some(PartRows { part, rows })),
+        None => Ok(None),
+    }
+}
+
+// The parts of files, a piece each.
+#[derive(Drop)]
+struct Parts<'p> {
+    alloc: Global,
+    limit: u32,
+    files: &'p [TableFile],
+    schemas: &'p [Schema],
+    parts: &'p [Part],
+    ghost few: { length parts.now ≤ 65552 },
+    ghost many: { length schemas.now ≡ length files.now },
+    ghost are: { All (IsPartOf files.now) parts.now } by { Prim.hlevel (props, part_of_prop) },
+}
+
+impl Work for Parts<'_> {
+    type Out = Option<PartRows>;
+
+    ghost count = { λ w. length w.parts.now };
+
+    ghost relates = { λ w _ read. IfSome read (IsRead w.files.now w.schemas.now) };
+
+    fn pieces(&self) -> u32 {
+        self.parts.len() as u32
+    }
+
+    fn run(&self, i: u32) -> Result<Option<PartRows>, AllocError> {
+        part_rows(
+            self.alloc,
+            self.limit,
+            self.files,
+            self.schemas,
+            self.parts[i as usize],
+        )
+    }
+}
+
+/// The rows of the parts in their order, read by these workers.
+pub fn read_parts<'p, R: Threads + Sync, G: Gate + Sync>(
+    rt: &R,
+    alloc: Global,
+    limit: u32,
+    files: &'p [TableFile],
+    schemas: &'p [Schema],
+    parts: &'p [Part],
+    workers: u32,
+    gate: &G,
+) -> Result<Vec<Option<PartRows>>, AllocError>
+    requires few { length parts.now ≤ 65552 }
+    requires many { length schemas.now ≡ length files.now }
+    requires are { All (IsPartOf files.now) parts.now }
+    requires some { 1 ≤ workers }
+    requires at_most { workers ≤ 16 }
+    ensures { IfOk result (λ read. All (λ one. IfSome one (IsRead files.now schemas.now)) read.items) }
+{
+    let work = Parts {
+        alloc,
+        limit,
+        files,
+        schemas,
+        parts,
+    };
+    run_with(rt, alloc, workers, &work, gate)
+}

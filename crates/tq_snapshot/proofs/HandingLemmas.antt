@@ -1,0 +1,55 @@
+-- What the writer hands over, and what the shared value makes of it.
+use Rattle.std.proofs.Common.{◌≡◌, ℕ, ◌+◌, ◌<◌, ◌≤◌, List, [], ◌∷◌, ◌++◌, length, take, drop, get_or, fold, Result, Ok, Err, MatchResult, refl, ap, sym, subst, ◌∙◌, arith, append-nil, append_assoc, length-append}
+use Rattle.std.proofs.lemmas.List.{take_all, take_more}
+use Rattle.tq_base.specs.declared.catalogue.Catalogue.{Catalogue}
+use Rattle.tq_event.specs.declared.event.Event.{Event}
+use Rattle.logbook.specs.Pages.{Book}
+use Rattle.tq_snapshot.specs.Held.{Arrival, Held, IsOf, absorbed, arrivals, held, known}
+use Rattle.tq_snapshot.specs.Sound.{Handed}
+
+-- the shared value takes later events in, and has them all then
+pub fold_arrivals : (c : Catalogue) (b : Book) (before es : List Event) → fold absorbed (held c b before) (arrivals b before es) ≡ held c b (before ++ es)
+fold_arrivals c b before [] = ap (held c b) (sym (append-nil before))
+fold_arrivals c b before (e ∷ es) = fold_arrivals c b (before ++ e ∷ []) es ∙ ap (held c b) (append_assoc before (e ∷ []) es)
+
+-- one more event behind the others
+arrivals_push : (b : Book) (before es : List Event) (e : Event) → arrivals b before (es ++ e ∷ []) ≡ arrivals b before es ++ record { event = e; front = known b ((before ++ es) ++ e ∷ []) } ∷ []
+arrivals_push b before [] e = ap (λ (z : List Event). record { event = e; front = known b (z ++ e ∷ []) } ∷ []) (sym (append-nil before))
+arrivals_push b before (x ∷ es) e =
+    ap (λ (z : List Arrival). record { event = x; front = known b (before ++ x ∷ []) } ∷ z) (arrivals_push b (before ++ x ∷ []) es e)
+    ∙ ap (λ (z : List Event). record { event = x; front = known b (before ++ x ∷ []) } ∷ (arrivals b (before ++ x ∷ []) es ++ record { event = e; front = known b (z ++ e ∷ []) } ∷ [])) (append_assoc before (x ∷ []) es)
+
+-- the first elements of two lists, one behind the other
+pub take_behind : {A : Type 0} (xs ys : List A) (n : ℕ) → take (length xs + n) (xs ++ ys) ≡ xs ++ take n ys
+take_behind [] ys n = ap (λ k. take k ys) (let same : 0 + n ≡ n = omega arith in same)
+take_behind (x ∷ xs) ys n = ap (λ k. take k (x ∷ (xs ++ ys))) (let same : length (x ∷ xs) + n ≡ Rattle.std.proofs.Common.suc (length xs + n) = omega arith in same) ∙ ap (λ z. x ∷ z) (take_behind xs ys n)
+
+-- one more event was handed over
+pub hand_one : (b : Book) (shown : List Event) (waiting waiting' : List Arrival) (pending : List Event) (sent : ℕ) (e : Event) → Handed b shown waiting pending sent → sent < length pending → e ≡ get_or pending sent e
+    → waiting' ≡ waiting ++ record { event = e; front = known b (shown ++ take (sent + 1) pending) } ∷ [] → Handed b shown waiting' pending (sent + 1)
+hand_one b shown waiting waiting' pending sent e h less at is =
+    let next : take (sent + 1) pending ≡ take sent pending ++ e ∷ [] = take_more pending sent e less ∙ ap (λ (x : Event). take sent pending ++ x ∷ []) (sym at) in
+    record {
+      within = omega arith;
+      waits = is
+          ∙ (ap (λ (z : List Arrival). z ++ record { event = e; front = known b (shown ++ take (sent + 1) pending) } ∷ []) h.waits
+          ∙ (ap (λ (z : List Event). arrivals b shown (take sent pending) ++ record { event = e; front = known b z } ∷ []) (ap (λ z. shown ++ z) next ∙ sym (append_assoc shown (take sent pending) (e ∷ [])))
+          ∙ (sym (arrivals_push b shown (take sent pending) e) ∙ ap (arrivals b shown) (sym next))));
+    }
+
+-- once all were handed over, publishing shows all
+pub hand_all : (c : Catalogue) (b : Book) (x : Held) (waiting : List Arrival) (pending : List Event) → IsOf c b x → Handed b x.events waiting pending (length pending)
+    → fold absorbed x waiting ≡ held c b (x.events ++ pending)
+hand_all c b x waiting pending of h =
+    ap (λ (z : Held). fold absorbed z waiting) of
+    ∙ (ap (fold absorbed (held c b x.events)) h.waits
+    ∙ (fold_arrivals c b x.events (take (length pending) pending) ∙ ap (λ (z : List Event). held c b (x.events ++ z)) (take_all (length pending) pending (omega arith))))
+
+pub of_book : (c : Catalogue) (b : Book) (x : Held) (all : List Event) → x ≡ held c b all → IsOf c b x
+of_book c b x all is = is ∙ ap (held c b) (sym (ap (λ (z : Held). z.events) is))
+
+pub publishes : {A E : Type 0} (x y to : Held) (waiting rest : List Arrival) (r : Result A E) → fold absorbed x waiting ≡ to
+    → MatchResult r (λ _. (y ≡ fold absorbed x waiting) × (rest ≡ [])) (λ _. (y ≡ x) × (rest ≡ waiting))
+    → MatchResult r (λ _. (y ≡ to) × (rest ≡ [])) (λ _. (y ≡ x) × (rest ≡ waiting))
+publishes x y to waiting rest (Ok a) is h = (h.0 ∙ is, h.1)
+publishes x y to waiting rest (Err e) is h = h

@@ -1,0 +1,4 @@
+pub mod FrontLemmas
+pub mod BookLemmas
+pub mod HandingLemmas
+pub mod WriterLemmas

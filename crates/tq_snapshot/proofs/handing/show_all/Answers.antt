@@ -1,0 +1,21 @@
+use Rattle.std.proofs.Common.{◌≡◌, ◌++◌, drop, fold, ◌∙◌}
+use Rattle.tq_snapshot.specs.Held.{IsOf, absorbed, held}
+use Rattle.tq_snapshot.proofs.HandingLemmas.{hand_all, of_book, publishes}
+use Rattle.tq_snapshot.proofs.handing.show_all.Goals as goal
+
+pub publish_as-requires : goal.publish_as-requires
+publish_as-requires g c next is views holds at =
+    let w = c.args.writer in
+    let all = w.desk.shown.value.events ++ c.args.pending.now in
+    let to = held g.J.Naming.catalogue g.J.Naming.book all in
+    let taken : fold absorbed w.desk.shown.value (drop w.behind w.log.items) ≡ to = hand_all _ _ w.desk.shown.value (drop w.behind w.log.items) c.args.pending.now c.requires.shows c.requires.handed in
+    let of : IsOf g.J.Naming.catalogue g.J.Naming.book next = of_book g.J.Naming.catalogue g.J.Naming.book next all (is ∙ taken) in
+    (tt, of, of)
+
+pub returns : goal.returns
+returns g c =
+    let w = c.args.writer in
+    let v = c.publish_as.result.0 in
+    publishes w.desk.shown.value v.desk.shown.value (held g.J.Naming.catalogue g.J.Naming.book (w.desk.shown.value.events ++ c.args.pending.now)) (drop w.behind w.log.items) (drop v.behind v.log.items) c.publish_as.result.1
+    (hand_all _ _ w.desk.shown.value (drop w.behind w.log.items) c.args.pending.now c.requires.shows c.requires.handed)
+    c.publish_as.ensures.values

@@ -1,0 +1,5 @@
+pub mod Held
+pub mod Rules
+pub mod Sound
+pub mod Calls
+pub mod Laws

@@ -1,0 +1,17 @@
+-- The rule of a book, and what its one step tells. This project's own.
+use Rattle.std.specs.Prelude.{ℕ, ◌≡◌, ◌==◌, true, List, [], ◌∷◌, ◌++◌, length, MatchBool}
+use Rattle.logbook.specs.Pages.{Book, Cell, Named, Step, View}
+use Rattle.tq_event.specs.declared.event.Event.{Event}
+
+-- the first of the two words is the number of events; the other one is not used
+pub record IsCounted (cells : List Cell) (log : List Event) : Type 0 where
+  pub words : cells ≡ (length log, true) ∷ (0, true) ∷ []
+
+-- the first word of the book
+abbrev pub count_word : Book → Named
+count_word b = record { tracked = true; key = 0; book = b }
+
+-- where the count was found as it was expected, the event stands behind those that were seen, which were all
+abbrev pub Appends : Step Event → View Event ℕ → ℕ → View Event ℕ → Type 0
+Appends step before found after =
+    MatchBool (found == step.old) ((after.0 ≡ before.0 ++ step.ask ∷ []) × (length before.0 ≡ step.old)) (Unit {0})

@@ -1,0 +1,247 @@
+// The writer.
+
+ghost use Rattle.std.specs.Prelude.{◌≡◌, ◌-◌, ◌<◌, ◌≤◌, ◌∷◌, [], ◌++◌, length, slice_get, None, Some, IfSome, IsSomeAnd, OnOk, OnErr, MatchBool, MatchOption, MatchResult};
+ghost use Rattle.tq_event.specs.declared.event.Event.{Event};
+ghost use Rattle.tq_event.specs.History.{IsAdmissible, IsHistory, IsNotBefore, IsOpenBefore, time_of};
+ghost use Rattle.tq_event.specs.Opening.{open_row};
+ghost use Rattle.tq_event.specs.Recorded.{HasTable};
+ghost use Rattle.tq_store.specs.OpenIndex.{next_row};
+ghost use Rattle.tq_snapshot.specs.Calls.{IsLater, MayEnd, MayStart, Precludes, RefusesEnd, RefusesStart, RefusesTable, Shown, all_of};
+
+use crate::book::{Book, Front, Naming};
+use crate::faults::AppendFault;
+use crate::handing::{SharedWriter, commit, hand_over, show};
+use crate::note::Note;
+use core::mem::ManuallyDrop;
+use std::alloc::AllocError;
+use std::marker::{Model, PhantomData};
+use std::sync::Wait;
+use tq_base::{Catalogue, Instant, Values};
+use tq_event::Event;
+use tq_store::OpenIndex;
+
+/// The writer of the store: it appends events, which are pending until it publishes them. Contracts see it as its
+/// published events, its pending ones, and how many there may be in all.
+pub struct Writer<J: Naming> {
+    pub(crate) inner: SharedWriter<J>,
+    pub(crate) book: Book,
+    pub(crate) written: Front,
+    pub(crate) pending: Vec<Event>,
+    pub(crate) sent: usize,
+    pub(crate) rows: OpenIndex,
+    pub(crate) limit: usize,
+}
+
+impl<J: Naming> Model for Writer<J> {
+    ghost use Rattle.std.specs.Prelude.{◌≡◌, ◌++◌, drop, length};
+    ghost use Rattle.tq_store.specs.OpenIndex.{IsOpenIndex, table_count};
+    ghost use Rattle.tq_snapshot.specs.Calls.{Shown};
+    ghost use Rattle.tq_snapshot.specs.Sound.{IsSound};
+
+    ghost Value = { Shown };
+
+    ghost view = { λ w. record { published = w.inner.desk.shown.value.events; pending = w.pending.items; limit = w.limit } };
+
+    ghost invariant = { λ w. (w.book.count.book ≡ J.book) × IsSound J.catalogue J.book w.inner.desk.shown.value (drop w.inner.behind w.inner.log.items) w.pending.items w.sent w.written w.limit × IsOpenIndex (w.inner.desk.shown.value.events ++ w.pending.items) w.rows × (table_count w.rows ≡ length J.catalogue.tables) };
+}
+
+impl<J: Naming> Drop for Writer<J> {
+    // No reader is waited for, so both copies of the shared value stay in memory.
+    fn drop(self) {
+        let Self {
+            inner,
+            book: _book,
+            written: _written,
+            pending: _pending,
+            sent: _,
+            rows: _rows,
+            limit: _,
+        } = self;
+        let _left = unsafe { ManuallyDrop::new_unchecked(inner) };
+    }
+}
+
+// That the table takes the values, or why not.
+fn fits(catalogue: &Catalogue, table: u32, values: &Values) -> Result<(), AppendFault>
+    ensures { MatchResult result (λ _. HasTable catalogue.now table values.now) (RefusesTable catalogue.now table values.now) }
+{
+    match catalogue.tables.get().get(table as usize) {
+        None => Err(AppendFault::UnknownTable),
+        Some(schema) => {
+            if schema.fits(values) {
+                Ok(())
+            } else {
+                Err(AppendFault::BadValues)
+            }
+        }
+    }
+}
+
+fn time(event: &Event) -> Instant
+    ensures { result ≡ time_of event.now }
+{
+    match event {
+        Event::Start { at, .. } => *at,
+        Event::End { at, .. } => *at,
+    }
+}
+
+// The time of the last event of both lists, where it is later than the instant.
+fn later(published: &[Event], pending: &[Event], at: Instant) -> Option<Instant>
+    ensures { MatchOption result (IsNotBefore (published.now ++ pending.now) at) (λ last. IsLater (published.now ++ pending.now) at last) }
+{
+    let last = match pending.last() {
+        Some(last) => time(last),
+        None => time(published.last()?),
+    };
+    if at < last { Some(last) } else { None }
+}
+
+impl<J: Naming> Writer<J> {
+    /// The store's catalogue.
+    pub fn catalogue(&self) -> &Catalogue
+        ensures { result.now ≡ J.catalogue }
+    {
+        self.inner.published().catalogue()
+    }
+
+    /// How many events are published.
+    pub fn published(&self) -> u32
+        ensures { result ≡ length self.now.published }
+    {
+        self.inner.published().count() as u32
+    }
+
+    /// Starts a row of these values, and answers its number in the table. The first of these that applies refuses
+    /// it, and changes nothing: UnknownTable, BadValues, TooEarly, TooManyEvents, OutOfMemory. It waits for nobody.
+    pub fn start(&mut self, table: u32, values: &Values, at: Instant) -> Result<u32, AppendFault>
+        ensures { MatchResult result (λ row. MayStart J.catalogue self.old table values.now at × (row ≡ next_row (all_of self.old) table) × (self.new ≡ record self.old { pending = self.old.pending ++ Event.Start table values.now at ∷ [] })) (λ fault. (self.new ≡ self.old) × RefusesStart J.catalogue self.old table values.now at fault) }
+    {
+        self.may_append(table, values, at)?;
+        if !self.has_room() {
+            return Err(AppendFault::TooManyEvents);
+        }
+        let row = self.next_row(table);
+        let Ok(values) = values.try_copy() else {
+            return Err(AppendFault::OutOfMemory);
+        };
+        match self.append(Event::Start { table, values, at }) {
+            Ok(()) => Ok(row),
+            Err(_) => Err(AppendFault::OutOfMemory),
+        }
+    }
+
+    /// Ends the first row of these values that is open by the published and pending events and started before the
+    /// instant, and answers its number in the table. The first of these that applies refuses it, and changes
+    /// nothing: UnknownTable, BadValues, TooEarly, NoOpenRow, TooManyEvents, OutOfMemory. It waits for nobody.
+    pub fn end(&mut self, table: u32, values: &Values, at: Instant) -> Result<u32, AppendFault>
+        ensures { MatchResult result (λ row. MayEnd J.catalogue self.old table values.now at row × (self.new ≡ record self.old { pending = self.old.pending ++ Event.End table row at ∷ [] })) (λ fault. (self.new ≡ self.old) × RefusesEnd J.catalogue self.old table values.now at fault) }
+    {
+        self.may_append(table, values, at)?;
+        let Some(row) = self.open_row(table, values, at) else {
+            return Err(AppendFault::NoOpenRow);
+        };
+        if !self.has_room() {
+            return Err(AppendFault::TooManyEvents);
+        }
+        match self.append(Event::End { table, row, at }) {
+            Ok(()) => Ok(row),
+            Err(_) => Err(AppendFault::OutOfMemory),
+        }
+    }
+
+    // That the table takes the values and no event is later, or why not.
+    fn may_append(&self, table: u32, values: &Values, at: Instant) -> Result<(), AppendFault>
+        ensures { MatchResult result (λ _. HasTable J.catalogue table values.now × IsNotBefore (all_of self.now) at) (Precludes J.catalogue (all_of self.now) table values.now at) }
+    {
+        fits(self.inner.published().catalogue(), table, values)?;
+        match later(self.inner.published().events(), &self.pending, at) {
+            Some(last) => Err(AppendFault::TooEarly { last }),
+            None => Ok(()),
+        }
+    }
+
+    // Whether there may be one more event.
+    fn has_room(&self) -> bool
+        ensures { MatchBool result (length (all_of self.now) < self.now.limit) (length (all_of self.now) ≡ self.now.limit) }
+    {
+        self.inner.published().events().len() + self.pending.len() < self.limit
+    }
+
+    // The number of the table's next row.
+    fn next_row(&self, table: u32) -> u32
+        requires { table < length J.catalogue.tables }
+        ensures { result ≡ next_row (all_of self.now) table }
+    {
+        let published = self.inner.published().events();
+        self.rows.next_row(published, &self.pending, table)
+    }
+
+    // The table's first open row of these values.
+    fn open_row(&self, table: u32, values: &Values, at: Instant) -> Option<u32>
+        requires { table < length J.catalogue.tables }
+        ensures row { result ≡ open_row (all_of self.now) table values.now at }
+        ensures opened { IfSome result (λ row. IsOpenBefore (all_of self.now) table row at) }
+    {
+        let published = self.inner.published().events();
+        self.rows
+            .open_row(published, &self.pending, table, values, at)
+    }
+
+    // Appends an event that may follow. Out of memory: all is as before.
+    fn append(&mut self, event: Event) -> Result<(), AllocError>
+        requires admissible { IsAdmissible J.catalogue (all_of self.old) event }
+        requires room { length (all_of self.old) < self.old.limit }
+        ensures ok { OnOk result (self.new ≡ record self.old { pending = self.old.pending ++ event ∷ [] }) }
+        ensures err { OnErr result (self.new ≡ self.old) }
+    {
+        self.pending.reserve(1)?;
+        let published = self.inner.published().events();
+        self.rows.take(published, &self.pending, &event)?;
+        self.pending.push_reserved(event);
+        Ok(())
+    }
+
+    /// Shows readers all pending events, and answers how many are published. `AllocError` where a growth was
+    /// refused: published and pending events are as before, and the next publishing goes on from there. It waits for
+    /// readers that are still at an older value.
+    pub fn publish<R: Wait>(&mut self, rt: &R) -> Result<u32, AllocError>
+        ensures { MatchResult result (λ n. (self.new ≡ record self.old { published = all_of self.old; pending = [] }) × (n ≡ length self.new.published)) (λ _. self.new ≡ self.old) }
+    {
+        let published = self.inner.published().events();
+        if !commit(&self.book, &mut self.written, published, &self.pending) {
+            return Err(AllocError);
+        }
+        let (sent, handed) = hand_over(&mut self.inner, &self.written, &self.pending, self.sent);
+        self.sent = sent;
+        handed?;
+        show(rt, &mut self.inner, &self.pending)?;
+        self.pending.clear();
+        self.sent = 0;
+        Ok(self.written.len() as u32)
+    }
+
+    /// A note of what is published now. It takes no memory.
+    pub fn note(&self) -> Note<J>
+        ensures { result ≡ self.now.published }
+    {
+        Note {
+            front: self.inner.published().front().copy(),
+            store: PhantomData,
+        }
+    }
+
+    /// Closes the store: it waits for the readers, and frees both copies of the shared value.
+    pub fn close<R: Wait>(self, rt: &R) {
+        let Self {
+            inner,
+            book: _book,
+            written: _written,
+            pending: _pending,
+            sent: _,
+            rows: _rows,
+            limit: _,
+        } = self;
+        drop(inner.take(rt));
+    }
+}

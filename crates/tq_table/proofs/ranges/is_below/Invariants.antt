@@ -1,0 +1,6 @@
+-- The rows are alike so far.
+use Rattle.std.proofs.Common.{◌≡◌, take}
+use Rattle.tq_table.proofs.ranges.is_below.Given as goal
+
+abbrev pub invariant-places : goal.invariant-places
+invariant-places l = take l.place l.row ≡ take l.place l.other

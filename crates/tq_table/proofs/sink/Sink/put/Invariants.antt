@@ -1,0 +1,12 @@
+-- What is gone from `rest` was appended, and no call failed yet.
+use Rattle.std.proofs.Common.{◌≡◌, ℕ, List, ◌++◌, length}
+use Rattle.std.specs.Io.KnownBytes.{Appends}
+use Rattle.tq_table.proofs.sink.Sink.put.Given as goal
+
+abbrev pub invariant-rest : goal.invariant-rest
+invariant-rest g l = (sent : List ℕ) × (l.initial.rest ≡ sent ++ l.rest)
+    × Appends (g.W.Write.contents l.initial.self.writer) (g.W.Write.contents l.self.writer) sent
+    × (l.self.failed ≡ l.initial.self.failed)
+
+abbrev pub decreases-rest : goal.decreases-rest
+decreases-rest g l = length l.rest

@@ -1,0 +1,277 @@
+// Files loaded by 1 to 16 workers, whole and in parts of several lengths.
+
+ghost use Rattle.std.specs.Prelude.{◌≤◌};
+
+use std::alloc::{AllocError, Global};
+use std::fmt::Write;
+use std::sync::atomic::{AtomicBool, AtomicU64, Ordering};
+use std::test::Fail;
+use std::thread;
+use std::thread::Threads;
+use tq_base::{Items, Rows, Seen};
+use tq_event::{LoadFault, MAX_EVENTS, TableFile, Tables, load_tables};
+use tq_loading::{load_tables_among, load_tables_by_parts};
+use tq_run::{Gate, Open};
+
+// The files of two tables, `a` and `b`, the second one where it has a text.
+fn files_of(alloc: Global, first: &str, second: &str) -> Result<Vec<TableFile>, AllocError> {
+    let mut files = Vec::new(alloc);
+    for (name, text) in [("a", first), ("b", second)] {
+        if name == "a" || !text.is_empty() {
+            files.push(TableFile {
+                name: Items::of(name.as_bytes().to_vec(alloc)?),
+                bytes: Items::of(text.as_bytes().to_vec(alloc)?),
+            })?;
+        }
+    }
+    Ok(files)
+}
+
+// A line for each row.
+fn tell_rows(lines: &mut String, rows: &Rows) -> Result<(), Fail> {
+    for row in 0..rows.len() {
+        for value in rows.values(row) {
+            match value.seen() {
+                Seen::Int(number) => write!(lines, "{number},")?,
+                Seen::Text(text) => write!(lines, "{text},")?,
+            }
+        }
+        let period = rows.period(row);
+        writeln!(lines, "{},{}", period.start.number(), period.end.number())?;
+    }
+    Ok(())
+}
+
+// What was loaded: each table's width and rows, or the fault.
+fn told(alloc: Global, loaded: Result<Tables, LoadFault>) -> Result<String, Fail> {
+    let mut lines = String::new(alloc);
+    match loaded {
+        Ok(tables) => {
+            for rows in tables.rows.get() {
+                writeln!(lines, "{} columns", rows.width())?;
+                tell_rows(&mut lines, rows)?;
+            }
+        }
+        Err(fault) => writeln!(lines, "{fault}")?,
+    }
+    Ok(lines)
+}
+
+// Whether these workers load the files as `wanted` tells, in parts of at least this length.
+fn is_loaded<R: Threads + Sync>(
+    rt: &R,
+    alloc: Global,
+    texts: (&str, &str),
+    limit: u32,
+    workers: u32,
+    least: usize,
+    wanted: &str,
+) -> Result<bool, Fail>
+    requires limit { limit ≤ MAX_EVENTS }
+    requires some { 1 ≤ workers }
+    requires at_most { workers ≤ 16 }
+{
+    let files = files_of(alloc, texts.0, texts.1)?;
+    let loaded = load_tables_by_parts(rt, alloc, files, limit, workers, least, &Open);
+    Ok(told(alloc, loaded)?.as_str() == wanted)
+}
+
+// Whether any number of workers, with parts of any length, loads the files as one thread does.
+fn is_loaded_by_all<R: Threads + Sync>(
+    rt: &R,
+    alloc: Global,
+    texts: (&str, &str),
+    limit: u32,
+) -> Result<bool, Fail>
+    requires { limit ≤ MAX_EVENTS }
+{
+    let here = load_tables(alloc, files_of(alloc, texts.0, texts.1)?, limit);
+    let wanted = told(alloc, here)?;
+    for workers in [1, 2, 7, 16] {
+        for least in [0, 1, 7, 50, 100_000] {
+            if !is_loaded(rt, alloc, texts, limit, workers, least, &wanted)? {
+                return Ok(false);
+            }
+        }
+    }
+    Ok(true)
+}
+
+// ---- written files
+
+const GOOD: [(&str, &str); 8] = [
+    ("k:int,from,to\n", ""),
+    (
+        "k:int,v:text,from,to\n1,ann,10,20\n2,bob,15,forever\n3,,0,1",
+        "",
+    ),
+    ("k:int,v:text,from,to\r\n1,ann,10,20\r\n2,bob,15,25\r\n", ""),
+    ("\n\n\r\nk:int,from,to\n\n\n1,2,3\n\r\n\n2,3,4\n\n", ""),
+    (
+        "k:int,v:text,from,to\n1,\"a\nb\",1,2\n2,\"x,\"\"y\",3,4\n",
+        "",
+    ),
+    (
+        "\u{feff}k:int,from,to\n1,2,3\n2,3,4\n",
+        "\u{feff}n:int,w:text,from,to\n7,x,1,2\n8,y,2,3\n",
+    ),
+    (
+        "k:int,from,to\n1,2,3\n2,3,4\n",
+        "n:int,w:text,from,to\n7,\"x\ny\",1,2\n",
+    ),
+    ("k:int,from,to\n1,2,3\r2,3,4\r3,4,5\n4,5,6\n", ""),
+];
+
+const AMISS: [(&str, &str); 10] = [
+    ("", ""),
+    ("\n\n\n", ""),
+    ("k:int,from,to\n1,2,3\n2,3,4\n\u{feff}3,4,5\n4,5,6\n", ""),
+    ("\u{feff}\u{feff}k:int,from,to\n1,2,3\n", ""),
+    ("k:int,from,to\n1,2,3\n2,3,4\nx,4,5\n4,5,6\n", ""),
+    ("k:int,from,to\n1,2,3\n2,3,4\n3,4,5,6\ny,5,6\n", ""),
+    ("k:int,from,to\n1,2,3\n2,9,4\n3,4,5\n", "k:text,from,to\n"),
+    ("k:int,from,to\n1,2,3\n", "k:text,from,to\n1,2,3\n"),
+    (
+        "k:int,from,to\n1,2,3\n2,3,4\n",
+        "k:int,from,to\n1,2,3\n2,3,z\n",
+    ),
+    ("k:int,v:text,from,to\n1,\"a\n2,b,3,4\n3,c,4,5\n", ""),
+];
+
+#[test]
+fn written_files_are_loaded_as_by_one_thread(rt: HostRuntime) -> Result<(), Fail> {
+    for texts in &GOOD {
+        let same = is_loaded_by_all(&rt, rt.alloc(), *texts, 20)?;
+        assert!(rt; same, "{texts:?}");
+    }
+    Ok(())
+}
+
+#[test]
+fn faults_are_those_that_one_thread_answers(rt: HostRuntime) -> Result<(), Fail> {
+    for texts in &AMISS {
+        let same = is_loaded_by_all(&rt, rt.alloc(), *texts, 20)?;
+        assert!(rt; same, "{texts:?}");
+    }
+    Ok(())
+}
+
+#[test]
+fn events_are_counted_over_all_parts(rt: HostRuntime) -> Result<(), Fail> {
+    let texts = (
+        "k:int,from,to\n1,2,3\n2,3,forever\n",
+        "k:int,from,to\n1,2,3\n",
+    );
+    for limit in 0..7 {
+        let same = is_loaded_by_all(&rt, rt.alloc(), texts, limit)?;
+        assert!(rt; same, "{limit}");
+    }
+    Ok(())
+}
+
+// ---- files that are cut
+
+// A file of so many rows, with empty lines, and texts of several lengths.
+fn many_rows(alloc: Global, rows: u64) -> Result<String, AllocError> {
+    let mut text = String::from_str(alloc, "k:int,v:text,from,to\n")?;
+    for row in 0..rows {
+        let from = row % 1_000;
+        match row % 5 {
+            0 => writeln!(text, "{row},a rather long text of the row,{from},forever")?,
+            1 => writeln!(text, "{row},,{from},1000\r\n")?,
+            _ => writeln!(text, "{row},name of {row},{from},2000")?,
+        }
+    }
+    Ok(text)
+}
+
+// Whether these workers load the files as `load_tables` does, in parts of the usual length.
+fn is_loaded_among<R: Threads + Sync, G: Gate + Sync>(
+    rt: &R,
+    alloc: Global,
+    texts: (&str, &str),
+    workers: u32,
+    gate: &G,
+) -> Result<bool, Fail>
+    requires some { 1 ≤ workers }
+    requires at_most { workers ≤ 16 }
+{
+    let here = load_tables(alloc, files_of(alloc, texts.0, texts.1)?, MAX_EVENTS);
+    let files = files_of(alloc, texts.0, texts.1)?;
+    let among = load_tables_among(rt, alloc, files, MAX_EVENTS, workers, gate);
+    Ok(told(alloc, here)? == told(alloc, among)?)
+}
+
+#[test]
+fn long_files_are_loaded_by_any_number_of_workers(rt: HostRuntime) -> Result<(), Fail> {
+    let first = many_rows(rt.alloc(), 8_000)?;
+    let second = many_rows(rt.alloc(), 3_000)?;
+    for workers in [1, 2, 7, 16] {
+        let same = is_loaded_among(&rt, rt.alloc(), (&first, &second), workers, &Open)?;
+        assert!(rt; same, "{workers}");
+    }
+    Ok(())
+}
+
+// ---- gates
+
+// Counts arrivals, and holds that of part 0 until part 1 has arrived, up to a limit.
+#[derive(Drop)]
+struct Arrivals {
+    count: AtomicU64,
+    second: AtomicBool,
+    limit_met: AtomicBool,
+}
+
+impl Arrivals {
+    fn new() -> Arrivals {
+        Arrivals {
+            count: AtomicU64::new(0),
+            second: AtomicBool::new(false),
+            limit_met: AtomicBool::new(false),
+        }
+    }
+}
+
+impl Gate for Arrivals {
+    fn arrive(&self, i: u32) {
+        self.count.fetch_add(1, Ordering::SeqCst);
+        if i == 1 {
+            self.second.store(true, Ordering::SeqCst);
+        }
+        if i != 0 {
+            return;
+        }
+        for _ in 0..100_000_000u32 {
+            if self.second.load(Ordering::SeqCst) {
+                return;
+            }
+            thread::yield_now();
+        }
+        self.limit_met.store(true, Ordering::SeqCst);
+    }
+}
+
+#[test]
+fn two_workers_have_a_part_at_once(rt: HostRuntime) -> Result<(), Fail> {
+    let text = many_rows(rt.alloc(), 8_000)?;
+    let gate = Arrivals::new();
+    let same = is_loaded_among(&rt, rt.alloc(), (&text, ""), 2, &gate)?;
+    assert!(rt; same);
+    assert!(rt; !gate.limit_met.load(Ordering::SeqCst));
+    let parts = gate.count.load(Ordering::SeqCst);
+    assert!(rt; 3 < parts && parts < 10, "{parts}");
+    Ok(())
+}
+
+#[test]
+fn a_file_with_a_quote_is_one_part(rt: HostRuntime) -> Result<(), Fail> {
+    let mut text = many_rows(rt.alloc(), 8_000)?;
+    text.push_str("8000,\"quoted\",1,2\n")?;
+    let gate = Arrivals::new();
+    let small = "k:int,from,to\n1,2,3\n";
+    let same = is_loaded_among(&rt, rt.alloc(), (&text, small), 2, &gate)?;
+    assert!(rt; same);
+    assert_eq!(rt; gate.count.load(Ordering::SeqCst), 2);
+    Ok(())
+}

@@ -1,0 +1,4 @@
+use Rattle.tq_tests_snapshot.proofs.setup.emp.Goals as goal
+
+pub returns-clause-history : goal.returns-clause-history
+returns-clause-history c = c.loaded_is_history.ensures _ 7 c.in_ok-loaded.loaded c.in_ok-loaded.ensures.loaded

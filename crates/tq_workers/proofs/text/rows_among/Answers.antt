@@ -1,0 +1,30 @@
+use Rattle.std.proofs.Common.{◌≡◌, ◌∙◌, List, ap, length, subst, sym}
+use Rattle.std.specs.Prelude.{All}
+use Rattle.std.proofs.lemmas.Result.{IfOk-weaker}
+use Rattle.tq_base.specs.declared.period.Period.{Period}
+use Rattle.tq_base.specs.Fragments.{copies}
+use Rattle.tq_base.specs.RowLists.{RowList}
+use Rattle.tq_event.specs.Tables.{lists_of}
+use Rattle.tq_eval.specs.Answers.{in_tables}
+use Rattle.tq_plan.specs.Cuts.{Tile}
+use Rattle.tq_table.specs.Merging.{AreOfWidth}
+use Rattle.tq_workers.proofs.PieceLemmas.{pieces_counted, pieces_wide}
+use Rattle.tq_workers.proofs.text.rows_among.Goals as goal
+
+pub chained-requires : goal.chained-requires
+chained-requires g c =
+    let plan = c.args.plan.now in
+    subst (λ outputs. All (AreOfWidth (length outputs)) c.in_ok-pieces.pieces.items) (sym c.get.ensures)
+    (pieces_wide (in_tables (lists_of c.args.snapshot.tables.now)) plan c.as_slice.result.now c.in_ok-pieces.pieces.items c.in_ok-pieces.ensures.many c.in_ok-pieces.ensures.pieces)
+
+pub returns : goal.returns
+returns g c v t =
+    let plan = c.args.plan.now in
+    let valid = in_tables (lists_of c.args.snapshot.tables.now) in
+    let periods = c.as_slice.result.now in
+    let pieces = c.in_ok-pieces.pieces.items in
+    let tile : Tile plan.window periods = subst (λ (l : List Period). Tile plan.window l) (sym c.as_slice.ensures.value) c.in_ok-cuts.ensures.tile in
+    let counted = pieces_counted valid plan v t periods pieces plan.window.start plan.window.end tile c.in_ok-pieces.ensures.many c.in_ok-pieces.ensures.pieces in
+    IfOk-weaker c.made.result _ _
+    (λ relation same. ap (λ (r : RowList). copies r.items v t) same ∙ ap (λ l. copies l v t) c.in_ok-chained.ensures.rows ∙ counted)
+    c.made.ensures

@@ -1,0 +1,184 @@
+// The text of the answer of a plan over tables of rows, worked out by several workers.
+
+ghost use Rattle.std.specs.Prelude.{◌≡◌, ◌≤◌, ◌++◌, IfOk, List, ℕ};
+ghost use Rattle.tq_agg.specs.Grouping.{Row};
+ghost use Rattle.tq_base.specs.declared.fragment.Fragment.{Fragment};
+ghost use Rattle.tq_base.specs.Fragments.{copies};
+ghost use Rattle.tq_base.specs.Layers.{IsLayers};
+ghost use Rattle.tq_event.specs.Tables.{lists_of};
+ghost use Rattle.tq_eval.specs.Answers.{in_tables, times_at, IsTablesAnswer};
+ghost use Rattle.tq_eval.specs.Fitting.{AreAllFitting};
+ghost use Rattle.tq_plan.specs.Standing.{AreQueriesOver, IsPlanOver};
+ghost use Rattle.tq_table.specs.Text.{rows_text, IsTextOf};
+ghost use Rattle.tq_table.specs.Sink.{bytes_of};
+
+use crate::among::pieces_of;
+use crate::edges::table_edges;
+use crate::ranges::range_texts;
+use std::alloc::{AllocError, Global};
+use std::marker::Model;
+use std::thread::Threads;
+use tq_base::{Catalogue, Relation, Rows};
+use tq_eval::{TablesOfRows, rows_within};
+use tq_plan::laws::queries_stand;
+use tq_plan::{Output, Plan};
+use tq_run::Gate;
+use tq_table::{chained, coalesce, header_text, rows_text};
+
+// Answers of fewer rows are made by one thread: several would not be worth their start.
+const FEW_ROWS: usize = 8_192;
+
+/// The text of an answer, in parts that follow one another; seen as its bytes.
+#[derive(Drop, Debug)]
+pub struct AnswerText {
+    parts: Vec<Vec<u8>>,
+}
+
+impl Model for AnswerText {
+    ghost use Rattle.std.specs.Prelude.{ℕ, List};
+    ghost use Rattle.tq_table.specs.Sink.{bytes_of};
+
+    ghost Value = { List ℕ };
+
+    ghost view = { λ t. bytes_of t.parts.items };
+}
+
+impl AnswerText {
+    /// The parts.
+    pub fn parts(&self) -> &[Vec<u8>]
+        ensures { bytes_of result.now ≡ self.now }
+    {
+        self.parts.as_slice()
+    }
+}
+
+// Whether the plan's rows are some of those of one table as they stand, so that finding them costs little beside
+// putting them in order.
+fn is_one_list(plan: &Plan) -> bool {
+    plan.right.is_none()
+        && plan.left.sources.get().len() == 1
+        && plan.left.group.get().is_empty()
+        && plan
+            .left
+            .outputs
+            .get()
+            .iter()
+            .all(|output| matches!(output, Output::Column(_)))
+}
+
+// The plan's rows at each instant of its window, found by these workers.
+fn rows_among<'a, R: Threads + Sync, G: Gate + Sync>(
+    rt: &R,
+    alloc: Global,
+    snapshot: TablesOfRows<'a>,
+    plan: &Plan,
+    workers: u32,
+    gate: &G,
+) -> Result<Relation<'a>, AllocError>
+    requires over { AreQueriesOver snapshot.catalogue.now plan.now }
+    requires some { 1 ≤ workers }
+    requires at_most { workers ≤ 16 }
+    ensures { (v : Row) (t : ℕ) → IfOk result (λ rows. copies rows.items v t ≡ times_at (in_tables (lists_of snapshot.entry.tables.now)) plan.now v t) }
+{
+    if workers == 1 || is_one_list(plan) {
+        return rows_within(alloc, &snapshot, plan, &plan.window);
+    }
+    let edges = table_edges(alloc, snapshot.tables, plan)?;
+    let cuts = plan.cuts(alloc, workers, &edges)?;
+    let pieces = pieces_of(rt, alloc, snapshot, plan, cuts.as_slice(), workers, gate)?;
+    Relation::made(
+        alloc,
+        chained(alloc, plan.left.outputs.get().len(), pieces)?,
+    )
+}
+
+// The header and the text of the layers of the rows, made by one thread.
+fn whole_text(alloc: Global, header: Vec<u8>, rows: Relation<'_>) -> Result<AnswerText, AllocError>
+    ensures { IfOk result (λ text. (lines : List Fragment) × IsLayers (copies rows.entry.items) lines × (text ≡ header.items ++ rows_text lines)) }
+{
+    let lines = coalesce(alloc, rows)?;
+    let mut parts = Vec::with_capacity(alloc, 2)?;
+    parts.push(header)?;
+    parts.push(rows_text(alloc, &lines)?)?;
+    Ok(AnswerText { parts })
+}
+
+// The header, then these texts.
+fn joined(alloc: Global, header: Vec<u8>, texts: Vec<Vec<u8>>) -> Result<AnswerText, AllocError>
+    ensures { IfOk result (λ text. text ≡ header.items ++ bytes_of texts.items) }
+{
+    let mut texts = texts;
+    let mut parts = Vec::with_capacity(alloc, texts.len() + 1)?;
+    parts.push(header)?;
+    parts.append(&mut texts)?;
+    Ok(AnswerText { parts })
+}
+
+// The header and the text of the layers of the rows, made by these workers, unless there are fewer rows than `few`.
+fn rows_answered<R: Threads + Sync, G: Gate + Sync>(
+    rt: &R,
+    alloc: Global,
+    header: Vec<u8>,
+    rows: Relation<'_>,
+    workers: u32,
+    few: usize,
+    gate: &G,
+) -> Result<AnswerText, AllocError>
+    requires some { 1 ≤ workers }
+    requires at_most { workers ≤ 16 }
+    ensures { IfOk result (λ text. (lines : List Fragment) × IsLayers (copies rows.entry.items) lines × (text ≡ header.items ++ rows_text lines)) }
+{
+    if workers == 1 || rows.len() < few {
+        return whole_text(alloc, header, rows);
+    }
+    match range_texts(rt, alloc, &rows, workers, gate)? {
+        Some(texts) => joined(alloc, header, texts),
+        None => whole_text(alloc, header, rows),
+    }
+}
+
+/// The same as `text_among`, with ranges of values from `few` rows on in place of 8,192.
+pub fn text_by_ranges<R: Threads + Sync, G: Gate + Sync>(
+    rt: &R,
+    alloc: Global,
+    catalogue: &Catalogue,
+    tables: &[Rows],
+    plan: &Plan,
+    workers: u32,
+    few: usize,
+    gate: &G,
+) -> Result<AnswerText, AllocError>
+    requires fit { AreAllFitting catalogue.now (lists_of tables.now) }
+    requires plan { IsPlanOver catalogue.now plan.now }
+    requires some { 1 ≤ workers }
+    requires at_most { workers ≤ 16 }
+    ensures { IfOk result (IsTextOf (IsTablesAnswer (lists_of tables.now) plan.now)) }
+{
+    queries_stand();
+    let header = header_text(alloc, plan.columns())?;
+    let snapshot = TablesOfRows { catalogue, tables };
+    let rows = rows_among(rt, alloc, snapshot, plan, workers, gate)?;
+    rows_answered(rt, alloc, header, rows, workers, few, gate)
+}
+
+/// The text of the answer of a statement's plan over tables of rows, worked out by 1 to 16 workers, the calling thread
+/// among them: the same for every number of them. Several make up to three runs, and the gate is told of each piece
+/// before it is run: the plan's rows in periods of the window, unless they are those of one table; to which range of
+/// values each row belongs; and the lines and the text of each range. `AllocError` where a growth was refused.
+pub fn text_among<R: Threads + Sync, G: Gate + Sync>(
+    rt: &R,
+    alloc: Global,
+    catalogue: &Catalogue,
+    tables: &[Rows],
+    plan: &Plan,
+    workers: u32,
+    gate: &G,
+) -> Result<AnswerText, AllocError>
+    requires fit { AreAllFitting catalogue.now (lists_of tables.now) }
+    requires plan { IsPlanOver catalogue.now plan.now }
+    requires some { 1 ≤ workers }
+    requires at_most { workers ≤ 16 }
+    ensures { IfOk result (IsTextOf (IsTablesAnswer (lists_of tables.now) plan.now)) }
+{
+    text_by_ranges(rt, alloc, catalogue, tables, plan, workers, FEW_ROWS, gate)
+}
