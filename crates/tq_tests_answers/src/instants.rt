@@ -1,0 +1,108 @@
+//! Statements over tables, answered instant by instant by the definition.
+
+ghost use Rattle.std.specs.Prelude.{IfOk};
+ghost use Rattle.tq_plan.specs.Standing.{IsPlanOver};
+
+use crate::fault::Fault;
+use crate::telling::{line_of, tell_rows};
+use std::alloc::Global;
+use std::mem;
+use tq_base::{Catalogue, FOREVER};
+use tq_event::{Event, MAX_EVENTS, TableFile, load};
+use tq_plain::rows_at;
+use tq_plan::{Plan, plan};
+use tq_sql::read;
+use tq_store::Db;
+
+/// A statement over tables: a Db that took what they hold, and its plan.
+#[derive(Drop)]
+pub(crate) struct Question {
+    pub(crate) db: Db,
+    pub(crate) plan: Plan,
+}
+
+/// A Db that took the events.
+pub(crate) fn db_of(alloc: Global, catalogue: Catalogue, events: &[Event]) -> Result<Db, Fault> {
+    let mut db = Db::new(alloc, catalogue)?;
+    for event in events {
+        if db.count() >= MAX_EVENTS || !db.apply(event)? {
+            return Err(Fault::Refused);
+        }
+    }
+    Ok(db)
+}
+
+/// The statement over the tables of the files.
+pub(crate) fn asked(
+    alloc: Global,
+    files: Vec<TableFile>,
+    statement: &str,
+) -> Result<Question, Fault>
+    ensures { IfOk result (λ question. IsPlanOver question.db.catalogue question.plan) }
+{
+    let loaded = load(alloc, files, MAX_EVENTS)?;
+    let statement = read(alloc, statement.as_bytes())?;
+    let db = db_of(alloc, loaded.catalogue, loaded.events.get())?;
+    let plan = plan(alloc, db.catalogue(), &statement)?;
+    Ok(Question { db, plan })
+}
+
+/// The rows of the answer at the instant as of the first `n` events, in order.
+pub(crate) fn lines_at(
+    alloc: Global,
+    events: &[Event],
+    n: u32,
+    plan: &Plan,
+    instant: u64,
+) -> Result<Vec<String>, Fault> {
+    let rows = rows_at(alloc, events, n, plan, instant)?;
+    let mut lines = Vec::new(alloc);
+    for row in &rows {
+        lines.push(line_of(alloc, row.get())?)?;
+    }
+    lines.sort()?;
+    Ok(lines)
+}
+
+/// The rows of the answer at the instant as of the first `n` events.
+pub(crate) fn tell_at(
+    alloc: Global,
+    question: &Question,
+    n: u32,
+    instant: u64,
+    out: &mut String,
+) -> Result<(), Fault> {
+    let lines = lines_at(alloc, question.db.events(), n, &question.plan, instant)?;
+    Ok(tell_rows(instant, &lines, out)?)
+}
+
+// The rows at the instant, if it is the first or they are others than before.
+fn tell_change(
+    alloc: Global,
+    question: &Question,
+    instant: u64,
+    before: &mut Vec<String>,
+    out: &mut String,
+) -> Result<(), Fault> {
+    let events = question.db.events();
+    let lines = lines_at(alloc, events, MAX_EVENTS, &question.plan, instant)?;
+    if instant == 0 || lines != *before {
+        tell_rows(instant, &lines, out)?;
+    }
+    let _before = mem::replace(before, lines);
+    Ok(())
+}
+
+/// The rows of the answer as they change below instant 40, at the last instant, and after it.
+pub(crate) fn tell_changes(
+    alloc: Global,
+    question: &Question,
+    out: &mut String,
+) -> Result<(), Fault> {
+    let mut before = Vec::new(alloc);
+    for instant in 0..40 {
+        tell_change(alloc, question, instant, &mut before, out)?;
+    }
+    tell_at(alloc, question, MAX_EVENTS, FOREVER - 1, out)?;
+    tell_at(alloc, question, MAX_EVENTS, FOREVER, out)
+}

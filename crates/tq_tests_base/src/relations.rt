@@ -1,0 +1,144 @@
+//! Relations: rows by their numbers in other lists of rows.
+
+use crate::lists::rows_of;
+use crate::words::{push_period, push_value, tell_nothing};
+use std::alloc::{AllocError, Global};
+use tq_base::{Line, Pair, Period, Relation, Rows};
+
+fn tell_row(relation: &Relation<'_>, number: usize, out: &mut String) -> Result<(), AllocError> {
+    if number >= relation.len() {
+        return Ok(());
+    }
+    let row = relation.row(number);
+    out.push_str("    ")?;
+    for column in 0..row.len() {
+        if let Ok(column) = u32::try_from(column) {
+            push_value(row.at(column), out)?;
+        }
+    }
+    push_period(&relation.period(number), out)?;
+    out.push('\n')
+}
+
+// The rows in their order: the values, from and to, divided by commas, a line each.
+fn tell(relation: &Relation<'_>, out: &mut String) -> Result<(), AllocError> {
+    for number in 0..relation.len() {
+        tell_row(relation, number, out)?;
+    }
+    Ok(())
+}
+
+/// The rows of a relation to which the list is lent.
+pub(crate) fn tell_lent(alloc: Global, rows: &Rows, out: &mut String) -> Result<(), AllocError> {
+    tell(&Relation::of(alloc, rows)?, out)
+}
+
+/// The rows of a relation that is made of a list of such rows.
+pub(crate) fn tell_owned(
+    alloc: Global,
+    width: usize,
+    words: &[&str],
+    out: &mut String,
+) -> Result<(), AllocError> {
+    tell(&Relation::made(alloc, rows_of(alloc, width, words)?)?, out)
+}
+
+/// The last of three rows, then the first one twice, in other periods.
+pub(crate) fn tell_picked(
+    alloc: Global,
+    rows: &Rows,
+    [one, two, three]: [Period; 3],
+    out: &mut String,
+) -> Result<(), AllocError> {
+    let relation = Relation::of(alloc, rows)?;
+    if relation.len() < 3 {
+        return tell_nothing(out);
+    }
+    let lines = [
+        Line {
+            row: 2,
+            period: one,
+        },
+        Line {
+            row: 0,
+            period: two,
+        },
+        Line {
+            row: 0,
+            period: three,
+        },
+    ];
+    tell(&relation.pick(alloc, &lines)?, out)
+}
+
+// The last row of the left with the second of the right, and the first with the second.
+fn paired<'a>(
+    alloc: Global,
+    left: &'a Rows,
+    right: &'a Rows,
+    at: Period,
+) -> Result<Option<Relation<'a>>, AllocError> {
+    let lefts = Relation::of(alloc, left)?;
+    let rights = Relation::of(alloc, right)?;
+    if lefts.len() < 3 || rights.len() < 2 {
+        return Ok(None);
+    }
+    let pairs = [
+        Pair {
+            left: 2,
+            right: 1,
+            period: at,
+        },
+        Pair {
+            left: 0,
+            right: 1,
+            period: at,
+        },
+    ];
+    Ok(Some(Relation::pair(alloc, lefts, rights, &pairs)?))
+}
+
+// The second pair with the second row, and the first with the first.
+fn paired_again<'a>(
+    alloc: Global,
+    both: Relation<'a>,
+    rows: &'a Rows,
+    at: Period,
+) -> Result<Option<Relation<'a>>, AllocError> {
+    let again = Relation::of(alloc, rows)?;
+    if both.len() < 2 || again.len() < 2 {
+        return Ok(None);
+    }
+    let pairs = [
+        Pair {
+            left: 1,
+            right: 1,
+            period: at,
+        },
+        Pair {
+            left: 0,
+            right: 0,
+            period: at,
+        },
+    ];
+    Ok(Some(Relation::pair(alloc, both, again, &pairs)?))
+}
+
+/// Pairs of rows of two lists, each of these followed by a row of the left, in columns that are turned round; a column
+/// that is not there has the number 0.
+pub(crate) fn tell_pairs(
+    alloc: Global,
+    left: &Rows,
+    right: &Rows,
+    at: Period,
+    out: &mut String,
+) -> Result<(), AllocError> {
+    let Some(both) = paired(alloc, left, right, at)? else {
+        return tell_nothing(out);
+    };
+    let Some(all) = paired_again(alloc, both, left, at)? else {
+        return tell_nothing(out);
+    };
+    let turned = all.project(alloc, &[5, 3, 1, 0, 9, 2])?;
+    tell(&turned.detached(alloc)?, out)
+}

@@ -1,0 +1,43 @@
+//! The core machine, tried by a script: what each line of stdin makes or does stands below it in stdout. So a case is a
+//! line there, and its replies here.
+//!
+//!     world READERS            a world of 1 to 8 readers over a table of a number and two texts; nothing has happened
+//!     run STEP; STEP; ..       steps, taken one after another by one call
+//!     each STEP; STEP; ..      the same, each by a call of its own, which is made again where it was refused memory
+//!     many ROUNDS              rounds of four steps in a world of eight readers, by one call
+//!
+//! A step is one of
+//!
+//!     start TABLE AT VALUE..   a row of these values starts
+//!     end ROW AT               a row of the table ends
+//!     publish
+//!     enter READER AT
+//!     learn READER LENGTH
+//!     ask READER N PIECES
+//!     claim WORK WORKER
+//!     finish WORK
+//!
+//! Tables, rows, readers, works and workers are numbered from 0. Other lines are copied.
+#![tactic(auto)]
+
+mod many;
+mod oracle;
+mod session;
+mod steps;
+mod telling;
+
+use session::Session;
+use std::io;
+
+fn main(rt: HostRuntime) -> io::Result<()> {
+    let alloc = rt.alloc();
+    let mut session = Session::new();
+    for line in rt.lines(alloc) {
+        let line = line?;
+        let mut out = String::new(alloc);
+        session.take(alloc, line.as_str(), &mut out)?;
+        println!(rt; "{line}")?;
+        print!(rt; "{out}")?;
+    }
+    Ok(())
+}

@@ -1,0 +1,100 @@
+//! What is written of plans.
+
+use std::alloc::AllocError;
+use std::fmt::Write;
+use std::str;
+use tq_base::{KeyRange, Name, Period};
+use tq_plan::PlanFault::{
+    self, AmbiguousColumn, BadWindow, DuplicateAlias, NotGrouped, OutOfMemory, SumNeedsGroup,
+    SumOfText, TypeMismatch, UnequalColumns, UnknownColumn, UnknownTable,
+};
+use tq_plan::{Plan, QueryPlan};
+
+/// What is written where a line does not say what is asked, or its statement is none.
+pub(crate) fn tell_nothing(out: &mut String) -> Result<(), AllocError> {
+    out.push_str("    not understood\n")
+}
+
+pub(crate) fn tell_fault(fault: PlanFault, out: &mut String) -> Result<(), AllocError> {
+    writeln!(out, "    {fault}")
+}
+
+/// The names, divided by commas.
+pub(crate) fn tell_names(names: &[Name], out: &mut String) -> Result<(), AllocError> {
+    out.push_str("    ")?;
+    for (place, name) in names.iter().enumerate() {
+        if place > 0 {
+            out.push(',')?;
+        }
+        out.push_str(str::from_utf8(name.bytes()).unwrap_or("no text"))?;
+    }
+    out.push('\n')
+}
+
+// The sources, the condition, the groups and the items.
+fn tell_query(query: &QueryPlan, out: &mut String) -> Result<(), AllocError> {
+    for source in query.sources.get() {
+        writeln!(out, "    {source:?}")?;
+    }
+    writeln!(out, "    condition: {:?}", query.test)?;
+    writeln!(out, "    groups: {:?}", query.group.get())?;
+    writeln!(out, "    items: {:?}", query.outputs.get())
+}
+
+/// The query, and the one after EXCEPT ALL.
+pub(crate) fn tell_plan(plan: &Plan, out: &mut String) -> Result<(), AllocError> {
+    tell_query(&plan.left, out)?;
+    match &plan.right {
+        Some(right) => {
+            out.push_str("    EXCEPT ALL\n")?;
+            tell_query(right, out)
+        }
+        None => Ok(()),
+    }
+}
+
+fn tell_key(key: i64, out: &mut String) -> Result<(), AllocError> {
+    match key {
+        i64::MIN => out.push_str("least"),
+        i64::MAX => out.push_str("most"),
+        _ => write!(out, "{key}"),
+    }
+}
+
+/// The least and the greatest key, or that there are none.
+pub(crate) fn tell_range(range: Option<KeyRange>, out: &mut String) -> Result<(), AllocError> {
+    let Some(range) = range else {
+        return out.push_str("    none\n");
+    };
+    out.push_str("    ")?;
+    tell_key(range.low, out)?;
+    out.push_str(" to ")?;
+    tell_key(range.high, out)?;
+    out.push('\n')
+}
+
+pub(crate) fn tell_window(window: &Period, out: &mut String) -> Result<(), AllocError> {
+    let start = window.start.number();
+    let end = window.end.number();
+    writeln!(out, "    {start} to {end}")
+}
+
+/// The number and the name of each fault, and the fault of refused memory.
+pub(crate) fn tell_faults(out: &mut String) -> Result<(), AllocError> {
+    for fault in [
+        UnknownTable,
+        UnknownColumn,
+        AmbiguousColumn,
+        DuplicateAlias,
+        TypeMismatch,
+        NotGrouped,
+        SumNeedsGroup,
+        SumOfText,
+        UnequalColumns,
+        BadWindow,
+        OutOfMemory,
+    ] {
+        writeln!(out, "    {} {fault}", fault as u8)?;
+    }
+    writeln!(out, "    refused memory: {}", PlanFault::from(AllocError))
+}

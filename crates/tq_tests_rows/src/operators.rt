@@ -1,0 +1,82 @@
+//! The operators over rows, with what they give copied into rows again.
+
+use crate::lists::push_row;
+use std::alloc::{AllocError, Global};
+use tq_base::{Period, Relation, Rows};
+use tq_ops::{Test, except_all, join, join_all, select};
+
+// The rows of the relation, copied.
+fn copied(alloc: Global, relation: &Relation<'_>) -> Result<Rows, AllocError> {
+    let mut rows = Rows::new(alloc, relation.width());
+    let mut room = Vec::new(alloc);
+    for number in 0..relation.len() {
+        room.clear();
+        relation.row(number).show_all(&mut room)?;
+        push_row(&mut rows, &room, &relation.period(number))?;
+    }
+    Ok(rows)
+}
+
+/// The rows that pass, within the window.
+pub(crate) fn selected(
+    alloc: Global,
+    rows: &Rows,
+    window: &Period,
+    test: Option<&Test>,
+) -> Result<Rows, AllocError> {
+    let out = select(alloc, Relation::of(alloc, rows)?, window, test)?;
+    copied(alloc, &out)
+}
+
+/// The pairs that pass, within the window.
+pub(crate) fn joined(
+    alloc: Global,
+    left: &Rows,
+    right: &Rows,
+    window: &Period,
+    test: Option<&Test>,
+) -> Result<Rows, AllocError> {
+    let left = Relation::of(alloc, left)?;
+    let right = Relation::of(alloc, right)?;
+    let out = join(alloc, left, right, window, test)?;
+    copied(alloc, &out)
+}
+
+/// The rows of several sources joined.
+pub(crate) fn joined_all(
+    alloc: Global,
+    first: &Rows,
+    others: &[&Rows],
+    window: &Period,
+    test: Option<&Test>,
+) -> Result<Rows, AllocError> {
+    let mut relations = Vec::new(alloc);
+    for rows in others {
+        relations.push(Relation::of(alloc, *rows)?)?;
+    }
+    let out = join_all(alloc, Relation::of(alloc, first)?, relations, window, test)?;
+    copied(alloc, &out)
+}
+
+/// What of the rows on the left is left over within the window.
+pub(crate) fn left_over(
+    alloc: Global,
+    left: &Rows,
+    right: &Rows,
+    window: &Period,
+) -> Result<Rows, AllocError> {
+    let right = Relation::of(alloc, right)?;
+    let out = except_all(alloc, Relation::of(alloc, left)?, &right, window)?;
+    copied(alloc, &out)
+}
+
+/// These columns of the rows.
+pub(crate) fn projected(alloc: Global, rows: &Rows, columns: &[u32]) -> Result<Rows, AllocError> {
+    let out = Relation::of(alloc, rows)?.project(alloc, columns)?;
+    copied(alloc, &out)
+}
+
+/// The rows, copied.
+pub(crate) fn copy_of(alloc: Global, rows: &Rows) -> Result<Rows, AllocError> {
+    copied(alloc, &Relation::of(alloc, rows)?)
+}
