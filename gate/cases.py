@@ -213,6 +213,70 @@ def large():
     )
 
 
+def changes_of(rows):
+    """For each value the instants at which rows of it begin and end, in order, each with how many there are from then on."""
+    changes = {}
+    for value, start, end in rows:
+        of_value = changes.setdefault(value, {})
+        of_value[start] = of_value.get(start, 0) + 1
+        of_value[end] = of_value.get(end, 0) - 1
+    for value in sorted(changes):
+        there = 0
+        for instant, change in sorted(changes[value].items()):
+            there += change
+            yield value, instant, there
+
+
+def layers_of(rows):
+    """The rows of an answer: for each value a row for each copy of it and each stretch of instants that has so many."""
+    begun = {}
+    for value, instant, there in changes_of(rows):
+        open_since = begun.setdefault(value, [])
+        while len(open_since) > there:
+            yield value, open_since.pop(), instant
+        open_since += [instant] * (there - len(open_since))
+
+
+def counts_of(rows):
+    """How many rows of each value there are, for each stretch of instants that has so many."""
+    before = {}
+    for value, instant, there in changes_of(rows):
+        since, count = before.get(value, (instant, 0))
+        if there != count:
+            if count:
+                yield value, count, since, instant
+            before[value] = (instant, there)
+
+
+def among_threads():
+    """Answers long enough to be cut by values, and files long enough to be cut at line ends."""
+    rows = [(b"n%03d" % (i * 7919 % 1000), b"d%d" % (i % 7), i * 37 % 5000, i * 37 % 5000 + 40 + i % 50) for i in range(40_000)]
+    plain = b"".join(b"%d,%s,%s,%d,%d\n" % (i, *row) for i, row in enumerate(rows))
+    quoted = b"".join(b'%d,"%s",%s,%d,%d\n' % (i, *row) for i, row in enumerate(rows))
+    header = b"k:int,name:text,dept:text,from,to\n"
+    names = sorted(layers_of((name, start, end) for name, _, start, end in rows))
+    counts = sorted(counts_of((dept, start, end) for _, dept, start, end in rows))
+    said_names = b"name,from,to\n" + b"".join(b"%s,%d,%d\n" % row for row in names)
+    said_counts = b"dept,count,from,to\n" + b"".join(b"%s,%d,%d,%d\n" % row for row in counts)
+    for workers in ("1", "2", "3", "4", "7", "16"):
+        for form, content in (("plain", plain), ("quoted", quoted)):
+            table, more = [("t", header + content)], ["--workers", workers]
+            yield ask(f"names of a {form} file by {workers} workers", table, "VALIDTIME SELECT name FROM t", more, out=said_names)
+        yield ask(
+            f"counts by {workers} workers", table, "VALIDTIME SELECT dept, COUNT(*) FROM t GROUP BY dept", more, out=said_counts
+        )
+    spoilt = [("t", header + plain + b"1,x,y,3,2\n" + plain)]
+    for workers in ("1", "4"):
+        yield ask(
+            f"a fault of a long file by {workers} workers",
+            spoilt,
+            ALL_NAMES,
+            ["--workers", workers],
+            err=b"tq: load BadPeriod table 0 record 40001\n",
+            status=1,
+        )
+
+
 def outputs_that_fail():
     emp = ["ask", "--table", "emp=examples/emp.csv", ALL_NAMES]
     for to in (FULL, UNREAD, CLOSED):
@@ -223,5 +287,5 @@ def outputs_that_fail():
 
 def table():
     """All cases."""
-    makers = (files_at_fault, statements_at_fault, command_lines, words_of_all_lengths, paths, large, outputs_that_fail)
+    makers = (files_at_fault, statements_at_fault, command_lines, words_of_all_lengths, paths, large, among_threads, outputs_that_fail)
     return [case for maker in makers for case in maker()]

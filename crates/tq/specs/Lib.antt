@@ -1,4 +1,3 @@
 pub mod CommandLine
-pub mod FaultNames
 pub mod Report
 pub mod Words

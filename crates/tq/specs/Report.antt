@@ -7,7 +7,7 @@ use Rattle.tq.specs.declared.command_line.CommandLineFault.{CommandLineFault}
 use Rattle.tq.specs.declared.command_line.CommandLineFault.TheVariants as command_line
 use Rattle.tq_engine.specs.declared.source.FileFault.{FileFault}
 use Rattle.tq_engine.specs.declared.source.FileFault.TheVariants as source
-use Rattle.tq.specs.FaultNames.{load_name, plan_name, sql_name}
+use Rattle.tq_engine.specs.FaultNames.{load_name, plan_name, sql_name}
 use Rattle.tq.specs.declared.report.Refusal.{Refusal}
 use Rattle.tq.specs.declared.report.Refusal.TheVariants.{BadCommandLine, CannotRead, Load, Statement, Plan, WriteFailed, OutOfMemory}
 

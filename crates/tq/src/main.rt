@@ -3,7 +3,7 @@
 //!
 //! The words of the command line (`words`) are read as a request (`command_line`), the files that it names
 //! are read to their bytes, and the engine (`tq_engine`) answers the statement over them on standard
-//! output. Where there is no answer, one line on standard error says why (`report`, `fault_names`).
+//! output. Where there is no answer, one line on standard error says why (`report`).
 #![tactic(auto)]
 
 ghost use Rattle.std.specs.Prelude.{◌≡◌, ◌≢◌, IfErr, IfOk, map};
@@ -11,7 +11,6 @@ ghost use Rattle.tq.specs.declared.command_line.TableOption.{TableOption as AnyO
 ghost use Rattle.tq_event.specs.declared.file.TableFile.{TableFile as AnyFile};
 
 mod command_line;
-mod fault_names;
 mod report;
 mod words;
 
@@ -22,6 +21,7 @@ use std::env::Env;
 use std::io::ErrorKind;
 use std::process::ExitCode;
 use std::rt::Files;
+use std::thread::Threads;
 use std::{fs, io, str};
 use tq_base::Items;
 use tq_engine::{FileFault, Source, answer_bytes, read_file};
@@ -73,7 +73,10 @@ fn read_tables<R: Files + AllocGlobal>(
 }
 
 // Answers a request on standard output, once all files are read.
-fn ask<R: Files + AllocGlobal + Print>(rt: &R, request: AskRequest) -> Result<(), Refusal> {
+fn ask<R: Files + AllocGlobal + Print + Threads + Sync>(
+    rt: &R,
+    request: AskRequest,
+) -> Result<(), Refusal> {
     let AskRequest {
         tables: options,
         workers,
@@ -81,12 +84,12 @@ fn ask<R: Files + AllocGlobal + Print>(rt: &R, request: AskRequest) -> Result<()
     } = request;
     let tables = read_tables(rt, options)?;
     let mut sink = Sink::over(io::writer(rt));
-    answer_bytes(rt.alloc(), tables, &statement, workers, &mut sink)?;
+    answer_bytes(rt, rt.alloc(), tables, &statement, workers, &mut sink)?;
     Ok(())
 }
 
 // Does what the command line asks.
-fn run<R: Files + AllocGlobal + Env + Print>(rt: &R) -> Result<(), Refusal> {
+fn run<R: Files + AllocGlobal + Env + Print + Threads + Sync>(rt: &R) -> Result<(), Refusal> {
     let words = read_words(rt)?;
     match read_command_line(rt.alloc(), &words)? {
         Request::Ask(request) => ask(rt, request),

@@ -6,11 +6,10 @@ ghost use Rattle.std.specs.Process.{exit_status};
 ghost use Rattle.tq.specs.Report.{line_of, refused_answer, refused_command_line, refused_file, status_of};
 
 use crate::command_line::CommandLineFault;
-use crate::fault_names::{load_name, plan_name, sql_name};
 use std::alloc::AllocError;
 use std::io::{self, Write};
 use std::process::ExitCode;
-use tq_engine::{AnswerFault, FileFault};
+use tq_engine::{AnswerFault, FileFault, load_name, plan_name, sql_name};
 use tq_event::LoadFault;
 use tq_plan::PlanFault;
 use tq_sql::SqlFault;

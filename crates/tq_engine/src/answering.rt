@@ -6,7 +6,7 @@ ghost use Rattle.tq_event.specs.declared.event.Event.{Event as AnyEvent};
 ghost use Rattle.tq_event.specs.declared.file.TableFile.{TableFile as AnyFile};
 ghost use Rattle.tq_event.specs.Tables.{HoldsRows, lists_of};
 ghost use Rattle.tq_table.specs.Sink.{AppendsPrefix, one_more};
-ghost use Rattle.tq_table.specs.Text.{text_of};
+ghost use Rattle.tq_table.specs.Text.{text_of, IsTextOf};
 ghost use Rattle.tq_table.specs.declared.table.Table.{Table as AnyTable};
 ghost use Rattle.tq_engine.specs.Answers.{HasAnswer, IsAsked, IsFault, IsStatementFault};
 ghost use Rattle.tq_eval.specs.Answers.{IsAnswer};
@@ -14,14 +14,18 @@ ghost use Rattle.tq_eval.specs.Fitting.{AreAllFitting};
 
 use std::alloc::{AllocError, Global};
 use std::io::Write;
+use std::thread::Threads;
 use thiserror::Error;
+use tq_eval::detached;
 use tq_eval::laws::{held_rows_fit, tables_answer};
-use tq_eval::{answer_tables, detached};
 use tq_event::laws::{loaded_is_history, tables_are_loaded};
-use tq_event::{LoadFault, LoadFaultKind, MAX_EVENTS, TableFile, Tables, load_tables};
+use tq_event::{LoadFault, LoadFaultKind, MAX_EVENTS, TableFile, Tables};
+use tq_loading::load_tables_among;
 use tq_plan::{PlanFault, plan};
+use tq_run::Open;
 use tq_sql::{SqlFault, SqlFaultKind, Statement, read};
-use tq_table::{Sink, Table, WriteFault, write_table};
+use tq_table::{Sink, Table};
+use tq_workers::{AnswerText, answer_among, text_among};
 
 /// Why there is no answer: the first fault of the files, of the statement's text, or of its plan; or
 /// the sink failed; or a growth was refused.
@@ -101,13 +105,21 @@ struct Question {
     statement: Statement,
 }
 
-// What the files and the bytes ask. A file's bytes are let go once its table is loaded.
-fn asked(alloc: Global, files: Vec<TableFile>, bytes: &[u8]) -> Result<Question, AnswerFault>
+// What the files, which these workers load, and the bytes ask. The files' bytes are let go once they are loaded.
+fn asked<R: Threads + Sync>(
+    rt: &R,
+    alloc: Global,
+    files: Vec<TableFile>,
+    bytes: &[u8],
+    workers: u32,
+) -> Result<Question, AnswerFault>
+    requires some { 1 ≤ workers }
+    requires few { workers ≤ 16 }
     ensures asked { IfOk result (λ question. IsAsked files.items bytes.now question.tables question.statement) }
     ensures fit { IfOk result (λ question. AreAllFitting question.tables.catalogue (lists_of question.tables.rows)) }
     ensures fault { IfErr result (IsFault files.items bytes.now) }
 {
-    let tables = load_tables(alloc, files, MAX_EVENTS)?;
+    let tables = load_tables_among(rt, alloc, files, MAX_EVENTS, workers, &Open)?;
     tables_are_loaded();
     loaded_is_history();
     held_rows_fit();
@@ -115,51 +127,108 @@ fn asked(alloc: Global, files: Vec<TableFile>, bytes: &[u8]) -> Result<Question,
     Ok(Question { tables, statement })
 }
 
-// The answer of a statement over tables: that over any history of which they hold all.
-fn answer_statement<'a>(
+// The answer of a statement over tables, worked out by these workers: that over any history of which the tables
+// hold all.
+fn answer_statement<'a, R: Threads + Sync>(
+    rt: &R,
     alloc: Global,
     tables: &'a Tables,
     statement: &Statement,
+    workers: u32,
 ) -> Result<Table<'a>, AnswerFault>
     requires fit { AreAllFitting tables.now.catalogue (lists_of tables.now.rows) }
+    requires some { 1 ≤ workers }
+    requires few { workers ≤ 16 }
     ensures answer { (history : List AnyEvent) → ((table : ℕ) → HoldsRows (lists_of tables.now.rows) history (length history) table)
         → IfOk result (IsAnswer tables.now.catalogue statement.now history (length history)) }
     ensures fault { IfErr result (IsStatementFault tables.now.catalogue statement.now) }
 {
     let plan = plan(alloc, &tables.catalogue, statement)?;
-    let table = answer_tables(alloc, &tables.catalogue, tables.rows.get(), &plan)?;
+    let rows = tables.rows.get();
+    let table = answer_among(rt, alloc, &tables.catalogue, rows, &plan, workers, &Open)?;
     tables_answer();
     Ok(table)
 }
 
-// The answer to what files and bytes ask.
-fn answered<'a>(alloc: Global, question: &'a Question) -> Result<Table<'a>, AnswerFault>
+// The text of the answer of a statement over tables, worked out by these workers.
+fn statement_text<R: Threads + Sync>(
+    rt: &R,
+    alloc: Global,
+    tables: &Tables,
+    statement: &Statement,
+    workers: u32,
+) -> Result<AnswerText, AnswerFault>
+    requires fit { AreAllFitting tables.now.catalogue (lists_of tables.now.rows) }
+    requires some { 1 ≤ workers }
+    requires few { workers ≤ 16 }
+    ensures answer { (history : List AnyEvent) → ((table : ℕ) → HoldsRows (lists_of tables.now.rows) history (length history) table)
+        → IfOk result (IsTextOf (IsAnswer tables.now.catalogue statement.now history (length history))) }
+    ensures fault { IfErr result (IsStatementFault tables.now.catalogue statement.now) }
+{
+    let plan = plan(alloc, &tables.catalogue, statement)?;
+    let rows = tables.rows.get();
+    let text = text_among(rt, alloc, &tables.catalogue, rows, &plan, workers, &Open)?;
+    tables_answer();
+    Ok(text)
+}
+
+// The answer to what files and bytes ask, worked out by these workers.
+fn answered<'a, R: Threads + Sync>(
+    rt: &R,
+    alloc: Global,
+    question: &'a Question,
+    workers: u32,
+) -> Result<Table<'a>, AnswerFault>
     requires fit { AreAllFitting question.now.tables.catalogue (lists_of question.now.tables.rows) }
+    requires some { 1 ≤ workers }
+    requires few { workers ≤ 16 }
     ensures answer { (files : List AnyFile) (bytes : List ℕ) → IsAsked files bytes question.now.tables question.now.statement → IfOk result (HasAnswer files bytes) }
     ensures fault { (files : List AnyFile) (bytes : List ℕ) → IsAsked files bytes question.now.tables question.now.statement → IfErr result (IsFault files bytes) }
 {
-    answer_statement(alloc, &question.tables, &question.statement)
+    answer_statement(rt, alloc, &question.tables, &question.statement, workers)
 }
 
-/// The answer of the statement that the bytes make, over the tables of the files. A file's bytes are let go
-/// once its table is loaded.
-pub fn answer<'b>(
+// The text of the answer to what files and bytes ask, worked out by these workers.
+fn answered_text<R: Threads + Sync>(
+    rt: &R,
+    alloc: Global,
+    question: &Question,
+    workers: u32,
+) -> Result<AnswerText, AnswerFault>
+    requires fit { AreAllFitting question.now.tables.catalogue (lists_of question.now.tables.rows) }
+    requires some { 1 ≤ workers }
+    requires few { workers ≤ 16 }
+    ensures answer { (files : List AnyFile) (bytes : List ℕ) → IsAsked files bytes question.now.tables question.now.statement → IfOk result (IsTextOf (HasAnswer files bytes)) }
+    ensures fault { (files : List AnyFile) (bytes : List ℕ) → IsAsked files bytes question.now.tables question.now.statement → IfErr result (IsFault files bytes) }
+{
+    statement_text(rt, alloc, &question.tables, &question.statement, workers)
+}
+
+/// The answer of the statement that the bytes make, over the tables of the files, worked out by 1 to 16 workers.
+/// The files' bytes are let go once they are loaded.
+pub fn answer<'b, R: Threads + Sync>(
+    rt: &R,
     alloc: Global,
     files: Vec<TableFile>,
     bytes: &[u8],
+    workers: u32,
 ) -> Result<Table<'b>, AnswerFault>
+    requires some { 1 ≤ workers }
+    requires few { workers ≤ 16 }
     ensures answer { IfOk result (HasAnswer files.items bytes.now) }
     ensures fault { IfErr result (IsFault files.items bytes.now) }
 {
-    let question = asked(alloc, files, bytes)?;
-    let table = answered(alloc, &question)?;
+    let question = asked(rt, alloc, files, bytes, workers)?;
+    let table = answered(rt, alloc, &question, workers)?;
     Ok(detached(alloc, table)?)
 }
 
 /// Writes the text of the answer of the statement that the bytes make, over the tables of the files.
 /// The first fault is answered: of the files, of the statement, of its plan. Nothing is written before
-/// the answer is whole; after `Write` a prefix of it went out. All workers, 1 to 16, are one.
-pub fn answer_bytes<W: Write>(
+/// the answer is whole; after `Write` a prefix of it went out. Files are loaded and the answer is worked out by 1 to
+/// 16 workers, the calling thread among them, and all is the same for every number of them.
+pub fn answer_bytes<R: Threads + Sync, W: Write>(
+    rt: &R,
     alloc: Global,
     files: Vec<TableFile>,
     bytes: &[u8],
@@ -174,11 +243,10 @@ pub fn answer_bytes<W: Write>(
     ensures failed { result ≡ Err AnswerFault.Write → sink.new.failed ≡ one_more sink.old.failed }
     ensures fault { IfErr result (λ fault. fault ≢ AnswerFault.Write → IsFault files.items bytes.now fault × (sink.new ≡ sink.old)) }
 {
-    let question = asked(alloc, files, bytes)?;
-    let table = answered(alloc, &question)?;
-    match write_table(alloc, &table, sink) {
+    let question = asked(rt, alloc, files, bytes, workers)?;
+    let text = answered_text(rt, alloc, &question, workers)?;
+    match sink.send_all(text.parts()) {
         Ok(()) => Ok(()),
-        Err(WriteFault::Write) => Err(AnswerFault::Write),
-        Err(WriteFault::OutOfMemory) => Err(AnswerFault::OutOfMemory),
+        Err(_) => Err(AnswerFault::Write),
     }
 }

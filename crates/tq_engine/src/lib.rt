@@ -9,10 +9,12 @@
 #![tactic(auto)]
 
 mod answering;
+mod fault_names;
 mod file;
 pub mod laws;
 mod source;
 
 pub use answering::{AnswerFault, answer, answer_bytes};
+pub use fault_names::{load_name, plan_name, sql_name};
 pub use file::read_file;
 pub use source::{FileFault, Source};

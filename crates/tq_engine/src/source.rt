@@ -65,7 +65,7 @@ impl<R> Source<R> {
 
 impl<R: Read> Source<R> {
     /// One read. It is counted, and so is its failure.
-    pub(crate) fn read_some(&mut self, buffer: &mut [u8]) -> Result<usize, FileFault>
+    pub fn read_some(&mut self, buffer: &mut [u8]) -> Result<usize, FileFault>
         ensures bound { ReadsAtMost result buffer.new }
         ensures taken { IfOk result (λ n. Consumes (R.remaining self.old.reader) (R.remaining self.new.reader)
             (take n buffer.new)) }

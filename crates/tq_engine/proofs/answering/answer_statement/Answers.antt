@@ -6,18 +6,18 @@ use Rattle.tq_eval.specs.Fitting.{AreAllFitting}
 use Rattle.tq_engine.proofs.answering.answer_statement.Goals as goal
 
 pub returns-clause-answer : goal.returns-clause-answer
-returns-clause-answer c history hold = record {
+returns-clause-answer g c history hold = record {
   plan = c.in_ok-plan.plan;
   planned = c.in_ok-plan.ensures.plan;
   is_answer =
       c.tables_answer.ensures (lists_of c.args.tables.now.rows) history (length history) c.in_ok-plan.plan c.in_ok-table.table
       (record { catalogue = c.args.tables.now.catalogue; statement = c.args.statement.now; planned = c.in_ok-plan.ensures.plan })
       (λ k d less. hold (get_or (tables_read c.in_ok-plan.plan) k d))
-      (subst (λ (tables : List RowList). IsTablesAnswer (lists_of tables) c.in_ok-plan.plan c.in_ok-table.table) c.get.ensures c.in_ok-table.ensures);
+      (subst (λ (tables : List RowList). IsTablesAnswer (lists_of tables) c.in_ok-plan.plan c.in_ok-table.table) c.get-rows.ensures c.in_ok-table.ensures);
 }
 
-pub answer_tables-requires-clause-fit : goal.answer_tables-requires-clause-fit
-answer_tables-requires-clause-fit c = subst (λ (tables : List RowList). AreAllFitting c.args.tables.now.catalogue (lists_of tables)) (sym c.get.ensures) c.requires.fit
+pub answer_among-requires-clause-fit : goal.answer_among-requires-clause-fit
+answer_among-requires-clause-fit g c κs within = subst (λ (tables : List RowList). AreAllFitting c.args.tables.now.catalogue (lists_of tables)) (sym c.get-rows.ensures) c.requires.fit
 
-pub answer_tables-requires-clause-plan : goal.answer_tables-requires-clause-plan
-answer_tables-requires-clause-plan c = record { statement = c.args.statement.now; planned = c.in_ok-plan.ensures.plan }
+pub answer_among-requires-clause-plan : goal.answer_among-requires-clause-plan
+answer_among-requires-clause-plan g c κs within = record { statement = c.args.statement.now; planned = c.in_ok-plan.ensures.plan }

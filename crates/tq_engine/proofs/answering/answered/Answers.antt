@@ -8,7 +8,7 @@ use Rattle.tq_engine.proofs.FaultLemmas.{statement_fault}
 use Rattle.tq_engine.proofs.answering.answered.Goals as goal
 
 pub returns-clause-answer : goal.returns-clause-answer
-returns-clause-answer c files bytes asked =
+returns-clause-answer g c files bytes asked =
     let of : AreLoaded files 16777216 c.args.question.now.tables = asked.loaded in
     let statement = c.args.question.now.statement in
     IfOk-weaker c.answer_statement.result _ _
@@ -22,7 +22,7 @@ returns-clause-answer c files bytes asked =
     (c.answer_statement.ensures.answer of.loaded.events of.hold)
 
 pub returns-clause-fault : goal.returns-clause-fault
-returns-clause-fault c files bytes asked =
+returns-clause-fault g c files bytes asked =
     let of : AreLoaded files 16777216 c.args.question.now.tables = asked.loaded in
     let statement = c.args.question.now.statement in
     IfErr-weaker c.answer_statement.result _ _

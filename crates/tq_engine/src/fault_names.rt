@@ -1,7 +1,7 @@
 // The names by which faults are told.
 
 ghost use Rattle.std.specs.Prelude.{◌≡◌};
-ghost use Rattle.tq.specs.FaultNames.{load_name, plan_name, sql_name};
+ghost use Rattle.tq_engine.specs.FaultNames.{load_name, plan_name, sql_name};
 
 use tq_event::LoadFaultKind;
 use tq_plan::PlanFault;

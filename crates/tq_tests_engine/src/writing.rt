@@ -1,0 +1,171 @@
+//! Answers that go out, and writers that take a part.
+
+ghost use Rattle.std.specs.Prelude.{◌≤◌};
+
+use crate::making::sums_of;
+use std::alloc::{AllocError, Global};
+use std::fmt::Write as Format;
+use std::io::{self, ErrorKind, Write};
+use std::str;
+use std::thread::Threads;
+use tq_engine::{AnswerFault, answer, answer_bytes};
+use tq_event::TableFile;
+use tq_table::Sink;
+
+// Takes at most so many bytes a call, and fails at one of its calls. It counts its calls.
+#[derive(Drop)]
+struct PartWriter {
+    taken: Vec<u8>,
+    most: usize,
+    fails_at: u32,
+    calls: u32,
+}
+
+impl Write for PartWriter {
+    fn write(&mut self, buf: &[u8]) -> io::Result<usize> {
+        self.calls = self.calls.saturating_add(1);
+        if self.calls == self.fails_at {
+            return Err(io::Error::from(ErrorKind::Other));
+        }
+        let taken = buf.len().min(self.most);
+        self.taken.extend_from_slice(&buf[..taken])?;
+        Ok(taken)
+    }
+
+    fn flush(&mut self) -> io::Result<()> {
+        Ok(())
+    }
+}
+
+// The two calls for a small answer, the one that fails, and the header and 64 ranges of rows of a large answer.
+const CALLS: usize = 68;
+
+/// The lines of the bytes.
+pub(crate) fn tell_lines(bytes: &[u8], out: &mut String) -> Result<(), AllocError> {
+    for line in str::from_utf8(bytes).unwrap_or("no text").lines() {
+        writeln!(out, "    {line}")?;
+    }
+    Ok(())
+}
+
+/// What a call came to, if it came to a fault.
+pub(crate) fn tell_fault(
+    written: Result<(), AnswerFault>,
+    failed: u64,
+    out: &mut String,
+) -> Result<(), AllocError> {
+    match written {
+        Ok(()) => Ok(()),
+        Err(fault) => writeln!(out, "    {fault:?}"),
+    }?;
+    if failed > 0 {
+        writeln!(out, "    {failed} failed")?;
+    }
+    Ok(())
+}
+
+/// The bytes that an answer has in memory, and the fault, with how often the sink failed.
+pub(crate) fn answer_in_memory<R: Threads + Sync>(
+    rt: &R,
+    alloc: Global,
+    files: Vec<TableFile>,
+    statement: &str,
+    workers: u32,
+    out: &mut String,
+) -> Result<Vec<u8>, AllocError>
+    requires some { 1 ≤ workers }
+    requires few { workers ≤ 16 }
+{
+    let mut sink = Sink::over(Vec::new(alloc));
+    let written = answer_bytes(rt, alloc, files, statement.as_bytes(), workers, &mut sink);
+    tell_fault(written, sink.failed(), out)?;
+    Ok(sink.into_inner())
+}
+
+/// An answer goes to a writer that takes so many bytes a call and fails at a call.
+pub(crate) fn tell_broken<R: Threads + Sync>(
+    rt: &R,
+    alloc: Global,
+    files: Vec<TableFile>,
+    [most, fails_at]: [u32; 2],
+    statement: &str,
+    out: &mut String,
+) -> Result<(), AllocError> {
+    let mut writer = PartWriter {
+        taken: Vec::new(alloc),
+        most: most as usize,
+        fails_at,
+        calls: 0,
+    };
+    let mut sink = Sink::over(&mut writer);
+    let written = answer_bytes(rt, alloc, files, statement.as_bytes(), 1, &mut sink);
+    tell_fault(written, sink.failed(), out)?;
+    tell_lines(&writer.taken, out)?;
+    writeln!(out, "    {} calls", writer.calls)
+}
+
+// Whether the text of a small answer and the sums of so many big lines were taken, more than a megabyte, with no more
+// calls than one for each 65,536 bytes beside those.
+fn is_whole(alloc: Global, writer: &PartWriter, count: u32) -> Result<bool, AllocError> {
+    let small = b"k,from,to\n7,7,17\n";
+    let (first, rest) = writer.taken.split_at(small.len().min(writer.taken.len()));
+    let most = rest.len().div_ceil(65_536).saturating_add(CALLS);
+    let wanted = sums_of(alloc, count)?;
+    let is_right = first == small.as_slice() && rest == wanted.as_bytes();
+    Ok(is_right && rest.len() > 1_000_000 && writer.calls as usize <= most)
+}
+
+/// A small answer goes to a writer that takes 65,536 bytes a call, then one that fails at the first of its calls, and
+/// then the same again: what each came to, and whether all was taken.
+pub(crate) fn tell_after_failure<R: Threads + Sync>(
+    rt: &R,
+    alloc: Global,
+    copies: Vec<Vec<TableFile>>,
+    count: u32,
+    out: &mut String,
+) -> Result<(), AllocError> {
+    let mut writer = PartWriter {
+        taken: Vec::new(alloc),
+        most: 65_536,
+        fails_at: 3,
+        calls: 0,
+    };
+    let mut sink = Sink::over(&mut writer);
+    let small = "VALIDTIME SELECT k FROM big WHERE k = 7";
+    let large = format!(in alloc;
+        "VALIDTIME SELECT g, SUM(k) FROM big WHERE k < {count} GROUP BY g"
+    )?;
+    for (place, files) in copies.into_iter().enumerate() {
+        let statement = if place == 0 { small } else { large.as_str() };
+        let written = answer_bytes(rt, alloc, files, statement.as_bytes(), 16, &mut sink);
+        writeln!(out, "    {written:?}, {} failed", sink.failed())?;
+    }
+    let whole = is_whole(alloc, &writer, count)?;
+    writeln!(out, "    all was taken: {whole}")
+}
+
+/// How many columns and rows an answer has, and the columns' names.
+pub(crate) fn tell_shape<R: Threads + Sync>(
+    rt: &R,
+    alloc: Global,
+    files: Vec<TableFile>,
+    statement: &str,
+    out: &mut String,
+) -> Result<(), AllocError> {
+    match answer(rt, alloc, files, statement.as_bytes(), 3) {
+        Ok(table) => {
+            let columns = table.columns.get();
+            writeln!(
+                out,
+                "    {} columns, {} rows",
+                columns.len(),
+                table.rows.len()
+            )?;
+            for column in columns {
+                tell_lines(column.bytes(), out)?;
+            }
+            Ok(())
+        }
+        Err(fault) => writeln!(out, "    {fault:?}"),
+    }
+}
