@@ -272,7 +272,7 @@ def among_threads():
             spoilt,
             ALL_NAMES,
             ["--workers", workers],
-            err=b"tq: load BadPeriod table 0 record 40001\n",
+            err=b"tq: load BadPeriod table 0 record 40002\n",
             status=1,
         )
 
