@@ -22,6 +22,7 @@ class Case:
     files: dict = field(default_factory=dict)
     to: str | None = None  # FULL, UNREAD, CLOSED
     memory: int | None = None
+    taken: bytes = b""  # what standard input gives
     holds: list = field(default_factory=list)
 
 
@@ -277,6 +278,48 @@ def among_threads():
         )
 
 
+def sessions():
+    """Lines of standard input over the table of the examples: what each prints follows from docs/formats.md."""
+    emp = ["session", "--table", "emp=examples/emp.csv"]
+
+    def lines(name, taken, out, **wanted):
+        return Case(f"session: {name}", emp, taken=taken, out=out, **wanted)
+
+    ask = b"VALIDTIME SELECT name FROM emp WHERE dept = 'food'\n"
+    before, after = b"answer 1\nname,from,to\ncat,5,forever\n", b"answer 1\nname,from,to\ncat,5,40\n"
+    yield lines(
+        "an end is seen once it is published",
+        b"ask 7 1 " + ask + b"end emp 40 3,cat,food\nask 8 1 " + ask + b"publish\nask 7 4 " + ask + b"ask 8 4 " + ask,
+        before + b"row 0\nrefused TooNew 7\npublished 8\n" + before + after,
+    )
+    yield lines("no input", b"", b"")
+    yield lines("a last line without its end", b"publish\npublish", b"published 7\npublished 7\n")
+    yield lines("a line of 70,001 bytes", 70_001 * b"x" + b"\npublish\n", b"refused BadLine\npublished 7\n")
+    yield lines("a line of 70,001 bytes without its end", 70_001 * b"x", b"refused BadLine\n")
+    yield lines("words that are no commands", b"help\nPublish\n\n publish\n", 3 * b"refused BadLine\n")
+    rows = b"".join(b"start emp %d %d,n%d,d\n" % (i, i, i) for i in range(100, 5100))
+    said = b"".join(b"row %d\n" % i for i in range(4, 5004))
+    yield lines("thousands of rows", rows + b"publish\n", said + b"published 5007\n")
+    count = b"ask %d 3 VALIDTIME SELECT COUNT(*) FROM emp WHERE name <> 'cat'\n"
+    yield lines(
+        "a count as of thousands of rows",
+        rows + b"publish\n" + count % 5007 + count % 7,
+        said
+        + b"published 5007\n"
+        + b"answer 5005\ncount,from,to\n0,0,10\n0,30,100\n1,10,15\n1,25,30\n1,100,101\n2,15,25\n"
+        + b"".join(b"%d,%d,%d\n" % (i, i + 99, i + 100) for i in range(2, 5000))
+        + b"5000,5099,forever\n"
+        + b"answer 5\ncount,from,to\n0,0,10\n0,30,forever\n1,10,15\n1,25,30\n2,15,25\n",
+    )
+    yield Case("a session over a file at fault", ["session", "--table", "emp=examples/broken.csv"], err=b"tq: load BadPeriod table 0 record 3\n", status=1, taken=b"publish\n")
+    yield Case("a session without a table", ["session"], err=b"tq: BadCommandLine\n", status=2)
+    yield Case("a session with a statement", [*emp, ALL_NAMES], err=b"tq: BadCommandLine\n", status=2)
+    for to in (FULL, UNREAD, CLOSED):
+        yield Case(f"a session whose output is {to}", emp, err=b"tq: write failed\n", status=1, to=to, taken=b"publish\n")
+    for words in (["session", "--help"], ["help", "session"]):
+        yield Case(f"help: {words}", words, out=None, holds=[b"start emp 40 4,dan,toys", b"emp:int,name:text,dept:text,from,to"])
+
+
 def outputs_that_fail():
     emp = ["ask", "--table", "emp=examples/emp.csv", ALL_NAMES]
     for to in (FULL, UNREAD, CLOSED):
@@ -287,5 +330,5 @@ def outputs_that_fail():
 
 def table():
     """All cases."""
-    makers = (files_at_fault, statements_at_fault, command_lines, words_of_all_lengths, paths, large, among_threads, outputs_that_fail)
+    makers = (files_at_fault, statements_at_fault, command_lines, words_of_all_lengths, paths, large, among_threads, sessions, outputs_that_fail)
     return [case for maker in makers for case in maker()]

@@ -37,11 +37,15 @@ def blocks_of(text):
 
 
 def printed(name, words, lines):
-    """The case of a command that a page prints with these lines: a refusal, or an answer."""
+    """The case of a command that a page prints with these lines: a refusal, or an answer. A file may be its input."""
     said = "".join(line.removeprefix("    ") + "\n" for line in lines).encode()
+    taken = b""
+    if len(words) > 2 and words[-2] == "<":
+        taken = (ROOT / words[-1]).read_bytes()
+        words = words[:-2]
     if said.startswith(b"tq: "):
-        return Case(name, words, err=said, status=2 if said == b"tq: BadCommandLine\n" else 1)
-    return Case(name, words, out=said)
+        return Case(name, words, err=said, status=2 if said == b"tq: BadCommandLine\n" else 1, taken=taken)
+    return Case(name, words, out=said, taken=taken)
 
 
 def form_of(text):
@@ -103,7 +107,7 @@ def run(program, case, room):
     ran = subprocess.run(
         [program, *words],
         cwd=ROOT,
-        stdin=subprocess.DEVNULL,
+        input=case.taken,
         stdout=out,
         stderr=subprocess.PIPE,
         preexec_fn=lambda: prepare(case),
@@ -147,12 +151,12 @@ def cases_of_help(program):
 
 def main():
     program = str(Path(sys.argv[1]).resolve())
-    pages = [ROOT / "README.md", ROOT / "examples" / "payroll.md"]
+    pages = [ROOT / "README.md", ROOT / "examples" / "payroll.md", ROOT / "examples" / "session.md"]
     shown = [list(cases_of_page(page)) for page in pages] + [list(cases_of_help(program))]
     table = [*(case for part in shown for case in part), *cases.table()]
     passed = failed = 0
-    for part, place in zip(shown, ["README.md", "examples/payroll.md", "the help"]):
-        if len(part) < 2:
+    for part, place in zip(shown, ["README.md", "examples/payroll.md", "examples/session.md", "the help"]):
+        if len(part) < 1:
             failed += 1
             print(f"FAILED: {place} shows no command that is found")
     for case in table:

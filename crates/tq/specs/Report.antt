@@ -8,8 +8,10 @@ use Rattle.tq.specs.declared.command_line.CommandLineFault.TheVariants as comman
 use Rattle.tq_engine.specs.declared.source.FileFault.{FileFault}
 use Rattle.tq_engine.specs.declared.source.FileFault.TheVariants as source
 use Rattle.tq_engine.specs.FaultNames.{load_name, plan_name, sql_name}
+use Rattle.tq_session.specs.declared.transcript.SessionFault.{SessionFault}
+use Rattle.tq_session.specs.declared.transcript.SessionFault.TheVariants as session
 use Rattle.tq.specs.declared.report.Refusal.{Refusal}
-use Rattle.tq.specs.declared.report.Refusal.TheVariants.{BadCommandLine, CannotRead, Load, Statement, Plan, WriteFailed, OutOfMemory}
+use Rattle.tq.specs.declared.report.Refusal.TheVariants.{BadCommandLine, CannotRead, Load, Statement, Plan, NoPlace, ReadFailed, WriteFailed, OutOfMemory}
 
 -- The refusal of a command line with this fault. (This project's own.)
 abbrev pub refused_command_line : CommandLineFault → Refusal
@@ -30,6 +32,14 @@ refused_answer (answer.Plan fault) = Plan fault
 refused_answer answer.Write = WriteFailed
 refused_answer answer.OutOfMemory = OutOfMemory
 
+-- The refusal of a session that ended with this fault. (This project's own.)
+abbrev pub refused_session : SessionFault → Refusal
+refused_session (session.Load fault) = Load fault
+refused_session session.NoPlace = NoPlace
+refused_session session.Read = ReadFailed
+refused_session session.Write = WriteFailed
+refused_session session.OutOfMemory = OutOfMemory
+
 -- 2 for a command line that is refused, and 1 for every other refusal. (This project's own.)
 abbrev pub status_of : Refusal → ℕ
 status_of BadCommandLine = 2
@@ -37,6 +47,8 @@ status_of (CannotRead path) = 1
 status_of (Load fault) = 1
 status_of (Statement fault) = 1
 status_of (Plan fault) = 1
+status_of NoPlace = 1
+status_of ReadFailed = 1
 status_of WriteFailed = 1
 status_of OutOfMemory = 1
 
@@ -48,5 +60,7 @@ line_of (Load fault) =
     codes "tq: load " ++ load_name fault.kind ++ codes " table " ++ decimal fault.table ++ codes " record " ++ decimal fault.number ++ codes "\n"
 line_of (Statement fault) = codes "tq: statement " ++ sql_name fault.kind ++ codes " at " ++ decimal fault.at ++ codes "\n"
 line_of (Plan fault) = codes "tq: plan " ++ plan_name fault ++ codes "\n"
+line_of NoPlace = codes "tq: NoPlace\n"
+line_of ReadFailed = codes "tq: read failed\n"
 line_of WriteFailed = codes "tq: write failed\n"
 line_of OutOfMemory = codes "tq: OutOfMemory\n"

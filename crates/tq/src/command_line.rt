@@ -16,7 +16,21 @@ pub const WORKER_LIMIT: u32 = 16;
 
 const ABOUT: &str = "Answers sequenced queries over valid-time tables in CSV files.";
 
-// What both helps end with.
+// What the help of a session ends with, beside the forms of statements and files.
+const LINES: &str = "\
+Lines, each answered as soon as it was read:
+  start emp 40 4,dan,toys          a row starts at 40
+  end emp 50 4,dan,toys            it ends at 50
+  publish                          both become visible; how many events are published
+  ask 9 1 VALIDTIME SELECT name FROM emp
+                                   the answer as of the first 9 events, by 1 worker
+
+Table file (the first column is a key; an open end is `forever`):
+  emp:int,name:text,dept:text,from,to
+  1,ann,toys,10,20
+  2,bob,food,15,forever";
+
+// What the helps of the program and of a question end with.
 const FORMS: &str = "\
 Statement:
   VALIDTIME SELECT name, dept FROM emp
@@ -66,23 +80,34 @@ pub struct AskRequest {
     ghost few_workers: { workers ≤ 16 },
 }
 
-/// What the program was asked: to print this help, or to answer.
+/// What the program was asked: to print this help, to answer a statement, or to hold a session over the tables in the
+/// order of their options.
 #[derive(Drop)]
 pub enum Request {
     Help(String),
     Ask(AskRequest),
+    Session(Vec<TableOption>),
 }
 
 /// Reads the words after the program's name, each as `text_of` its bytes.
 pub fn read_command_line(alloc: Global, words: &[String]) -> Result<Request, CommandLineFault> {
     let command = tq_command(alloc)?;
     match command.try_get_matches_from(words) {
-        Ok(matches) => match matches.subcommand_matches("ask") {
-            Some(ask) => Ok(Request::Ask(read_ask(alloc, ask)?)),
-            None => Err(CommandLineFault::BadCommandLine),
-        },
+        Ok(matches) => read_request(alloc, &matches),
         Err(error) => help_text(alloc, &error),
     }
+}
+
+// What the command asks.
+fn read_request(alloc: Global, matches: &ArgMatches<'_>) -> Result<Request, CommandLineFault> {
+    if let Some(ask) = matches.subcommand_matches("ask") {
+        return Ok(Request::Ask(read_ask(alloc, ask)?));
+    }
+    if let Some(session) = matches.subcommand_matches("session") {
+        let tables = read_options(alloc, session.get_strs("table").unwrap_or(&[]))?;
+        return Ok(Request::Session(tables));
+    }
+    Err(CommandLineFault::BadCommandLine)
 }
 
 // The help that was asked for, or the fault.
@@ -102,17 +127,23 @@ fn tq_command<'a>(alloc: Global) -> Result<Command<'a>, AllocError> {
         .no_binary_name(true)
         .bin_name("tq")?
         .subcommand_required(true)
-        .subcommand(ask_command(alloc)?)
+        .subcommand(ask_command(alloc)?)?
+        .subcommand(session_command(alloc)?)
 }
 
-// The command that answers a statement.
-fn ask_command<'a>(alloc: Global) -> Result<Command<'a>, AllocError> {
-    let table = Arg::new(alloc, "table")
+// The tables that a command is about.
+fn table_argument<'a>(alloc: Global) -> Arg<'a> {
+    Arg::new(alloc, "table")
         .long("table")
         .value_name("NAME=PATH")
         .help("A table's name, and its CSV file")
         .required(true)
-        .action(ArgAction::Append);
+        .action(ArgAction::Append)
+}
+
+// The command that answers a statement.
+fn ask_command<'a>(alloc: Global) -> Result<Command<'a>, AllocError> {
+    let table = table_argument(alloc);
     let workers = Arg::new(alloc, "workers")
         .long("workers")
         .value_name("N")
@@ -127,6 +158,14 @@ fn ask_command<'a>(alloc: Global) -> Result<Command<'a>, AllocError> {
         .about("Answers a statement on standard output")
         .after_help(FORMS);
     command.arg(table)?.arg(workers)?.arg(statement)
+}
+
+// The command that holds a session.
+fn session_command<'a>(alloc: Global) -> Result<Command<'a>, AllocError> {
+    Command::new(alloc, "session")
+        .about("Answers the lines of standard input, which start and end rows, publish and ask")
+        .after_help(LINES)
+        .arg(table_argument(alloc))
 }
 
 // The tables that the words name, in their order.

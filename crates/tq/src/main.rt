@@ -1,9 +1,10 @@
 //! The program `tq`: `tq ask --table NAME=PATH [--workers N] STATEMENT` answers a sequenced query over
-//! a valid-time table in a CSV file.
+//! valid-time tables in CSV files, and `tq session --table NAME=PATH` answers the lines of standard input over them.
 //!
 //! The words of the command line (`words`) are read as a request (`command_line`), the files that it names
 //! are read to their bytes, and the engine (`tq_engine`) answers the statement over them on standard
-//! output. Where there is no answer, one line on standard error says why (`report`).
+//! output, or a session (`tq_session`) the lines. Where there is no answer, one line on standard error says why
+//! (`report`).
 #![tactic(auto)]
 
 ghost use Rattle.std.specs.Prelude.{◌≡◌, ◌≢◌, IfErr, IfOk, map};
@@ -18,14 +19,16 @@ use command_line::{AskRequest, Request, TableOption, read_command_line};
 use report::Refusal;
 use std::alloc::AllocError;
 use std::env::Env;
-use std::io::ErrorKind;
+use std::io::{ErrorKind, Input};
 use std::process::ExitCode;
 use std::rt::Files;
+use std::sync::Wait;
 use std::thread::Threads;
 use std::{fs, io, str};
 use tq_base::Items;
 use tq_engine::{FileFault, Source, answer_bytes, read_file};
 use tq_event::TableFile;
+use tq_session::session;
 use tq_table::Sink;
 use words::read_words;
 
@@ -88,11 +91,26 @@ fn ask<R: Files + AllocGlobal + Print + Threads + Sync>(
     Ok(())
 }
 
+// Answers the lines of standard input on standard output, once all files are read.
+fn converse<R: Files + AllocGlobal + Input + Print + Threads + Wait + Sync>(
+    rt: &R,
+    options: Vec<TableOption>,
+) -> Result<(), Refusal> {
+    let tables = read_tables(rt, options)?;
+    let mut source = Source::over(rt.reader());
+    let mut sink = Sink::over(io::writer(rt));
+    session(rt, rt.alloc(), tables, &mut source, &mut sink)?;
+    Ok(())
+}
+
 // Does what the command line asks.
-fn run<R: Files + AllocGlobal + Env + Print + Threads + Sync>(rt: &R) -> Result<(), Refusal> {
+fn run<R: Files + AllocGlobal + Env + Input + Print + Threads + Wait + Sync>(
+    rt: &R,
+) -> Result<(), Refusal> {
     let words = read_words(rt)?;
     match read_command_line(rt.alloc(), &words)? {
         Request::Ask(request) => ask(rt, request),
+        Request::Session(tables) => converse(rt, tables),
         Request::Help(text) => match Sink::over(io::writer(rt)).send(text.as_bytes()) {
             Ok(()) => Ok(()),
             Err(_) => Err(Refusal::WriteFailed),

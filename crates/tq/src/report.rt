@@ -3,7 +3,7 @@
 ghost use Rattle.std.specs.Prelude.{◌≡◌, OnOk};
 ghost use Rattle.std.specs.Io.KnownBytes.{Appends};
 ghost use Rattle.std.specs.Process.{exit_status};
-ghost use Rattle.tq.specs.Report.{line_of, refused_answer, refused_command_line, refused_file, status_of};
+ghost use Rattle.tq.specs.Report.{line_of, refused_answer, refused_command_line, refused_file, refused_session, status_of};
 
 use crate::command_line::CommandLineFault;
 use std::alloc::AllocError;
@@ -12,6 +12,7 @@ use std::process::ExitCode;
 use tq_engine::{AnswerFault, FileFault, load_name, plan_name, sql_name};
 use tq_event::LoadFault;
 use tq_plan::PlanFault;
+use tq_session::SessionFault;
 use tq_sql::SqlFault;
 
 /// Why the program gave no answer: one of the lines that it prints.
@@ -22,6 +23,8 @@ pub enum Refusal {
     Load(LoadFault),
     Statement(SqlFault),
     Plan(PlanFault),
+    NoPlace,
+    ReadFailed,
     WriteFailed,
     OutOfMemory,
 }
@@ -57,6 +60,20 @@ impl From<AnswerFault> for Refusal {
             AnswerFault::Plan(fault) => Refusal::Plan(fault),
             AnswerFault::Write => Refusal::WriteFailed,
             AnswerFault::OutOfMemory => Refusal::OutOfMemory,
+        }
+    }
+}
+
+impl From<SessionFault> for Refusal {
+    ghost from_gives = { λ fault refusal. refusal ≡ refused_session fault };
+
+    fn from(fault: SessionFault) -> Refusal {
+        match fault {
+            SessionFault::Load(fault) => Refusal::Load(fault),
+            SessionFault::NoPlace => Refusal::NoPlace,
+            SessionFault::Read => Refusal::ReadFailed,
+            SessionFault::Write => Refusal::WriteFailed,
+            SessionFault::OutOfMemory => Refusal::OutOfMemory,
         }
     }
 }
@@ -108,6 +125,8 @@ impl Refusal {
                 writeln!(errors, "tq: statement {} at {at}", sql_name(*kind))
             }
             Refusal::Plan(fault) => writeln!(errors, "tq: plan {}", plan_name(*fault)),
+            Refusal::NoPlace => errors.write_all(b"tq: NoPlace\n"),
+            Refusal::ReadFailed => errors.write_all(b"tq: read failed\n"),
             Refusal::WriteFailed => errors.write_all(b"tq: write failed\n"),
             Refusal::OutOfMemory => errors.write_all(b"tq: OutOfMemory\n"),
         }

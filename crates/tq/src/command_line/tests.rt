@@ -99,10 +99,28 @@ fn read_line(alloc: Global, line: &str) -> Result<Result<Request, CommandLineFau
 }
 
 #[test]
+fn a_session_is_about_its_tables(rt: HostRuntime) -> Result<(), Fail> {
+    match read_line(rt.alloc(), "session --table emp=a=b.csv --table sal=")? {
+        Ok(Request::Session(tables)) => {
+            assert_eq!(rt; tables.len(), 2);
+            assert_eq!(rt; tables[0].path.as_slice(), b"a=b.csv".as_slice());
+            assert_eq!(rt; tables[1].name.as_slice(), b"sal".as_slice());
+        }
+        Ok(_request) => assert!(rt; false, "another request"),
+        Err(_fault) => assert!(rt; false, "not read"),
+    }
+    Ok(())
+}
+
+#[test]
 fn other_command_lines_are_refused(rt: HostRuntime) -> Result<(), Fail> {
     for line in [
         "",
-        "session --table emp=e",
+        "session",
+        "session emp=e",
+        "session --table emp",
+        "session --table emp=e S",
+        "session --table emp=e --workers 2",
         "ask S",
         "ask --table emp=e",
         "ask --table emp S",
@@ -125,6 +143,7 @@ fn help_of(alloc: Global, line: &str) -> Result<Option<String>, AllocError> {
     match read_line(alloc, line)? {
         Ok(Request::Help(text)) => Ok(Some(text)),
         Ok(Request::Ask(_request)) => Ok(None),
+        Ok(Request::Session(_tables)) => Ok(None),
         Err(_fault) => Ok(None),
     }
 }

@@ -5,6 +5,7 @@ use std::test::Fail;
 use tq_engine::AnswerFault;
 use tq_event::{LoadFault, LoadFaultKind};
 use tq_plan::PlanFault;
+use tq_session::SessionFault;
 use tq_sql::{SqlFault, SqlFaultKind};
 
 #[test]
@@ -45,6 +46,14 @@ fn a_refusal_prints_its_line(rt: HostRuntime) -> Result<(), Fail> {
         (
             Refusal::from(AnswerFault::OutOfMemory),
             b"tq: OutOfMemory\n".as_slice(),
+        ),
+        (
+            Refusal::from(SessionFault::NoPlace),
+            b"tq: NoPlace\n".as_slice(),
+        ),
+        (
+            Refusal::from(SessionFault::Read),
+            b"tq: read failed\n".as_slice(),
         ),
     ] {
         let mut printed = Vec::new(rt.alloc());

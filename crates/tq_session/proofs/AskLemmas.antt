@@ -1,0 +1,48 @@
+-- What a question is answered with.
+use Rattle.std.proofs.Common.{◌≡◌, ◌≤◌, ℕ, List, ◌++◌, length, sym, ap, subst, ◌∙◌, append_assoc}
+use Rattle.std.specs.Prelude.{Ok}
+use mathlib.Core.List.{IsPrefix}
+use Rattle.tq_base.specs.declared.catalogue.Catalogue.{Catalogue}
+use Rattle.tq_event.specs.declared.event.Event.{Event}
+use Rattle.tq_plan.specs.declared.plans.Plan.{Plan}
+use Rattle.tq_plan.specs.Plans.{plan_of}
+use Rattle.tq_sql.specs.declared.statement.Statement.{Statement}
+use Rattle.tq_sql.specs.Reading.{Makes}
+use Rattle.tq_table.specs.declared.table.Table.{Table}
+use Rattle.tq_eval.specs.Answers.{IsAnswer}
+use Rattle.tq_session.specs.declared.reply.Refusal.{Refusal}
+use Rattle.tq_session.specs.declared.reply.Reply.{Reply}
+use Rattle.tq_session.specs.declared.reply.Reply.TheVariants as outcome
+use Rattle.tq_session.specs.Asking.{IsPlanOf, Tells}
+use Rattle.tq_session.specs.Transcripts.{Asks, IsPlanned, RefusesAsk}
+
+-- the bytes have a plan over the catalogue
+pub planned_of : (catalogue other : Catalogue) (bytes : List ℕ) (plan : Plan) → catalogue ≡ other → IsPlanOf catalogue bytes plan → IsPlanned other bytes
+planned_of catalogue other bytes plan same is = record {
+  statement = is.statement;
+  makes = is.makes;
+  plan = plan;
+  planned = subst (λ (c : Catalogue). plan_of c is.statement ≡ Ok plan) same is.planned;
+}
+
+-- a beginning of a beginning
+pub prefix_of_prefix : {X : Type 0} (a b c : List X) → IsPrefix a b → IsPrefix b c → IsPrefix a c
+prefix_of_prefix a b c (x, first) (y, second) = (x ++ y, sym (append_assoc a x y) ∙ ap (λ l. l ++ y) first ∙ second)
+
+-- the answer is told, or memory is refused
+pub asks_told : (catalogue : Catalogue) (events : List Event) (n : ℕ) (bytes : List ℕ) (table : Table) (reply : Reply) (statement : Statement)
+    → n ≤ length events → Makes bytes statement → IsAnswer catalogue statement events n table → Tells table reply → Asks catalogue events n bytes reply
+asks_told catalogue events n bytes table (outcome.Answer rows text) statement within makes is_answer (rows_are, text_is) = record {
+  told = within;
+  statement = statement;
+  makes = makes;
+  table = table;
+  is_answer = is_answer;
+  rows_are = rows_are;
+  text_is = text_is;
+}
+asks_told catalogue events n bytes table (outcome.Refused why) statement within makes is_answer is =
+    subst (λ (w : Refusal). RefusesAsk catalogue events n bytes w) (sym is) tt
+asks_told catalogue events n bytes table outcome.Nothing statement within makes is_answer is = absurd is
+asks_told catalogue events n bytes table (outcome.Row row) statement within makes is_answer is = absurd is
+asks_told catalogue events n bytes table (outcome.Published count) statement within makes is_answer is = absurd is

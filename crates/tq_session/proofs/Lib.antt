@@ -1,0 +1,4 @@
+pub mod LineLemmas
+pub mod InputLemmas
+pub mod SessionLemmas
+pub mod AskLemmas

@@ -1,0 +1,10 @@
+pub mod Lines
+pub mod Input
+pub mod Gathering
+pub mod Requests
+pub mod Replies
+pub mod Transcripts
+pub mod Recording
+pub mod Asking
+pub mod Sessions
+pub mod Stepping

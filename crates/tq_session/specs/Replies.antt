@@ -1,0 +1,66 @@
+-- What a session prints for each reply. This project's own.
+use Rattle.std.specs.Prelude.{ℕ, List, [], ◌++◌, Option, Some, None, codes, decimal}
+use Rattle.std.specs.Borrow.{Bor}
+use Rattle.std.specs.List.{flat_map}
+use Rattle.tq_engine.specs.FaultNames.{plan_name, sql_name}
+use Rattle.tq_snapshot.specs.declared.faults.AppendFault.{AppendFault}
+use Rattle.tq_snapshot.specs.declared.faults.AppendFault.TheVariants as append
+use Rattle.tq_session.specs.declared.reply.Refusal.{Refusal}
+use Rattle.tq_session.specs.declared.reply.Refusal.TheVariants as refusal
+use Rattle.tq_session.specs.declared.reply.Reply.{Reply}
+use Rattle.tq_session.specs.declared.reply.Reply.TheVariants as reply
+
+-- the refusal of an event
+abbrev pub refused_event : AppendFault → Refusal
+refused_event append.UnknownTable = refusal.UnknownTable
+refused_event append.BadValues = refusal.BadValues
+refused_event (append.TooEarly last) = refusal.TooEarly last
+refused_event append.NoOpenRow = refusal.NoOpenRow
+refused_event append.TooManyEvents = refusal.TooManyEvents
+refused_event append.OutOfMemory = refusal.OutOfMemory
+
+-- the name of a refusal
+abbrev pub refusal_name : Refusal → List ℕ
+refusal_name refusal.BadLine = codes "BadLine"
+refusal_name refusal.UnknownTable = codes "UnknownTable"
+refusal_name refusal.BadValues = codes "BadValues"
+refusal_name (refusal.TooEarly last) = codes "TooEarly"
+refusal_name refusal.NoOpenRow = codes "NoOpenRow"
+refusal_name refusal.TooManyEvents = codes "TooManyEvents"
+refusal_name (refusal.Statement fault) = sql_name fault.kind
+refusal_name (refusal.Plan fault) = plan_name fault
+refusal_name (refusal.TooNew published) = codes "TooNew"
+refusal_name refusal.Closed = codes "Closed"
+refusal_name refusal.OutOfMemory = codes "OutOfMemory"
+
+-- its number, where it has one: the time of the last event, the offset in the statement, or how many events are
+-- published
+abbrev pub refusal_number : Refusal → Option ℕ
+refusal_number refusal.BadLine = None
+refusal_number refusal.UnknownTable = None
+refusal_number refusal.BadValues = None
+refusal_number (refusal.TooEarly last) = Some last
+refusal_number refusal.NoOpenRow = None
+refusal_number refusal.TooManyEvents = None
+refusal_number (refusal.Statement fault) = Some fault.at
+refusal_number (refusal.Plan fault) = None
+refusal_number (refusal.TooNew published) = Some published
+refusal_number refusal.Closed = None
+refusal_number refusal.OutOfMemory = None
+
+-- a line: what stands first in it, a word, a number behind a space where there is one; and a text behind the line
+abbrev pub line_text : List ℕ → List ℕ → Option ℕ → List ℕ → List ℕ
+line_text first word None text = first ++ (word ++ (codes "\n" ++ text))
+line_text first word (Some number) text = first ++ (word ++ (codes " " ++ (decimal number ++ (codes "\n" ++ text))))
+
+-- what is printed: nothing for an empty line, else a line, and behind it the text of an answer
+abbrev pub reply_text : Reply → List ℕ
+reply_text reply.Nothing = []
+reply_text (reply.Row row) = line_text [] (codes "row") (Some row) []
+reply_text (reply.Published count) = line_text [] (codes "published") (Some count) []
+reply_text (reply.Answer rows text) = line_text [] (codes "answer") (Some rows) text.items
+reply_text (reply.Refused why) = line_text (codes "refused ") (refusal_name why) (refusal_number why) []
+
+-- the bytes of slices, one behind the other
+abbrev pub joined : List (Bor (List ℕ)) → List ℕ
+joined parts = flat_map (λ (part : Bor (List ℕ)). part.now) parts

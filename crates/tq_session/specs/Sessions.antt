@@ -1,0 +1,76 @@
+-- What a session does to the bytes of its input and of its output. This project's own.
+use Rattle.std.specs.Prelude.{◌≡◌, ℕ, ◌⊎◌, List, ◌++◌, Option, Err}
+use Rattle.std.specs.Io.KnownBytes.{Appends, Consumes, IsAtEnd}
+use Rattle.tq_base.specs.declared.catalogue.Catalogue.{Catalogue}
+use Rattle.tq_event.specs.declared.file.Loaded.{Loaded}
+use Rattle.tq_event.specs.declared.file.TableFile.{TableFile}
+use Rattle.tq_event.specs.Loading.{IsLoaded, contents_of}
+use Rattle.tq_table.specs.Sink.{AppendsPrefix}
+use Rattle.tq_snapshot.specs.Calls.{Shown}
+use Rattle.tq_session.specs.declared.transcript.SessionFault.{SessionFault}
+use Rattle.tq_session.specs.declared.transcript.SessionFault.TheVariants as session
+use Rattle.tq_session.specs.Lines.{Line, ended_lines, lines_of}
+use Rattle.tq_session.specs.Transcripts.{IsTranscript, opening}
+
+-- known bytes before and after: those of the input lose their first, those of the output grow
+pub record Streams : Type 0 where
+  pub input : Option (List ℕ)
+  pub output : Option (List ℕ)
+
+abbrev pub streams : Option (List ℕ) → Option (List ℕ) → Streams
+streams input output = record { input = input; output = output }
+
+-- the input was read to its end, and what its lines are answered with was printed
+pub record AnswersAll (catalogue : Catalogue) (first : Shown) (before after : Streams) : Type 0 where
+  pub read : List ℕ
+  pub consumed : Consumes before.input after.input read
+  pub at_end : IsAtEnd after.input
+  pub text : List ℕ
+  pub last : Shown
+  pub is_transcript : IsTranscript catalogue first (lines_of read) text last
+  pub appended : Appends before.output after.output text
+
+-- the input was read up to somewhere, and what the lines that a line feed ended there are answered with was printed
+pub record AnswersEnded (catalogue : Catalogue) (first : Shown) (before after : Streams) : Type 0 where
+  pub read : List ℕ
+  pub consumed : Consumes before.input after.input read
+  pub text : List ℕ
+  pub last : Shown
+  pub is_transcript : IsTranscript catalogue first (ended_lines (lines_of read)) text last
+  pub appended : Appends before.output after.output text
+
+-- the input was read up to somewhere, and a beginning of what its first lines are answered with was printed
+pub record AnswersPart (catalogue : Catalogue) (first : Shown) (before after : Streams) : Type 0 where
+  pub read : List ℕ
+  pub consumed : Consumes before.input after.input read
+  pub lines : List Line
+  pub more : List Line
+  pub are_first : lines_of read ≡ lines ++ more
+  pub text : List ℕ
+  pub last : Shown
+  pub is_transcript : IsTranscript catalogue first lines text last
+  pub appended : AppendsPrefix before.output after.output text
+
+-- the same over the tables of the files
+pub record HasAnsweredAll (files : List TableFile) (before after : Streams) : Type 0 where
+  pub loaded : Loaded
+  pub is_loaded : IsLoaded files 16777216 loaded
+  pub answers : AnswersAll loaded.catalogue (opening loaded.events) before after
+
+pub record HasAnsweredEnded (files : List TableFile) (before after : Streams) : Type 0 where
+  pub loaded : Loaded
+  pub is_loaded : IsLoaded files 16777216 loaded
+  pub answers : AnswersEnded loaded.catalogue (opening loaded.events) before after
+
+pub record HasAnsweredPart (files : List TableFile) (before after : Streams) : Type 0 where
+  pub loaded : Loaded
+  pub is_loaded : IsLoaded files 16777216 loaded
+  pub answers : AnswersPart loaded.catalogue (opening loaded.events) before after
+
+-- why a session did not begin: the first fault of the files, or the store or memory was refused
+abbrev pub IsStartFault : List TableFile → SessionFault → Type 0
+IsStartFault files (session.Load fault) = contents_of files 16777216 ≡ Err fault
+IsStartFault files session.NoPlace = Unit {0}
+IsStartFault files session.OutOfMemory = Unit {0}
+IsStartFault files session.Read = ⊥
+IsStartFault files session.Write = ⊥

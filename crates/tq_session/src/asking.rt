@@ -1,0 +1,81 @@
+// Questions of a session.
+
+ghost use Rattle.std.specs.Prelude.{◌≡◌, ◌≤◌, List, length, MatchResult};
+ghost use mathlib.Core.List.{IsPrefix};
+ghost use Rattle.tq_event.specs.declared.event.Event.{Event as AnyEvent};
+ghost use Rattle.tq_session.specs.Asking.{IsPlanOf, NotPlanned, Tells};
+ghost use Rattle.tq_session.specs.Transcripts.{Asks};
+
+use crate::reply::{Refusal, Reply};
+use std::alloc::Global;
+use std::sync::Wait;
+use std::thread::Threads;
+use tq_base::Catalogue;
+use tq_plan::{Plan, PlanFault, plan};
+use tq_run::Open;
+use tq_snapshot::laws::told_answers;
+use tq_snapshot::{AskFault, Naming, Reader};
+use tq_sql::{SqlFaultKind, read};
+use tq_table::{Table, table_text};
+
+// The plan of the statement that the bytes make, or the first fault of either.
+fn planned(alloc: Global, catalogue: &Catalogue, bytes: &[u8]) -> Result<Plan, Refusal>
+    ensures { MatchResult result (IsPlanOf catalogue.now bytes.now) (NotPlanned catalogue.now bytes.now) }
+{
+    let statement = match read(alloc, bytes) {
+        Ok(statement) => statement,
+        Err(fault) if matches!(fault.kind, SqlFaultKind::OutOfMemory) => {
+            return Err(Refusal::OutOfMemory);
+        }
+        Err(fault) => return Err(Refusal::Statement(fault)),
+    };
+    match plan(alloc, catalogue, &statement) {
+        Ok(plan) => Ok(plan),
+        Err(PlanFault::OutOfMemory) => Err(Refusal::OutOfMemory),
+        Err(fault) => Err(Refusal::Plan(fault)),
+    }
+}
+
+// The answer of the table: how many rows it has, and its text.
+fn told(alloc: Global, table: &Table<'_>) -> Reply
+    ensures { Tells table.now result }
+{
+    match table_text(alloc, table) {
+        Ok(text) => Reply::Answer(table.rows.len(), text),
+        Err(_) => Reply::Refused(Refusal::OutOfMemory),
+    }
+}
+
+/// Answers a question as of the first `n` published events, of which there are so many.
+pub fn ask<J: Naming, R: Threads + Wait + Sync>(
+    rt: &R,
+    alloc: Global,
+    catalogue: &Catalogue,
+    published: u32,
+    reader: &mut Reader<J>,
+    n: u32,
+    workers: u32,
+    bytes: &[u8],
+) -> Reply
+    requires catalogue { catalogue.now ≡ J.catalogue }
+    requires some { 1 ≤ workers }
+    requires at_most { workers ≤ 16 }
+    ensures reply { (events : List AnyEvent) → (published ≡ length events) → IsPrefix events reader.old → Asks J.catalogue events n bytes.now result }
+    ensures told { IsPrefix reader.old reader.new }
+{
+    told_answers();
+    let plan = match planned(alloc, catalogue, bytes) {
+        Ok(plan) => plan,
+        Err(why) => return Reply::Refused(why),
+    };
+    if published < n {
+        return Reply::Refused(Refusal::TooNew { published });
+    }
+    match reader.ask_with(rt, alloc, n, &plan, workers, &Open) {
+        Ok(table) => told(alloc, &table),
+        Err(AskFault::TooNew { seen: _ }) | Err(AskFault::Closed) => Reply::Refused(
+            Refusal::Closed,
+        ),
+        Err(AskFault::OutOfMemory) => Reply::Refused(Refusal::OutOfMemory),
+    }
+}

@@ -1,0 +1,180 @@
+// Replies to the lines of a session, and what is printed of them.
+
+ghost use Rattle.std.specs.Prelude.{◌≡◌, ◌++◌, OnOk, OnErr, if◌then◌else◌};
+ghost use Rattle.std.specs.Result.{is_err};
+ghost use Rattle.std.specs.Io.KnownBytes.{Appends};
+ghost use Rattle.tq_table.specs.Sink.{AppendsPrefix, one_more};
+ghost use Rattle.tq_session.specs.Replies.{joined, line_text, refusal_name, refusal_number, refused_event, reply_text};
+
+use itoa::Buffer;
+use std::io::Write;
+use tq_base::Instant;
+use tq_engine::{plan_name, sql_name};
+use tq_plan::PlanFault;
+use tq_snapshot::AppendFault;
+use tq_sql::SqlFault;
+use tq_table::{Sink, WriteFault};
+
+/// Why a line was refused.
+#[derive(Clone, Copy, Debug, PartialEq, Eq)]
+pub enum Refusal {
+    /// It is no command, or is too long.
+    BadLine,
+    /// There is no table of this name.
+    UnknownTable,
+    /// The values are no row of the table.
+    BadValues,
+    /// The last event, published or pending, is later.
+    TooEarly { last: Instant },
+    /// No row of these values is open that started before the instant.
+    NoOpenRow,
+    /// There are as many events as there may be.
+    TooManyEvents,
+    /// The first fault of the statement's text.
+    Statement(SqlFault),
+    /// The first fault of the statement's plan.
+    Plan(PlanFault),
+    /// Only so many events are published.
+    TooNew { published: u32 },
+    /// The store was not entered.
+    Closed,
+    /// A growth was refused.
+    OutOfMemory,
+}
+
+/// The reply to a line.
+#[derive(Drop, Debug)]
+pub enum Reply {
+    /// Nothing, to an empty line.
+    Nothing,
+    /// The number of the row that was started or ended.
+    Row(u32),
+    /// How many events are published.
+    Published(u32),
+    /// How many rows the answer has, and its text.
+    Answer(usize, Vec<u8>),
+    Refused(Refusal),
+}
+
+impl From<AppendFault> for Refusal {
+    ghost from_gives = { λ fault refusal. refusal ≡ refused_event fault };
+
+    fn from(fault: AppendFault) -> Refusal {
+        match fault {
+            AppendFault::UnknownTable => Refusal::UnknownTable,
+            AppendFault::BadValues => Refusal::BadValues,
+            AppendFault::TooEarly { last } => Refusal::TooEarly { last },
+            AppendFault::NoOpenRow => Refusal::NoOpenRow,
+            AppendFault::TooManyEvents => Refusal::TooManyEvents,
+            AppendFault::OutOfMemory => Refusal::OutOfMemory,
+        }
+    }
+}
+
+impl Refusal {
+    // Its name.
+    fn name(&self) -> &'static str
+        ensures { result.now ≡ refusal_name self.now }
+    {
+        match self {
+            Refusal::BadLine => "BadLine",
+            Refusal::UnknownTable => "UnknownTable",
+            Refusal::BadValues => "BadValues",
+            Refusal::TooEarly { .. } => "TooEarly",
+            Refusal::NoOpenRow => "NoOpenRow",
+            Refusal::TooManyEvents => "TooManyEvents",
+            Refusal::Statement(fault) => sql_name(fault.kind),
+            Refusal::Plan(fault) => plan_name(*fault),
+            Refusal::TooNew { .. } => "TooNew",
+            Refusal::Closed => "Closed",
+            Refusal::OutOfMemory => "OutOfMemory",
+        }
+    }
+
+    // Its number, where it has one.
+    fn number(&self) -> Option<u64>
+        ensures { result ≡ refusal_number self.now }
+    {
+        match self {
+            Refusal::TooEarly { last } => Some(last.number()),
+            Refusal::Statement(fault) => Some(u64::from(fault.at)),
+            Refusal::TooNew { published } => Some(u64::from(*published)),
+            _ => None,
+        }
+    }
+}
+
+// Writes the parts one behind the other, and flushes the writer. It takes no memory.
+fn send_parts<W: Write>(sink: &mut Sink<W>, parts: &[&[u8]]) -> Result<(), WriteFault>
+    ensures whole { OnOk result (Appends (W.contents sink.old.writer) (W.contents sink.new.writer) (joined parts.now)) }
+    ensures prefix { OnErr result (AppendsPrefix (W.contents sink.old.writer) (W.contents sink.new.writer) (joined parts.now)) }
+    ensures failed { sink.new.failed ≡ (if is_err result then one_more sink.old.failed else sink.old.failed) }
+{
+    'parts: for part in parts {
+        sink.put(part)?;
+    }
+    sink.flush()
+}
+
+// The same of six parts.
+fn send_six<'a, W: Write>(
+    sink: &mut Sink<W>,
+    first: &'a [u8],
+    second: &'a [u8],
+    third: &'a [u8],
+    fourth: &'a [u8],
+    fifth: &'a [u8],
+    sixth: &'a [u8],
+) -> Result<(), WriteFault>
+    ensures whole { OnOk result (Appends (W.contents sink.old.writer) (W.contents sink.new.writer) (first.now ++ (second.now ++ (third.now ++ (fourth.now ++ (fifth.now ++ sixth.now)))))) }
+    ensures prefix { OnErr result (AppendsPrefix (W.contents sink.old.writer) (W.contents sink.new.writer) (first.now ++ (second.now ++ (third.now ++ (fourth.now ++ (fifth.now ++ sixth.now)))))) }
+    ensures failed { sink.new.failed ≡ (if is_err result then one_more sink.old.failed else sink.old.failed) }
+{
+    send_parts(sink, &[first, second, third, fourth, fifth, sixth])
+}
+
+// Writes a line of what stands first, a word and a number, and a text behind it. It takes no memory.
+fn send_line<W: Write>(
+    sink: &mut Sink<W>,
+    first: &str,
+    word: &str,
+    number: Option<u64>,
+    text: &[u8],
+) -> Result<(), WriteFault>
+    ensures whole { OnOk result (Appends (W.contents sink.old.writer) (W.contents sink.new.writer) (line_text first.now word.now number text.now)) }
+    ensures prefix { OnErr result (AppendsPrefix (W.contents sink.old.writer) (W.contents sink.new.writer) (line_text first.now word.now number text.now)) }
+    ensures failed { sink.new.failed ≡ (if is_err result then one_more sink.old.failed else sink.old.failed) }
+{
+    let (first, word) = (first.as_bytes(), word.as_bytes());
+    match number {
+        Some(number) => {
+            let mut digits = Buffer::new();
+            let digits = digits.format(number).as_bytes();
+            send_six(sink, first, word, b" ", digits, b"\n", text)
+        }
+        None => send_six(sink, first, word, b"", b"", b"\n", text),
+    }
+}
+
+impl Reply {
+    /// Writes what is printed, and flushes the writer. It takes no memory.
+    pub fn send<W: Write>(&self, sink: &mut Sink<W>) -> Result<(), WriteFault>
+        ensures whole { OnOk result (Appends (W.contents sink.old.writer) (W.contents sink.new.writer) (reply_text self.now)) }
+        ensures prefix { OnErr result (AppendsPrefix (W.contents sink.old.writer) (W.contents sink.new.writer) (reply_text self.now)) }
+        ensures failed { sink.new.failed ≡ (if is_err result then one_more sink.old.failed else sink.old.failed) }
+    {
+        match self {
+            Reply::Nothing => Ok(()),
+            Reply::Row(row) => send_line(sink, "", "row", Some(u64::from(*row)), b""),
+            Reply::Published(count) => send_line(
+                sink,
+                "",
+                "published",
+                Some(u64::from(*count)),
+                b"",
+            ),
+            Reply::Answer(rows, text) => send_line(sink, "", "answer", Some(*rows as u64), text),
+            Reply::Refused(why) => send_line(sink, "refused ", why.name(), why.number(), b""),
+        }
+    }
+}

@@ -1,0 +1,190 @@
+// A session from its files to the end of its input.
+
+ghost use Rattle.std.specs.Prelude.{◌≡◌, ◌≢◌, ◌+◌, ◌-◌, ◌≤◌, ◌⊎◌, [], Err, IfErr, IfOk, MatchOption, OnErr, OnOk, length};
+ghost use Rattle.tq_event.specs.History.{IsHistory};
+ghost use Rattle.tq_table.specs.Sink.{one_more};
+ghost use Rattle.tq_session.specs.Input.{reads_after};
+ghost use Rattle.tq_session.specs.Sessions.{AnswersAll, AnswersEnded, AnswersPart, HasAnsweredAll, HasAnsweredEnded, HasAnsweredPart, IsStartFault, streams};
+ghost use Rattle.tq_session.specs.Stepping.{IsBroken, IsEnd, IsReply};
+ghost use Rattle.tq_session.specs.Transcripts.{opening};
+
+use crate::desk::Desk;
+use crate::input::{Found, Input};
+use crate::reply::{Refusal, Reply};
+use std::alloc::Global;
+use std::io::{Read, Write};
+use std::marker::Brand;
+use std::sync::Wait;
+use std::thread::Threads;
+use thiserror::Error;
+use tq_engine::Source;
+use tq_event::laws::{loaded_is_history, loaded_is_within};
+use tq_event::{LoadFault, LoadFaultKind, Loaded, MAX_EVENTS, TableFile, load};
+use tq_snapshot::{Naming, OpenFault, Opened};
+use tq_table::Sink;
+
+/// Why a session ended before its input did: the first fault of the files (1), or the reader's place was refused (2),
+/// or a read failed or 1,073,741,824 of them were made (3), or the sink failed (4), or a growth was refused before the
+/// first read (5).
+#[derive(Clone, Copy, Debug, PartialEq, Eq, Error)]
+pub enum SessionFault {
+    #[error(transparent)]
+    Load(LoadFault),
+    #[error("NoPlace")]
+    NoPlace,
+    #[error("read failed")]
+    Read,
+    #[error("write failed")]
+    Write,
+    #[error("OutOfMemory")]
+    OutOfMemory,
+}
+
+impl From<LoadFault> for SessionFault {
+    ghost use Rattle.std.specs.Prelude.{◌≡◌, ◌≢◌};
+    ghost use Rattle.tq_event.specs.declared.fault.LoadFaultKind.TheVariants as kind;
+    ghost use Rattle.tq_session.specs.declared.transcript.SessionFault.TheVariants.{Load, OutOfMemory};
+
+    ghost from_gives = { λ fault given. (fault.kind ≡ kind.OutOfMemory → given ≡ OutOfMemory) × (fault.kind ≢ kind.OutOfMemory → given ≡ Load fault) };
+
+    fn from(fault: LoadFault) -> SessionFault {
+        if matches!(fault.kind, LoadFaultKind::OutOfMemory) {
+            SessionFault::OutOfMemory
+        } else {
+            SessionFault::Load(fault)
+        }
+    }
+}
+
+impl From<OpenFault> for SessionFault {
+    ghost use Rattle.std.specs.Prelude.{◌≡◌, ◌⊎◌};
+    ghost use Rattle.tq_session.specs.declared.transcript.SessionFault.TheVariants.{NoPlace, OutOfMemory};
+
+    ghost from_gives = { λ _ given. (given ≡ NoPlace) ⊎ (given ≡ OutOfMemory) };
+
+    fn from(fault: OpenFault) -> SessionFault {
+        match fault {
+            OpenFault::NoPlace => SessionFault::NoPlace,
+            OpenFault::OutOfMemory => SessionFault::OutOfMemory,
+        }
+    }
+}
+
+// Takes the next line, and replies to it: the reply, and whether the line is the last one. None where the input ended.
+fn next_reply<J: Naming, R: Threads + Wait + Sync, I: Read>(
+    rt: &R,
+    alloc: Global,
+    desk: &mut Desk<J>,
+    input: &mut Input,
+    source: &mut Source<I>,
+) -> Result<Option<(Reply, bool)>, SessionFault>
+    ensures replied { IfOk result (λ next. MatchOption next (IsEnd desk.old desk.new input.old (I.remaining source.old.reader) (I.remaining source.new.reader))
+        (λ r. IsReply J.catalogue desk.old desk.new input.old input.new (I.remaining source.old.reader) (I.remaining source.new.reader) r.0 r.1)) }
+    ensures broken { OnErr result (IsBroken desk.old desk.new input.old (I.remaining source.old.reader) (I.remaining source.new.reader)) }
+    ensures fault { IfErr result (λ fault. fault ≡ SessionFault.Read) }
+    ensures unfailed { OnOk result (source.new.failed ≡ source.old.failed) }
+    ensures failed { OnErr result ((source.new.failed ≡ one_more source.old.failed)
+        ⊎ ((source.new.failed ≡ source.old.failed) × (input.new.left ≡ 0))) }
+    ensures reads { source.new.reads ≡ reads_after source.old.reads (input.old.left - input.new.left) }
+    ensures left { input.new.left ≤ input.old.left }
+{
+    match input.next(source) {
+        Ok(Found::Line(last)) => Ok(Some((desk.reply(rt, alloc, input.line()), last))),
+        Ok(Found::TooLong(last)) => Ok(Some((Reply::Refused(Refusal::BadLine), last))),
+        Ok(Found::End) => Ok(None),
+        Err(_) => Err(SessionFault::Read),
+    }
+}
+
+// Answers line after line until the input ends.
+fn answer_lines<J: Naming, R: Threads + Wait + Sync, I: Read, W: Write>(
+    rt: &R,
+    alloc: Global,
+    desk: &mut Desk<J>,
+    input: &mut Input,
+    source: &mut Source<I>,
+    sink: &mut Sink<W>,
+) -> Result<(), SessionFault>
+    requires { input.old.unread ≡ [] }
+    ensures all { OnOk result (AnswersAll J.catalogue desk.old (streams (I.remaining source.old.reader) (W.contents sink.old.writer)) (streams (I.remaining source.new.reader) (W.contents sink.new.writer))) }
+    ensures unfailed { OnOk result ((source.new.failed ≡ source.old.failed) × (sink.new.failed ≡ sink.old.failed)) }
+    ensures read { result ≡ Err SessionFault.Read → AnswersEnded J.catalogue desk.old (streams (I.remaining source.old.reader) (W.contents sink.old.writer)) (streams (I.remaining source.new.reader) (W.contents sink.new.writer)) }
+    ensures write { result ≡ Err SessionFault.Write → AnswersPart J.catalogue desk.old (streams (I.remaining source.old.reader) (W.contents sink.old.writer)) (streams (I.remaining source.new.reader) (W.contents sink.new.writer)) }
+    ensures fault { IfErr result (λ fault. (fault ≡ SessionFault.Read) ⊎ (fault ≡ SessionFault.Write)) }
+    ensures read_failed { result ≡ Err SessionFault.Read → (sink.new.failed ≡ sink.old.failed) × ((source.new.failed ≡ one_more source.old.failed)
+        ⊎ ((source.new.failed ≡ source.old.failed) × (input.new.left ≡ 0))) }
+    ensures write_failed { result ≡ Err SessionFault.Write → (sink.new.failed ≡ one_more sink.old.failed) × (source.new.failed ≡ source.old.failed) }
+    ensures reads { source.new.reads ≡ reads_after source.old.reads (input.old.left - input.new.left) }
+    ensures left { input.new.left ≤ input.old.left }
+{
+    'lines: loop {
+        let Some((reply, last)) = next_reply(rt, alloc, desk, input, source)? else {
+            return Ok(());
+        };
+        if reply.send(sink).is_err() {
+            return Err(SessionFault::Write);
+        }
+        if last {
+            return Ok(());
+        }
+    }
+}
+
+// A session over what was loaded.
+fn run<J: Naming, R: Threads + Wait + Sync, I: Read, W: Write>(
+    rt: &R,
+    alloc: Global,
+    opened: Opened,
+    loaded: Loaded,
+    mut input: Input,
+    source: &mut Source<I>,
+    sink: &mut Sink<W>,
+) -> Result<(), SessionFault>
+    requires named { (opened ≡ J.book) × (loaded.catalogue ≡ J.catalogue) }
+    requires history { IsHistory loaded.catalogue loaded.events }
+    requires few { length loaded.events ≤ 16777216 }
+    requires input { (input.unread ≡ []) × (input.left ≡ 1073741824) }
+    ensures all { OnOk result (AnswersAll loaded.catalogue (opening loaded.events) (streams (I.remaining source.old.reader) (W.contents sink.old.writer)) (streams (I.remaining source.new.reader) (W.contents sink.new.writer))) }
+    ensures unfailed { OnOk result ((source.new.failed ≡ source.old.failed) × (sink.new.failed ≡ sink.old.failed)) }
+    ensures read { result ≡ Err SessionFault.Read → AnswersEnded loaded.catalogue (opening loaded.events) (streams (I.remaining source.old.reader) (W.contents sink.old.writer)) (streams (I.remaining source.new.reader) (W.contents sink.new.writer)) }
+    ensures write { result ≡ Err SessionFault.Write → AnswersPart loaded.catalogue (opening loaded.events) (streams (I.remaining source.old.reader) (W.contents sink.old.writer)) (streams (I.remaining source.new.reader) (W.contents sink.new.writer)) }
+    ensures read_failed { result ≡ Err SessionFault.Read → (sink.new.failed ≡ sink.old.failed) × ((source.new.failed ≡ one_more source.old.failed)
+        ⊎ ((source.new.failed ≡ source.old.failed) × (source.new.reads ≡ reads_after source.old.reads 1073741824))) }
+    ensures write_failed { result ≡ Err SessionFault.Write → (sink.new.failed ≡ one_more sink.old.failed) × (source.new.failed ≡ source.old.failed) }
+    ensures start { IfErr result (λ fault. fault ≢ SessionFault.Read → fault ≢ SessionFault.Write → ((fault ≡ SessionFault.NoPlace) ⊎ (fault ≡ SessionFault.OutOfMemory)) × (source.new ≡ source.old) × (sink.new ≡ sink.old)) }
+    ensures reads { source.new.reads ≤ source.old.reads + 1073741824 }
+{
+    let mut desk = Desk::<J>::open(alloc, opened, loaded)?;
+    let ended = answer_lines(rt, alloc, &mut desk, &mut input, source, sink);
+    desk.close(rt);
+    ended
+}
+
+/// Answers the lines of the source over the tables of the files, one after another, each as soon as its line feed was
+/// read, or the end of the input. A refused line changes nothing, and the lines before a fault stand answered. Files
+/// are loaded, and all memory for reading and printing is taken, before the first read.
+pub fn session<R: Threads + Wait + Sync, I: Read, W: Write>(
+    rt: &R,
+    alloc: Global,
+    files: Vec<TableFile>,
+    source: &mut Source<I>,
+    sink: &mut Sink<W>,
+) -> Result<(), SessionFault>
+    ensures all { OnOk result (HasAnsweredAll files.items (streams (I.remaining source.old.reader) (W.contents sink.old.writer)) (streams (I.remaining source.new.reader) (W.contents sink.new.writer))) }
+    ensures unfailed { OnOk result ((source.new.failed ≡ source.old.failed) × (sink.new.failed ≡ sink.old.failed)) }
+    ensures read { result ≡ Err SessionFault.Read → HasAnsweredEnded files.items (streams (I.remaining source.old.reader) (W.contents sink.old.writer)) (streams (I.remaining source.new.reader) (W.contents sink.new.writer)) }
+    ensures write { result ≡ Err SessionFault.Write → HasAnsweredPart files.items (streams (I.remaining source.old.reader) (W.contents sink.old.writer)) (streams (I.remaining source.new.reader) (W.contents sink.new.writer)) }
+    ensures read_failed { result ≡ Err SessionFault.Read → (sink.new.failed ≡ sink.old.failed) × ((source.new.failed ≡ one_more source.old.failed)
+        ⊎ ((source.new.failed ≡ source.old.failed) × (source.new.reads ≡ reads_after source.old.reads 1073741824))) }
+    ensures write_failed { result ≡ Err SessionFault.Write → (sink.new.failed ≡ one_more sink.old.failed) × (source.new.failed ≡ source.old.failed) }
+    ensures start { IfErr result (λ fault. fault ≢ SessionFault.Read → fault ≢ SessionFault.Write → IsStartFault files.items fault × (source.new ≡ source.old) × (sink.new ≡ sink.old)) }
+    ensures reads { source.new.reads ≤ source.old.reads + 1073741824 }
+{
+    loaded_is_history();
+    loaded_is_within();
+    let loaded = load(alloc, files, MAX_EVENTS)?;
+    let Ok(input) = Input::new(alloc) else {
+        return Err(SessionFault::OutOfMemory);
+    };
+    run::<Brand, R, I, W>(rt, alloc, Opened::new(), loaded, input, source, sink)
+}

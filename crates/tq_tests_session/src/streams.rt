@@ -1,0 +1,95 @@
+// Readers and writers that give and take little, fail, or tell of each other.
+
+use std::io::{self, ErrorKind, Read, Write};
+use std::sync::atomic::{AtomicU64, Ordering};
+
+/// Gives a byte a call, and fails at each call after so many good ones.
+#[derive(Drop)]
+pub struct SlowReader<'a> {
+    pub left: &'a [u8],
+    pub good_calls: u32,
+}
+
+impl Read for SlowReader<'_> {
+    fn read(&mut self, buf: &mut [u8]) -> io::Result<usize> {
+        if self.good_calls == 0 {
+            return Err(io::Error::from(ErrorKind::Interrupted));
+        }
+        self.good_calls -= 1;
+        match (self.left, buf) {
+            ([first, rest @ ..], [place, ..]) => {
+                *place = *first;
+                self.left = rest;
+                Ok(1)
+            }
+            _ => Ok(0),
+        }
+    }
+}
+
+/// Gives a byte a call, and notes at the first byte of each line how many bytes were printed by then.
+#[derive(Drop)]
+pub struct Typist<'a> {
+    pub left: &'a [u8],
+    pub printed: &'a AtomicU64,
+    pub begins: bool,
+    pub noted: Vec<u64>,
+}
+
+impl Read for Typist<'_> {
+    fn read(&mut self, buf: &mut [u8]) -> io::Result<usize> {
+        if self.begins {
+            let printed = self.printed.load(Ordering::SeqCst);
+            if self.noted.push(printed).is_err() {
+                return Err(io::Error::from(ErrorKind::OutOfMemory));
+            }
+        }
+        match (self.left, buf) {
+            ([first, rest @ ..], [place, ..]) => {
+                *place = *first;
+                self.begins = *first == b'\n';
+                self.left = rest;
+                Ok(1)
+            }
+            _ => Ok(0),
+        }
+    }
+}
+
+/// Counts the bytes that it takes.
+#[derive(Drop)]
+pub struct Screen<'a> {
+    pub printed: &'a AtomicU64,
+}
+
+impl Write for Screen<'_> {
+    fn write(&mut self, buf: &[u8]) -> io::Result<usize> {
+        self.printed.fetch_add(buf.len() as u64, Ordering::SeqCst);
+        Ok(buf.len())
+    }
+
+    fn flush(&mut self) -> io::Result<()> {
+        Ok(())
+    }
+}
+
+/// Takes so many bytes, and fails then.
+#[derive(Drop)]
+pub struct ShortWriter {
+    pub taken: Vec<u8>,
+    pub room: usize,
+}
+
+impl Write for ShortWriter {
+    fn write(&mut self, buf: &[u8]) -> io::Result<usize> {
+        let taken = buf.len().min(self.room.saturating_sub(self.taken.len()));
+        if taken == 0 || self.taken.extend_from_slice(&buf[..taken]).is_err() {
+            return Err(io::Error::from(ErrorKind::WriteZero));
+        }
+        Ok(taken)
+    }
+
+    fn flush(&mut self) -> io::Result<()> {
+        Ok(())
+    }
+}
