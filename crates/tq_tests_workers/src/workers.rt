@@ -345,7 +345,7 @@ fn are_answered<R: Threads + Sync>(rt: &R, alloc: Global, text: &str) -> Result<
 #[test]
 fn random_tables_are_answered_as_by_one_thread(rt: HostRuntime) -> Result<(), Fail> {
     let mut state = 5;
-    for _ in 0..170 {
+    for _ in 0..50 {
         let text = random_rows(rt.alloc(), &mut state)?;
         assert!(rt; are_answered(&rt, rt.alloc(), &text)?, "{text}");
     }
