@@ -6,6 +6,8 @@ use Rattle.tq_event.specs.declared.file.Loaded.{Loaded}
 use Rattle.tq_event.specs.declared.file.TableFile.{TableFile}
 use Rattle.tq_event.specs.Loading.{IsLoaded, contents_of}
 use Rattle.tq_table.specs.Sink.{AppendsPrefix}
+use Rattle.tq_snapshot.specs.declared.faults.OpenFault.{OpenFault}
+use Rattle.tq_snapshot.specs.declared.faults.OpenFault.TheVariants as open_fault
 use Rattle.tq_snapshot.specs.Calls.{Shown}
 use Rattle.tq_session.specs.declared.transcript.SessionFault.{SessionFault}
 use Rattle.tq_session.specs.declared.transcript.SessionFault.TheVariants as session
@@ -66,6 +68,11 @@ pub record HasAnsweredPart (files : List TableFile) (before after : Streams) : T
   pub loaded : Loaded
   pub is_loaded : IsLoaded files 16777216 loaded
   pub answers : AnswersPart loaded.catalogue (opening loaded.events) before after
+
+-- why a session did not begin where no store was opened
+abbrev pub unopened : OpenFault → SessionFault
+unopened open_fault.NoPlace = session.NoPlace
+unopened open_fault.OutOfMemory = session.OutOfMemory
 
 -- why a session did not begin: the first fault of the files, or the store or memory was refused
 abbrev pub IsStartFault : List TableFile → SessionFault → Type 0

@@ -4,7 +4,7 @@ ghost use Rattle.std.specs.Prelude.{◌≡◌, ◌≢◌, ◌+◌, ◌-◌, ◌�
 ghost use Rattle.tq_event.specs.History.{IsHistory};
 ghost use Rattle.tq_table.specs.Sink.{one_more};
 ghost use Rattle.tq_session.specs.Input.{reads_after};
-ghost use Rattle.tq_session.specs.Sessions.{AnswersAll, AnswersEnded, AnswersPart, HasAnsweredAll, HasAnsweredEnded, HasAnsweredPart, IsStartFault, streams};
+ghost use Rattle.tq_session.specs.Sessions.{AnswersAll, AnswersEnded, AnswersPart, HasAnsweredAll, HasAnsweredEnded, HasAnsweredPart, IsStartFault, streams, unopened};
 ghost use Rattle.tq_session.specs.Stepping.{IsBroken, IsEnd, IsReply};
 ghost use Rattle.tq_session.specs.Transcripts.{opening};
 
@@ -57,10 +57,7 @@ impl From<LoadFault> for SessionFault {
 }
 
 impl From<OpenFault> for SessionFault {
-    ghost use Rattle.std.specs.Prelude.{◌≡◌, ◌⊎◌};
-    ghost use Rattle.tq_session.specs.declared.transcript.SessionFault.TheVariants.{NoPlace, OutOfMemory};
-
-    ghost from_gives = { λ _ given. (given ≡ NoPlace) ⊎ (given ≡ OutOfMemory) };
+    ghost from_gives = { λ fault given. given ≡ unopened fault };
 
     fn from(fault: OpenFault) -> SessionFault {
         match fault {
@@ -162,7 +159,8 @@ fn run<J: Naming, R: Threads + Wait + Sync, I: Read, W: Write>(
 
 /// Answers the lines of the source over the tables of the files, one after another, each as soon as its line feed was
 /// read, or the end of the input. A refused line changes nothing, and the lines before a fault stand answered. Files
-/// are loaded, and all memory for reading and printing is taken, before the first read.
+/// are loaded, and all memory for reading lines is taken, before the first read; printing takes none but for the text of
+/// an answer.
 pub fn session<R: Threads + Wait + Sync, I: Read, W: Write>(
     rt: &R,
     alloc: Global,

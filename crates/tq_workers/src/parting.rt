@@ -76,7 +76,7 @@ fn ranges_by<R: Threads + Sync, G: Gate + Sync>(
 }
 
 /// For each of the rows the number of a range of values, so that each range holds about as many rows; those of a
-/// higher range are not below those of a lower one.
+/// higher range are not below those of a lower one. No clause promises this: who uses the numbers looks at the ranges.
 pub(crate) fn ranges_of<R: Threads + Sync, G: Gate + Sync>(
     rt: &R,
     alloc: Global,
