@@ -77,6 +77,14 @@ counted_once (row ∷ rows) v = by_row (same_row row v) refl (left_out row (each
 same_once : (a b : List Row) → SameCounts a b → SameCounts (each_once a) (each_once b)
 same_once a b same v = counted_once a v ∙ ap at_most_one (same v) ∙ sym (counted_once b v)
 
+-- a row stands among them once stands among all
+pub positive_once : (rows : List Row) (v : Row) → 0 < occurrences (each_once rows) v → 0 < occurrences rows v
+positive_once rows v some = positive (occurrences rows v) (omega (arith, some, counted_once rows v))
+  where
+    positive : (n : ℕ) → 0 < at_most_one n → 0 < n
+    positive zero some = some
+    positive (suc n) some = omega arith
+
 -- ---- sums
 
 sum_middle : (place : ℕ) (before after : List Row) (row : Row) → sum_at place (before ++ row ∷ after) ≡ (number_of (value_at row place) +ℤ sum_at place (before ++ after))
@@ -120,7 +128,7 @@ of_key keys rows key = filter (λ row. same_row (projection keys row) key) rows
 abbrev pub made : List ℕ → List ℕ → List Row → Row → Row
 made keys sums rows key = key ++ Int (pos (length (of_key keys rows key))) ∷ map (λ place. Int (sum_at place (of_key keys rows key))) sums
 
-first_of_key : (keys : List ℕ) (rows : List Row) (key : Row) → 0 < occurrences (map (projection keys) rows) key → projection keys (first_row (of_key keys rows key)) ≡ key
+pub first_of_key : (keys : List ℕ) (rows : List Row) (key : Row) → 0 < occurrences (map (projection keys) rows) key → projection keys (first_row (of_key keys rows key)) ≡ key
 first_of_key keys [] key some = absurd (omega (arith, some))
 first_of_key keys (row ∷ rows) key some = by_first (same_row (projection keys row) key) refl (first_of_key keys rows key)
   where
@@ -144,11 +152,7 @@ map_keys keys sums rows (key ∷ found) first =
 pub by_keys : (keys sums : List ℕ) (rows : List Row) → grouped_rows keys sums rows ≡ map (made keys sums rows) (each_once (map (projection keys) rows))
 by_keys keys sums rows =
     map_keys keys sums rows (each_once (map (projection keys) rows))
-    (λ key some. first_of_key keys rows key (positive (occurrences (map (projection keys) rows) key) (omega (arith, some, counted_once (map (projection keys) rows) key))))
-  where
-    positive : (n : ℕ) → 0 < at_most_one n → 0 < n
-    positive zero some = some
-    positive (suc n) some = omega arith
+    (λ key some. first_of_key keys rows key (positive_once (map (projection keys) rows) key some))
 
 same_sums_of : (a b : List Row) (sums : List ℕ) → SameCounts a b → map (λ place. Int (sum_at place a)) sums ≡ map (λ place. Int (sum_at place b)) sums
 same_sums_of a b [] same = refl

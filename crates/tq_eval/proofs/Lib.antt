@@ -10,3 +10,4 @@ pub mod GroupingLemmas
 pub mod HeldRows
 pub mod ItemLemmas
 pub mod NumberLemmas
+pub mod ShareLemmas

@@ -63,8 +63,9 @@ same_product_of (a ∷ d ∷ xs) (b ∷ c ∷ ys) alike v =
 same_passing : (query : QueryPlan) (xs ys : List (List Row)) → AreAlike xs ys → SameCounts (selection query.test (product_of xs)) (selection query.test (product_of ys))
 same_passing query xs ys alike = same_filtered (admits query.test) (product_of xs) (product_of ys) (same_product_of xs ys alike)
 
-same_ordinary : (query : QueryPlan) (xs ys : List (List Row)) → items_stand query ≡ true → AreAlike xs ys → SameCounts (ordinary query xs) (ordinary query ys)
-same_ordinary query xs ys stand alike v = by_group (no_group query.group) refl
+-- a query makes as often of rows that pass as often
+pub ordinary_same : (query : QueryPlan) (xs ys : List (List Row)) → items_stand query ≡ true → SameCounts (selection query.test (product_of xs)) (selection query.test (product_of ys)) → SameCounts (ordinary query xs) (ordinary query ys)
+ordinary_same query xs ys stand same v = by_group (no_group query.group) refl
   where
     one : List Row
     one = selection query.test (product_of xs)
@@ -74,9 +75,6 @@ same_ordinary query xs ys stand alike v = by_group (no_group query.group) refl
 
     places : List ℕ
     places = item_places query.group (length query.group + 1) query.outputs
-
-    same : SameCounts one other
-    same = same_passing query xs ys alike
 
     by_count : (b : Bool) → list_any is_aggregate query.outputs ≡ b → no_group query.group ≡ true → occurrences (ordinary query xs) v ≡ occurrences (ordinary query ys) v
     by_count true counted none =
@@ -95,6 +93,9 @@ same_ordinary query xs ys stand alike v = by_group (no_group query.group) refl
         ∙ same_mapped (projection places) (grouped_rows query.group (summed_places query.outputs) one) (grouped_rows query.group (summed_places query.outputs) other)
         (same_groups query.group (summed_places query.outputs) one other same) v
         ∙ ap (λ l. occurrences l v) (ordinary_grouped query ys some stand)
+
+same_ordinary : (query : QueryPlan) (xs ys : List (List Row)) → items_stand query ≡ true → AreAlike xs ys → SameCounts (ordinary query xs) (ordinary query ys)
+same_ordinary query xs ys stand alike = ordinary_same query xs ys stand (same_passing query xs ys alike)
 
 -- ---- plans
 

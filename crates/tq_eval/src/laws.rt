@@ -2,6 +2,7 @@
 
 ghost use Rattle.tq_eval.specs.Answers.{AnswersAgree, AnswersAreUnique, AnswersExist, AnswersStay};
 ghost use Rattle.tq_eval.specs.Fitting.{HeldRowsFit};
+ghost use Rattle.tq_eval.specs.Shares.{SharesPartAnswers};
 ghost use Rattle.tq_eval.specs.TableAnswers.{TablesAnswer};
 
 use tq_base::laws::{layers_are_unique, layers_exist};
@@ -48,4 +49,10 @@ pub fn tables_answer()
 /// The rows of tables that hold what a history over a catalogue holds fit the catalogue's tables.
 pub fn held_rows_fit()
     ensures { HeldRowsFit }
+{}
+
+/// What is valid in tables whose rows are parted by their values in a column gives a plan, of which each row has
+/// that value first, the rows of its answer that have a value of the share.
+pub fn shares_part_answers()
+    ensures { SharesPartAnswers }
 {}

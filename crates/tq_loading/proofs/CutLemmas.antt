@@ -1,11 +1,20 @@
--- A part of a file among the parts of files.
-use Rattle.std.proofs.Common.{◌≡◌, ◌≢◌, ◌≤◌, ◌<◌, ◌++◌, ◌∷◌, [], ℕ, List, length, ap, sym, subst, ◌∙◌}
-use Rattle.std.specs.Prelude.{All, slice_index_or}
-use Rattle.std.proofs.lemmas.List.Elements.{All-push}
+-- Where records begin in a file, and a part of a file among the parts of files.
+use Rattle.std.proofs.Common.{◌≡◌, ◌≢◌, ◌≤◌, ◌<◌, ◌+◌, ◌-◌, ◌++◌, ◌∷◌, [], ℕ, true, false, List, length, take, drop, refl, ap, sym, subst, ◌∙◌, arith}
+use Rattle.std.specs.Prelude.{All, slice_index, slice_index_or, slice_range}
+use Rattle.std.proofs.lemmas.List.{drop-take, get_or-take, length-take-le, take-append-drop, take-take, take_more}
+use Rattle.std.proofs.lemmas.List.Elements.{All-push, All-take}
 use Rattle.std.proofs.lemmas.Option.{get_or_from_slice_get}
+use Rattle.csv.specs.Machine.{step}
+use Rattle.csv.specs.Reading.{default_config, strip_bom}
+use Rattle.csv.specs.declared.parser.State.{State}
+use Rattle.csv.specs.declared.parser.State.TheVariants as st
 use Rattle.tq_event.specs.declared.file.TableFile.{TableFile}
+use Rattle.tq_event.specs.Loading.{begins_with_mark}
 use Rattle.tq_loading.specs.declared.part.Part.{Part}
-use Rattle.tq_loading.specs.Parts.{IsCut, IsPart, IsPartOf}
+use Rattle.tq_loading.specs.Parts.{EndsRecords, IsCut, IsPart, IsPartOf, stands_after}
+use Rattle.tq_loading.proofs.ChainLemmas.{ends_on, stands_on}
+use Rattle.tq_loading.proofs.PartLemmas.{mark_taken, ranges, taken}
+use Rattle.tq_loading.proofs.StandingLemmas.{lines_end}
 
 module _ (files : List TableFile) (bytes : List ℕ) (part : Part) (here : part.table < length files) (of_table : (d : TableFile) → (slice_index_or files part.table d).bytes ≡ bytes)
     (ordered : part.start ≤ part.end) (within : part.end ≤ length bytes) (begins : part.start ≢ 0 → IsCut bytes part.start) where
@@ -19,3 +28,57 @@ module _ (files : List TableFile) (bytes : List ℕ) (part : Part) (here : part.
 
   pub part_added : (parts new : List Part) → new ≡ parts ++ part ∷ [] → All (IsPartOf files) parts → All (IsPartOf files) new
   part_added parts new put all = subst (All (IsPartOf files)) (sym put) (All-push (IsPartOf files) parts part all is_part_of)
+
+-- ---- where records begin
+
+pub nothing_ends : (bytes : List ℕ) → EndsRecords (take 0 bytes)
+unfolding strip_bom stands_after
+nothing_ends bytes = refl
+
+pub mark_ends : (bytes : List ℕ) → begins_with_mark bytes ≡ true → (3 ≤ length bytes) × EndsRecords (take 3 bytes)
+unfolding strip_bom stands_after
+mark_ends [] is = cc is
+mark_ends (a ∷ []) is = cc is
+mark_ends (a ∷ b ∷ []) is = cc is
+mark_ends (a ∷ b ∷ c ∷ bytes) is = (omega arith, rw is refl)
+
+-- behind a line feed of bytes with no quote
+pub line_ends : (bytes : List ℕ) (place : ℕ) → 0 < place → place ≤ length bytes → All (λ b. b ≢ 34) bytes → slice_index bytes (place - 1) ≡ 10 → EndsRecords (take place bytes)
+line_ends bytes place some within unquoted ended =
+    let many : length (take place bytes) ≡ place = length-take-le place bytes within in
+    lines_end (take place bytes) (All-take (λ b. b ≢ 34) place bytes unquoted)
+    (ap (λ n. slice_index (take place bytes) (n - 1)) many ∙ get_or-take place bytes (place - 1) 0 (omega (arith, some)) ∙ ended)
+
+-- behind bytes that the reader passes over from where a record begins to where another one does
+pub next_ends : (bytes : List ℕ) (from place : ℕ) → from ≤ place → place ≤ length bytes → EndsRecords (take from bytes) → (from ≡ 0 → begins_with_mark bytes ≡ false)
+    → stands_after st.StartRecord (slice_range bytes from place) ≡ st.StartRecord → EndsRecords (take place bytes)
+next_ends bytes from place upto within begins unmarked stands =
+    ap (λ l. stands_after st.StartRecord (strip_bom l)) (sym (taken bytes place) ∙ ranges bytes 0 from place (omega arith) upto ∙ ap (λ l. l ++ slice_range bytes from place) (taken bytes from))
+    ∙ ends_on (take from bytes) (slice_range bytes from place) begins none
+    ∙ stands
+  where
+    none : take from bytes ≡ [] → begins_with_mark (slice_range bytes from place) ≡ false
+    none e =
+        let first : from ≡ 0 = sym (length-take-le from bytes (omega (arith, upto, within))) ∙ ap length e in
+        rw first (mark_taken (place - 0) bytes (unmarked first))
+
+-- the same, of two stretches of bytes
+pub both_stand : (bytes : List ℕ) (from len count : ℕ) (between : State) → stands_after st.StartRecord (take len (drop from bytes)) ≡ between → stands_after between (take count (drop len (drop from bytes))) ≡ st.StartRecord
+    → stands_after st.StartRecord (slice_range bytes from (from + len + count)) ≡ st.StartRecord
+both_stand bytes from len count between first second =
+    let rest = drop from bytes in
+    let many : from + len + count - from ≡ len + count = omega arith in
+    ap (λ n. stands_after st.StartRecord (take n rest)) many
+    ∙ ap (stands_after st.StartRecord) (sym (take-append-drop len (take (len + count) rest)))
+    ∙ ap (λ l. stands_after st.StartRecord (l ++ drop len (take (len + count) rest))) (take-take len (len + count) rest (omega arith))
+    ∙ ap (λ l. stands_after st.StartRecord (take len rest ++ l)) (drop-take len count rest)
+    ∙ stands_on st.StartRecord (take len rest) (take count (drop len rest))
+    ∙ ap (λ s. stands_after s (take count (drop len rest))) first
+    ∙ second
+
+-- where the reader stands behind one byte more
+pub byte_more : (s : State) (bytes : List ℕ) (place byte : ℕ) → place < length bytes → byte ≡ slice_index bytes place → stands_after s (take (place + 1) bytes) ≡ (step default_config (stands_after s (take place bytes)) byte).0
+unfolding stands_after
+byte_more s bytes place byte within is =
+    ap (stands_after s) (take_more bytes place 0 within ∙ ap (λ b. take place bytes ++ b ∷ []) (sym is))
+    ∙ stands_on s (take place bytes) (byte ∷ [])

@@ -1,6 +1,6 @@
 pub mod CutLemmas
 pub mod EventLemmas
-pub mod LineLemmas
+pub mod StandingLemmas
 pub mod ChainLemmas
 pub mod PartLemmas
 pub mod Pushed

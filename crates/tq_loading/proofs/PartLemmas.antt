@@ -1,18 +1,18 @@
 -- Rows of a part, and of one that follows on it.
 use Rattle.std.proofs.Common.{◌≡◌, ◌≢◌, ◌≤◌, ◌<◌, ◌+◌, ◌-◌, ◌++◌, ◌∷◌, ℕ, zero, suc, false, List, [], drop, take, map, length, refl, sym, ap, subst, ◌∙◌, arith}
-use Rattle.std.specs.Prelude.{Ok, slice_index, slice_range}
-use Rattle.std.proofs.lemmas.List.{drop-drop, drop-take, get_or-drop, get_or-take, length-drop, length-take-le, map-append, take-append-drop, take-take, take_all}
-use Rattle.std.proofs.lemmas.List.Elements.{All-drop, All-take}
+use Rattle.std.specs.Prelude.{Ok, slice_range}
+use Rattle.std.proofs.lemmas.List.{drop-drop, drop-take, map-append, take-append-drop, take-take, take_all}
 use Rattle.csv.specs.Machine.{next_record}
 use Rattle.csv.specs.Reading.{records_from, strip_bom}
+use Rattle.csv.specs.declared.parser.State.TheVariants as st
 use Rattle.tq_base.specs.declared.catalogue.Column.{Column}
 use Rattle.tq_base.specs.declared.fragment.Fragment.{Fragment}
 use Rattle.tq_base.specs.RowLists.{RowList}
 use Rattle.tq_event.specs.Loading.{begins_with_mark, csv_records, entry_of}
 use Rattle.tq_event.specs.Tables.{told_by}
 use Rattle.tq_loading.specs.declared.part.Part.{Part}
-use Rattle.tq_loading.specs.Parts.{AreLines, AreRowsOfPart, AreRowsOfTable, IsCut, PartTells, TellRows}
-use Rattle.tq_loading.proofs.ChainLemmas.{lines_apart}
+use Rattle.tq_loading.specs.Parts.{AreRowsOfPart, AreRowsOfTable, EndsRecords, IsCut, PartTells, TellRows, stands_after}
+use Rattle.tq_loading.proofs.ChainLemmas.{ends_on, records_apart, unmarked}
 
 -- ---- records
 
@@ -35,7 +35,7 @@ whole_told columns (header ∷ records) rows tells = tells
 
 -- ---- bytes
 
-mark_taken : (n : ℕ) (bytes : List ℕ) → begins_with_mark bytes ≡ false → begins_with_mark (take n bytes) ≡ false
+pub mark_taken : (n : ℕ) (bytes : List ℕ) → begins_with_mark bytes ≡ false → begins_with_mark (take n bytes) ≡ false
 mark_taken zero bytes none = refl
 mark_taken (suc n) [] none = refl
 mark_taken (suc zero) (a ∷ bytes) none = refl
@@ -44,7 +44,7 @@ mark_taken (suc (suc zero)) (a ∷ b ∷ bytes) none = refl
 mark_taken (suc (suc (suc n))) (a ∷ b ∷ []) none = refl
 mark_taken (suc (suc (suc n))) (a ∷ b ∷ c ∷ bytes) none = none
 
-ranges : (bytes : List ℕ) (start middle end : ℕ) → start ≤ middle → middle ≤ end → slice_range bytes start end ≡ slice_range bytes start middle ++ slice_range bytes middle end
+pub ranges : (bytes : List ℕ) (start middle end : ℕ) → start ≤ middle → middle ≤ end → slice_range bytes start end ≡ slice_range bytes start middle ++ slice_range bytes middle end
 ranges bytes start middle end first second =
     let n = middle - start in
     let m = end - middle in
@@ -56,26 +56,26 @@ ranges bytes start middle end first second =
     ∙ ap (λ l. l ++ drop n (take (n + m) rest)) (take-take n (n + m) rest (omega arith))
     ∙ ap (λ l. take n rest ++ l) (drop-take n m rest ∙ ap (take m) (drop-drop n start bytes ∙ ap (λ k. drop k bytes) place))
 
--- the bytes up to a cut are lines
-lines_before : (bytes : List ℕ) (start place : ℕ) → start < place → place ≤ length bytes → IsCut bytes place → AreLines (slice_range bytes start place)
-lines_before bytes start place some within cut =
-    let many : length (slice_range bytes start place) ≡ place - start = length-take-le (place - start) (drop start bytes) (omega (arith, length-drop start bytes, within)) in
-    let last : place - start - 1 < place - start = omega (arith, some) in
-    let back : start + (place - start - 1) ≡ place - 1 = omega (arith, some) in
-    record {
-      unquoted = All-take (λ b. b ≢ 34) (place - start) (drop start bytes) (All-drop (λ b. b ≢ 34) start bytes cut.unquoted);
-      ended = ap (λ n. slice_index (slice_range bytes start place) (n - 1)) many
-          ∙ get_or-take (place - start) (drop start bytes) (place - start - 1) 0 last
-          ∙ get_or-drop start bytes (place - start - 1) 0
-          ∙ ap (slice_index bytes) back
-          ∙ cut.ended;
-    }
+pub taken : (bytes : List ℕ) (place : ℕ) → slice_range bytes 0 place ≡ take place bytes
+taken bytes place = let many : place - 0 ≡ place = omega arith in rw many refl
 
-records_apart : (bytes : List ℕ) (start place end : ℕ) → start < place → place ≤ end → end ≤ length bytes → IsCut bytes place
+-- behind the bytes between two cuts a record begins
+ends_before : (bytes : List ℕ) (start place : ℕ) → start ≤ place → place ≤ length bytes → (start ≢ 0 → IsCut bytes start) → IsCut bytes place → EndsRecords (slice_range bytes start place)
+ends_before bytes zero place upto within begins cut = rw (taken bytes place) cut.begins
+ends_before bytes (suc start) place upto within begins cut =
+    let from : IsCut bytes (suc start) = begins (λ e. omega (arith, e)) in
+    let both : take place bytes ≡ take (suc start) bytes ++ slice_range bytes (suc start) place = sym (taken bytes place) ∙ ranges bytes 0 (suc start) place (omega arith) upto ∙ ap (λ l. l ++ slice_range bytes (suc start) place) (taken bytes (suc start)) in
+    let none : begins_with_mark (slice_range bytes (suc start) place) ≡ false = mark_taken (place - suc start) (drop (suc start) bytes) from.unmarked in
+    ap (stands_after st.StartRecord) (unmarked (slice_range bytes (suc start) place) none)
+    ∙ sym (ends_on (take (suc start) bytes) (slice_range bytes (suc start) place) from.begins (λ e. none))
+    ∙ ap (λ l. stands_after st.StartRecord (strip_bom l)) (sym both)
+    ∙ cut.begins
+
+records_parted : (bytes : List ℕ) (start place end : ℕ) → start ≤ place → place ≤ end → end ≤ length bytes → (start ≢ 0 → IsCut bytes start) → IsCut bytes place
     → csv_records (slice_range bytes start end) ≡ csv_records (slice_range bytes start place) ++ csv_records (slice_range bytes place end)
-records_apart bytes start place end some upto within cut =
-    ap csv_records (ranges bytes start place end (omega (arith, some)) upto)
-    ∙ lines_apart (slice_range bytes start place) (slice_range bytes place end) (lines_before bytes start place some (omega (arith, upto, within)) cut) (mark_taken (end - place) (drop place bytes) cut.unmarked)
+records_parted bytes start place end some upto within begins cut =
+    ap csv_records (ranges bytes start place end some upto)
+    ∙ records_apart (slice_range bytes start place) (slice_range bytes place end) (ends_before bytes start place some (omega (arith, upto, within)) begins cut) (mark_taken (end - place) (drop place bytes) cut.unmarked)
 
 no_records : csv_records [] ≡ []
 unfolding records_from next_record strip_bom
@@ -121,7 +121,7 @@ module _ (columns : List Column) (bytes : List ℕ) (first second both : Part) (
           rw here (tell_both columns [] (csv_records (slice_range bytes (suc place) second.end)) rows.items others.items none others_told)
       by (suc n) e =
           let some : start < suc place = omega (arith, e) in
-          rw (records_apart bytes start (suc place) second.end some upto is_second.part_of.within cut)
+          rw (records_parted bytes start (suc place) second.end (omega (arith, some)) upto is_second.part_of.within (λ e. subst (IsCut bytes) at (is_first.part_of.begins (λ z. e (sym at ∙ z)))) cut)
           (part_tells_both start columns (csv_records (slice_range bytes start (suc place))) (csv_records (slice_range bytes (suc place) second.end)) rows.items others.items tells others_told)
 
   pub both_read : AreRowsOfPart columns bytes both all

@@ -1,15 +1,15 @@
--- What is known of lines and of rows that their records tell. This project's own.
+-- What is known of records and of rows that their records tell. This project's own.
 use Rattle.std.specs.Prelude.{◌≡◌, ◌≤◌, ◌++◌, ℕ, false, List, Ok, sum_by}
 use Rattle.tq_base.specs.declared.catalogue.Schema.{Schema}
 use Rattle.tq_base.specs.RowLists.{RowList}
 use Rattle.tq_event.specs.declared.file.TableFile.{TableFile}
 use Rattle.tq_event.specs.Loading.{begins_with_mark, contents_of, csv_records, event_count}
 use Rattle.tq_event.specs.Tables.{entries_from}
-use Rattle.tq_loading.specs.Parts.{AreHeaded, AreLines, AreTold}
+use Rattle.tq_loading.specs.Parts.{AreHeaded, EndsRecords, AreTold}
 
--- the records of lines with no quote and of what follows them are read apart
-abbrev pub LinesAreApart : Type 0
-LinesAreApart = (lines more : List ℕ) → AreLines lines → begins_with_mark more ≡ false → csv_records (lines ++ more) ≡ csv_records lines ++ csv_records more
+-- the records of bytes behind which a record begins and of what follows them are read apart
+abbrev pub RecordsAreApart : Type 0
+RecordsAreApart = (bytes more : List ℕ) → EndsRecords bytes → begins_with_mark more ≡ false → csv_records (bytes ++ more) ≡ csv_records bytes ++ csv_records more
 
 -- files whose names, headers and records are well hold the rows that their records tell, where their events stay within the limit
 abbrev pub ToldIsContents : Type 0

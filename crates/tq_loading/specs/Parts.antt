@@ -1,6 +1,10 @@
 -- Parts of the files of tables, and the rows that their records tell. This project's own.
-use Rattle.std.specs.Prelude.{◌≡◌, ◌≢◌, ◌≤◌, ◌<◌, ◌-◌, ℕ, zero, suc, false, List, [], ◌∷◌, All, length, map, take, drop, slice_get, slice_index, slice_range, Some, Ok}
+use Rattle.std.specs.Prelude.{◌≡◌, ◌≢◌, ◌≤◌, ◌<◌, ℕ, zero, suc, false, List, [], ◌∷◌, length, map, take, drop, slice_get, slice_range, Some, Ok}
 use Rattle.std.proofs.Props.{props}
+use Rattle.csv.specs.Machine.{step}
+use Rattle.csv.specs.Reading.{default_config, strip_bom}
+use Rattle.csv.specs.declared.parser.State.{State}
+use Rattle.csv.specs.declared.parser.State.TheVariants as st
 use Rattle.tq_base.specs.declared.catalogue.Column.{Column}
 use Rattle.tq_base.specs.declared.catalogue.Schema.{Schema}
 use Rattle.tq_base.specs.declared.fragment.Fragment.{Fragment}
@@ -13,15 +17,18 @@ use Rattle.tq_loading.specs.declared.part.PartRows.{PartRows}
 
 -- ---- where files are cut
 
--- no byte is a quote, and the last one is a line feed
-pub record AreLines (bytes : List ℕ) : Type 0 where
-  pub unquoted : All (λ b. b ≢ 34) bytes
-  pub ended : slice_index bytes (length bytes - 1) ≡ 10
+-- where the reader of records stands behind the bytes, from a state on
+unfoldable pub stands_after : State → List ℕ → State
+stands_after s [] = s
+stands_after s (b ∷ bytes) = stands_after (step default_config s b).0 bytes
 
--- at the place a line begins: there is no quote, a line feed stands before it, and no byte order mark behind
+-- behind the bytes, of which it drops a byte order mark in front, the reader stands at the start of a record
+abbrev pub EndsRecords : List ℕ → Type 0
+EndsRecords bytes = stands_after st.StartRecord (strip_bom bytes) ≡ st.StartRecord
+
+-- at the place a record begins, and no byte order mark
 pub record IsCut (bytes : List ℕ) (place : ℕ) : Type 0 where
-  pub unquoted : All (λ b. b ≢ 34) bytes
-  pub ended : slice_index bytes (place - 1) ≡ 10
+  pub begins : EndsRecords (take place bytes)
   pub unmarked : begins_with_mark (drop place bytes) ≡ false
 
 -- a part of the bytes, which begins where they do or at a cut

@@ -1,9 +1,11 @@
 // Cutting files into parts.
 
-ghost use Rattle.std.specs.Prelude.{◌≡◌, ◌≢◌, ◌≤◌, ◌<◌, ◌+◌, ◌-◌, All, IfOk, IfSome, OnOk, length, slice_index, slice_index_or};
-ghost use Rattle.tq_loading.specs.Parts.{IsPartOf};
+ghost use Rattle.std.specs.Prelude.{◌≡◌, ◌≢◌, ◌≤◌, ◌<◌, ◌+◌, ◌-◌, All, IfOk, IfSome, OnOk, false, length, slice_index, take};
+ghost use Rattle.tq_event.specs.Loading.{begins_with_mark as has_mark};
+ghost use Rattle.tq_loading.specs.Parts.{EndsRecords, IsPartOf};
 
 use crate::part::Part;
+use crate::standing::{Standing, standing_behind, until_record};
 use memchr::memchr;
 use std::alloc::{AllocError, Global};
 use tq_event::TableFile;
@@ -23,7 +25,16 @@ pub fn part_len(files: &[TableFile], workers: u32, least: usize) -> usize
     'files: for file in files {
         all = all.saturating_add(file.bytes.get().len());
     }
-    (all / PARTS_A_WORKER / workers as usize).max(least)
+    (all / PARTS_A_WORKER / workers as usize).max(least).max(1)
+}
+
+// How many bytes the byte order mark in front takes.
+fn mark_len(bytes: &[u8]) -> usize
+    ensures within { result ≤ length bytes.now }
+    ensures begins { EndsRecords (take result bytes.now) }
+    ensures unmarked { result ≡ 0 → has_mark bytes.now ≡ false }
+{
+    if begins_with_mark(bytes) { 3 } else { 0 }
 }
 
 // The place just behind the next line feed from the place on.
@@ -37,43 +48,63 @@ fn line_end(bytes: &[u8], from: usize) -> Option<usize>
     Some(from + feed + 1)
 }
 
-// Parts of a file without quotes go to the end of the list, each of about this length.
-fn add_lines(
-    files: &[TableFile],
-    table: u32,
-    bytes: &[u8],
-    len: usize,
-    parts: &mut Vec<Part>,
-) -> Result<(), AllocError>
-    requires here { table < length files.now }
-    requires of_table { (d : _) → (slice_index_or files.now table d).bytes ≡ bytes.now }
+// The next place behind which a record begins in a file without quotes, so many bytes on or more.
+fn next_line(bytes: &[u8], from: usize, len: usize) -> Option<usize>
+    requires within { from ≤ length bytes.now }
     requires unquoted { All (λ b. b ≢ 34) bytes.now }
-    requires parts { All (IsPartOf files.now) parts.old.items }
-    ensures parts { OnOk result (All (IsPartOf files.now) parts.new.items) }
-    ensures few { OnOk result (length parts.new.items ≤ length parts.old.items + 4097) }
+    ensures after { IfSome result (λ place. from ≤ place) }
+    ensures within { IfSome result (λ place. place ≤ length bytes.now) }
+    ensures begins { IfSome result (λ place. EndsRecords (take place bytes.now)) }
 {
-    let mut start = 0;
-    let mut from = len;
-    'cuts: for _ in 0..MOST_CUTS {
-        if from >= bytes.len() {
-            break;
-        }
-        let Some(place) = line_end(bytes, from) else {
-            break;
-        };
-        if !begins_with_mark(&bytes[place..]) {
-            let end = place;
-            parts.push(Part { table, start, end })?;
-            start = place;
-        }
-        from = place.saturating_add(len);
+    if bytes.len() - from <= len {
+        return None;
     }
-    let end = bytes.len();
-    parts.push(Part { table, start, end })?;
-    Ok(())
+    line_end(bytes, from + len)
 }
 
-// The parts of a file go to the end of the list.
+// The same in any file, for a reader that stands at the start of a record.
+fn next_record(bytes: &[u8], from: usize, len: usize) -> Option<usize>
+    requires within { from ≤ length bytes.now }
+    requires begins { EndsRecords (take from bytes.now) }
+    requires unmarked { from ≡ 0 → has_mark bytes.now ≡ false }
+    ensures after { IfSome result (λ place. from ≤ place) }
+    ensures within { IfSome result (λ place. place ≤ length bytes.now) }
+    ensures begins { IfSome result (λ place. EndsRecords (take place bytes.now)) }
+{
+    let rest = &bytes[from..];
+    if rest.len() <= len {
+        return None;
+    }
+    let standing = standing_behind(Standing::Record, &rest[..len]);
+    let count = until_record(standing, &rest[len..])?;
+    Some(from + len + count)
+}
+
+// The next place at which a record begins, so many bytes on or more from one at which one does.
+fn next_begin(bytes: &[u8], quoted: bool, from: usize, len: usize) -> Option<usize>
+    requires unquoted { quoted ≡ false → All (λ b. b ≢ 34) bytes.now }
+    requires within { from ≤ length bytes.now }
+    requires begins { EndsRecords (take from bytes.now) }
+    requires unmarked { from ≡ 0 → has_mark bytes.now ≡ false }
+    ensures after { IfSome result (λ place. from ≤ place) }
+    ensures within { IfSome result (λ place. place ≤ length bytes.now) }
+    ensures begins { IfSome result (λ place. EndsRecords (take place bytes.now)) }
+{
+    if quoted {
+        next_record(bytes, from, len)
+    } else {
+        next_line(bytes, from, len)
+    }
+}
+
+// Whether there is a quote among the bytes.
+fn has_quote(bytes: &[u8]) -> bool
+    ensures { result ≡ false → All (λ b. b ≢ 34) bytes.now }
+{
+    memchr(b'"', bytes).is_some()
+}
+
+// The parts of a file go to the end of the list, each of about this length.
 fn add_parts(
     files: &[TableFile],
     table: u32,
@@ -86,12 +117,23 @@ fn add_parts(
     ensures few { OnOk result (length parts.new.items ≤ length parts.old.items + 4097) }
 {
     let bytes = files[table as usize].bytes.get();
-    if memchr(b'"', bytes).is_some() {
-        let (start, end) = (0, bytes.len());
-        parts.push(Part { table, start, end })?;
-        return Ok(());
+    let quoted = has_quote(bytes);
+    let mut start = 0;
+    let mut from = mark_len(bytes);
+    'cuts: for _ in 0..MOST_CUTS {
+        let Some(place) = next_begin(bytes, quoted, from, len) else {
+            break;
+        };
+        if !begins_with_mark(&bytes[place..]) {
+            let end = place;
+            parts.push(Part { table, start, end })?;
+            start = place;
+        }
+        from = place;
     }
-    add_lines(files, table, bytes, len, parts)
+    let end = bytes.len();
+    parts.push(Part { table, start, end })?;
+    Ok(())
 }
 
 /// The parts of the files, file by file, each of about this length.

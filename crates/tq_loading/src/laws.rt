@@ -1,11 +1,11 @@
-//! Laws of lines and of the rows that records tell.
+//! Laws of records and of the rows that they tell.
 
-ghost use Rattle.tq_loading.specs.Laws.{LinesAreApart, ToldIsContents};
+ghost use Rattle.tq_loading.specs.Laws.{RecordsAreApart, ToldIsContents};
 
-/// Where a line with no quote before it ends, one record ends and another begins: the records of lines and
-/// of what follows them, with no byte order mark in front of that, are read apart.
-pub fn lines_are_apart()
-    ensures { LinesAreApart }
+/// Where bytes end at the start of a record, their records and those of what follows them, with no byte order
+/// mark in front of that, are read apart.
+pub fn records_are_apart()
+    ensures { RecordsAreApart }
 {}
 
 /// Files whose names, headers and records are well hold the rows that their records tell, where the events of

@@ -99,7 +99,7 @@ fn is_loaded_by_all<R: Threads + Sync>(
 
 // ---- written files
 
-const GOOD: [(&str, &str); 8] = [
+const GOOD: [(&str, &str); 11] = [
     ("k:int,from,to\n", ""),
     (
         "k:int,v:text,from,to\n1,ann,10,20\n2,bob,15,forever\n3,,0,1",
@@ -120,9 +120,21 @@ const GOOD: [(&str, &str); 8] = [
         "n:int,w:text,from,to\n7,\"x\ny\",1,2\n",
     ),
     ("k:int,from,to\n1,2,3\r2,3,4\r3,4,5\n4,5,6\n", ""),
+    (
+        "k:int,v:text,from,to\n1,a\"b\"\"c,1,2\n2,\"c\"d,3,4\n3,\"e\r\nf\",5,6\r\n4,\"\"\"\",7,8\n5,\"\",8,9\n",
+        "",
+    ),
+    (
+        "\u{feff}k:int,\"v:text\",from,to\n1,\"a\n\"\"\n\",1,2\n\n\r\n2,\"b\"\"\n\"\"\",3,4\n\"3\",c,\"4\",\"5\"\n",
+        "\"k:int\",from,to\n1,2,3\n",
+    ),
+    (
+        "k:int,v:text,from,to\r1,\"a\rb\",1,2\r\r2,\"c\",3,4\r\n\r\n3,\"d\n\n\",4,5\n",
+        "",
+    ),
 ];
 
-const AMISS: [(&str, &str); 10] = [
+const AMISS: [(&str, &str); 12] = [
     ("", ""),
     ("\n\n\n", ""),
     ("k:int,from,to\n1,2,3\n2,3,4\n\u{feff}3,4,5\n4,5,6\n", ""),
@@ -136,6 +148,11 @@ const AMISS: [(&str, &str); 10] = [
         "k:int,from,to\n1,2,3\n2,3,z\n",
     ),
     ("k:int,v:text,from,to\n1,\"a\n2,b,3,4\n3,c,4,5\n", ""),
+    ("k:int,v:text,from,to\n1,\"a\n\",1,2\n2,\"b\n\",4,3\n", ""),
+    (
+        "k:int,v:text,from,to\n1,\"a\",1,2\n\u{feff}2,\"b\",3,4\n3,c,4,5\n",
+        "",
+    ),
 ];
 
 #[test]
@@ -185,6 +202,22 @@ fn many_rows(alloc: Global, rows: u64) -> Result<String, AllocError> {
     Ok(text)
 }
 
+// The same with quotes: around commas, line ends and quotes, or where none is needed, or in the middle.
+fn quoted_rows(alloc: Global, rows: u64) -> Result<String, AllocError> {
+    let mut text = String::from_str(alloc, "k:int,v:text,from,to\n")?;
+    for row in 0..rows {
+        let from = row % 1_000;
+        match row % 5 {
+            0 => writeln!(text, "{row},\"line, {row}\n\"\"line\"\"\",{from},forever")?,
+            1 => writeln!(text, "{row},\"\",{from},1000\r\n")?,
+            2 => writeln!(text, "{row},a \"name\" of {row},{from},2000")?,
+            3 => writeln!(text, "{row},\"a\n{row},b,1,2\n\",{from},\"2000\"")?,
+            _ => writeln!(text, "\"{row}\",name of {row},{from},2000")?,
+        }
+    }
+    Ok(text)
+}
+
 // Whether these workers load the files as `load_tables` does, in parts of the usual length.
 fn is_loaded_among<R: Threads + Sync, G: Gate + Sync>(
     rt: &R,
@@ -205,7 +238,7 @@ fn is_loaded_among<R: Threads + Sync, G: Gate + Sync>(
 #[test]
 fn long_files_are_loaded_by_any_number_of_workers(rt: HostRuntime) -> Result<(), Fail> {
     let first = many_rows(rt.alloc(), 8_000)?;
-    let second = many_rows(rt.alloc(), 3_000)?;
+    let second = quoted_rows(rt.alloc(), 3_000)?;
     for workers in [1, 2, 7, 16] {
         let same = is_loaded_among(&rt, rt.alloc(), (&first, &second), workers, &Open)?;
         assert!(rt; same, "{workers}");
@@ -265,13 +298,13 @@ fn two_workers_have_a_part_at_once(rt: HostRuntime) -> Result<(), Fail> {
 }
 
 #[test]
-fn a_file_with_a_quote_is_one_part(rt: HostRuntime) -> Result<(), Fail> {
-    let mut text = many_rows(rt.alloc(), 8_000)?;
-    text.push_str("8000,\"quoted\",1,2\n")?;
+fn two_workers_have_parts_of_a_file_with_quotes(rt: HostRuntime) -> Result<(), Fail> {
+    let text = quoted_rows(rt.alloc(), 9_000)?;
     let gate = Arrivals::new();
-    let small = "k:int,from,to\n1,2,3\n";
-    let same = is_loaded_among(&rt, rt.alloc(), (&text, small), 2, &gate)?;
+    let same = is_loaded_among(&rt, rt.alloc(), (&text, ""), 2, &gate)?;
     assert!(rt; same);
-    assert_eq!(rt; gate.count.load(Ordering::SeqCst), 2);
+    assert!(rt; !gate.limit_met.load(Ordering::SeqCst));
+    let parts = gate.count.load(Ordering::SeqCst);
+    assert!(rt; 3 < parts && parts < 10, "{parts}");
     Ok(())
 }

@@ -1,3 +1,5 @@
+pub mod ColumnLemmas
 pub mod FetchLemmas
 pub mod PieceLemmas
 pub mod RangeLemmas
+pub mod ShareLemmas

@@ -16,7 +16,6 @@ use Rattle.tq_base.specs.declared.fragment.Fragment.{Fragment}
 use Rattle.tq_base.specs.declared.value.Value.{Value}
 use Rattle.tq_base.specs.Fragments.{copies}
 use Rattle.tq_base.specs.Keys.{no_row}
-use Rattle.tq_base.specs.Layers.{IsLayers}
 use Rattle.tq_base.specs.Ranges.{layers_of_all, one_after_other, StandInOrder}
 use Rattle.tq_base.specs.Relations.{row_at}
 use Rattle.tq_run.specs.Results.{IsResultList}
@@ -45,7 +44,7 @@ counted_nowhere r n first (suc count) less =
     omega (arith, sum_by-cons (λ b. cond (r == b) n 0) first (range_with_len (first + 1) count), here, rest)
 
 -- one of the ranges from the first on
-counted_once : (r n first count : ℕ) → first ≤ r → r < first + count → sum_by (λ b. cond (r == b) n 0) (range_with_len first count) ≡ n
+pub counted_once : (r n first count : ℕ) → first ≤ r → r < first + count → sum_by (λ b. cond (r == b) n 0) (range_with_len first count) ≡ n
 counted_once r n first zero low high = absurd (omega (arith, low, high))
 counted_once r n first (suc count) low high = elim (cases_lt first r) [
   | inl less ↦
@@ -118,7 +117,7 @@ numbers_within told count len range =
 
 -- ---- the texts of the ranges
 
-texts_follow : (ranges : List RangeText) → All (λ (r : RangeText). r.text.items ≡ rows_text r.lines) ranges
+pub texts_follow : (ranges : List RangeText) → All (λ (r : RangeText). r.text.items ≡ rows_text r.lines) ranges
     → bytes_of (map (λ (r : RangeText). r.text) ranges) ≡ rows_text (one_after_other (map (λ (r : RangeText). r.lines) ranges))
 texts_follow [] each = refl
 texts_follow (r ∷ ranges) each =
@@ -131,7 +130,7 @@ texts_follow (r ∷ ranges) each =
     ∙ ap rows_text (sym (flat_map-cons (λ (l : List Fragment). l) r.lines lines))
 
 -- the lines of a range, read from those of all
-lines_at : (ranges : List RangeText) (i : ℕ) (d : List Fragment) → i < length ranges → (e : RangeText) × (get_or (map (λ (r : RangeText). r.lines) ranges) i d ≡ (get_or ranges i e).lines)
+pub lines_at : (ranges : List RangeText) (i : ℕ) (d : List Fragment) → i < length ranges → (e : RangeText) × (get_or (map (λ (r : RangeText). r.lines) ranges) i d ≡ (get_or ranges i e).lines)
 lines_at [] i d less = absurd (omega (arith, less))
 lines_at (r ∷ ranges) i d less = (r, get_or-map (λ (s : RangeText). s.lines) (r ∷ ranges) i r d less)
 

@@ -1,3 +1,4 @@
 pub mod Pieces
 pub mod Fetching
 pub mod Ranges
+pub mod Shares

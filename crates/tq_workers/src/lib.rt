@@ -11,6 +11,7 @@
 
 mod among;
 mod asked;
+mod columns;
 mod edges;
 mod fetched;
 mod fetching;
@@ -19,6 +20,9 @@ mod pieces;
 mod pivots;
 mod prepared;
 mod ranges;
+mod share;
+mod shares;
+mod telling;
 mod text;
 mod with;
 

@@ -82,8 +82,8 @@ impl<'p> Work for Ranges<'p, '_> {
     }
 }
 
-// Whether the lines of each range are below those of every later one.
-fn stand_in_order(ranges: &[RangeText<'_>]) -> bool
+/// Whether the lines of each range are below those of every later one.
+pub(crate) fn stand_in_order(ranges: &[RangeText<'_>]) -> bool
     requires { All (λ (range : AnyRange). IsSorted fragment_cmp range.lines) ranges.now }
     ensures { IsTrue result → StandInOrder (map (λ (range : AnyRange). range.lines) ranges.now) }
 {
@@ -105,8 +105,11 @@ fn text_of(range: RangeText<'_>) -> Vec<u8>
     text
 }
 
-// The texts of the ranges.
-fn texts_of(alloc: Global, ranges: Vec<RangeText<'_>>) -> Result<Vec<Vec<u8>>, AllocError>
+/// The texts of the ranges.
+pub(crate) fn texts_of(
+    alloc: Global,
+    ranges: Vec<RangeText<'_>>,
+) -> Result<Vec<Vec<u8>>, AllocError>
     ensures { IfOk result (λ texts. texts.items ≡ map (λ (range : AnyRange). range.text) ranges.entry.items) }
 {
     let mut texts = Vec::with_capacity(alloc, ranges.len())?;

@@ -15,6 +15,7 @@ ghost use Rattle.tq_table.specs.Sink.{bytes_of};
 use crate::among::pieces_of;
 use crate::edges::table_edges;
 use crate::ranges::range_texts;
+use crate::shares::share_texts;
 use std::alloc::{AllocError, Global};
 use std::marker::Model;
 use std::thread::Threads;
@@ -64,6 +65,15 @@ fn is_one_list(plan: &Plan) -> bool {
             .get()
             .iter()
             .all(|output| matches!(output, Output::Column(_)))
+}
+
+// Whether an answer may be worked out in shares of the rows of the tables.
+fn are_worth_shares(tables: &[Rows], plan: &Plan, workers: u32, few: usize) -> bool {
+    let mut rows: usize = 0;
+    'tables: for table in tables {
+        rows = rows.saturating_add(table.len());
+    }
+    workers > 1 && rows >= few && !is_one_list(plan)
 }
 
 // The plan's rows at each instant of its window, found by these workers.
@@ -157,6 +167,11 @@ pub fn text_by_ranges<R: Threads + Sync, G: Gate + Sync>(
     queries_stand();
     let header = header_text(alloc, plan.columns())?;
     let snapshot = TablesOfRows { catalogue, tables };
+    if are_worth_shares(tables, plan, workers, few)
+        && let Some(texts) = share_texts(rt, alloc, snapshot, plan, workers, gate)?
+    {
+        return joined(alloc, header, texts);
+    }
     let rows = rows_among(rt, alloc, snapshot, plan, workers, gate)?;
     rows_answered(rt, alloc, header, rows, workers, few, gate)
 }

@@ -1,0 +1,285 @@
+-- The machine of the `csv` crate over bytes behind which it stands at the start of a record: it finds in them what it finds
+-- before more bytes too.
+use Rattle.std.proofs.Common.{◌≡◌, ◌≢◌, ◌-◌, ℕ, suc, ◌==◌, Bool, true, false, ◌⊎◌, inl, inr, List, [], ◌∷◌, ◌++◌, length, Some, None, if◌then◌else◌, refl, sym, subst, arith}
+use Rattle.std.specs.Prelude.{All, slice_index}
+use Rattle.std.proofs.lemmas.Bool.{eqb-true}
+use Rattle.std.proofs.lemmas.List.Elements.{All-head, All-tail}
+use Rattle.csv.specs.Machine.{Read, field_after, fields_after, in_field, is_end, next_record, start_record, step}
+use Rattle.csv.specs.Reading.{default_config, is_bom, strip_bom}
+use Rattle.csv.specs.declared.parser.Action.{Action}
+use Rattle.csv.specs.declared.parser.State.{State}
+use Rattle.csv.specs.declared.parser.State.TheVariants as st
+use Rattle.csv.specs.declared.parser.Action.TheVariants as act
+use Rattle.tq_loading.specs.Parts.{EndsRecords, stands_after}
+
+-- ---- states
+
+-- between two records
+abbrev pub IsBetween : State → Type 0
+IsBetween st.StartRecord = Unit {0}
+IsBetween st.AfterCr = Unit {0}
+IsBetween st.StartField = ⊥
+IsBetween st.InField = ⊥
+IsBetween st.InQuoted = ⊥
+IsBetween st.AfterQuote = ⊥
+IsBetween st.InEscape = ⊥
+IsBetween st.InComment = ⊥
+
+-- within a record
+abbrev pub IsWithin : State → Type 0
+IsWithin st.StartRecord = ⊥
+IsWithin st.AfterCr = ⊥
+IsWithin st.StartField = Unit {0}
+IsWithin st.InField = Unit {0}
+IsWithin st.InQuoted = Unit {0}
+IsWithin st.AfterQuote = Unit {0}
+IsWithin st.InEscape = ⊥
+IsWithin st.InComment = ⊥
+
+-- what a byte within a record does: it ends the record, or leaves it
+record Goes (q : State × Action) : Type 0 where
+  pub ended : is_end q.1 ≡ true → IsBetween q.0
+  pub left : is_end q.1 ≡ false → IsWithin q.0
+
+left_in : (s : State) (a : Action) → IsWithin s → is_end a ≡ false → Goes (s, a)
+left_in s a within none = record { ended = λ e. cc (none, e); left = λ e. within }
+
+ended_at : (s : State) → IsBetween s → Goes (s, act.EndRecord)
+ended_at s between = record { ended = λ e. between; left = λ e. cc e }
+
+field_goes : (b : ℕ) → Goes (in_field default_config b)
+field_goes b = by (b == 44) (b == 13) (b == 10) refl refl refl
+  where
+    by : (comma return feed : Bool) → (b == 44) ≡ comma → (b == 13) ≡ return → (b == 10) ≡ feed → Goes (in_field default_config b)
+    by true return feed is r f = rw is (left_in st.StartField act.EndField tt refl)
+    by false true feed c is f = rw (c, is) (ended_at st.AfterCr tt)
+    by false false true c r is = rw (c, r, is) (ended_at st.StartRecord tt)
+    by false false false c r f = rw (c, r, f) (left_in st.InField act.Copy tt refl)
+
+within_goes : (s : State) → IsWithin s → (b : ℕ) → Goes (step default_config s b)
+within_goes st.StartField within b = by (b == 34) refl
+  where
+    by : (quote : Bool) → (b == 34) ≡ quote → Goes (step default_config st.StartField b)
+    by true is = rw is (left_in st.InQuoted act.Skip tt refl)
+    by false is = rw is (field_goes b)
+within_goes st.InField within b = field_goes b
+within_goes st.InQuoted within b = by (b == 34) refl
+  where
+    by : (quote : Bool) → (b == 34) ≡ quote → Goes (step default_config st.InQuoted b)
+    by true is = rw is (left_in st.AfterQuote act.Skip tt refl)
+    by false is = rw is (left_in st.InQuoted act.Copy tt refl)
+within_goes st.AfterQuote within b = by (b == 34) refl
+  where
+    by : (quote : Bool) → (b == 34) ≡ quote → Goes (step default_config st.AfterQuote b)
+    by true is = rw is (left_in st.InQuoted act.Copy tt refl)
+    by false is = rw is (field_goes b)
+within_goes st.StartRecord within b = absurd within
+within_goes st.AfterCr within b = absurd within
+within_goes st.InEscape within b = absurd within
+within_goes st.InComment within b = absurd within
+
+-- it begins a record
+record Begins (q : State × Action) : Type 0 where
+  pub none : is_end q.1 ≡ false
+  pub within : IsWithin q.0
+
+start_goes : (b : ℕ) → (start_record default_config b ≡ (st.StartRecord, act.Skip)) ⊎ Begins (start_record default_config b)
+start_goes b = by (b == 44) (b == 13) (b == 10) (b == 34) refl refl refl refl
+  where
+    by : (comma return feed quote : Bool) → (b == 44) ≡ comma → (b == 13) ≡ return → (b == 10) ≡ feed → (b == 34) ≡ quote
+        → (start_record default_config b ≡ (st.StartRecord, act.Skip)) ⊎ Begins (start_record default_config b)
+    by comma true feed quote c is f q = inl (rw is refl)
+    by comma false true quote c r is q = inl (rw (r, is) refl)
+    by comma false false true c r f is = inr (rw (r, f, is) (record { none = refl; within = tt }))
+    by true false false false is r f q = inr (rw (r, f, q, is) (record { none = refl; within = tt }))
+    by false false false false c r f q = inr (rw (r, f, q, c) (record { none = refl; within = tt }))
+
+-- behind a carriage return a byte does what it does at the start of a record
+after_return : (b : ℕ) → step default_config st.AfterCr b ≡ start_record default_config b
+after_return b = by (b == 10) refl
+  where
+    by : (feed : Bool) → (b == 10) ≡ feed → step default_config st.AfterCr b ≡ start_record default_config b
+    by true is = let at : b ≡ 10 = eqb-true b 10 is in rw at refl
+    by false other = rw other refl
+
+between_goes : (s : State) → IsBetween s → (b : ℕ) → (step default_config s b ≡ (st.StartRecord, act.Skip)) ⊎ Begins (step default_config s b)
+between_goes st.StartRecord between b = start_goes b
+between_goes st.AfterCr between b = subst (λ q. (q ≡ (st.StartRecord, act.Skip)) ⊎ Begins q) (sym (after_return b)) (start_goes b)
+between_goes st.StartField between b = absurd between
+between_goes st.InField between b = absurd between
+between_goes st.InQuoted between b = absurd between
+between_goes st.AfterQuote between b = absurd between
+between_goes st.InEscape between b = absurd between
+between_goes st.InComment between b = absurd between
+
+-- ---- reads
+
+-- the machine finds a record in the bytes, whatever comes after them, and stands at the start of a record behind them
+pub record Found (s : State) (fields : List (List ℕ)) (field bytes : List ℕ) : Type 0 where
+  pub read : Read
+  pub here : next_record default_config s fields field bytes ≡ Some read
+  pub between : IsBetween read.1
+  pub ends : stands_after read.1 read.2 ≡ st.StartRecord
+  pub before : (more : List ℕ) → next_record default_config s fields field (bytes ++ more) ≡ Some (read.0, read.1, read.2 ++ more)
+
+-- a byte that ends no record
+later : (s : State) (fields : List (List ℕ)) (field : List ℕ) (b : ℕ) (bytes : List ℕ) → is_end (step default_config s b).1 ≡ false
+    → Found (step default_config s b).0 (fields_after (step default_config s b).1 fields field) (field_after (step default_config s b).1 b field) bytes
+    → Found s fields field (b ∷ bytes)
+unfolding next_record
+later s fields field b bytes none found = record {
+  read = found.read;
+  here = rw none found.here;
+  between = found.between;
+  ends = found.ends;
+  before = λ more. rw none (found.before more);
+}
+
+-- within a record
+within_found : (s : State) (fields : List (List ℕ)) (field bytes : List ℕ) → IsWithin s → stands_after s bytes ≡ st.StartRecord → Found s fields field bytes
+unfolding next_record stands_after
+within_found s fields field [] within ends = absurd (subst IsWithin ends within)
+within_found s fields field (b ∷ bytes) within ends =
+    by (is_end (step default_config s b).1) refl
+    (λ on. within_found (step default_config s b).0 (fields_after (step default_config s b).1 fields field) (field_after (step default_config s b).1 b field) bytes on ends)
+  where
+    by : (t : Bool) → is_end (step default_config s b).1 ≡ t
+        → (IsWithin (step default_config s b).0 → Found (step default_config s b).0 (fields_after (step default_config s b).1 fields field) (field_after (step default_config s b).1 b field) bytes)
+        → Found s fields field (b ∷ bytes)
+    by true is rest = record {
+      read = (fields_after (step default_config s b).1 fields field, (step default_config s b).0, bytes);
+      here = rw is refl;
+      between = (within_goes s within b).ended is;
+      ends = ends;
+      before = λ more. rw is refl;
+    }
+    by false is rest = later s fields field b bytes is (rest ((within_goes s within b).left is))
+
+-- no record begins in the bytes, and behind them the machine stands at the start of one
+pub record Passes (s : State) (bytes : List ℕ) : Type 0 where
+  pub none : next_record default_config s [] [] bytes ≡ None
+  pub behind : (more : List ℕ) → next_record default_config s [] [] (bytes ++ more) ≡ next_record default_config st.StartRecord [] [] more
+
+-- between two records, the bytes hold one or none
+pub between_read : (s : State) (bytes : List ℕ) → IsBetween s → stands_after s bytes ≡ st.StartRecord → Found s [] [] bytes ⊎ Passes s bytes
+unfolding next_record stands_after
+between_read s [] between ends = inr (rw ends (record { none = refl; behind = λ more. refl }))
+between_read s (b ∷ bytes) between ends = by (between_goes s between b) (λ on over. between_read (step default_config s b).0 bytes on over)
+  where
+    by : (step default_config s b ≡ (st.StartRecord, act.Skip)) ⊎ Begins (step default_config s b)
+        → (IsBetween (step default_config s b).0 → stands_after (step default_config s b).0 bytes ≡ st.StartRecord → Found (step default_config s b).0 [] [] bytes ⊎ Passes (step default_config s b).0 bytes)
+        → Found s [] [] (b ∷ bytes) ⊎ Passes s (b ∷ bytes)
+    by (inl is) rest = skipped (rw is at rest tt (rw is at ends))
+      where
+        skipped : Found st.StartRecord [] [] bytes ⊎ Passes st.StartRecord bytes → Found s [] [] (b ∷ bytes) ⊎ Passes s (b ∷ bytes)
+        skipped (inl found) = inl (later s [] [] b bytes (rw is refl) (rw is found))
+        skipped (inr passes) = inr (record { none = rw is passes.none; behind = λ more. rw is (passes.behind more) })
+    by (inr begins) rest =
+        inl (later s [] [] b bytes begins.none (within_found (step default_config s b).0 (fields_after (step default_config s b).1 [] []) (field_after (step default_config s b).1 b []) bytes begins.within ends))
+
+-- ---- lines
+
+-- a state in which no quote is open
+abbrev IsUnquoted : State → Type 0
+IsUnquoted st.StartRecord = Unit {0}
+IsUnquoted st.AfterCr = Unit {0}
+IsUnquoted st.StartField = Unit {0}
+IsUnquoted st.InField = Unit {0}
+IsUnquoted st.InQuoted = ⊥
+IsUnquoted st.AfterQuote = ⊥
+IsUnquoted st.InEscape = ⊥
+IsUnquoted st.InComment = ⊥
+
+differs : (b n : ℕ) → b ≢ n → (b == n) ≡ false
+differs b n other = by (b == n) refl
+  where
+    by : (t : Bool) → (b == n) ≡ t → (b == n) ≡ false
+    by true e = absurd (other (eqb-true b n e))
+    by false e = e
+
+field_unquoted : (b : ℕ) → IsUnquoted (in_field default_config b).0
+field_unquoted b = by (b == 44) (b == 13) (b == 10) refl refl refl
+  where
+    by : (comma return feed : Bool) → (b == 44) ≡ comma → (b == 13) ≡ return → (b == 10) ≡ feed → IsUnquoted (in_field default_config b).0
+    by true return feed is r f = rw is tt
+    by false true feed c is f = rw (c, is) tt
+    by false false true c r is = rw (c, r, is) tt
+    by false false false c r f = rw (c, r, f) tt
+
+start_unquoted : (b : ℕ) → b ≢ 34 → IsUnquoted (start_record default_config b).0
+start_unquoted b other = by (b == 44) (b == 13) (b == 10) refl refl refl
+  where
+    quote : (b == 34) ≡ false
+    quote = differs b 34 other
+
+    by : (comma return feed : Bool) → (b == 44) ≡ comma → (b == 13) ≡ return → (b == 10) ≡ feed → IsUnquoted (start_record default_config b).0
+    by comma true feed c is f = rw is tt
+    by comma false true c r is = rw (r, is) tt
+    by true false false is r f = rw (r, f, quote, is) tt
+    by false false false c r f = rw (r, f, quote, c) tt
+
+-- a byte that is no quote opens none
+step_unquoted : (s : State) → IsUnquoted s → (b : ℕ) → b ≢ 34 → IsUnquoted (step default_config s b).0
+step_unquoted st.StartRecord unquoted b other = start_unquoted b other
+step_unquoted st.AfterCr unquoted b other = subst (λ q. IsUnquoted q.0) (sym (after_return b)) (start_unquoted b other)
+step_unquoted st.StartField unquoted b other = rw (differs b 34 other) (field_unquoted b)
+step_unquoted st.InField unquoted b other = field_unquoted b
+step_unquoted st.InQuoted unquoted b other = absurd unquoted
+step_unquoted st.AfterQuote unquoted b other = absurd unquoted
+step_unquoted st.InEscape unquoted b other = absurd unquoted
+step_unquoted st.InComment unquoted b other = absurd unquoted
+
+-- a line feed ends a record
+step_feed : (s : State) → IsUnquoted s → (step default_config s 10).0 ≡ st.StartRecord
+step_feed st.StartRecord unquoted = refl
+step_feed st.AfterCr unquoted = refl
+step_feed st.StartField unquoted = refl
+step_feed st.InField unquoted = refl
+step_feed st.InQuoted unquoted = absurd unquoted
+step_feed st.AfterQuote unquoted = absurd unquoted
+step_feed st.InEscape unquoted = absurd unquoted
+step_feed st.InComment unquoted = absurd unquoted
+
+-- nothing, or bytes with no quote of which the last is a line feed
+abbrev AreLines : List ℕ → Type 0
+AreLines [] = Unit {0}
+AreLines (b ∷ []) = b ≡ 10
+AreLines (b ∷ c ∷ bytes) = (b ≢ 34) × AreLines (c ∷ bytes)
+
+are_lines : (bytes : List ℕ) → All (λ b. b ≢ 34) bytes → slice_index bytes (length bytes - 1) ≡ 10 → AreLines bytes
+are_lines [] unquoted ended = tt
+are_lines (b ∷ []) unquoted ended = ended
+are_lines (b ∷ c ∷ bytes) unquoted ended =
+    let place : suc (suc (length bytes)) - 1 ≡ suc (suc (length bytes) - 1) = omega arith in (
+      All-head (λ x. x ≢ 34) b (c ∷ bytes) unquoted,
+      are_lines (c ∷ bytes) (All-tail (λ x. x ≢ 34) b (c ∷ bytes) unquoted) (rw place at ended),
+    )
+
+lines_left : (b : ℕ) (bytes : List ℕ) → AreLines (b ∷ bytes) → AreLines bytes
+lines_left b [] lines = tt
+lines_left b (c ∷ bytes) lines = lines.1
+
+lines_stand : (s : State) (b : ℕ) (bytes : List ℕ) → IsUnquoted s → AreLines (b ∷ bytes) → stands_after s (b ∷ bytes) ≡ st.StartRecord
+unfolding stands_after
+lines_stand s b [] unquoted lines = rw lines (step_feed s unquoted)
+lines_stand s b (c ∷ bytes) unquoted lines = lines_stand (step default_config s b).0 c bytes (step_unquoted s unquoted b lines.0) lines.1
+
+all_stand : (bytes : List ℕ) → AreLines bytes → stands_after st.StartRecord bytes ≡ st.StartRecord
+unfolding stands_after
+all_stand [] lines = refl
+all_stand (b ∷ bytes) lines = lines_stand st.StartRecord b bytes tt lines
+
+-- behind lines with no quote a record begins
+pub lines_end : (bytes : List ℕ) → All (λ b. b ≢ 34) bytes → slice_index bytes (length bytes - 1) ≡ 10 → EndsRecords bytes
+unfolding strip_bom
+lines_end [] unquoted ended = all_stand [] tt
+lines_end (a ∷ []) unquoted ended = all_stand (a ∷ []) (are_lines (a ∷ []) unquoted ended)
+lines_end (a ∷ b ∷ []) unquoted ended = all_stand (a ∷ b ∷ []) (are_lines (a ∷ b ∷ []) unquoted ended)
+lines_end (a ∷ b ∷ c ∷ bytes) unquoted ended = by (is_bom a b c)
+  where
+    lines : AreLines (a ∷ b ∷ c ∷ bytes)
+    lines = are_lines (a ∷ b ∷ c ∷ bytes) unquoted ended
+
+    by : (mark : Bool) → stands_after st.StartRecord (if mark then bytes else a ∷ b ∷ c ∷ bytes) ≡ st.StartRecord
+    by true = all_stand bytes (lines_left c bytes lines.1.1)
+    by false = all_stand (a ∷ b ∷ c ∷ bytes) lines

@@ -1,0 +1,128 @@
+-- Shares of the rows of tables: each value goes to one of them, and the texts of the answers over them are that of the answer.
+use Rattle.std.proofs.Common.{◌≡◌, ◌<◌, ◌≤◌, ◌+◌, ◌==◌, ℕ, zero, suc, true, false, Bool, cond, List, [], ◌∷◌, ◌∙◌, ap, arith, get_or, length, map, filter, take, ◌++◌, None, Some, Option, refl, subst, sum_by, sym}
+use Rattle.std.specs.Prelude.{nat_le}
+use Rattle.std.specs.Global.{Vec}
+use Rattle.std.specs.List.{range_with_len}
+use Rattle.std.proofs.lemmas.List.{length-map, take_more}
+use Rattle.std.proofs.lemmas.List.Elements.{filter-append}
+use Rattle.tq_base.specs.declared.catalogue.Catalogue.{Catalogue}
+use Rattle.tq_base.specs.declared.fragment.Fragment.{Fragment}
+use Rattle.tq_base.specs.declared.value.Value.{Value}
+use Rattle.tq_base.specs.Fragments.{at}
+use Rattle.tq_base.specs.Periods.{holds}
+use Rattle.tq_base.specs.Ranks.{value_rank}
+use Rattle.tq_base.specs.RowLists.{RowList}
+use Rattle.tq_base.specs.declared.key_range.KeyRange.{KeyRange}
+use Rattle.tq_base.specs.declared.period.Period.{Period}
+use Rattle.tq_event.specs.Tables.{lists_of, rows_in}
+use Rattle.tq_base.specs.Ranges.{layers_of_all, one_after_other, StandInOrder}
+use Rattle.tq_ops.specs.Conditions.{value_at}
+use Rattle.tq_plan.specs.declared.plans.Plan.{Plan}
+use Rattle.tq_plan.specs.Standing.{AreQueriesOver}
+use Rattle.tq_eval.specs.Answers.{in_tables, times_at, ValidRows}
+use Rattle.tq_eval.specs.Sources.{AreRowsIn, HasRowsIn}
+use Rattle.tq_eval.proofs.SourceLemmas.{whole_table}
+use Rattle.tq_eval.specs.Fitting.{AreFitting}
+use Rattle.tq_eval.specs.Shares.{ArePartedBy, SharesPartAnswers, goes_to, in_share}
+use Rattle.tq_run.specs.Results.{IsResultList}
+use Rattle.tq_workers.specs.declared.ranges.RangeText.{RangeText}
+use Rattle.tq_workers.specs.Shares.{AreTold, HaveAnswer, IsShareText, IsTold, columns_in, share_of}
+use Rattle.tq_workers.proofs.RangeLemmas.{counted_once, lines_at, texts_follow}
+
+-- a value goes to one of the shares
+few_left : (p : ℕ → Bool) (cuts : List ℕ) → length (filter p cuts) < length cuts + 1
+few_left p [] = omega arith
+few_left p (cut ∷ cuts) = by (p cut) (few_left p cuts)
+  where
+    by : (b : Bool) → length (filter p cuts) < length cuts + 1 → length (cond b (cut ∷ filter p cuts) (filter p cuts)) < suc (length cuts) + 1
+    by true few = omega (arith, few)
+    by false few = omega (arith, few)
+
+-- where the shares stand in order, their texts are that of the answer
+pub have_answer : SharesPartAnswers → (catalogue : Catalogue) (valid : ValidRows) (plan : Plan) (cuts : List ℕ) (columns : List (Option ℕ)) (shares : List RangeText) → AreFitting catalogue valid → AreQueriesOver catalogue plan
+    → ArePartedBy (columns_in columns) plan → IsResultList (IsShareText valid plan cuts columns) (length cuts + 1) shares → StandInOrder (map (λ (r : RangeText). r.lines) shares)
+    → HaveAnswer valid plan (map (λ (r : RangeText). r.text) shares)
+have_answer law catalogue valid plan cuts columns shares fit over parted are order =
+    let lists = map (λ (r : RangeText). r.lines) shares in
+    let count = length cuts + 1 in
+    let many : length lists ≡ count = length-map shares (λ (r : RangeText). r.lines) ∙ are.0 in
+    let count_of = λ (i : ℕ). times_at (in_share (share_of cuts) (columns_in columns) i valid) plan in
+    let layers = layers_of_all count_of 0 lists
+    (λ i d less.
+    let within : i < length shares = omega (arith, less, length-map shares (λ (r : RangeText). r.lines)) in
+    let (e, is) = lines_at shares i d within in
+    let here : 0 + i ≡ i = omega arith in
+    rw (is, here) ((are.1 i e (omega (arith, within, are.0))).layers))
+    order in
+    record {
+      lines = one_after_other lists;
+      layers = record {
+        ordered = layers.ordered;
+        coalesced = layers.coalesced;
+        counted = λ v t.
+            layers.counted v t
+            ∙ ap (λ n. sum_by (λ i. count_of i v t) (range_with_len 0 n)) many
+            ∙ ap (λ (f : ℕ → ℕ). sum_by f (range_with_len 0 count)) (λ k i. law (share_of cuts) (columns_in columns) i catalogue valid plan fit over parted v t k)
+            ∙ counted_once (share_of cuts (value_at v 0)) (times_at valid plan v t) 0 count (omega arith) (omega (arith, few_left (λ cut. nat_le cut (value_rank (value_at v 0))) cuts));
+      };
+      text = texts_follow shares (λ k d less. (are.1 k d (omega (arith, less, are.0))).text);
+    }
+
+-- ---- the rows of a share
+
+-- of one row more
+pub left_more : {X : Type 0} (p : X → Bool) (xs : List X) (place : ℕ) (d : X) → place < length xs → filter p (take (place + 1) xs) ≡ filter p (take place xs) ++ cond (p (get_or xs place d)) (get_or xs place d ∷ []) []
+left_more p xs place d within =
+    ap (filter p) (take_more xs place d within)
+    ∙ filter-append p (take place xs) (get_or xs place d ∷ [])
+
+-- what is valid of the rows that are left
+pub at_left : (p : List Value → Bool) (rows : List Fragment) (t : ℕ) → at (filter (λ (row : Fragment). p row.values) rows) t ≡ filter p (at rows t)
+at_left p [] t = refl
+at_left p (row ∷ rows) t = by (p row.values) (holds row.period t) refl refl (at_left p rows t)
+  where
+    by : (b c : Bool) → p row.values ≡ b → holds row.period t ≡ c → at (filter (λ (row : Fragment). p row.values) rows) t ≡ filter p (at rows t) → at (filter (λ (row : Fragment). p row.values) (row ∷ rows)) t ≡ filter p (at (row ∷ rows) t)
+    by true true is there rest = rw (is, there) (rw is (ap (λ l. row.values ∷ l) rest))
+    by true false is there rest = rw (is, there) rest
+    by false true is there rest = rw (is, there) (rw is rest)
+    by false false is there rest = rw (is, there) rest
+
+all_left : {X : Type 0} (xs : List X) → filter (λ (x : X). true) xs ≡ xs
+all_left [] = refl
+all_left (x ∷ xs) = ap (λ l. x ∷ l) (all_left xs)
+
+-- the rows of a table
+pub table_rows : (tables : List RowList) (table : ℕ) (rows : RowList) → table < length tables → ((d : RowList) → rows ≡ get_or tables table d) → rows_in (lists_of tables) table ≡ rows.items
+table_rows [] table rows within is = absurd (omega (arith, within))
+table_rows (first ∷ tables) zero rows within is = ap (λ (r : RowList). r.items) (sym (is rows))
+table_rows (first ∷ tables) (suc table) rows within is = table_rows tables table rows (omega (arith, within)) is
+
+-- a table that is not there
+pub no_table : (tables : List RowList) (table : ℕ) → length tables ≤ table → rows_in (lists_of tables) table ≡ []
+no_table [] table past = refl
+no_table (first ∷ tables) zero past = absurd (omega (arith, past))
+no_table (first ∷ tables) (suc table) past = no_table tables table (omega (arith, past))
+
+-- what is told of the rows of a table that is parted
+pub told_is : (cuts : List ℕ) (columns : List (Option ℕ)) (tables : List RowList) (told : List (Vec ℕ)) (table column : ℕ) (rows : RowList) (d : Vec ℕ) → AreTold cuts columns (lists_of tables) told → columns_in columns table ≡ Some column
+    → table < length tables → ((e : RowList) → rows ≡ get_or tables table e) → (get_or told table d).items ≡ map (λ (row : Fragment). share_of cuts (value_at row.values column)) rows.items
+told_is cuts columns tables told table column rows d are some within is =
+    subst (λ c. IsTold cuts c (rows_in (lists_of tables) table) (get_or told table d).items) some (are.each table d (omega (arith, within, length-map tables (λ (r : RowList). r.items))))
+    ∙ ap (map (λ (row : Fragment). share_of cuts (value_at row.values column))) (table_rows tables table rows within is)
+
+-- rows that are not parted go to each share
+pub whole_held : (share : Value → ℕ) (number : ℕ) (columns : List (Option ℕ)) (valid : ValidRows) (table : ℕ) (window : Period) (keys : KeyRange) (rows : List Fragment) → columns_in columns table ≡ None
+    → HasRowsIn window keys (valid table) rows → HasRowsIn window keys (in_share share (columns_in columns) number valid table) rows
+whole_held share number columns valid table window keys rows none has =
+    λ t inside. subst (λ l. AreRowsIn keys l (at rows t)) (sym (ap (λ c. filter (goes_to share number c) (valid table t)) none ∙ all_left (valid table t))) (has t inside)
+
+-- rows that are parted
+pub share_held : (cuts : List ℕ) (number column : ℕ) (columns : List (Option ℕ)) (tables : List (List Fragment)) (table : ℕ) (window : Period) (keys : KeyRange) (rows : List Fragment) → columns_in columns table ≡ Some column
+    → rows ≡ filter (λ (row : Fragment). share_of cuts (value_at row.values column) == number) (rows_in tables table)
+    → HasRowsIn window keys (in_share (share_of cuts) (columns_in columns) number (in_tables tables) table) rows
+share_held cuts number column columns tables table window keys rows some is =
+    λ t inside.
+    whole_table keys (in_share (share_of cuts) (columns_in columns) number (in_tables tables) table t) (at rows t)
+    (ap (λ l. at l t) is
+    ∙ at_left (λ values. share_of cuts (value_at values column) == number) (rows_in tables table) t
+    ∙ ap (λ c. filter (goes_to (share_of cuts) number c) (at (rows_in tables table) t)) (sym some))
