@@ -1,6 +1,7 @@
 -- What a session prints for each reply. This project's own.
-use Rattle.std.specs.Prelude.{ℕ, List, [], ◌++◌, Option, Some, None, codes, decimal}
+use Rattle.std.specs.Prelude.{◌≡◌, ℕ, List, [], ◌++◌, Option, Some, None, codes, decimal}
 use Rattle.std.specs.Borrow.{Bor}
+use Rattle.std.specs.Io.KnownBytes.{Appends}
 use Rattle.std.specs.List.{flat_map}
 use Rattle.tq_engine.specs.FaultNames.{plan_name, sql_name}
 use Rattle.tq_snapshot.specs.declared.faults.AppendFault.{AppendFault}
@@ -64,3 +65,7 @@ reply_text (reply.Refused why) = line_text (codes "refused ") (refusal_name why)
 -- the bytes of slices, one behind the other
 abbrev pub joined : List (Bor (List ℕ)) → List ℕ
 joined parts = flat_map (λ (part : Bor (List ℕ)). part.now) parts
+
+-- known bytes grow by all of these bytes but the rest
+abbrev pub AppendsAllBut : Option (List ℕ) → Option (List ℕ) → List ℕ → List ℕ → Type 0
+AppendsAllBut old new bytes rest = (sent : List ℕ) × (bytes ≡ sent ++ rest) × Appends old new sent

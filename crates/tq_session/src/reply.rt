@@ -4,8 +4,9 @@ ghost use Rattle.std.specs.Prelude.{◌≡◌, ◌++◌, OnOk, OnErr, if◌then�
 ghost use Rattle.std.specs.Result.{is_err};
 ghost use Rattle.std.specs.Io.KnownBytes.{Appends};
 ghost use Rattle.tq_table.specs.Sink.{AppendsPrefix, one_more};
-ghost use Rattle.tq_session.specs.Replies.{joined, line_text, refusal_name, refusal_number, refused_event, reply_text};
+ghost use Rattle.tq_session.specs.Replies.{AppendsAllBut, joined, line_text, refusal_name, refusal_number, refused_event, reply_text};
 
+use arrayvec::ArrayVec;
 use itoa::Buffer;
 use std::io::Write;
 use tq_base::Instant;
@@ -104,15 +105,36 @@ impl Refusal {
     }
 }
 
-// Writes the parts one behind the other, and flushes the writer. It takes no memory.
+// The bytes that are held for the next write.
+type Held = ArrayVec<u8, 512>;
+
+// Holds the part behind the bytes that are held. Where it does not fit, these go out, and the part behind them. It
+// takes no memory.
+fn hold<W: Write>(sink: &mut Sink<W>, held: &mut Held, part: &[u8]) -> Result<(), WriteFault>
+    ensures rest { OnOk result (AppendsAllBut (W.contents sink.old.writer) (W.contents sink.new.writer) (held.old.items ++ part.now) held.new.items) }
+    ensures prefix { OnErr result (AppendsPrefix (W.contents sink.old.writer) (W.contents sink.new.writer) (held.old.items ++ part.now)) }
+    ensures failed { sink.new.failed ≡ (if is_err result then one_more sink.old.failed else sink.old.failed) }
+{
+    if held.try_extend_from_slice(part).is_ok() {
+        return Ok(());
+    }
+    sink.put(held.as_slice())?;
+    held.clear();
+    sink.put(part)
+}
+
+// Writes the parts one behind the other, all in one write where they fit into it, and flushes the writer. It takes no
+// memory.
 fn send_parts<W: Write>(sink: &mut Sink<W>, parts: &[&[u8]]) -> Result<(), WriteFault>
     ensures whole { OnOk result (Appends (W.contents sink.old.writer) (W.contents sink.new.writer) (joined parts.now)) }
     ensures prefix { OnErr result (AppendsPrefix (W.contents sink.old.writer) (W.contents sink.new.writer) (joined parts.now)) }
     ensures failed { sink.new.failed ≡ (if is_err result then one_more sink.old.failed else sink.old.failed) }
 {
+    let mut held = Held::new();
     'parts: for part in parts {
-        sink.put(part)?;
+        hold(sink, &mut held, part)?;
     }
+    sink.put(held.as_slice())?;
     sink.flush()
 }
 

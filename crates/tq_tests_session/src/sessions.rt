@@ -266,23 +266,50 @@ fn a_failed_write_ends_a_session(rt: HostRuntime) -> Result<(), Fail> {
     Ok(())
 }
 
-#[test]
-fn a_line_is_answered_before_more_is_read(rt: HostRuntime) -> Result<(), Fail> {
+// How many bytes were printed when each line of the input began, and in how many writes all were.
+fn noted<R: Threads + Wait + Sync>(
+    rt: &R,
+    alloc: Global,
+    input: &[u8],
+) -> Result<(Vec<u64>, u64), Fail> {
     let printed = AtomicU64::new(0);
     let mut typist = Typist {
-        left: b"publish\n\npublish\nask 0 1 VALIDTIME SELECT name FROM emp\n",
+        left: input,
         printed: &printed,
         begins: true,
-        noted: Vec::new(rt.alloc()),
+        noted: Vec::new(alloc),
     };
     let mut source = Source::over(&mut typist);
-    let mut sink = Sink::over(Screen { printed: &printed });
-    let files = files_of(rt.alloc(), EMP)?;
-    assert_eq!(rt;
-        session(&rt, rt.alloc(), files, &mut source, &mut sink),
-        Ok(())
-    );
-    assert_eq!(rt; typist.noted.as_slice(), [0, 12, 12, 24, 46].as_slice());
+    let mut sink = Sink::over(Screen {
+        printed: &printed,
+        taken: 0,
+        writes: 0,
+    });
+    session(rt, alloc, files_of(alloc, EMP)?, &mut source, &mut sink)?;
+    Ok((typist.noted, sink.into_inner().writes))
+}
+
+#[test]
+fn a_line_is_answered_in_one_write_before_more_is_read(rt: HostRuntime) -> Result<(), Fail> {
+    let input = b"publish\n\npublish\nask 0 1 VALIDTIME SELECT name FROM emp\n";
+    let (printed, writes) = noted(&rt, rt.alloc(), input)?;
+    assert_eq!(rt; printed.as_slice(), [0, 12, 12, 24, 46].as_slice());
+    assert_eq!(rt; writes, 3);
+    Ok(())
+}
+
+#[test]
+fn a_long_answer_goes_out_behind_its_line(rt: HostRuntime) -> Result<(), Fail> {
+    let mut input = b"start emp 40 4,".to_vec(rt.alloc())?;
+    for _ in 0..1000 {
+        input.push(b'x')?;
+    }
+    input.extend_from_slice(
+        b",toys\npublish\nask 8 1 VALIDTIME SELECT name FROM emp WHERE emp = 4\n",
+    )?;
+    let (printed, writes) = noted(&rt, rt.alloc(), &input)?;
+    assert_eq!(rt; printed.as_slice(), [0, 6, 18, 1052].as_slice());
+    assert_eq!(rt; writes, 4);
     Ok(())
 }
 

@@ -56,19 +56,23 @@ impl Read for Typist<'_> {
     }
 }
 
-/// Counts the bytes that it takes.
+/// Counts the bytes that it takes, once they are flushed, and the writes that bring them.
 #[derive(Drop)]
 pub struct Screen<'a> {
     pub printed: &'a AtomicU64,
+    pub taken: u64,
+    pub writes: u64,
 }
 
 impl Write for Screen<'_> {
     fn write(&mut self, buf: &[u8]) -> io::Result<usize> {
-        self.printed.fetch_add(buf.len() as u64, Ordering::SeqCst);
+        self.taken = self.taken.saturating_add(buf.len() as u64);
+        self.writes = self.writes.saturating_add(1);
         Ok(buf.len())
     }
 
     fn flush(&mut self) -> io::Result<()> {
+        self.printed.store(self.taken, Ordering::SeqCst);
         Ok(())
     }
 }
