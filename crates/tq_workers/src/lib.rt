@@ -5,8 +5,9 @@
 //! `Db` the rows of the plan's sources are read in pieces beforehand, a part of a source's keys each.
 //!
 //! `answer_among` and `answer_with` promise what `answer_tables` and `answer` of the evaluator do, word for word,
-//! for every number of workers and every gate. `text_among` promises the text of the answer; it parts a long one into
-//! ranges of values, whose lines and text are pieces of work too.
+//! for every number of workers and every gate. `text_among` promises the text of the answer. Where the plan falls apart
+//! by a value, it parts the tables by that into shares, over each of which the plan has the answer's rows of some values,
+//! and their text; else it parts a long answer into ranges of values, whose lines and text are pieces of work too.
 #![tactic(auto)]
 
 mod among;

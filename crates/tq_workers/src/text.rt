@@ -177,9 +177,11 @@ pub fn text_by_ranges<R: Threads + Sync, G: Gate + Sync>(
 }
 
 /// The text of the answer of a statement's plan over tables of rows, worked out by 1 to 16 workers, the calling thread
-/// among them: the same for every number of them. Several make up to three runs, and the gate is told of each piece
-/// before it is run: the plan's rows in periods of the window, unless they are those of one table; to which range of
-/// values each row belongs; and the lines and the text of each range. `AllocError` where a growth was refused.
+/// among them: the same for every number of them. The gate is told of each piece before it is run. Several workers
+/// make two runs where the plan falls apart by a value: the share of each row of a table, then the lines and the text
+/// of each share. Else they make up to three: the plan's rows in periods of the window, unless they are those of one
+/// table; to which range of values each row belongs; and the lines and the text of each range. `AllocError` where a
+/// growth was refused.
 pub fn text_among<R: Threads + Sync, G: Gate + Sync>(
     rt: &R,
     alloc: Global,
