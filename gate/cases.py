@@ -320,6 +320,69 @@ def sessions():
         yield Case(f"help: {words}", words, out=None, holds=[b"start emp 40 4,dan,toys", b"emp:int,name:text,dept:text,from,to"])
 
 
+DATED = b"k:int,v:text,from,to\n1,x,2024-02-28,2024-03-01\n2,x,2024-03-01,forever\n"
+
+
+def pictures():
+    """Answers that are drawn. Of these periods a cell is one instant, or, in 16 cells, one or two of them."""
+    emp = ["draw", "--table", "emp=examples/emp.csv"]
+    wide = [
+        b"      5" + 23 * b" " + b"30",
+        b"name  |" + 24 * b"-" + b"|",
+        b"ann   " + 5 * b"." + 20 * b"#",
+        b"bob   " + 10 * b"." + 10 * b"#" + 5 * b".",
+        b"cat   " + 25 * b"#" + b">",
+    ]
+    picture = b"\n".join(wide) + b"\n"
+    yield Case("a picture", [*emp, ALL_NAMES], out=picture)
+    yield Case("a picture by several workers", [*emp, "--workers", "3", ALL_NAMES], out=picture)
+    yield Case("a wide picture", [*emp, "--width", "4000000000", ALL_NAMES], out=picture)
+    narrow = [
+        b"      5" + 14 * b" " + b"30",
+        b"name  |" + 15 * b"-" + b"|",
+        b"ann   " + 3 * b"." + 13 * b"#",
+        b"bob   " + 7 * b"." + 6 * b"#" + 3 * b".",
+        b"cat   " + 16 * b"#" + b">",
+    ]
+    for width in ("0", "1", "23"):
+        yield Case(f"a picture of width {width}", [*emp, "--width", width, ALL_NAMES], out=b"\n".join(narrow) + b"\n")
+    days = SMALL + b"1,a,2024-02-29,2024-03-02\n"
+    drawn = b"   2024-02-29 2024-03-02\nv  |-|\na  ##\n"
+    yield Case("a picture in dates", ["draw", "--dates", "--table", "d=ROOM/d.csv", "VALIDTIME SELECT v FROM d"], files={"d.csv": days}, out=drawn)
+    nobody = "VALIDTIME SELECT name, dept FROM emp WHERE name = 'dan'"
+    yield Case("a picture of no rows", [*emp, nobody], out=b"name  dept  (no rows)\n")
+    yield Case("a picture of an unknown column", [*emp, "VALIDTIME SELECT age FROM emp"], err=b"tq: plan UnknownColumn\n", status=1)
+    for width in ("-1", "x", "", "4294967296"):
+        yield Case(f"a picture of width {width!r}", [*emp, "--width", width, ALL_NAMES], err=b"tq: BadCommandLine\n", status=2)
+
+
+def dates():
+    """Instants that are written as dates: in files, windows, lines of a session and answers."""
+    tables = [("d", DATED)]
+    asked = "VALIDTIME SELECT v FROM d"
+    for workers in (1, 2, 7, 16):
+        more = ["--dates", "--workers", str(workers)]
+        yield ask(f"dates of {workers} workers", tables, asked, more, out=b"v,from,to\nx,2024-02-28,forever\n")
+        for window in ("[2024-02-29 - 2024-03-01)", "[2024-02-29-2024-03-01)", "[  2024-02-29 -2024-03-01 )"):
+            statement = f"VALIDTIME PERIOD '{window}' SELECT v FROM d"
+            yield ask(f"{window} of {workers} workers", tables, statement, more, out=b"v,from,to\nx,2024-02-29,2024-03-01\n")
+    counted = "VALIDTIME SELECT COUNT(*) FROM none"
+    yield ask("no rows in dates", [("none", b"k:int,from,to\n")], counted, ["--dates"], out=b"count,from,to\n0,0001-01-01,forever\n")
+    for window in ("[20 - 30)", "[2023-02-29 - 2024-03-01)", "[2024-02-29 - 2024-02-29)", "[2024-2-29 - 2024-03-01)", "[20240229-20240301)", "[2024-02-29)"):
+        statement = f"VALIDTIME PERIOD '{window}' SELECT v FROM d"
+        yield ask(f"{window} in dates", tables, statement, ["--dates"], err=b"tq: plan BadWindow\n", status=1)
+    yield refused("a window of dates in numbers", [("d", SMALL)], "VALIDTIME PERIOD '[2024-02-29 - 2024-03-01)' SELECT v FROM d", "plan BadWindow")
+    yield refused("a file of dates in numbers", tables, asked, "load BadPeriod table 0 record 2")
+    yield ask("a file of numbers in dates", [("emp", EMP)], ALL_NAMES, ["--dates"], err=b"tq: load BadPeriod table 0 record 2\n", status=1)
+    for spelling in (b"2023-02-29", b"0000-12-31", b"2024-2-9", b"20240229", b"+024-02-29", b" 2024-02-29", b"2024-02-29 ", b"12024-02-29", b"2024-13-01", b"2024-01-00"):
+        content = SMALL + b"1,x,0001-01-01,9999-12-31\n1,x," + spelling + b",forever\n"
+        yield ask(f"{spelling} as a date", [("d", content)], asked, ["--dates"], err=b"tq: load BadPeriod table 0 record 3\n", status=1)
+    lines = b"start d 2024-02-29 3,y\nstart d 738945 3,y\nstart d 2024-03-01 3,y\npublish\nask 4 1 VALIDTIME SELECT v FROM d WHERE v = 'y'\n"
+    said = b"refused TooEarly 2024-03-01\nrefused BadLine\nrow 2\npublished 4\nanswer 1\nv,from,to\ny,2024-03-01,forever\n"
+    yield Case("a session in dates", ["session", "--dates", "--table", "d=ROOM/d.csv"], files={"d.csv": DATED}, taken=lines, out=said)
+    yield Case("dates that are told apart", ["ask", "--dates=yes", "--table", "d=ROOM/d.csv", asked], files={"d.csv": DATED}, err=b"tq: BadCommandLine\n", status=2)
+
+
 def outputs_that_fail():
     emp = ["ask", "--table", "emp=examples/emp.csv", ALL_NAMES]
     for to in (FULL, UNREAD, CLOSED):
@@ -330,5 +393,5 @@ def outputs_that_fail():
 
 def table():
     """All cases."""
-    makers = (files_at_fault, statements_at_fault, command_lines, words_of_all_lengths, paths, large, among_threads, sessions, outputs_that_fail)
+    makers = (files_at_fault, statements_at_fault, command_lines, words_of_all_lengths, paths, large, among_threads, sessions, pictures, dates, outputs_that_fail)
     return [case for maker in makers for case in maker()]

@@ -137,25 +137,29 @@ def faults_of(program, case):
 
 
 def cases_of_help(program):
-    """The statements that the help shows, over the tables of the payroll, and the file that it shows."""
+    """The statements that the help shows, over the tables of the payroll, and the files that it shows."""
     text = subprocess.run([program, "--help"], stdout=subprocess.PIPE, timeout=SECONDS).stdout.decode()
     shown = [block.split("\n") for block in text.split("\n\n")]
-    statements = next((block[1:] for block in shown if block[0] == "Statement:"), [])
-    file = next((block[1:] for block in shown if block[0].startswith("Table file")), [])
+    parts = {block[0].partition(" (")[0].rstrip(":"): [line.strip() for line in block[1:]] for block in shown}
     form = form_of((ROOT / "examples" / "payroll.md").read_text())
-    for statement in statements:
-        yield Case(f"help: {statement}", [*form, statement.strip()], out=None, holds=[b",from,to\n"])
-    content = "".join(line.strip() + "\n" for line in file).encode()
+    for statement in parts["Statement"]:
+        yield Case(f"help: {statement}", [*form, statement], out=None, holds=[b",from,to\n"])
+    content = "".join(line + "\n" for line in parts["Table file"]).encode()
     yield cases.ask("help: the file", [("emp", content)], cases.ALL_NAMES, out=b"name,from,to\nann,10,20\nbob,15,forever\n")
+    tables = [("emp", "".join(line + "\n" for line in parts["Table file, with --dates"]).encode())]
+    said = b"name,from,to\nann,2024-02-29,2024-07-01\nbob,2024-03-01,forever\n"
+    yield cases.ask("help: the file of dates", tables, cases.ALL_NAMES, ["--dates"], out=said)
+    for statement in parts["Statement, with --dates"]:
+        yield cases.ask(f"help: {statement}", tables, statement, ["--dates"], out=b"name,from,to\nann,2024-02-29,2024-03-01\n")
 
 
 def main():
     program = str(Path(sys.argv[1]).resolve())
-    pages = [ROOT / "README.md", ROOT / "examples" / "payroll.md", ROOT / "examples" / "session.md"]
+    pages = [ROOT / "README.md", ROOT / "examples" / "payroll.md", ROOT / "examples" / "dates.md", ROOT / "examples" / "session.md"]
     shown = [list(cases_of_page(page)) for page in pages] + [list(cases_of_help(program))]
     table = [*(case for part in shown for case in part), *cases.table()]
     passed = failed = 0
-    for part, place in zip(shown, ["README.md", "examples/payroll.md", "examples/session.md", "the help"]):
+    for part, place in zip(shown, ["README.md", "examples/payroll.md", "examples/dates.md", "examples/session.md", "the help"]):
         if len(part) < 1:
             failed += 1
             print(f"FAILED: {place} shows no command that is found")

@@ -1,7 +1,7 @@
 //! A history of rows of a table, of which each key has four, one after the other.
 
 use std::alloc::Global;
-use tq_base::{Instant, Items, Value, Values};
+use tq_base::{Form, Instant, Items, Value, Values};
 use tq_event::{Event, TableFile, load};
 use tq_store::Db;
 
@@ -69,7 +69,7 @@ fn no_rows(alloc: Global) -> anyhow::Result<Db> {
         name: Items::of(b"rows".to_vec(alloc)?),
         bytes: Items::of(b"key:int,number:int,from,to\n".to_vec(alloc)?),
     })?;
-    let loaded = load(alloc, files, 0)?;
+    let loaded = load(alloc, files, 0, Form::Numbers)?;
     Ok(Db::new(alloc, loaded.catalogue)?)
 }
 

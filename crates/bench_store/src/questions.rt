@@ -3,7 +3,7 @@
 use crate::fill::ROWS_OF_A_KEY;
 use std::alloc::{AllocError, Global};
 use tq_arena::Meter;
-use tq_base::{Bound, Instant, KeyRange, Period, Seen};
+use tq_base::{Bound, Form, Instant, KeyRange, Period, Seen};
 use tq_eval::answer;
 use tq_plan::plan;
 use tq_sql::read;
@@ -113,7 +113,12 @@ fn answer_one(
     let statement = format!(in alloc;
         "VALIDTIME PERIOD '[{from} - {to})' SELECT number FROM rows WHERE key >= {low} AND key <= {high}"
     )?;
-    let plan = plan(alloc, db.catalogue(), &read(alloc, statement.as_bytes())?)?;
+    let plan = plan(
+        alloc,
+        db.catalogue(),
+        &read(alloc, statement.as_bytes())?,
+        Form::Numbers,
+    )?;
     let table = answer(alloc, db, *n, &plan)?;
     add_numbers(&table, found);
     Ok(())

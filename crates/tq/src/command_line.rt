@@ -10,6 +10,7 @@ use clap::error::ErrorKind;
 use clap::{Arg, ArgAction, ArgMatches, Command, Error, value_parser};
 use std::alloc::{AllocError, Global};
 use thiserror::Error;
+use tq_base::Form;
 
 /// The most workers of one answer.
 pub const WORKER_LIMIT: u32 = 16;
@@ -24,14 +25,23 @@ Lines, each answered as soon as it was read:
   publish                          both become visible; how many events are published
   ask 9 1 VALIDTIME SELECT name FROM emp
                                    the answer as of the first 9 events, by 1 worker
+With --dates times are dates, as in `start emp 2024-02-29 4,dan,toys`.
 
-Table file (the first column is a key; an open end is `forever`):
+Table file, with --dates (the first column is a key; an open end is `forever`):
+  emp:int,name:text,dept:text,from,to
+  1,ann,toys,2024-02-29,2024-07-01
+  2,bob,food,2024-03-01,forever
+
+Table file:
   emp:int,name:text,dept:text,from,to
   1,ann,toys,10,20
   2,bob,food,15,forever";
 
 // What the helps of the program and of a question end with.
 const FORMS: &str = "\
+Statement, with --dates:
+  VALIDTIME PERIOD '[2024-02-29 - 2024-03-01)' SELECT name FROM emp WHERE dept = 'toys'
+
 Statement:
   VALIDTIME SELECT name, dept FROM emp
   VALIDTIME PERIOD '[10 - 20)' SELECT name FROM emp WHERE dept = 'toys'
@@ -39,7 +49,12 @@ Statement:
   VALIDTIME SELECT dept, COUNT(*), SUM(emp) AS total FROM emp GROUP BY dept
   VALIDTIME SELECT emp FROM emp EXCEPT ALL SELECT emp FROM posted
 
-Table file (the first column is a key; an open end is `forever`):
+Table file, with --dates (the first column is a key; an open end is `forever`):
+  emp:int,name:text,dept:text,from,to
+  1,ann,toys,2024-02-29,2024-07-01
+  2,bob,food,2024-03-01,forever
+
+Table file:
   emp:int,name:text,dept:text,from,to
   1,ann,toys,10,20
   2,bob,food,15,forever";
@@ -70,23 +85,39 @@ pub struct TableOption {
     pub path: Vec<u8>,
 }
 
-/// What `tq ask` was asked: the tables in the order of their options, 1 to 16 workers, and a statement.
+/// What `tq ask` was asked: the tables in the order of their options, 1 to 16 workers, how instants are written, and
+/// a statement.
 #[derive(Drop)]
 pub struct AskRequest {
     pub tables: Vec<TableOption>,
     pub workers: u32,
+    pub form: Form,
     pub statement: Vec<u8>,
     ghost some_workers: { 1 ≤ workers },
     ghost few_workers: { workers ≤ 16 },
 }
 
-/// What the program was asked: to print this help, to answer a statement, or to hold a session over the tables in the
-/// order of their options.
+/// What `tq draw` was asked: what `tq ask` is asked, and how wide the picture may be, in characters.
+#[derive(Drop)]
+pub struct DrawRequest {
+    pub ask: AskRequest,
+    pub width: u32,
+}
+
+/// What `tq session` is about: the tables in the order of their options, and how instants are written.
+#[derive(Drop)]
+pub struct SessionRequest {
+    pub tables: Vec<TableOption>,
+    pub form: Form,
+}
+
+/// What the program was asked: to print this help, to answer a statement, to draw its answer, or to hold a session.
 #[derive(Drop)]
 pub enum Request {
     Help(String),
     Ask(AskRequest),
-    Session(Vec<TableOption>),
+    Draw(DrawRequest),
+    Session(SessionRequest),
 }
 
 /// Reads the words after the program's name, each as `text_of` its bytes.
@@ -103,9 +134,13 @@ fn read_request(alloc: Global, matches: &ArgMatches<'_>) -> Result<Request, Comm
     if let Some(ask) = matches.subcommand_matches("ask") {
         return Ok(Request::Ask(read_ask(alloc, ask)?));
     }
+    if let Some(draw) = matches.subcommand_matches("draw") {
+        return Ok(Request::Draw(read_draw(alloc, draw)?));
+    }
     if let Some(session) = matches.subcommand_matches("session") {
         let tables = read_options(alloc, session.get_strs("table").unwrap_or(&[]))?;
-        return Ok(Request::Session(tables));
+        let form = read_form(session);
+        return Ok(Request::Session(SessionRequest { tables, form }));
     }
     Err(CommandLineFault::BadCommandLine)
 }
@@ -128,6 +163,7 @@ fn tq_command<'a>(alloc: Global) -> Result<Command<'a>, AllocError> {
         .bin_name("tq")?
         .subcommand_required(true)
         .subcommand(ask_command(alloc)?)?
+        .subcommand(draw_command(alloc)?)?
         .subcommand(session_command(alloc)?)
 }
 
@@ -141,9 +177,19 @@ fn table_argument<'a>(alloc: Global) -> Arg<'a> {
         .action(ArgAction::Append)
 }
 
-// The command that answers a statement.
-fn ask_command<'a>(alloc: Global) -> Result<Command<'a>, AllocError> {
-    let table = table_argument(alloc);
+// Whether a command's instants are dates.
+fn dates_argument<'a>(alloc: Global) -> Arg<'a> {
+    Arg::new(alloc, "dates")
+        .long("dates")
+        .help("Instants are dates, written YYYY-MM-DD, in files, statements, lines and answers")
+        .action(ArgAction::SetTrue)
+}
+
+// What a command asks, and of which tables, with how many workers, and how instants are written.
+fn question_arguments<'a>(
+    alloc: Global,
+    command: Command<'a>,
+) -> Result<Command<'a>, AllocError> {
     let workers = Arg::new(alloc, "workers")
         .long("workers")
         .value_name("N")
@@ -154,10 +200,34 @@ fn ask_command<'a>(alloc: Global) -> Result<Command<'a>, AllocError> {
         .value_name("STATEMENT")
         .help("What to ask")
         .required(true);
+    command
+        .arg(table_argument(alloc))?
+        .arg(dates_argument(alloc))?
+        .arg(workers)?
+        .arg(statement)
+}
+
+// The command that answers a statement.
+fn ask_command<'a>(alloc: Global) -> Result<Command<'a>, AllocError> {
     let command = Command::new(alloc, "ask")
         .about("Answers a statement on standard output")
         .after_help(FORMS);
-    command.arg(table)?.arg(workers)?.arg(statement)
+    question_arguments(alloc, command)
+}
+
+// The command that draws an answer.
+fn draw_command<'a>(alloc: Global) -> Result<Command<'a>, AllocError> {
+    let width = Arg::new(alloc, "width")
+        .long("width")
+        .value_name("N")
+        .help("How many characters a line may have")
+        .value_parser(value_parser!(u32))
+        .default_value("80");
+    let command = Command::new(alloc, "draw")
+        .about("Draws the answer of a statement: a line for each row, with a bar where it is valid")
+        .after_help(FORMS)
+        .arg(width)?;
+    question_arguments(alloc, command)
 }
 
 // The command that holds a session.
@@ -165,7 +235,8 @@ fn session_command<'a>(alloc: Global) -> Result<Command<'a>, AllocError> {
     Command::new(alloc, "session")
         .about("Answers the lines of standard input, which start and end rows, publish and ask")
         .after_help(LINES)
-        .arg(table_argument(alloc))
+        .arg(table_argument(alloc))?
+        .arg(dates_argument(alloc))
 }
 
 // The tables that the words name, in their order.
@@ -182,6 +253,15 @@ fn read_options(alloc: Global, words: &[&str]) -> Result<Vec<TableOption>, Comma
     Ok(tables)
 }
 
+// How the instants of a command are written.
+fn read_form(command: &ArgMatches<'_>) -> Form {
+    if command.get_flag("dates") {
+        Form::Dates
+    } else {
+        Form::Numbers
+    }
+}
+
 // What `tq ask` was asked.
 fn read_ask(alloc: Global, ask: &ArgMatches<'_>) -> Result<AskRequest, CommandLineFault> {
     let tables = read_options(alloc, ask.get_strs("table").unwrap_or(&[]))?;
@@ -193,8 +273,16 @@ fn read_ask(alloc: Global, ask: &ArgMatches<'_>) -> Result<AskRequest, CommandLi
     Ok(AskRequest {
         tables,
         workers,
+        form: read_form(ask),
         statement,
     })
+}
+
+// What `tq draw` was asked.
+fn read_draw(alloc: Global, draw: &ArgMatches<'_>) -> Result<DrawRequest, CommandLineFault> {
+    let width = draw.get_one::<u32>("width").unwrap_or(0);
+    let ask = read_ask(alloc, draw)?;
+    Ok(DrawRequest { ask, width })
 }
 
 // A table's name and path: what stands before and after the first `=`. Without one the word is refused.

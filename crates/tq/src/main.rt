@@ -1,5 +1,6 @@
 //! The program `tq`: `tq ask --table NAME=PATH [--workers N] STATEMENT` answers a sequenced query over
 //! valid-time tables in CSV files, and `tq session --table NAME=PATH` answers the lines of standard input over them.
+//! `tq draw` draws the answer of a statement. With `--dates` instants are dates.
 //!
 //! The words of the command line (`words`) are read as a request (`command_line`), the files that it names
 //! are read to their bytes, and the engine (`tq_engine`) answers the statement over them on standard
@@ -15,7 +16,9 @@ mod command_line;
 mod report;
 mod words;
 
-use command_line::{AskRequest, Request, TableOption, read_command_line};
+use command_line::{
+    AskRequest, DrawRequest, Request, SessionRequest, TableOption, read_command_line,
+};
 use report::Refusal;
 use std::alloc::AllocError;
 use std::env::Env;
@@ -26,7 +29,8 @@ use std::sync::Wait;
 use std::thread::Threads;
 use std::{fs, io, str};
 use tq_base::Items;
-use tq_engine::{FileFault, Source, answer_bytes, read_file};
+use tq_draw::draw;
+use tq_engine::{FileFault, Source, answer, answer_bytes, read_file};
 use tq_event::TableFile;
 use tq_session::session;
 use tq_table::Sink;
@@ -83,24 +87,55 @@ fn ask<R: Files + AllocGlobal + Print + Threads + Sync>(
     let AskRequest {
         tables: options,
         workers,
+        form,
         statement,
     } = request;
     let tables = read_tables(rt, options)?;
     let mut sink = Sink::over(io::writer(rt));
-    answer_bytes(rt, rt.alloc(), tables, &statement, workers, &mut sink)?;
+    answer_bytes(rt, rt.alloc(), tables, &statement, workers, &mut sink, form)?;
     Ok(())
+}
+
+// Draws the answer of a request on standard output, once all files are read.
+fn draw_answer<R: Files + AllocGlobal + Print + Threads + Sync>(
+    rt: &R,
+    request: DrawRequest,
+) -> Result<(), Refusal> {
+    let DrawRequest { ask, width } = request;
+    let AskRequest {
+        tables: options,
+        workers,
+        form,
+        statement,
+    } = ask;
+    let tables = read_tables(rt, options)?;
+    let table = answer(rt, rt.alloc(), tables, &statement, workers, form)?;
+    let picture = draw(rt.alloc(), &table, form, width as usize)?;
+    print_bytes(rt, &picture)
 }
 
 // Answers the lines of standard input on standard output, once all files are read.
 fn converse<R: Files + AllocGlobal + Input + Print + Threads + Wait + Sync>(
     rt: &R,
-    options: Vec<TableOption>,
+    request: SessionRequest,
 ) -> Result<(), Refusal> {
+    let SessionRequest {
+        tables: options,
+        form,
+    } = request;
     let tables = read_tables(rt, options)?;
     let mut source = Source::over(rt.reader());
     let mut sink = Sink::over(io::writer(rt));
-    session(rt, rt.alloc(), tables, &mut source, &mut sink)?;
+    session(rt, rt.alloc(), tables, &mut source, &mut sink, form)?;
     Ok(())
+}
+
+// Prints the bytes on standard output.
+fn print_bytes<R: Print>(rt: &R, bytes: &[u8]) -> Result<(), Refusal> {
+    match Sink::over(io::writer(rt)).send(bytes) {
+        Ok(()) => Ok(()),
+        Err(_) => Err(Refusal::WriteFailed),
+    }
 }
 
 // Does what the command line asks.
@@ -110,11 +145,9 @@ fn run<R: Files + AllocGlobal + Env + Input + Print + Threads + Wait + Sync>(
     let words = read_words(rt)?;
     match read_command_line(rt.alloc(), &words)? {
         Request::Ask(request) => ask(rt, request),
-        Request::Session(tables) => converse(rt, tables),
-        Request::Help(text) => match Sink::over(io::writer(rt)).send(text.as_bytes()) {
-            Ok(()) => Ok(()),
-            Err(_) => Err(Refusal::WriteFailed),
-        },
+        Request::Session(request) => converse(rt, request),
+        Request::Draw(request) => draw_answer(rt, request),
+        Request::Help(text) => print_bytes(rt, text.as_bytes()),
     }
 }
 

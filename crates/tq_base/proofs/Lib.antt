@@ -1,4 +1,5 @@
 pub mod Converse
+pub mod DateLemmas
 pub mod Existence
 pub mod KeyLemmas
 pub mod NameLemmas
@@ -6,5 +7,6 @@ pub mod NumberLemmas
 pub mod RelationLemmas
 pub mod RowListLemmas
 pub mod Runs
+pub mod TellingLemmas
 pub mod Unique
 pub mod UntoldLemmas

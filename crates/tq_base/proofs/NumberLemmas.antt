@@ -27,7 +27,8 @@ too_large limit n bytes above = by (list_all is_ascii_digit bytes) (nat_le (digi
     by true false e = refl
     by true true e = let le = digits_value_after-le n bytes in grind (arith, nat_tests)
 
-digit_is : (b : ℕ) → 48 ≤ b → b ≤ 57 → digit_value b ≡ b - 48
+-- the value of a digit
+pub digit_is : (b : ℕ) → 48 ≤ b → b ≤ 57 → digit_value b ≡ b - 48
 digit_is b low high = grind (arith, nat_tests)
 
 -- one more digit that makes the number too large

@@ -1,6 +1,7 @@
 pub mod Catalogues
 pub mod Contents
 pub mod Copies
+pub mod Dates
 pub mod Fragments
 pub mod Groups
 pub mod KeyLaws

@@ -8,6 +8,8 @@
 #![tactic(auto)]
 
 mod catalogue;
+mod dates;
+mod form;
 mod fragment;
 mod items;
 mod key_range;
@@ -28,11 +30,13 @@ mod value;
 mod values;
 
 pub use catalogue::{Catalogue, Column, Kind, MAX_TEXT, Schema};
+pub use dates::LAST_DAY;
+pub use form::{Form, put_instant, read_bound, read_instant};
 pub use fragment::Fragment;
 pub use items::Items;
 pub use key_range::KeyRange;
 pub use name::{MAX_NAME, Name, RESERVED, fold_name, is_name, is_reserved, is_same_word};
-pub use number::{read_bound, read_instant, read_int, read_natural};
+pub use number::{read_int, read_natural};
 pub use period::{Bound, FOREVER, Instant, Period};
 pub use rank::rank_of;
 pub use relation::{Line, Pair, Relation};

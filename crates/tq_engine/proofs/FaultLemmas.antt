@@ -1,6 +1,7 @@
 -- A fault of a layer as the answer's.
 use Rattle.std.proofs.Common.{◌≡◌, ◌≢◌, ℕ, List, Option, Some, None, refl, sym, ap, ◌∙◌, subst}
 use Rattle.std.proofs.lemmas.Option.{none-some}
+use Rattle.tq_base.specs.declared.form.Form.{Form}
 use Rattle.tq_event.specs.declared.file.Loaded.{Loaded}
 use Rattle.tq_event.specs.declared.file.TableFile.{TableFile}
 use Rattle.tq_event.specs.Loading.{IsLoaded}
@@ -23,10 +24,10 @@ sql_named sql.TooDeep = Some 0
 sql_named sql.TooLong = Some 0
 sql_named sql.OutOfMemory = None
 
-pub sql_fault : (files : List TableFile) (bytes : List ℕ) (fault : SqlFault) (given : AnswerFault)
+pub sql_fault : (form : Form) (files : List TableFile) (bytes : List ℕ) (fault : SqlFault) (given : AnswerFault)
     → (fault.kind ≡ sql.OutOfMemory → given ≡ answer.OutOfMemory) × (fault.kind ≢ sql.OutOfMemory → given ≡ answer.Sql fault)
-    → (fault.kind ≢ sql.OutOfMemory → HasSqlFault files bytes fault) → IsFault files bytes given
-sql_fault files bytes fault given is has = by_name (sql_named fault.kind) refl
+    → (fault.kind ≢ sql.OutOfMemory → HasSqlFault form files bytes fault) → IsFault form files bytes given
+sql_fault form files bytes fault given is has = by_name (sql_named fault.kind) refl
   where
     by_kind : (k : SqlFaultKind) → fault.kind ≡ k → sql_named k ≡ None → k ≡ sql.OutOfMemory
     by_kind sql.BadByte e n = cc
@@ -37,17 +38,17 @@ sql_fault files bytes fault given is has = by_name (sql_named fault.kind) refl
     by_kind sql.TooLong e n = cc
     by_kind sql.OutOfMemory e n = refl
 
-    by_name : (o : Option ℕ) → sql_named fault.kind ≡ o → IsFault files bytes given
-    by_name None e = subst (IsFault files bytes) (sym (is.0 (by_kind fault.kind refl e))) tt
+    by_name : (o : Option ℕ) → sql_named fault.kind ≡ o → IsFault form files bytes given
+    by_name None e = subst (IsFault form files bytes) (sym (is.0 (by_kind fault.kind refl e))) tt
     by_name (Some n) e =
         let other : fault.kind ≢ sql.OutOfMemory = λ o. none-some n (sym (ap sql_named o) ∙ e) in
-        subst (IsFault files bytes) (sym (is.1 other)) (has other)
+        subst (IsFault form files bytes) (sym (is.1 other)) (has other)
 
 -- a fault of the statement over the tables of the files
-pub statement_fault : (files : List TableFile) (bytes : List ℕ) (loaded : Loaded) (statement : Statement) (fault : AnswerFault) → IsLoaded files 16777216 loaded → Makes bytes statement
-    → IsStatementFault loaded.catalogue statement fault → IsFault files bytes fault
-statement_fault files bytes loaded statement (answer.Load fault) is_loaded makes is = absurd is
-statement_fault files bytes loaded statement (answer.Sql fault) is_loaded makes is = absurd is
-statement_fault files bytes loaded statement (answer.Plan fault) is_loaded makes is = record { loaded = loaded; is_loaded = is_loaded; statement = statement; makes = makes; is_fault = is }
-statement_fault files bytes loaded statement answer.Write is_loaded makes is = absurd is
-statement_fault files bytes loaded statement answer.OutOfMemory is_loaded makes is = tt
+pub statement_fault : (form : Form) (files : List TableFile) (bytes : List ℕ) (loaded : Loaded) (statement : Statement) (fault : AnswerFault) → IsLoaded form files 16777216 loaded → Makes bytes statement
+    → IsStatementFault form loaded.catalogue statement fault → IsFault form files bytes fault
+statement_fault form files bytes loaded statement (answer.Load fault) is_loaded makes is = absurd is
+statement_fault form files bytes loaded statement (answer.Sql fault) is_loaded makes is = absurd is
+statement_fault form files bytes loaded statement (answer.Plan fault) is_loaded makes is = record { loaded = loaded; is_loaded = is_loaded; statement = statement; makes = makes; is_fault = is }
+statement_fault form files bytes loaded statement answer.Write is_loaded makes is = absurd is
+statement_fault form files bytes loaded statement answer.OutOfMemory is_loaded makes is = tt

@@ -1,2 +1,3 @@
+pub mod DatedLemmas
 pub mod UniqueLemmas
 pub mod FaultLemmas

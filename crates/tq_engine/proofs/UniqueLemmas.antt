@@ -3,6 +3,7 @@ use Rattle.std.proofs.Common.{◌≡◌, ◌≤◌, ℕ, List, length, Result, O
 use Rattle.std.specs.Coded.{le_prop}
 use Rattle.tq_base.specs.declared.catalogue.Catalogue.{Catalogue}
 use Rattle.tq_base.specs.declared.catalogue.Schema.{Schema}
+use Rattle.tq_base.specs.declared.form.Form.{Form}
 use Rattle.tq_event.specs.declared.file.TableFile.{TableFile}
 use Rattle.tq_event.specs.Laws.{LoadedIsUnique}
 use Rattle.tq_eval.specs.Answers.{AnswersAreUnique, IsAnswer}
@@ -29,13 +30,13 @@ same_statement once bytes s u x y =
     let tokens : x.0 ≡ y.0 = ap (tokens_or x.0) (sym x.1 ∙ y.1) in
     once y.0 s u (subst (λ ts. IsStatement ts s) tokens x.2) y.2
 
-pub one_answer : LoadedIsUnique → StatementsAreUnique → AnswersAreUnique → (files : List TableFile) (bytes : List ℕ) (a b : Table) → HasAnswer files bytes a → HasAnswer files bytes b → a ≡ b
-one_answer loaded_once statement_once answer_once files bytes a b x y =
-    answer_once y.loaded.catalogue y.statement y.loaded.events (length y.loaded.events) a b
-    (subst (λ s. IsAnswer y.loaded.catalogue s y.loaded.events (length y.loaded.events) a) (same_statement statement_once bytes x.statement y.statement x.makes y.makes)
-    (subst (λ events. IsAnswer y.loaded.catalogue x.statement events (length events) a) loaded.1
-    (subst (λ catalogue. IsAnswer catalogue x.statement x.loaded.events (length x.loaded.events) a) (same_catalogue x.loaded.catalogue y.loaded.catalogue loaded.0) x.is_answer)))
+pub one_answer : LoadedIsUnique → StatementsAreUnique → AnswersAreUnique → (form : Form) (files : List TableFile) (bytes : List ℕ) (a b : Table) → HasAnswer form files bytes a → HasAnswer form files bytes b → a ≡ b
+one_answer loaded_once statement_once answer_once form files bytes a b x y =
+    answer_once form y.loaded.catalogue y.statement y.loaded.events (length y.loaded.events) a b
+    (subst (λ s. IsAnswer form y.loaded.catalogue s y.loaded.events (length y.loaded.events) a) (same_statement statement_once bytes x.statement y.statement x.makes y.makes)
+    (subst (λ events. IsAnswer form y.loaded.catalogue x.statement events (length events) a) loaded.1
+    (subst (λ catalogue. IsAnswer form catalogue x.statement x.loaded.events (length x.loaded.events) a) (same_catalogue x.loaded.catalogue y.loaded.catalogue loaded.0) x.is_answer)))
     y.is_answer
   where
     loaded : (x.loaded.catalogue.tables ≡ y.loaded.catalogue.tables) × (x.loaded.events ≡ y.loaded.events)
-    loaded = loaded_once files 16777216 x.loaded y.loaded x.is_loaded y.is_loaded
+    loaded = loaded_once form files 16777216 x.loaded y.loaded x.is_loaded y.is_loaded

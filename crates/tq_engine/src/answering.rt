@@ -16,6 +16,7 @@ use std::alloc::{AllocError, Global};
 use std::io::Write;
 use std::thread::Threads;
 use thiserror::Error;
+use tq_base::Form;
 use tq_eval::detached;
 use tq_eval::laws::{held_rows_fit, tables_answer};
 use tq_event::laws::{loaded_is_history, tables_are_loaded};
@@ -112,14 +113,15 @@ fn asked<R: Threads + Sync>(
     files: Vec<TableFile>,
     bytes: &[u8],
     workers: u32,
+    form: Form,
 ) -> Result<Question, AnswerFault>
     requires some { 1 ≤ workers }
     requires few { workers ≤ 16 }
-    ensures asked { IfOk result (λ question. IsAsked files.items bytes.now question.tables question.statement) }
+    ensures asked { IfOk result (λ question. IsAsked form files.items bytes.now question.tables question.statement) }
     ensures fit { IfOk result (λ question. AreAllFitting question.tables.catalogue (lists_of question.tables.rows)) }
-    ensures fault { IfErr result (IsFault files.items bytes.now) }
+    ensures fault { IfErr result (IsFault form files.items bytes.now) }
 {
-    let tables = load_tables_among(rt, alloc, files, MAX_EVENTS, workers, &Open)?;
+    let tables = load_tables_among(rt, alloc, files, MAX_EVENTS, workers, &Open, form)?;
     tables_are_loaded();
     loaded_is_history();
     held_rows_fit();
@@ -135,15 +137,16 @@ fn answer_statement<'a, R: Threads + Sync>(
     tables: &'a Tables,
     statement: &Statement,
     workers: u32,
+    form: Form,
 ) -> Result<Table<'a>, AnswerFault>
     requires fit { AreAllFitting tables.now.catalogue (lists_of tables.now.rows) }
     requires some { 1 ≤ workers }
     requires few { workers ≤ 16 }
     ensures answer { (history : List AnyEvent) → ((table : ℕ) → HoldsRows (lists_of tables.now.rows) history (length history) table)
-        → IfOk result (IsAnswer tables.now.catalogue statement.now history (length history)) }
-    ensures fault { IfErr result (IsStatementFault tables.now.catalogue statement.now) }
+        → IfOk result (IsAnswer form tables.now.catalogue statement.now history (length history)) }
+    ensures fault { IfErr result (IsStatementFault form tables.now.catalogue statement.now) }
 {
-    let plan = plan(alloc, &tables.catalogue, statement)?;
+    let plan = plan(alloc, &tables.catalogue, statement, form)?;
     let rows = tables.rows.get();
     let table = answer_among(rt, alloc, &tables.catalogue, rows, &plan, workers, &Open)?;
     tables_answer();
@@ -157,17 +160,18 @@ fn statement_text<R: Threads + Sync>(
     tables: &Tables,
     statement: &Statement,
     workers: u32,
+    form: Form,
 ) -> Result<AnswerText, AnswerFault>
     requires fit { AreAllFitting tables.now.catalogue (lists_of tables.now.rows) }
     requires some { 1 ≤ workers }
     requires few { workers ≤ 16 }
     ensures answer { (history : List AnyEvent) → ((table : ℕ) → HoldsRows (lists_of tables.now.rows) history (length history) table)
-        → IfOk result (IsTextOf (IsAnswer tables.now.catalogue statement.now history (length history))) }
-    ensures fault { IfErr result (IsStatementFault tables.now.catalogue statement.now) }
+        → IfOk result (IsTextOf form (IsAnswer form tables.now.catalogue statement.now history (length history))) }
+    ensures fault { IfErr result (IsStatementFault form tables.now.catalogue statement.now) }
 {
-    let plan = plan(alloc, &tables.catalogue, statement)?;
-    let rows = tables.rows.get();
-    let text = text_among(rt, alloc, &tables.catalogue, rows, &plan, workers, &Open)?;
+    let plan = plan(alloc, &tables.catalogue, statement, form)?;
+    let (catalogue, rows) = (&tables.catalogue, tables.rows.get());
+    let text = text_among(rt, alloc, catalogue, rows, &plan, workers, &Open, form)?;
     tables_answer();
     Ok(text)
 }
@@ -178,14 +182,22 @@ fn answered<'a, R: Threads + Sync>(
     alloc: Global,
     question: &'a Question,
     workers: u32,
+    form: Form,
 ) -> Result<Table<'a>, AnswerFault>
     requires fit { AreAllFitting question.now.tables.catalogue (lists_of question.now.tables.rows) }
     requires some { 1 ≤ workers }
     requires few { workers ≤ 16 }
-    ensures answer { (files : List AnyFile) (bytes : List ℕ) → IsAsked files bytes question.now.tables question.now.statement → IfOk result (HasAnswer files bytes) }
-    ensures fault { (files : List AnyFile) (bytes : List ℕ) → IsAsked files bytes question.now.tables question.now.statement → IfErr result (IsFault files bytes) }
+    ensures answer { (files : List AnyFile) (bytes : List ℕ) → IsAsked form files bytes question.now.tables question.now.statement → IfOk result (HasAnswer form files bytes) }
+    ensures fault { (files : List AnyFile) (bytes : List ℕ) → IsAsked form files bytes question.now.tables question.now.statement → IfErr result (IsFault form files bytes) }
 {
-    answer_statement(rt, alloc, &question.tables, &question.statement, workers)
+    answer_statement(
+        rt,
+        alloc,
+        &question.tables,
+        &question.statement,
+        workers,
+        form,
+    )
 }
 
 // The text of the answer to what files and bytes ask, worked out by these workers.
@@ -194,17 +206,26 @@ fn answered_text<R: Threads + Sync>(
     alloc: Global,
     question: &Question,
     workers: u32,
+    form: Form,
 ) -> Result<AnswerText, AnswerFault>
     requires fit { AreAllFitting question.now.tables.catalogue (lists_of question.now.tables.rows) }
     requires some { 1 ≤ workers }
     requires few { workers ≤ 16 }
-    ensures answer { (files : List AnyFile) (bytes : List ℕ) → IsAsked files bytes question.now.tables question.now.statement → IfOk result (IsTextOf (HasAnswer files bytes)) }
-    ensures fault { (files : List AnyFile) (bytes : List ℕ) → IsAsked files bytes question.now.tables question.now.statement → IfErr result (IsFault files bytes) }
+    ensures answer { (files : List AnyFile) (bytes : List ℕ) → IsAsked form files bytes question.now.tables question.now.statement → IfOk result (IsTextOf form (HasAnswer form files bytes)) }
+    ensures fault { (files : List AnyFile) (bytes : List ℕ) → IsAsked form files bytes question.now.tables question.now.statement → IfErr result (IsFault form files bytes) }
 {
-    statement_text(rt, alloc, &question.tables, &question.statement, workers)
+    statement_text(
+        rt,
+        alloc,
+        &question.tables,
+        &question.statement,
+        workers,
+        form,
+    )
 }
 
 /// The answer of the statement that the bytes make, over the tables of the files, worked out by 1 to 16 workers.
+/// Files and the statement write instants in the form.
 /// The files' bytes are let go once they are loaded.
 pub fn answer<'b, R: Threads + Sync>(
     rt: &R,
@@ -212,18 +233,20 @@ pub fn answer<'b, R: Threads + Sync>(
     files: Vec<TableFile>,
     bytes: &[u8],
     workers: u32,
+    form: Form,
 ) -> Result<Table<'b>, AnswerFault>
     requires some { 1 ≤ workers }
     requires few { workers ≤ 16 }
-    ensures answer { IfOk result (HasAnswer files.items bytes.now) }
-    ensures fault { IfErr result (IsFault files.items bytes.now) }
+    ensures answer { IfOk result (HasAnswer form files.items bytes.now) }
+    ensures fault { IfErr result (IsFault form files.items bytes.now) }
 {
-    let question = asked(rt, alloc, files, bytes, workers)?;
-    let table = answered(rt, alloc, &question, workers)?;
+    let question = asked(rt, alloc, files, bytes, workers, form)?;
+    let table = answered(rt, alloc, &question, workers, form)?;
     Ok(detached(alloc, table)?)
 }
 
-/// Writes the text of the answer of the statement that the bytes make, over the tables of the files.
+/// Writes the text of the answer of the statement that the bytes make, over the tables of the files, all of which
+/// write instants in the form.
 /// The first fault is answered: of the files, of the statement, of its plan. Nothing is written before
 /// the answer is whole; after `Write` a prefix of it went out. Files are loaded and the answer is worked out by 1 to
 /// 16 workers, the calling thread among them, and all is the same for every number of them.
@@ -234,17 +257,18 @@ pub fn answer_bytes<R: Threads + Sync, W: Write>(
     bytes: &[u8],
     workers: u32,
     sink: &mut Sink<W>,
+    form: Form,
 ) -> Result<(), AnswerFault>
     requires some { 1 ≤ workers }
     requires few { workers ≤ 16 }
-    ensures answer { OnOk result ((table : AnyTable) × HasAnswer files.items bytes.now table × Appends (W.contents sink.old.writer) (W.contents sink.new.writer) (text_of table)) }
+    ensures answer { OnOk result ((table : AnyTable) × HasAnswer form files.items bytes.now table × Appends (W.contents sink.old.writer) (W.contents sink.new.writer) (text_of form table)) }
     ensures unfailed { OnOk result (sink.new.failed ≡ sink.old.failed) }
-    ensures write { result ≡ Err AnswerFault.Write → (table : AnyTable) × HasAnswer files.items bytes.now table × AppendsPrefix (W.contents sink.old.writer) (W.contents sink.new.writer) (text_of table) }
+    ensures write { result ≡ Err AnswerFault.Write → (table : AnyTable) × HasAnswer form files.items bytes.now table × AppendsPrefix (W.contents sink.old.writer) (W.contents sink.new.writer) (text_of form table) }
     ensures failed { result ≡ Err AnswerFault.Write → sink.new.failed ≡ one_more sink.old.failed }
-    ensures fault { IfErr result (λ fault. fault ≢ AnswerFault.Write → IsFault files.items bytes.now fault × (sink.new ≡ sink.old)) }
+    ensures fault { IfErr result (λ fault. fault ≢ AnswerFault.Write → IsFault form files.items bytes.now fault × (sink.new ≡ sink.old)) }
 {
-    let question = asked(rt, alloc, files, bytes, workers)?;
-    let text = answered_text(rt, alloc, &question, workers)?;
+    let question = asked(rt, alloc, files, bytes, workers, form)?;
+    let text = answered_text(rt, alloc, &question, workers, form)?;
     match sink.send_all(text.parts()) {
         Ok(()) => Ok(()),
         Err(_) => Err(AnswerFault::Write),

@@ -1,6 +1,7 @@
 pub mod ExistLemmas
 pub mod AnswerLemmas
 pub mod BagLemmas
+pub mod BoundLemmas
 pub mod RunningLemmas
 pub mod ProductLemmas
 pub mod SourceLemmas

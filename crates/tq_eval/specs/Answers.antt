@@ -3,6 +3,7 @@
 -- valid, duplicates counted.
 use Rattle.std.specs.Prelude.{◌≡◌, ℕ, ◌-◌, ◌≤◌, if◌then◌else◌, List, [], ◌++◌, length, map, All, Option, Some, None, Ok}
 use Rattle.tq_base.specs.declared.catalogue.Catalogue.{Catalogue}
+use Rattle.tq_base.specs.declared.form.Form.{Form}
 use Rattle.tq_base.specs.declared.fragment.Fragment.{Fragment}
 use Rattle.tq_base.specs.declared.period.Period.{Period}
 use Rattle.tq_base.specs.Fragments.{at, occurrences}
@@ -70,10 +71,10 @@ IsPlanAnswer history n plan table = IsAnswerOver (as_of history n) plan table
 abbrev pub IsTablesAnswer : List (List Fragment) → Plan → Table → Type 0
 IsTablesAnswer tables plan table = IsAnswerOver (in_tables tables) plan table
 
--- the answer of a statement over a catalogue: that of its plan
-pub record IsAnswer (catalogue : Catalogue) (statement : Statement) (history : List Event) (n : ℕ) (table : Table) : Type 0 where
+-- the answer of a statement, whose window is written in the form, over a catalogue: that of its plan
+pub record IsAnswer (form : Form) (catalogue : Catalogue) (statement : Statement) (history : List Event) (n : ℕ) (table : Table) : Type 0 where
   pub plan : Plan
-  pub planned : plan_of catalogue statement ≡ Ok plan
+  pub planned : plan_of form catalogue statement ≡ Ok plan
   pub is_answer : IsPlanAnswer history n plan table
 
 -- the tables that a plan reads
@@ -94,8 +95,8 @@ AnswersAgree = (valid other : ValidRows) (plan : Plan) (table : Table) → IsPla
 
 -- there is one answer at most
 abbrev pub AnswersAreUnique : Type 0
-AnswersAreUnique = (catalogue : Catalogue) (statement : Statement) (history : List Event) (n : ℕ) (a b : Table)
-    → IsAnswer catalogue statement history n a → IsAnswer catalogue statement history n b → a ≡ b
+AnswersAreUnique = (form : Form) (catalogue : Catalogue) (statement : Statement) (history : List Event) (n : ℕ) (a b : Table)
+    → IsAnswer form catalogue statement history n a → IsAnswer form catalogue statement history n b → a ≡ b
 
 -- there is one: each plan has an answer over every history, as of every count of its events
 abbrev pub AnswersExist : Type 0
@@ -103,5 +104,5 @@ AnswersExist = (history : List Event) (n : ℕ) (plan : Plan) → (table : Table
 
 -- an answer as of the first n events stays one while the history grows
 abbrev pub AnswersStay : Type 0
-AnswersStay = (catalogue : Catalogue) (statement : Statement) (history more : List Event) (n : ℕ) (table : Table)
-    → n ≤ length history → IsAnswer catalogue statement history n table → IsAnswer catalogue statement (history ++ more) n table
+AnswersStay = (form : Form) (catalogue : Catalogue) (statement : Statement) (history more : List Event) (n : ℕ) (table : Table)
+    → n ≤ length history → IsAnswer form catalogue statement history n table → IsAnswer form catalogue statement (history ++ more) n table

@@ -1,5 +1,6 @@
 pub mod Ordinary
 pub mod Answers
+pub mod Bounds
 pub mod Fitting
 pub mod Running
 pub mod Shares

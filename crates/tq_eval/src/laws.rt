@@ -1,11 +1,12 @@
 //! Laws of answers.
 
 ghost use Rattle.tq_eval.specs.Answers.{AnswersAgree, AnswersAreUnique, AnswersExist, AnswersStay};
+ghost use Rattle.tq_eval.specs.Bounds.{BoundsAreGiven};
 ghost use Rattle.tq_eval.specs.Fitting.{HeldRowsFit};
 ghost use Rattle.tq_eval.specs.Shares.{SharesPartAnswers};
 ghost use Rattle.tq_eval.specs.TableAnswers.{TablesAnswer};
 
-use tq_base::laws::{layers_are_unique, layers_exist};
+use tq_base::laws::{layers_are_runs, layers_are_unique, layers_exist};
 use tq_event::laws::prefixes_agree;
 use tq_plan::laws::plans_stand;
 
@@ -21,6 +22,14 @@ pub fn answers_exist()
     ensures { AnswersExist }
 {
     layers_exist();
+}
+
+/// Each row of an answer begins and ends at 0, `forever`, a bound of the statement's window, or the time of one
+/// of the events that the answer is as of.
+pub fn bounds_are_given()
+    ensures { BoundsAreGiven }
+{
+    layers_are_runs();
 }
 
 /// Whatever is valid as often in the tables that a plan reads gives it the same answer.

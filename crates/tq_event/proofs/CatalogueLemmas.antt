@@ -21,6 +21,7 @@ use Rattle.tq_base.specs.Catalogues.{Fit, IsCatalogue, IsOfKind, IsTable}
 use Rattle.tq_base.specs.Names.{folded_name}
 use Rattle.tq_base.specs.Numbers.{int_of, is_numeral, natural_up_to}
 use Rattle.tq_base.specs.Results.{and_then}
+use Rattle.tq_base.specs.declared.form.Form.{Form}
 use Rattle.tq_event.specs.Entries.{Entry}
 use Rattle.tq_event.specs.declared.fault.LoadFaultKind.TheVariants.{BadHeader, DuplicateName, FieldCount, NotUtf8, TextTooLong, TooManyColumns, TooManyTables}
 use Rattle.tq_event.specs.declared.file.TableFile.{TableFile}
@@ -259,17 +260,17 @@ values_fit values (c ∷ columns) (field ∷ fields) out len e =
     let more = values_fit (values ++ p.value ∷ []) columns fields out (omega (arith, len)) p.then_is in
     record { rest = p.value ∷ more.rest; is = more.is ∙ append_assoc values (p.value ∷ []) more.rest; fit = (value_fits c.kind field p.value p.was, more.fit) }
 
-entry_fits : (table : ℕ) (columns : List Column) (fields : List (List ℕ)) (e : Entry) → entry_of table columns fields ≡ Ok e → Fit columns e.values
-entry_fits table columns fields e is = by (length fields == length columns + 2) refl is
+entry_fits : (form : Form) (table : ℕ) (columns : List Column) (fields : List (List ℕ)) (e : Entry) → entry_of form table columns fields ≡ Ok e → Fit columns e.values
+entry_fits form table columns fields e is = by (length fields == length columns + 2) refl is
   where
-    made : (values : List Value) → Fit columns values → and_then (period_of (period_fields fields)) (λ period. Ok (record { table = table; values = values; from = period.0; to = period.1 })) ≡ Ok e → Fit columns e.values
+    made : (values : List Value) → Fit columns values → and_then (period_of form (period_fields fields)) (λ period. Ok (record { table = table; values = values; from = period.0; to = period.1 })) ≡ Ok e → Fit columns e.values
     made values fit m =
-        let p = passed (period_of (period_fields fields)) _ e m in
+        let p = passed (period_of form (period_fields fields)) _ e m in
         let same : record { table = table; values = values; from = p.value.0; to = p.value.1 } ≡ e = cc (p.then_is) in
         subst (λ (x : Entry). Fit columns x.values) same fit
 
     by : (t : Bool) → (length fields == length columns + 2) ≡ t → (if not t then Err FieldCount else and_then (values_after [] columns (value_fields fields)) (λ values.
-        and_then (period_of (period_fields fields)) (λ period.
+        and_then (period_of form (period_fields fields)) (λ period.
         Ok (record { table = table; values = values; from = period.0; to = period.1 })))) ≡ Ok e → Fit columns e.values
     by false i j = cc
     by true i j =
@@ -305,13 +306,13 @@ pub record AreLoaded (contents : Contents) : Type 0 where
   pub tables : AreTables contents.tables
   pub stored : All (Stored contents.tables) contents.entries
 
-file_loaded : (limit : ℕ) (before after : Contents) (file : TableFile) → next_contents limit before file ≡ Ok after → AreLoaded before → AreLoaded after
-file_loaded limit before after file is good =
+file_loaded : (form : Form) (limit : ℕ) (before after : Contents) (file : TableFile) → next_contents form limit before file ≡ Ok after → AreLoaded before → AreLoaded after
+file_loaded form limit before after file is good =
     let table = length before.tables in
     let a = passed (at_record table 0 (next_name before.tables file.name)) _ after is in
-    let b = passed (table_contents limit table before.entries file.bytes) _ after a.then_is in
+    let b = passed (table_contents form limit table before.entries file.bytes) _ after a.then_is in
     let c = passed (at_record table 1 (columns_of file.bytes)) _ b.value b.was in
-    let d = passed (entries_after limit table c.value 2 before.entries (drop 1 (csv_records file.bytes))) _ b.value c.then_is in
+    let d = passed (entries_after form limit table c.value 2 before.entries (drop 1 (csv_records file.bytes))) _ b.value c.then_is in
     let read : (c.value, d.value) ≡ b.value = cc (d.then_is) in
     let same : record { tables = before.tables ++ record { name = a.value; columns = b.value.0 } ∷ []; entries = b.value.1 } ≡ after = cc (b.then_is) in
     subst AreLoaded same
@@ -319,27 +320,27 @@ file_loaded limit before after file is good =
     (made a.value c.value d.value (new_name before.tables file.name a.value (at_record_passed table 0 _ a.value a.was)) (file_columns file.bytes c.value (at_record_passed table 1 _ c.value c.was)) d.was))
   where
     made : (name : List ℕ) (columns : List Column) (entries : List Entry) → IsNewName before.tables name → AreTableColumns columns
-        → entries_after limit (length before.tables) columns 2 before.entries (drop 1 (csv_records file.bytes)) ≡ Ok entries
+        → entries_after form limit (length before.tables) columns 2 before.entries (drop 1 (csv_records file.bytes)) ≡ Ok entries
         → AreLoaded (record { tables = before.tables ++ record { name = name; columns = columns } ∷ []; entries = entries })
     made name columns entries new are e =
         let s : Schema = record { name = name; columns = columns } in
         record {
           tables = pushed_table before.tables s good.tables new (record { some = are.some; few = are.few; names = are.are.names; key = are.are.key }) (new.folded, are.are.folded);
-          stored = all_entries limit (length before.tables) columns (Stored (before.tables ++ s ∷ []))
-              (λ fields x told. stored_last before.tables s x (entry_is_of (length before.tables) columns fields x told).1 (entry_fits (length before.tables) columns fields x told))
+          stored = all_entries form limit (length before.tables) columns (Stored (before.tables ++ s ∷ []))
+              (λ fields x told. stored_last before.tables s x (entry_is_of form (length before.tables) columns fields x told).1 (entry_fits form (length before.tables) columns fields x told))
               2 before.entries (drop 1 (csv_records file.bytes)) entries e
               (All-weaker (Stored before.tables) (Stored (before.tables ++ s ∷ [])) (λ x is. stored_more before.tables (s ∷ []) x is) before.entries good.stored);
         }
 
-files_loaded : (limit : ℕ) (before after : Contents) (files : List TableFile) → contents_after limit before files ≡ Ok after → AreLoaded before → AreLoaded after
-files_loaded limit before after [] is good = let same : before ≡ after = cc (is) in subst AreLoaded same good
-files_loaded limit before after (file ∷ files) is good =
-    let a = passed (next_contents limit before file) _ after is in
-    files_loaded limit a.value after files a.then_is (file_loaded limit before a.value file a.was good)
+files_loaded : (form : Form) (limit : ℕ) (before after : Contents) (files : List TableFile) → contents_after form limit before files ≡ Ok after → AreLoaded before → AreLoaded after
+files_loaded form limit before after [] is good = let same : before ≡ after = cc (is) in subst AreLoaded same good
+files_loaded form limit before after (file ∷ files) is good =
+    let a = passed (next_contents form limit before file) _ after is in
+    files_loaded form limit a.value after files a.then_is (file_loaded form limit before a.value file a.was good)
 
-pub contents_loaded : (limit : ℕ) (files : List TableFile) (contents : Contents) → contents_of files limit ≡ Ok contents → AreLoaded contents
-contents_loaded limit files contents is =
-    files_loaded limit (record { tables = []; entries = [] }) contents files is
+pub contents_loaded : (form : Form) (limit : ℕ) (files : List TableFile) (contents : Contents) → contents_of form files limit ≡ Ok contents → AreLoaded contents
+contents_loaded form limit files contents is =
+    files_loaded form limit (record { tables = []; entries = [] }) contents files is
     (record { tables = record { few = omega arith; names = λ i j d lt below. absurd (omega arith); each = All-nil IsTable; folded = All-nil HasFoldedNames }; stored = All-nil (Stored []) })
 
 pub is_catalogue : (catalogue : Catalogue) (tables : List Schema) → catalogue.tables ≡ tables → AreTables tables → IsCatalogue catalogue

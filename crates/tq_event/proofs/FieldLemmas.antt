@@ -7,6 +7,7 @@ use Rattle.csv.specs.Records.{field_at}
 use Rattle.tq_base.specs.declared.catalogue.Column.{Column}
 use Rattle.tq_base.specs.declared.value.Value.{Value}
 use Rattle.tq_base.specs.Results.{and_then}
+use Rattle.tq_base.specs.declared.form.Form.{Form}
 use Rattle.tq_event.specs.declared.fault.LoadFaultKind.{LoadFaultKind}
 use Rattle.tq_event.specs.Loading.{entry_of, period_fields, period_of, value_fields, value_of, values_after}
 
@@ -41,18 +42,18 @@ first_values values (c ∷ columns) (suc n) (field ∷ fields) enough = by (valu
     by (Err fault) same = refl
     by (Ok value) same = same value
 
-module _ (table : ℕ) (columns : List Column) (fields : List (List ℕ)) (many : length fields ≡ length columns + 2) where
+module _ (form : Form) (table : ℕ) (columns : List Column) (fields : List (List ℕ)) (many : length fields ≡ length columns + 2) where
   as_many : (length fields == length columns + 2) ≡ true
   as_many = eq-eqb (length fields) (length columns + 2) many
 
   before_period : values_after [] columns (value_fields fields) ≡ values_after [] columns fields
   before_period = first_values [] columns (length fields - 2) fields (omega (arith, many))
 
-  pub entry_fails : (fault : LoadFaultKind) → values_after [] columns fields ≡ Err fault → entry_of table columns fields ≡ Err fault
+  pub entry_fails : (fault : LoadFaultKind) → values_after [] columns fields ≡ Err fault → entry_of form table columns fields ≡ Err fault
   entry_fails fault fails = rw (as_many, before_period, fails) refl
 
-  pub entry_told : (values : List Value) (period : Result (ℕ × ℕ) LoadFaultKind) → values_after [] columns fields ≡ Ok values → period_of (period_fields fields) ≡ period
-      → entry_of table columns fields ≡ and_then period (λ p. Ok (record { table = table; values = values; from = p.0; to = p.1 }))
+  pub entry_told : (values : List Value) (period : Result (ℕ × ℕ) LoadFaultKind) → values_after [] columns fields ≡ Ok values → period_of form (period_fields fields) ≡ period
+      → entry_of form table columns fields ≡ and_then period (λ p. Ok (record { table = table; values = values; from = p.0; to = p.1 }))
   entry_told values period told until = rw (as_many, before_period, told, until) refl
 
 -- the last two fields

@@ -1,4 +1,5 @@
 pub mod CatalogueLemmas
+pub mod DatedLemmas
 pub mod FieldLemmas
 pub mod FieldUtf8
 pub mod HistoryLemmas

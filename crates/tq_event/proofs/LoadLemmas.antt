@@ -4,6 +4,7 @@ use Rattle.std.proofs.lemmas.Bool.Decides.{nat_tests}
 use Rattle.std.proofs.lemmas.List.Sums.{sum_by-append}
 use Rattle.tq_base.specs.declared.catalogue.Column.{Column}
 use Rattle.tq_base.specs.declared.period.TheConstants.{FOREVER}
+use Rattle.tq_base.specs.declared.form.Form.{Form}
 use Rattle.tq_event.specs.Entries.{Entry}
 use Rattle.tq_event.specs.declared.fault.LoadFault.{LoadFault}
 use Rattle.tq_event.specs.declared.fault.LoadFaultKind.{LoadFaultKind}
@@ -17,34 +18,35 @@ named table number kind = record { kind = kind; table = table; number = number }
 pub known_kind : (kind : LoadFaultKind) (fault : LoadFault) → (kind ≡ OutOfMemory → fault ≡ out_of_memory) → fault.kind ≢ OutOfMemory → kind ≢ OutOfMemory
 known_kind kind fault told known same = known (ap (λ (f : LoadFault). f.kind) (told same))
 
-module _ (limit table : ℕ) (before : List Entry) (bytes : List ℕ) where
-  pub header_fault : (kind : LoadFaultKind) (fault : LoadFault) → columns_of bytes ≡ Err kind → fault ≡ named table 1 kind → table_contents limit table before bytes ≡ Err fault
+-- the columns are those of the first record, and there are none without a record
+pub columns_first : (bytes : List ℕ) (fields : List (List ℕ)) (more : List (List (List ℕ))) → is_marked_twice bytes ≡ false → csv_records bytes ≡ fields ∷ more → columns_of bytes ≡ header_of fields
+columns_first bytes fields more marked split = rw (marked, split) refl
+
+pub columns_none : (bytes : List ℕ) → is_marked_twice bytes ≡ false → csv_records bytes ≡ [] → columns_of bytes ≡ Err BadHeader
+columns_none bytes marked split = rw (marked, split) refl
+
+module _ (form : Form) (limit table : ℕ) (before : List Entry) (bytes : List ℕ) where
+  pub header_fault : (kind : LoadFaultKind) (fault : LoadFault) → columns_of bytes ≡ Err kind → fault ≡ named table 1 kind → table_contents form limit table before bytes ≡ Err fault
   header_fault kind fault e named_it = rw (e, named_it) refl
 
-  pub columns_first : (fields : List (List ℕ)) (more : List (List (List ℕ))) → is_marked_twice bytes ≡ false → csv_records bytes ≡ fields ∷ more → columns_of bytes ≡ header_of fields
-  columns_first fields more marked split = rw (marked, split) refl
-
-  pub columns_none : is_marked_twice bytes ≡ false → csv_records bytes ≡ [] → columns_of bytes ≡ Err BadHeader
-  columns_none marked split = rw (marked, split) refl
-
   pub read_ok : (columns : List Column) (entries : List Entry) → columns_of bytes ≡ Ok columns
-      → entries_after limit table columns 2 before (drop 1 (csv_records bytes)) ≡ Ok entries → table_contents limit table before bytes ≡ Ok (columns, entries)
+      → entries_after form limit table columns 2 before (drop 1 (csv_records bytes)) ≡ Ok entries → table_contents form limit table before bytes ≡ Ok (columns, entries)
   read_ok columns entries e f = rw (e, f) refl
 
   pub read_fault : (columns : List Column) (fault : LoadFault) → columns_of bytes ≡ Ok columns
-      → entries_after limit table columns 2 before (drop 1 (csv_records bytes)) ≡ Err fault → table_contents limit table before bytes ≡ Err fault
+      → entries_after form limit table columns 2 before (drop 1 (csv_records bytes)) ≡ Err fault → table_contents form limit table before bytes ≡ Err fault
   read_fault columns fault e f = rw (e, f) refl
 
-module _ (limit table : ℕ) (columns : List Column) (number : ℕ) (entries : List Entry) (fields : List (List ℕ)) (more left : List (List (List ℕ))) (split : left ≡ fields ∷ more) where
-  pub entry_fault : (kind : LoadFaultKind) (fault : LoadFault) → entry_of table columns fields ≡ Err kind → fault ≡ named table number kind → entries_after limit table columns number entries left ≡ Err fault
+module _ (form : Form) (limit table : ℕ) (columns : List Column) (number : ℕ) (entries : List Entry) (fields : List (List ℕ)) (more left : List (List (List ℕ))) (split : left ≡ fields ∷ more) where
+  pub entry_fault : (kind : LoadFaultKind) (fault : LoadFault) → entry_of form table columns fields ≡ Err kind → fault ≡ named table number kind → entries_after form limit table columns number entries left ≡ Err fault
   entry_fault kind fault e named_it = rw (split, e, named_it) refl
 
-  pub add_fault : (entry : Entry) (kind : LoadFaultKind) (fault : LoadFault) → entry_of table columns fields ≡ Ok entry → next_entries limit entries entry ≡ Err kind
-      → fault ≡ named table number kind → entries_after limit table columns number entries left ≡ Err fault
+  pub add_fault : (entry : Entry) (kind : LoadFaultKind) (fault : LoadFault) → entry_of form table columns fields ≡ Ok entry → next_entries limit entries entry ≡ Err kind
+      → fault ≡ named table number kind → entries_after form limit table columns number entries left ≡ Err fault
   add_fault entry kind fault e f named_it = rw (split, e) (rw f (rw named_it refl))
 
-  pub add_ok : (entry : Entry) (new : List Entry) → entry_of table columns fields ≡ Ok entry → next_entries limit entries entry ≡ Ok new
-      → entries_after limit table columns number entries left ≡ entries_after limit table columns (number + 1) new more
+  pub add_ok : (entry : Entry) (new : List Entry) → entry_of form table columns fields ≡ Ok entry → next_entries limit entries entry ≡ Ok new
+      → entries_after form limit table columns number entries left ≡ entries_after form limit table columns (number + 1) new more
   add_ok entry new e f = rw (split, e) (rw f refl)
 
 -- an entry whose events stay within the limit, or pass it

@@ -12,6 +12,7 @@ use Rattle.std.proofs.lemmas.List.Sums.{sum_by-cons, sum_by_push}
 use Rattle.std.proofs.lemmas.List.Sorted.{sum_by-IsPermutation, length_permutation, sorted_far, ranks_by}
 use Rattle.tq_base.specs.declared.catalogue.Column.{Column}
 use Rattle.tq_base.specs.declared.period.TheConstants.{FOREVER}
+use Rattle.tq_base.specs.declared.form.Form.{Form}
 use Rattle.tq_event.specs.Entries.{Entry}
 use Rattle.tq_event.specs.declared.event.Event.{Event}
 use Rattle.tq_event.specs.declared.fault.LoadFaultKind.TheVariants.{TooManyEvents}
@@ -125,9 +126,9 @@ entries_have_one entries xs ys a b =
     let moved : HaveEvents entries b.marks xs = subst (λ ms. HaveEvents entries ms xs) same a.events_are in
     events_same entries b.marks b.marks xs ys moved.each b.events_are.each
 
-pub loaded_once : (files : List TableFile) (limit : ℕ) (a b : Loaded) → IsLoaded files limit a → IsLoaded files limit b → (a.catalogue.tables ≡ b.catalogue.tables) × (a.events ≡ b.events)
-loaded_once files limit a b is_a is_b =
-    let same : is_a.contents ≡ is_b.contents = one_ok (contents_of files limit) is_a.contents is_b.contents is_a.is_contents is_b.is_contents in
+pub loaded_once : (form : Form) (files : List TableFile) (limit : ℕ) (a b : Loaded) → IsLoaded form files limit a → IsLoaded form files limit b → (a.catalogue.tables ≡ b.catalogue.tables) × (a.events ≡ b.events)
+loaded_once form files limit a b is_a is_b =
+    let same : is_a.contents ≡ is_b.contents = one_ok (contents_of form files limit) is_a.contents is_b.contents is_a.is_contents is_b.is_contents in
     let moved : AreEventsOf is_b.contents.entries a.events = subst (λ (c : Contents). AreEventsOf c.entries a.events) same is_a.events in
     (is_a.catalogue ∙ ap (λ (c : Contents). c.tables) same ∙ sym is_b.catalogue, entries_have_one is_b.contents.entries a.events b.events moved is_b.events)
   where
@@ -146,31 +147,31 @@ added_within limit before more e is = by (nat_lt limit (sum_by event_count befor
         let le : sum_by event_count before + event_count e ≤ limit = grind (arith, nat_tests) in
         omega (arith, ap (sum_by event_count) same, sum_by_push event_count before e, le)
 
-entries_within_limit : (limit table : ℕ) (columns : List Column) (number : ℕ) (before : List Entry) (records : List (List (List ℕ))) (after : List Entry)
-    → entries_after limit table columns number before records ≡ Ok after → sum_by event_count before ≤ limit → sum_by event_count after ≤ limit
-entries_within_limit limit table columns number before [] after is le = let same : before ≡ after = cc (is) in subst (λ es. sum_by event_count es ≤ limit) same le
-entries_within_limit limit table columns number before (fields ∷ records) after is le =
+entries_within_limit : (form : Form) (limit table : ℕ) (columns : List Column) (number : ℕ) (before : List Entry) (records : List (List (List ℕ))) (after : List Entry)
+    → entries_after form limit table columns number before records ≡ Ok after → sum_by event_count before ≤ limit → sum_by event_count after ≤ limit
+entries_within_limit form limit table columns number before [] after is le = let same : before ≡ after = cc (is) in subst (λ es. sum_by event_count es ≤ limit) same le
+entries_within_limit form limit table columns number before (fields ∷ records) after is le =
     let step = passed (at_record table number _) _ after is in
-    let inner = passed (entry_of table columns fields) (next_entries limit before) step.value (at_record_passed table number _ step.value step.was) in
-    entries_within_limit limit table columns (number + 1) step.value records after step.then_is (added_within limit before step.value inner.value inner.then_is)
+    let inner = passed (entry_of form table columns fields) (next_entries limit before) step.value (at_record_passed table number _ step.value step.was) in
+    entries_within_limit form limit table columns (number + 1) step.value records after step.then_is (added_within limit before step.value inner.value inner.then_is)
 
-file_within : (limit : ℕ) (before after : Contents) (file : TableFile) → next_contents limit before file ≡ Ok after → sum_by event_count before.entries ≤ limit → sum_by event_count after.entries ≤ limit
-file_within limit before after file is le =
+file_within : (form : Form) (limit : ℕ) (before after : Contents) (file : TableFile) → next_contents form limit before file ≡ Ok after → sum_by event_count before.entries ≤ limit → sum_by event_count after.entries ≤ limit
+file_within form limit before after file is le =
     let table = length before.tables in
     let a = passed (at_record table 0 (next_name before.tables file.name)) _ after is in
-    let b = passed (table_contents limit table before.entries file.bytes) _ after a.then_is in
+    let b = passed (table_contents form limit table before.entries file.bytes) _ after a.then_is in
     let c = passed (at_record table 1 (columns_of file.bytes)) _ b.value b.was in
-    let d = passed (entries_after limit table c.value 2 before.entries (drop 1 (csv_records file.bytes))) _ b.value c.then_is in
+    let d = passed (entries_after form limit table c.value 2 before.entries (drop 1 (csv_records file.bytes))) _ b.value c.then_is in
     let read : d.value ≡ b.value.1 = cc (d.then_is) in
     let same : record { tables = before.tables ++ record { name = a.value; columns = b.value.0 } ∷ []; entries = b.value.1 } ≡ after = cc (b.then_is) in
     subst (λ (x : Contents). sum_by event_count x.entries ≤ limit) same
-    (subst (λ es. sum_by event_count es ≤ limit) read (entries_within_limit limit table c.value 2 before.entries (drop 1 (csv_records file.bytes)) d.value d.was le))
+    (subst (λ es. sum_by event_count es ≤ limit) read (entries_within_limit form limit table c.value 2 before.entries (drop 1 (csv_records file.bytes)) d.value d.was le))
 
-files_within : (limit : ℕ) (before after : Contents) (files : List TableFile) → contents_after limit before files ≡ Ok after → sum_by event_count before.entries ≤ limit → sum_by event_count after.entries ≤ limit
-files_within limit before after [] is le = let same : before ≡ after = cc (is) in subst (λ (x : Contents). sum_by event_count x.entries ≤ limit) same le
-files_within limit before after (file ∷ files) is le =
-    let a = passed (next_contents limit before file) _ after is in
-    files_within limit a.value after files a.then_is (file_within limit before a.value file a.was le)
+files_within : (form : Form) (limit : ℕ) (before after : Contents) (files : List TableFile) → contents_after form limit before files ≡ Ok after → sum_by event_count before.entries ≤ limit → sum_by event_count after.entries ≤ limit
+files_within form limit before after [] is le = let same : before ≡ after = cc (is) in subst (λ (x : Contents). sum_by event_count x.entries ≤ limit) same le
+files_within form limit before after (file ∷ files) is le =
+    let a = passed (next_contents form limit before file) _ after is in
+    files_within form limit a.value after files a.then_is (file_within form limit before a.value file a.was le)
 
 marks_counted : (n : ℕ) (entries : List Entry) → length (marks_from n entries) ≡ sum_by event_count entries
 marks_counted n [] = refl
@@ -181,8 +182,8 @@ marks_counted n (e ∷ entries) =
     own true = refl
     own false = refl
 
-pub loaded_within : (files : List TableFile) (limit : ℕ) (loaded : Loaded) → IsLoaded files limit loaded → length loaded.events ≤ limit
-loaded_within files limit loaded is =
-    let le = files_within limit (record { tables = []; entries = [] }) is.contents files is.is_contents (omega arith) in
+pub loaded_within : (form : Form) (files : List TableFile) (limit : ℕ) (loaded : Loaded) → IsLoaded form files limit loaded → length loaded.events ≤ limit
+loaded_within form files limit loaded is =
+    let le = files_within form limit (record { tables = []; entries = [] }) is.contents files is.is_contents (omega arith) in
     let ev = is.events in
     omega (arith, ev.events_are.as_many, length_permutation (marks_from 0 is.contents.entries) ev.marks ev.all, marks_counted 0 is.contents.entries, le)

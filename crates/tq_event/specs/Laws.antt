@@ -2,25 +2,28 @@
 use Rattle.std.specs.Prelude.{◌≡◌, ℕ, ◌≤◌, List, Some, length, All}
 use Rattle.tq_base.specs.declared.catalogue.Column.{Column}
 use Rattle.tq_base.specs.declared.catalogue.Schema.{Schema}
+use Rattle.tq_base.specs.declared.form.Form.{Form}
+use Rattle.tq_base.specs.declared.form.Form.TheVariants.{Dates}
+use Rattle.tq_base.specs.declared.dates.TheConstants.{LAST_DAY}
 use Rattle.tq_base.specs.Catalogues.{IsCatalogue}
 use Rattle.tq_base.specs.Names.{folded_name}
 use Rattle.tq_event.specs.declared.file.TableFile.{TableFile}
 use Rattle.tq_event.specs.declared.file.Loaded.{Loaded}
-use Rattle.tq_event.specs.History.{IsHistory}
+use Rattle.tq_event.specs.History.{IsHistory, time_of}
 use Rattle.tq_event.specs.Loading.{IsLoaded}
 
 -- files hold one list of tables and one list of events
 abbrev pub LoadedIsUnique : Type 0
-LoadedIsUnique = (files : List TableFile) (limit : ℕ) (a b : Loaded) → IsLoaded files limit a → IsLoaded files limit b
+LoadedIsUnique = (form : Form) (files : List TableFile) (limit : ℕ) (a b : Loaded) → IsLoaded form files limit a → IsLoaded form files limit b
     → (a.catalogue.tables ≡ b.catalogue.tables) × (a.events ≡ b.events)
 
 -- the events stay within the limit
 abbrev pub LoadedIsWithin : Type 0
-LoadedIsWithin = (files : List TableFile) (limit : ℕ) (loaded : Loaded) → IsLoaded files limit loaded → length loaded.events ≤ limit
+LoadedIsWithin = (form : Form) (files : List TableFile) (limit : ℕ) (loaded : Loaded) → IsLoaded form files limit loaded → length loaded.events ≤ limit
 
 -- the tables are a catalogue
 abbrev pub LoadedIsCatalogue : Type 0
-LoadedIsCatalogue = (files : List TableFile) (limit : ℕ) (loaded : Loaded) → IsLoaded files limit loaded → IsCatalogue loaded.catalogue
+LoadedIsCatalogue = (form : Form) (files : List TableFile) (limit : ℕ) (loaded : Loaded) → IsLoaded form files limit loaded → IsCatalogue loaded.catalogue
 
 -- some bytes write the name, which is folded
 abbrev pub IsFoldedName : List ℕ → Type 0
@@ -32,8 +35,12 @@ HasFoldedNames schema = IsFoldedName schema.name × All (λ (c : Column). IsFold
 
 -- the tables and their columns have folded names
 abbrev pub LoadedNamesAreFolded : Type 0
-LoadedNamesAreFolded = (files : List TableFile) (limit : ℕ) (loaded : Loaded) → IsLoaded files limit loaded → All HasFoldedNames loaded.catalogue.tables
+LoadedNamesAreFolded = (form : Form) (files : List TableFile) (limit : ℕ) (loaded : Loaded) → IsLoaded form files limit loaded → All HasFoldedNames loaded.catalogue.tables
 
 -- the events are a history over these tables
 abbrev pub LoadedIsHistory : Type 0
-LoadedIsHistory = (files : List TableFile) (limit : ℕ) (loaded : Loaded) → IsLoaded files limit loaded → IsHistory loaded.catalogue loaded.events
+LoadedIsHistory = (form : Form) (files : List TableFile) (limit : ℕ) (loaded : Loaded) → IsLoaded form files limit loaded → IsHistory loaded.catalogue loaded.events
+
+-- files whose times are written in dates hold events whose times have dates
+abbrev pub LoadedAreDated : Type 0
+LoadedAreDated = (files : List TableFile) (limit : ℕ) (loaded : Loaded) → IsLoaded Dates files limit loaded → All (λ event. time_of event ≤ LAST_DAY) loaded.events

@@ -13,6 +13,7 @@ use Rattle.tq_base.specs.declared.catalogue.Kind.{Kind}
 use Rattle.tq_base.specs.declared.catalogue.Kind.TheVariants as kind
 use Rattle.tq_base.specs.declared.catalogue.Column.{Column}
 use Rattle.tq_base.specs.declared.catalogue.Schema.{Schema}
+use Rattle.tq_base.specs.declared.form.Form.{Form}
 use Rattle.tq_base.specs.declared.period.TheConstants.{FOREVER}
 use Rattle.tq_base.specs.Names.{folded_name}
 use Rattle.tq_base.specs.Numbers.{int_of, instant_of, bound_of}
@@ -136,17 +137,17 @@ make_period (Some from) (Some to) = if nat_lt from to then Ok (from, to) else Er
 make_period (Some from) None = Err BadPeriod
 make_period None to = Err BadPeriod
 
-abbrev pub period_of : List (List ℕ) → Result (ℕ × ℕ) LoadFaultKind
-period_of [] = Err BadPeriod
-period_of (a ∷ []) = Err BadPeriod
-period_of (a ∷ b ∷ rest) = make_period (instant_of a) (bound_of b)
+abbrev pub period_of : Form → List (List ℕ) → Result (ℕ × ℕ) LoadFaultKind
+period_of form [] = Err BadPeriod
+period_of form (a ∷ []) = Err BadPeriod
+period_of form (a ∷ b ∷ rest) = make_period (instant_of form a) (bound_of form b)
 
 -- the row that a record tells: as many fields as the header has, then the values, then the period
-abbrev pub entry_of : ℕ → List Column → List (List ℕ) → Result Entry LoadFaultKind
-entry_of table columns fields =
+abbrev pub entry_of : Form → ℕ → List Column → List (List ℕ) → Result Entry LoadFaultKind
+entry_of form table columns fields =
     if not (length fields == length columns + 2) then Err FieldCount
     else and_then (values_after [] columns (value_fields fields)) (λ values.
-    and_then (period_of (period_fields fields)) (λ period.
+    and_then (period_of form (period_fields fields)) (λ period.
     Ok (record { table = table; values = values; from = period.0; to = period.1 })))
 
 -- a start, and an end unless that is `forever`
@@ -164,11 +165,11 @@ at_record table number (Err fault) = Err (record { kind = fault; table = table; 
 at_record table number (Ok value) = Ok value
 
 -- the entries of the records, from the one of this number on, after these entries
-abbrev pub entries_after : ℕ → ℕ → List Column → ℕ → List Entry → List (List (List ℕ)) → Result (List Entry) LoadFault
-entries_after limit table columns number entries [] = Ok entries
-entries_after limit table columns number entries (fields ∷ records) =
-    and_then (at_record table number (and_then (entry_of table columns fields) (next_entries limit entries)))
-    (λ more. entries_after limit table columns (number + 1) more records)
+abbrev pub entries_after : Form → ℕ → ℕ → List Column → ℕ → List Entry → List (List (List ℕ)) → Result (List Entry) LoadFault
+entries_after form limit table columns number entries [] = Ok entries
+entries_after form limit table columns number entries (fields ∷ records) =
+    and_then (at_record table number (and_then (entry_of form table columns fields) (next_entries limit entries)))
+    (λ more. entries_after form limit table columns (number + 1) more records)
 
 -- ---- tables
 
@@ -189,27 +190,27 @@ abbrev pub next_name : List Schema → List ℕ → Result (List ℕ) LoadFaultK
 next_name tables name = if nat_lt (length tables) 16 then table_name tables (folded_name name) else Err TooManyTables
 
 -- what a table's bytes hold: its columns, and the entries of its records after those of the tables before it
-abbrev pub table_contents : ℕ → ℕ → List Entry → List ℕ → Result (List Column × List Entry) LoadFault
-table_contents limit table before bytes =
+abbrev pub table_contents : Form → ℕ → ℕ → List Entry → List ℕ → Result (List Column × List Entry) LoadFault
+table_contents form limit table before bytes =
     and_then (at_record table 1 (columns_of bytes)) (λ columns.
-    and_then (entries_after limit table columns 2 before (drop 1 (csv_records bytes))) (λ entries.
+    and_then (entries_after form limit table columns 2 before (drop 1 (csv_records bytes))) (λ entries.
     Ok (columns, entries)))
 
 -- what a file makes of those before it
-abbrev pub next_contents : ℕ → Contents → TableFile → Result Contents LoadFault
-next_contents limit before file =
+abbrev pub next_contents : Form → ℕ → Contents → TableFile → Result Contents LoadFault
+next_contents form limit before file =
     let table = length before.tables in
     and_then (at_record table 0 (next_name before.tables file.name)) (λ name.
-    and_then (table_contents limit table before.entries file.bytes) (λ read.
+    and_then (table_contents form limit table before.entries file.bytes) (λ read.
     Ok (record { tables = before.tables ++ record { name = name; columns = read.0 } ∷ []; entries = read.1 })))
 
-abbrev pub contents_after : ℕ → Contents → List TableFile → Result Contents LoadFault
-contents_after limit before [] = Ok before
-contents_after limit before (file ∷ files) = and_then (next_contents limit before file) (λ more. contents_after limit more files)
+abbrev pub contents_after : Form → ℕ → Contents → List TableFile → Result Contents LoadFault
+contents_after form limit before [] = Ok before
+contents_after form limit before (file ∷ files) = and_then (next_contents form limit before file) (λ more. contents_after form limit more files)
 
 -- what files hold, or the first fault in the order of tables, records and checks
-abbrev pub contents_of : List TableFile → ℕ → Result Contents LoadFault
-contents_of files limit = contents_after limit (record { tables = []; entries = [] }) files
+abbrev pub contents_of : Form → List TableFile → ℕ → Result Contents LoadFault
+contents_of form files limit = contents_after form limit (record { tables = []; entries = [] }) files
 
 -- what a growth that was refused is answered by
 abbrev pub out_of_memory : LoadFault
@@ -269,8 +270,8 @@ pub record AreEventsOf (entries : List Entry) (events : List Event) : Type 0 whe
   pub events_are : HaveEvents entries marks events
 
 -- the files were loaded
-pub record IsLoaded (files : List TableFile) (limit : ℕ) (loaded : Loaded) : Type 0 where
+pub record IsLoaded (form : Form) (files : List TableFile) (limit : ℕ) (loaded : Loaded) : Type 0 where
   pub contents : Contents
-  pub is_contents : contents_of files limit ≡ Ok contents
+  pub is_contents : contents_of form files limit ≡ Ok contents
   pub catalogue : loaded.catalogue.tables ≡ contents.tables
   pub events : AreEventsOf contents.entries loaded.events

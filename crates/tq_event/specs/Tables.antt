@@ -4,6 +4,7 @@ use Rattle.std.specs.Prelude.{◌≡◌, ℕ, ◌+◌, ◌==◌, List, [], ◌�
 use Rattle.tq_base.specs.declared.fragment.Fragment.{Fragment}
 use Rattle.tq_base.specs.declared.value.Value.{Value}
 use Rattle.tq_base.specs.declared.catalogue.Schema.{Schema}
+use Rattle.tq_base.specs.declared.form.Form.{Form}
 use Rattle.tq_base.specs.Fragments.{at, occurrences}
 use Rattle.tq_base.specs.RowLists.{RowList}
 use Rattle.tq_event.specs.declared.event.Event.{Event}
@@ -40,9 +41,9 @@ abbrev pub AreRowsOf : List Entry → List (List Fragment) → Type 0
 AreRowsOf entries tables = (table : ℕ) → map (told_by table) (rows_in tables table) ≡ filter (λ (e : Entry). e.table == table) entries
 
 -- the tables of the files
-pub record AreTables (files : List TableFile) (limit : ℕ) (tables : Tables) : Type 0 where
+pub record AreTables (form : Form) (files : List TableFile) (limit : ℕ) (tables : Tables) : Type 0 where
   pub contents : Contents
-  pub is_contents : contents_of files limit ≡ Ok contents
+  pub is_contents : contents_of form files limit ≡ Ok contents
   pub catalogue : tables.catalogue.tables ≡ contents.tables
   pub read : AreRead contents.tables tables.rows
   pub rows : AreRowsOf contents.entries (lists_of tables.rows)
@@ -52,12 +53,12 @@ abbrev pub HoldsRows : List (List Fragment) → List Event → ℕ → ℕ → T
 HoldsRows tables history n table = (t : ℕ) (v : List Value) → occurrences (at (rows_in tables table) t) v ≡ occurrences (valid_at history n table t) v
 
 -- the files hold a history, and the tables what is valid by all its events
-pub record AreLoaded (files : List TableFile) (limit : ℕ) (tables : Tables) : Type 0 where
+pub record AreLoaded (form : Form) (files : List TableFile) (limit : ℕ) (tables : Tables) : Type 0 where
   pub loaded : Loaded
-  pub is_loaded : IsLoaded files limit loaded
+  pub is_loaded : IsLoaded form files limit loaded
   pub catalogue : loaded.catalogue ≡ tables.catalogue
   pub hold : (table : ℕ) → HoldsRows (lists_of tables.rows) loaded.events (length loaded.events) table
 
 -- the tables of files are those of the history that the files hold
 abbrev pub TablesAreLoaded : Type 0
-TablesAreLoaded = (files : List TableFile) (limit : ℕ) (tables : Tables) → AreTables files limit tables → AreLoaded files limit tables
+TablesAreLoaded = (form : Form) (files : List TableFile) (limit : ℕ) (tables : Tables) → AreTables form files limit tables → AreLoaded form files limit tables

@@ -15,7 +15,7 @@ use crate::records::{is_marked_twice, next_record, record_reader};
 use csv::ByteRecord;
 use std::alloc::{AllocError, Global};
 use tq_base::{
-    Bound, Catalogue, Column, FOREVER, Items, Name, Period, Rows, Schema, Value, fold_name,
+    Bound, Catalogue, Column, FOREVER, Form, Items, Name, Period, Rows, Schema, Value, fold_name,
 };
 
 /// The most events that a load may be asked for.
@@ -84,16 +84,17 @@ fn read_table(
     table: u32,
     events: &mut u32,
     bytes: &[u8],
+    form: Form,
 ) -> Result<(Vec<Column>, Rows), LoadFault>
     requires limit { limit ≤ MAX_EVENTS }
     requires within { events.old ≤ limit }
     ensures ok { (before : List Entry) → sum_by event_count before ≡ events.old → IfOk result (λ read.
-        table_contents limit table before bytes.now ≡ Ok (read.0.items, before ++ map (told_by table) read.1.items)) }
+        table_contents form limit table before bytes.now ≡ Ok (read.0.items, before ++ map (told_by table) read.1.items)) }
     ensures width { IfOk result (λ read. read.1.width ≡ length read.0.items) }
     ensures counted { IfOk result (λ read. events.new ≡ events.old + sum_by event_count (map (told_by table) read.1.items)) }
     ensures within { OnOk result (events.new ≤ limit) }
     ensures fault { (before : List Entry) → sum_by event_count before ≡ events.old → IfErr result (λ fault. fault.kind ≢ LoadFaultKind.OutOfMemory
-        → table_contents limit table before bytes.now ≡ Err fault) }
+        → table_contents form limit table before bytes.now ≡ Err fault) }
     ensures out_of_memory { IfErr result (λ fault. fault.kind ≡ LoadFaultKind.OutOfMemory → fault ≡ out_of_memory) }
 {
     if is_marked_twice(bytes) {
@@ -114,7 +115,7 @@ fn read_table(
         if !next_record(&mut reader, &mut record)? {
             return Ok((columns, rows));
         }
-        let period = match read_entry(alloc, &columns, &record, &mut values) {
+        let period = match read_entry(alloc, &columns, &record, &mut values, form) {
             Ok(period) => period,
             Err(kind) => return Err(fault_at(table, number, kind)),
         };
@@ -158,20 +159,21 @@ fn load_file(
     rows: &mut Vec<Rows>,
     events: &mut u32,
     file: &TableFile,
+    form: Form,
 ) -> Result<(), LoadFault>
     requires limit { limit ≤ MAX_EVENTS }
     requires few { length tables.old.items ≤ 16 }
     requires read { AreRead tables.old.items rows.old.items }
     requires counted { events.old ≡ sum_by event_count (entries_from 0 rows.old.items) }
     requires within { events.old ≤ limit }
-    ensures ok { OnOk result (next_contents limit (record { tables = tables.old.items; entries = entries_from 0 rows.old.items }) file.now
+    ensures ok { OnOk result (next_contents form limit (record { tables = tables.old.items; entries = entries_from 0 rows.old.items }) file.now
         ≡ Ok (record { tables = tables.new.items; entries = entries_from 0 rows.new.items })) }
     ensures few { OnOk result (length tables.new.items ≤ 16) }
     ensures read { OnOk result (AreRead tables.new.items rows.new.items) }
     ensures counted { OnOk result (events.new ≡ sum_by event_count (entries_from 0 rows.new.items)) }
     ensures within { OnOk result (events.new ≤ limit) }
     ensures fault { IfErr result (λ fault. fault.kind ≢ LoadFaultKind.OutOfMemory
-        → next_contents limit (record { tables = tables.old.items; entries = entries_from 0 rows.old.items }) file.now ≡ Err fault) }
+        → next_contents form limit (record { tables = tables.old.items; entries = entries_from 0 rows.old.items }) file.now ≡ Err fault) }
     ensures out_of_memory { IfErr result (λ fault. fault.kind ≡ LoadFaultKind.OutOfMemory → fault ≡ out_of_memory) }
 {
     let number = tables.len() as u32;
@@ -179,7 +181,7 @@ fn load_file(
         Ok(name) => name,
         Err(kind) => return Err(fault_at(number, 0, kind)),
     };
-    let (columns, read) = read_table(alloc, limit, number, events, file.bytes.get())?;
+    let (columns, read) = read_table(alloc, limit, number, events, file.bytes.get(), form)?;
     let columns = Items::of(columns);
     tables
         .push(Schema { name, columns })
@@ -193,36 +195,50 @@ fn read_files(
     alloc: Global,
     files: Vec<TableFile>,
     limit: u32,
+    form: Form,
 ) -> Result<(Vec<Schema>, Vec<Rows>), LoadFault>
     requires { limit ≤ MAX_EVENTS }
-    ensures ok { IfOk result (λ read. contents_of files.items limit
+    ensures ok { IfOk result (λ read. contents_of form files.items limit
         ≡ Ok (record { tables = read.0.items; entries = entries_from 0 read.1.items })) }
     ensures few { IfOk result (λ read. length read.0.items ≤ 16) }
     ensures read { IfOk result (λ read. AreRead read.0.items read.1.items) }
     ensures within { IfOk result (λ read. sum_by event_count (entries_from 0 read.1.items) ≤ limit) }
-    ensures fault { IfErr result (λ fault. fault.kind ≢ LoadFaultKind.OutOfMemory → contents_of files.items limit ≡ Err fault) }
+    ensures fault { IfErr result (λ fault. fault.kind ≢ LoadFaultKind.OutOfMemory → contents_of form files.items limit ≡ Err fault) }
     ensures out_of_memory { IfErr result (λ fault. fault.kind ≡ LoadFaultKind.OutOfMemory → fault ≡ out_of_memory) }
 {
     let mut tables = Vec::new(alloc);
     let mut rows = Vec::new(alloc);
     let mut events = 0;
     'files: for file in files {
-        load_file(alloc, limit, &mut tables, &mut rows, &mut events, &file)?;
+        load_file(
+            alloc,
+            limit,
+            &mut tables,
+            &mut rows,
+            &mut events,
+            &file,
+            form,
+        )?;
     }
     Ok((tables, rows))
 }
 
 /// Loads files into a catalogue and one list of at most `limit` events: for each data record a start
-/// and, unless `to` is `forever`, an end, ordered by time, ends before starts, table, record. The first
-/// fault is answered, in the order of tables, records and checks; `OutOfMemory` where a growth was
-/// refused.
-pub fn load(alloc: Global, files: Vec<TableFile>, limit: u32) -> Result<Loaded, LoadFault>
+/// and, unless `to` is `forever`, an end, ordered by time, ends before starts, table, record. Times are
+/// written in the form. The first fault is answered, in the order of tables, records and checks;
+/// `OutOfMemory` where a growth was refused.
+pub fn load(
+    alloc: Global,
+    files: Vec<TableFile>,
+    limit: u32,
+    form: Form,
+) -> Result<Loaded, LoadFault>
     requires { limit ≤ MAX_EVENTS }
-    ensures loaded { IfOk result (IsLoaded files.items limit) }
-    ensures fault { IfErr result (λ fault. fault.kind ≢ LoadFaultKind.OutOfMemory → contents_of files.items limit ≡ Err fault) }
+    ensures loaded { IfOk result (IsLoaded form files.items limit) }
+    ensures fault { IfErr result (λ fault. fault.kind ≢ LoadFaultKind.OutOfMemory → contents_of form files.items limit ≡ Err fault) }
     ensures out_of_memory { IfErr result (λ fault. fault.kind ≡ LoadFaultKind.OutOfMemory → fault ≡ out_of_memory) }
 {
-    let (tables, rows) = read_files(alloc, files, limit)?;
+    let (tables, rows) = read_files(alloc, files, limit, form)?;
     let entries = entries_of(alloc, &rows)?;
     let events = order_events(alloc, tables.len(), entries)?;
     Ok(Loaded {
@@ -235,13 +251,18 @@ pub fn load(alloc: Global, files: Vec<TableFile>, limit: u32) -> Result<Loaded, 
 
 /// Loads files into their tables, each with the rows that its records tell, in their order. The files
 /// are refused just as `load` refuses them.
-pub fn load_tables(alloc: Global, files: Vec<TableFile>, limit: u32) -> Result<Tables, LoadFault>
+pub fn load_tables(
+    alloc: Global,
+    files: Vec<TableFile>,
+    limit: u32,
+    form: Form,
+) -> Result<Tables, LoadFault>
     requires { limit ≤ MAX_EVENTS }
-    ensures tables { IfOk result (AreTables files.items limit) }
-    ensures fault { IfErr result (λ fault. fault.kind ≢ LoadFaultKind.OutOfMemory → contents_of files.items limit ≡ Err fault) }
+    ensures tables { IfOk result (AreTables form files.items limit) }
+    ensures fault { IfErr result (λ fault. fault.kind ≢ LoadFaultKind.OutOfMemory → contents_of form files.items limit ≡ Err fault) }
     ensures out_of_memory { IfErr result (λ fault. fault.kind ≡ LoadFaultKind.OutOfMemory → fault ≡ out_of_memory) }
 {
-    let (schemas, rows) = read_files(alloc, files, limit)?;
+    let (schemas, rows) = read_files(alloc, files, limit, form)?;
     Ok(Tables {
         catalogue: Catalogue {
             tables: Items::of(schemas),

@@ -11,7 +11,7 @@ use csv::ByteRecord;
 use std::alloc::{AllocError, Global};
 use std::str;
 use tq_base::{
-    Bound, Column, Instant, Kind, MAX_TEXT, Period, Value, read_bound, read_instant, read_int,
+    Bound, Column, Form, Instant, Kind, MAX_TEXT, Period, Value, read_bound, read_instant, read_int,
 };
 
 // The text that a field holds.
@@ -79,15 +79,15 @@ fn make_period(from: Option<Instant>, to: Option<Bound>) -> Result<Period, LoadF
 }
 
 // The period that the last two fields tell.
-fn read_period(record: &ByteRecord) -> Result<Period, LoadFaultKind>
+fn read_period(record: &ByteRecord, form: Form) -> Result<Period, LoadFaultKind>
     requires { 2 ≤ length (fields_of record.now) }
-    ensures ok { IfOk result (λ period. period_of (period_fields (fields_of record.now)) ≡ Ok (period.start, period.end)) }
-    ensures fault { IfErr result (λ fault. period_of (period_fields (fields_of record.now)) ≡ Err fault) }
+    ensures ok { IfOk result (λ period. period_of form (period_fields (fields_of record.now)) ≡ Ok (period.start, period.end)) }
+    ensures fault { IfErr result (λ fault. period_of form (period_fields (fields_of record.now)) ≡ Err fault) }
 {
     let width = record.len();
     let from = field_at(record, width - 2);
     let to = field_at(record, width - 1);
-    make_period(read_instant(from), read_bound(to))
+    make_period(read_instant(from, form), read_bound(to, form))
 }
 
 /// The row that a record of a table of these columns tells: its period; its values come to stand in the list.
@@ -96,17 +96,18 @@ pub fn read_entry(
     columns: &[Column],
     record: &ByteRecord,
     values: &mut Vec<Value>,
+    form: Form,
 ) -> Result<Period, LoadFaultKind>
-    ensures ok { (table : ℕ) → IfOk result (λ period. entry_of table columns.now (fields_of record.now)
+    ensures ok { (table : ℕ) → IfOk result (λ period. entry_of form table columns.now (fields_of record.now)
         ≡ Ok (told_by table (record { values = values.new.items; period = period }))) }
     ensures width { OnOk result (length values.new.items ≡ length columns.now) }
     ensures fault { (table : ℕ) → IfErr result (λ fault. fault ≢ LoadFaultKind.OutOfMemory
-        → entry_of table columns.now (fields_of record.now) ≡ Err fault) }
+        → entry_of form table columns.now (fields_of record.now) ≡ Err fault) }
 {
     let width = record.len();
     if width < 2 || width - 2 != columns.len() {
         return Err(LoadFaultKind::FieldCount);
     }
     read_fields(alloc, columns, record, values)?;
-    read_period(record)
+    read_period(record, form)
 }

@@ -1,7 +1,7 @@
 -- Where records begin in a file, and a part of a file among the parts of files.
 use Rattle.std.proofs.Common.{◌≡◌, ◌≢◌, ◌≤◌, ◌<◌, ◌+◌, ◌-◌, ◌++◌, ◌∷◌, [], ℕ, true, false, List, length, take, drop, refl, ap, sym, subst, ◌∙◌, arith}
 use Rattle.std.specs.Prelude.{All, slice_index, slice_index_or, slice_range}
-use Rattle.std.proofs.lemmas.List.{drop-take, get_or-take, length-take-le, take-append-drop, take-take, take_more}
+use Rattle.std.proofs.lemmas.List.{drop-take, get_or-drop, get_or-take, length-drop, length-take-le, take-append-drop, take-take, take_all, take_more}
 use Rattle.std.proofs.lemmas.List.Elements.{All-push, All-take}
 use Rattle.std.proofs.lemmas.Option.{get_or_from_slice_get}
 use Rattle.csv.specs.Machine.{step}
@@ -82,3 +82,31 @@ unfolding stands_after
 byte_more s bytes place byte within is =
     ap (stands_after s) (take_more bytes place 0 within ∙ ap (λ b. take place bytes ++ b ∷ []) (sym is))
     ∙ stands_on s (take place bytes) (byte ∷ [])
+
+-- where it stands behind the bytes from a place on
+pub to_the_end : (s : State) (bytes : List ℕ) (place : ℕ) (between : State) → place ≤ length bytes → between ≡ stands_after s (take place bytes)
+    → stands_after between (take (length bytes - place) (drop place bytes)) ≡ stands_after s bytes
+to_the_end s bytes place between within stands =
+    ap (stands_after between) (take_all (length bytes - place) (drop place bytes) (omega (arith, length-drop place bytes)))
+    ∙ ap (λ t. stands_after t (drop place bytes)) stands
+    ∙ sym (stands_on s (take place bytes) (drop place bytes))
+    ∙ ap (stands_after s) (take-append-drop place bytes)
+
+-- and behind some of them and one byte more
+pub some_more : (s : State) (bytes : List ℕ) (place count byte : ℕ) (between : State) → place ≤ length bytes → between ≡ stands_after s (take place bytes)
+    → count < length (take (length bytes - place) (drop place bytes)) → slice_index (take (length bytes - place) (drop place bytes)) count ≡ byte
+    → (step default_config (stands_after between (take count (take (length bytes - place) (drop place bytes)))) byte).0 ≡ stands_after s (take (place + (count + 1)) bytes)
+some_more s bytes place count byte between within stands less is =
+    let rest = drop place bytes in
+    let many : length rest ≡ length bytes - place = length-drop place bytes in
+    let whole : take (length bytes - place) rest ≡ rest = take_all (length bytes - place) rest (omega (arith, many)) in
+    let here : count < length rest = subst (λ l. count < length l) whole less in
+    let first : take place (take (place + count) bytes) ≡ take place bytes = take-take place (place + count) bytes (omega arith) in
+    let next : place + count + 1 ≡ place + (count + 1) = omega arith in
+    let upto : take place bytes ++ take count rest ≡ take (place + count) bytes =
+    sym (ap (λ l. l ++ take count rest) first) ∙ sym (ap (λ l. take place (take (place + count) bytes) ++ l) (drop-take place count bytes)) ∙ take-append-drop place (take (place + count) bytes) in
+    ap (λ l. (step default_config (stands_after between (take count l)) byte).0) whole
+    ∙ ap (λ t. (step default_config (stands_after t (take count rest)) byte).0) stands
+    ∙ ap (λ t. (step default_config t byte).0) (sym (stands_on s (take place bytes) (take count rest)) ∙ ap (stands_after s) upto)
+    ∙ sym (byte_more s bytes (place + count) byte (omega (arith, here, many)) (sym is ∙ ap (λ l. slice_index l count) whole ∙ get_or-drop place bytes count 0))
+    ∙ ap (λ n. stands_after s (take n bytes)) next

@@ -5,6 +5,7 @@ use Rattle.std.proofs.lemmas.List.{drop-drop, drop-take, map-append, take-append
 use Rattle.csv.specs.Machine.{next_record}
 use Rattle.csv.specs.Reading.{records_from, strip_bom}
 use Rattle.csv.specs.declared.parser.State.TheVariants as st
+use Rattle.tq_base.specs.declared.form.Form.{Form}
 use Rattle.tq_base.specs.declared.catalogue.Column.{Column}
 use Rattle.tq_base.specs.declared.fragment.Fragment.{Fragment}
 use Rattle.tq_base.specs.RowLists.{RowList}
@@ -16,22 +17,22 @@ use Rattle.tq_loading.proofs.ChainLemmas.{ends_on, records_apart, unmarked}
 
 -- ---- records
 
-pub tell_both : (columns : List Column) (records more : List (List (List ℕ))) (rows others : List Fragment) → TellRows columns records rows → TellRows columns more others → TellRows columns (records ++ more) (rows ++ others)
-tell_both columns records more rows others first second table =
-    map-append (entry_of table columns) records more
-    ∙ ap (λ l. l ++ map (entry_of table columns) more) (first table)
+pub tell_both : (form : Form) (columns : List Column) (records more : List (List (List ℕ))) (rows others : List Fragment) → TellRows form columns records rows → TellRows form columns more others → TellRows form columns (records ++ more) (rows ++ others)
+tell_both form columns records more rows others first second table =
+    map-append (entry_of form table columns) records more
+    ∙ ap (λ l. l ++ map (entry_of form table columns) more) (first table)
     ∙ ap (λ l. map (λ row. Ok (told_by table row)) rows ++ l) (second table)
     ∙ sym (map-append (λ row. Ok (told_by table row)) rows others)
 
-part_tells_both : (start : ℕ) (columns : List Column) (records more : List (List (List ℕ))) (rows others : List Fragment) → PartTells start columns records rows → TellRows columns more others
-    → PartTells start columns (records ++ more) (rows ++ others)
-part_tells_both zero columns [] more rows others first second = absurd first
-part_tells_both zero columns (header ∷ records) more rows others first second = tell_both columns records more rows others first second
-part_tells_both (suc start) columns records more rows others first second = tell_both columns records more rows others first second
+part_tells_both : (form : Form) (start : ℕ) (columns : List Column) (records more : List (List (List ℕ))) (rows others : List Fragment) → PartTells form start columns records rows → TellRows form columns more others
+    → PartTells form start columns (records ++ more) (rows ++ others)
+part_tells_both form zero columns [] more rows others first second = absurd first
+part_tells_both form zero columns (header ∷ records) more rows others first second = tell_both form columns records more rows others first second
+part_tells_both form (suc start) columns records more rows others first second = tell_both form columns records more rows others first second
 
-pub whole_told : (columns : List Column) (records : List (List (List ℕ))) (rows : List Fragment) → PartTells 0 columns records rows → TellRows columns (drop 1 records) rows
-whole_told columns [] rows tells = absurd tells
-whole_told columns (header ∷ records) rows tells = tells
+pub whole_told : (form : Form) (columns : List Column) (records : List (List (List ℕ))) (rows : List Fragment) → PartTells form 0 columns records rows → TellRows form columns (drop 1 records) rows
+whole_told form columns [] rows tells = absurd tells
+whole_told form columns (header ∷ records) rows tells = tells
 
 -- ---- bytes
 
@@ -86,25 +87,25 @@ no_bytes bytes start = let none : start - start ≡ 0 = omega arith in rw none r
 
 -- ---- parts
 
-module _ (columns : List Column) (bytes : List ℕ) (first second both : Part) (rows others all : RowList) (next : first.end ≡ second.start)
+module _ (form : Form) (columns : List Column) (bytes : List ℕ) (first second both : Part) (rows others all : RowList) (next : first.end ≡ second.start)
     (starts : both.start ≡ first.start) (ends : both.end ≡ second.end) (wide : all.width ≡ rows.width) (are : all.items ≡ rows.items ++ others.items)
-    (is_first : AreRowsOfPart columns bytes first rows) (is_second : AreRowsOfPart columns bytes second others) where
-  told_upto : (start place : ℕ) → first.start ≡ start → second.start ≡ place → PartTells start columns (csv_records (slice_range bytes start second.end)) (rows.items ++ others.items)
+    (is_first : AreRowsOfPart form columns bytes first rows) (is_second : AreRowsOfPart form columns bytes second others) where
+  told_upto : (start place : ℕ) → first.start ≡ start → second.start ≡ place → PartTells form start columns (csv_records (slice_range bytes start second.end)) (rows.items ++ others.items)
   told_upto start zero at begins =
       let over : first.end ≡ 0 = next ∙ begins in
       let none : first.start ≡ 0 = omega (arith, over, is_first.part_of.ordered) in
-      let tells : PartTells 0 columns (csv_records (slice_range bytes 0 0)) rows.items = rw (none, over) at is_first.told in
-      let nothing : PartTells 0 columns [] rows.items = subst (λ l. PartTells 0 columns l rows.items) (ap csv_records (no_bytes bytes 0) ∙ no_records) tells in
+      let tells : PartTells form 0 columns (csv_records (slice_range bytes 0 0)) rows.items = rw (none, over) at is_first.told in
+      let nothing : PartTells form 0 columns [] rows.items = subst (λ l. PartTells form 0 columns l rows.items) (ap csv_records (no_bytes bytes 0) ∙ no_records) tells in
       absurd nothing
   told_upto start (suc place) at begins = by (suc place - start) refl
     where
       over : first.end ≡ suc place
       over = next ∙ begins
 
-      tells : PartTells start columns (csv_records (slice_range bytes start (suc place))) rows.items
+      tells : PartTells form start columns (csv_records (slice_range bytes start (suc place))) rows.items
       tells = rw (at, over) at is_first.told
 
-      others_told : TellRows columns (csv_records (slice_range bytes (suc place) second.end)) others.items
+      others_told : TellRows form columns (csv_records (slice_range bytes (suc place) second.end)) others.items
       others_told = rw begins at is_second.told
 
       cut : IsCut bytes (suc place)
@@ -113,18 +114,18 @@ module _ (columns : List Column) (bytes : List ℕ) (first second both : Part) (
       upto : suc place ≤ second.end
       upto = omega (arith, begins, is_second.part_of.ordered)
 
-      by : (n : ℕ) → suc place - start ≡ n → PartTells start columns (csv_records (slice_range bytes start second.end)) (rows.items ++ others.items)
+      by : (n : ℕ) → suc place - start ≡ n → PartTells form start columns (csv_records (slice_range bytes start second.end)) (rows.items ++ others.items)
       by zero e =
           let here : start ≡ suc place = omega (arith, e, at, over, is_first.part_of.ordered) in
-          let nothing : TellRows columns (csv_records (slice_range bytes (suc place) (suc place))) rows.items = rw here at tells in
-          let none : TellRows columns [] rows.items = subst (λ l. TellRows columns l rows.items) (ap csv_records (no_bytes bytes (suc place)) ∙ no_records) nothing in
-          rw here (tell_both columns [] (csv_records (slice_range bytes (suc place) second.end)) rows.items others.items none others_told)
+          let nothing : TellRows form columns (csv_records (slice_range bytes (suc place) (suc place))) rows.items = rw here at tells in
+          let none : TellRows form columns [] rows.items = subst (λ l. TellRows form columns l rows.items) (ap csv_records (no_bytes bytes (suc place)) ∙ no_records) nothing in
+          rw here (tell_both form columns [] (csv_records (slice_range bytes (suc place) second.end)) rows.items others.items none others_told)
       by (suc n) e =
           let some : start < suc place = omega (arith, e) in
           rw (records_parted bytes start (suc place) second.end (omega (arith, some)) upto is_second.part_of.within (λ e. subst (IsCut bytes) at (is_first.part_of.begins (λ z. e (sym at ∙ z)))) cut)
-          (part_tells_both start columns (csv_records (slice_range bytes start (suc place))) (csv_records (slice_range bytes (suc place) second.end)) rows.items others.items tells others_told)
+          (part_tells_both form start columns (csv_records (slice_range bytes start (suc place))) (csv_records (slice_range bytes (suc place) second.end)) rows.items others.items tells others_told)
 
-  pub both_read : AreRowsOfPart columns bytes both all
+  pub both_read : AreRowsOfPart form columns bytes both all
   both_read = record {
     part_of = record {
       ordered = omega (arith, starts, ends, next, is_first.part_of.ordered, is_second.part_of.ordered);
@@ -136,9 +137,9 @@ module _ (columns : List Column) (bytes : List ℕ) (first second both : Part) (
   }
 
 -- the rows of the part that is the whole file
-pub whole_read : (columns : List Column) (bytes : List ℕ) (part : Part) (rows : RowList) → part.start ≡ 0 → part.end ≡ length bytes → AreRowsOfPart columns bytes part rows → AreRowsOfTable columns bytes rows
-whole_read columns bytes part rows first last read =
+pub whole_read : (form : Form) (columns : List Column) (bytes : List ℕ) (part : Part) (rows : RowList) → part.start ≡ 0 → part.end ≡ length bytes → AreRowsOfPart form columns bytes part rows → AreRowsOfTable form columns bytes rows
+whole_read form columns bytes part rows first last read =
     let many : length bytes - 0 ≡ length bytes = omega arith in
     let all : slice_range bytes 0 (length bytes) ≡ bytes = ap (λ n. take n bytes) many ∙ take_all (length bytes) bytes (omega arith) in
-    let tells : PartTells 0 columns (csv_records (slice_range bytes 0 (length bytes))) rows.items = rw (first, last) at read.told in
-    record { wide = read.wide; told = whole_told columns (csv_records bytes) rows.items (subst (λ l. PartTells 0 columns (csv_records l) rows.items) all tells) }
+    let tells : PartTells form 0 columns (csv_records (slice_range bytes 0 (length bytes))) rows.items = rw (first, last) at read.told in
+    record { wide = read.wide; told = whole_told form columns (csv_records bytes) rows.items (subst (λ l. PartTells form 0 columns (csv_records l) rows.items) all tells) }

@@ -1,9 +1,10 @@
 -- The machine of the `csv` crate over bytes behind which it stands at the start of a record: it finds in them what it finds
 -- before more bytes too.
-use Rattle.std.proofs.Common.{◌≡◌, ◌≢◌, ◌-◌, ℕ, suc, ◌==◌, Bool, true, false, ◌⊎◌, inl, inr, List, [], ◌∷◌, ◌++◌, length, Some, None, if◌then◌else◌, refl, sym, subst, arith}
-use Rattle.std.specs.Prelude.{All, slice_index}
+use Rattle.std.proofs.Common.{◌≡◌, ◌≢◌, ◌-◌, ℕ, suc, ◌==◌, Bool, true, false, ◌⊎◌, inl, inr, List, [], ◌∷◌, ◌++◌, length, ◌<◌, ◌∙◌, Some, None, ap, if◌then◌else◌, refl, sym, subst, arith}
+use Rattle.std.specs.Prelude.{All, slice_get, slice_index, slice_index_or}
 use Rattle.std.proofs.lemmas.Bool.{eqb-true}
 use Rattle.std.proofs.lemmas.List.Elements.{All-head, All-tail}
+use Rattle.std.proofs.lemmas.Option.{get_or_from_slice_get}
 use Rattle.csv.specs.Machine.{Read, field_after, fields_after, in_field, is_end, next_record, start_record, step}
 use Rattle.csv.specs.Reading.{default_config, is_bom, strip_bom}
 use Rattle.csv.specs.declared.parser.Action.{Action}
@@ -11,6 +12,9 @@ use Rattle.csv.specs.declared.parser.State.{State}
 use Rattle.csv.specs.declared.parser.State.TheVariants as st
 use Rattle.csv.specs.declared.parser.Action.TheVariants as act
 use Rattle.tq_loading.specs.Parts.{EndsRecords, stands_after}
+use Rattle.tq_loading.specs.Standing.{state_of}
+use Rattle.tq_loading.specs.declared.standing.Standing.{Standing}
+use Rattle.tq_loading.specs.declared.standing.Standing.TheVariants as at
 
 -- ---- states
 
@@ -186,7 +190,7 @@ IsUnquoted st.AfterCr = Unit {0}
 IsUnquoted st.StartField = Unit {0}
 IsUnquoted st.InField = Unit {0}
 IsUnquoted st.InQuoted = ⊥
-IsUnquoted st.AfterQuote = ⊥
+IsUnquoted st.AfterQuote = Unit {0}
 IsUnquoted st.InEscape = ⊥
 IsUnquoted st.InComment = ⊥
 
@@ -225,7 +229,7 @@ step_unquoted st.AfterCr unquoted b other = subst (λ q. IsUnquoted q.0) (sym (a
 step_unquoted st.StartField unquoted b other = rw (differs b 34 other) (field_unquoted b)
 step_unquoted st.InField unquoted b other = field_unquoted b
 step_unquoted st.InQuoted unquoted b other = absurd unquoted
-step_unquoted st.AfterQuote unquoted b other = absurd unquoted
+step_unquoted st.AfterQuote unquoted b other = rw (differs b 34 other) (field_unquoted b)
 step_unquoted st.InEscape unquoted b other = absurd unquoted
 step_unquoted st.InComment unquoted b other = absurd unquoted
 
@@ -236,7 +240,7 @@ step_feed st.AfterCr unquoted = refl
 step_feed st.StartField unquoted = refl
 step_feed st.InField unquoted = refl
 step_feed st.InQuoted unquoted = absurd unquoted
-step_feed st.AfterQuote unquoted = absurd unquoted
+step_feed st.AfterQuote unquoted = refl
 step_feed st.InEscape unquoted = absurd unquoted
 step_feed st.InComment unquoted = absurd unquoted
 
@@ -283,3 +287,60 @@ lines_end (a ∷ b ∷ c ∷ bytes) unquoted ended = by (is_bom a b c)
     by : (mark : Bool) → stands_after st.StartRecord (if mark then bytes else a ∷ b ∷ c ∷ bytes) ≡ st.StartRecord
     by true = all_stand bytes (lines_left c bytes lines.1.1)
     by false = all_stand (a ∷ b ∷ c ∷ bytes) lines
+
+-- ---- bytes with no quote
+
+-- in quotes they change nothing
+pub quotes_stay : (bytes : List ℕ) → All (λ b. b ≢ 34) bytes → stands_after st.InQuoted bytes ≡ st.InQuoted
+unfolding stands_after
+quotes_stay [] plain = refl
+quotes_stay (b ∷ bytes) plain = rw (differs b 34 (All-head (λ x. x ≢ 34) b bytes plain)) (quotes_stay bytes (All-tail (λ x. x ≢ 34) b bytes plain))
+
+start_alike : (b : ℕ) → b ≢ 34 → b ≢ 13 → (start_record default_config b).0 ≡ (in_field default_config b).0
+start_alike b quote return = by (b == 44) (b == 10) refl refl
+  where
+    by : (comma feed : Bool) → (b == 44) ≡ comma → (b == 10) ≡ feed → (start_record default_config b).0 ≡ (in_field default_config b).0
+    by comma true c is = let at : b ≡ 10 = eqb-true b 10 is in rw at refl
+    by true false is f = rw (differs b 13 return, f, differs b 34 quote, is) refl
+    by false false c f = rw (differs b 13 return, f, differs b 34 quote, c) refl
+
+-- a byte that is no carriage return is read as in a field
+step_alike : (s : State) → IsUnquoted s → (b : ℕ) → b ≢ 34 → b ≢ 13 → (step default_config s b).0 ≡ (in_field default_config b).0
+step_alike st.StartRecord unquoted b quote return = start_alike b quote return
+step_alike st.AfterCr unquoted b quote return = ap (λ q. q.0) (after_return b) ∙ start_alike b quote return
+step_alike st.StartField unquoted b quote return = rw (differs b 34 quote) refl
+step_alike st.InField unquoted b quote return = refl
+step_alike st.AfterQuote unquoted b quote return = rw (differs b 34 quote) refl
+step_alike st.InQuoted unquoted b quote return = absurd unquoted
+step_alike st.InEscape unquoted b quote return = absurd unquoted
+step_alike st.InComment unquoted b quote return = absurd unquoted
+
+last_alike : (s : State) → IsUnquoted s → (bytes : List ℕ) → All (λ b. b ≢ 34) bytes → (last : ℕ) → last ≢ 13 → 0 < length bytes
+    → ((d : ℕ) → slice_index_or bytes (length bytes - 1) d ≡ last) → stands_after s bytes ≡ (in_field default_config last).0
+unfolding stands_after
+last_alike s unquoted [] plain last return some is = absurd (omega (arith, some))
+last_alike s unquoted (b ∷ []) plain last return some is =
+    let same : b ≡ last = is 0 in
+    step_alike s unquoted b (All-head (λ x. x ≢ 34) b [] plain) (λ e. return (sym same ∙ e))
+    ∙ ap (λ x. (in_field default_config x).0) same
+last_alike s unquoted (b ∷ c ∷ bytes) plain last return some is =
+    let place : suc (suc (length bytes)) - 1 ≡ suc (suc (length bytes) - 1) = omega arith in
+    last_alike (step default_config s b).0 (step_unquoted s unquoted b (All-head (λ x. x ≢ 34) b (c ∷ bytes) plain)) (c ∷ bytes)
+    (All-tail (λ x. x ≢ 34) b (c ∷ bytes) plain) last return (omega arith) (λ d. rw place at (is d))
+
+-- where no quote is open the last one tells, if it is no carriage return
+pub last_tells : (s : Standing) → s ≢ at.InQuotes → (bytes : List ℕ) → All (λ b. b ≢ 34) bytes → (last : ℕ) → last ≢ 13
+    → Some last ≡ slice_get bytes (length bytes - 1) → stands_after (state_of s) bytes ≡ (in_field default_config last).0
+last_tells s other bytes plain last return is = last_alike (state_of s) (unquoted s other) bytes plain last return (some bytes is) (λ d. get_or_from_slice_get bytes (length bytes - 1) last d (sym is))
+  where
+    unquoted : (s : Standing) → s ≢ at.InQuotes → IsUnquoted (state_of s)
+    unquoted at.Record other = tt
+    unquoted at.Field other = tt
+    unquoted at.InField other = tt
+    unquoted at.InQuotes other = absurd (other refl)
+    unquoted at.BehindQuote other = tt
+    unquoted at.BehindReturn other = tt
+
+    some : (bytes : List ℕ) → Some last ≡ slice_get bytes (length bytes - 1) → 0 < length bytes
+    some [] e = absurd cc
+    some (b ∷ bytes) e = omega arith

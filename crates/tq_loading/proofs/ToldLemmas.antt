@@ -4,6 +4,7 @@ use Rattle.std.proofs.lemmas.List.{drop_more, length-drop, length-take-le, take_
 use Rattle.std.proofs.lemmas.List.Sums.{sum_by-append, sum_by-cons}
 use Rattle.std.proofs.lemmas.Option.{get_or_from_slice_get, slice_get-get_or, slice_get_cases, slice_get_within}
 use Rattle.std.specs.Prelude.{slice_index_or}
+use Rattle.tq_base.specs.declared.form.Form.{Form}
 use Rattle.tq_base.specs.declared.catalogue.Column.{Column}
 use Rattle.tq_base.specs.declared.catalogue.Schema.{Schema}
 use Rattle.tq_base.specs.declared.fragment.Fragment.{Fragment}
@@ -19,27 +20,27 @@ use Rattle.tq_loading.specs.Parts.{AreHeaded, AreRowsOfTable, AreTold, TellRows}
 
 -- ---- records
 
-first_told : (table : ℕ) (columns : List Column) (fields : List (List ℕ)) (records : List (List (List ℕ))) (row : Fragment) (rows : List Fragment) → TellRows columns (fields ∷ records) (row ∷ rows)
-    → entry_of table columns fields ≡ Ok (told_by table row)
-first_told table columns fields records row rows tell = cc (tell table)
+first_told : (form : Form) (table : ℕ) (columns : List Column) (fields : List (List ℕ)) (records : List (List (List ℕ))) (row : Fragment) (rows : List Fragment) → TellRows form columns (fields ∷ records) (row ∷ rows)
+    → entry_of form table columns fields ≡ Ok (told_by table row)
+first_told form table columns fields records row rows tell = cc (tell table)
 
-rest_told : (columns : List Column) (fields : List (List ℕ)) (records : List (List (List ℕ))) (row : Fragment) (rows : List Fragment) → TellRows columns (fields ∷ records) (row ∷ rows) → TellRows columns records rows
-rest_told columns fields records row rows tell table = cc (tell table)
+rest_told : (form : Form) (columns : List Column) (fields : List (List ℕ)) (records : List (List (List ℕ))) (row : Fragment) (rows : List Fragment) → TellRows form columns (fields ∷ records) (row ∷ rows) → TellRows form columns records rows
+rest_told form columns fields records row rows tell table = cc (tell table)
 
 -- records that tell rows make their entries, where the events stay within the limit
-pub told_entries : (limit table : ℕ) (columns : List Column) (number : ℕ) (before : List Entry) (records : List (List (List ℕ))) (rows : List Fragment) → TellRows columns records rows
-    → sum_by event_count (before ++ map (told_by table) rows) ≤ limit → entries_after limit table columns number before records ≡ Ok (before ++ map (told_by table) rows)
-told_entries limit table columns number before [] [] tell within = ap (λ (es : List Entry). let r : Result (List Entry) LoadFault = Ok es in r) (sym (append-nil before))
-told_entries limit table columns number before [] (row ∷ rows) tell within = cc (tell table)
-told_entries limit table columns number before (fields ∷ records) [] tell within = cc (tell table)
-told_entries limit table columns number before (fields ∷ records) (row ∷ rows) tell within =
+pub told_entries : (form : Form) (limit table : ℕ) (columns : List Column) (number : ℕ) (before : List Entry) (records : List (List (List ℕ))) (rows : List Fragment) → TellRows form columns records rows
+    → sum_by event_count (before ++ map (told_by table) rows) ≤ limit → entries_after form limit table columns number before records ≡ Ok (before ++ map (told_by table) rows)
+told_entries form limit table columns number before [] [] tell within = ap (λ (es : List Entry). let r : Result (List Entry) LoadFault = Ok es in r) (sym (append-nil before))
+told_entries form limit table columns number before [] (row ∷ rows) tell within = cc (tell table)
+told_entries form limit table columns number before (fields ∷ records) [] tell within = cc (tell table)
+told_entries form limit table columns number before (fields ∷ records) (row ∷ rows) tell within =
     let entry : Entry = told_by table row in
     let told : List Entry = map (told_by table) rows in
     let assoc : (before ++ entry ∷ []) ++ told ≡ before ++ entry ∷ told = append_assoc before (entry ∷ []) told in
     let counted : sum_by event_count before + event_count entry ≤ limit = omega (arith, sum_by-append event_count before (entry ∷ told), sum_by-cons event_count entry told, within) in
-    add_ok limit table columns number before fields records (fields ∷ records) refl entry (before ++ entry ∷ []) (first_told table columns fields records row rows tell)
+    add_ok form limit table columns number before fields records (fields ∷ records) refl entry (before ++ entry ∷ []) (first_told form table columns fields records row rows tell)
     (next_ok limit before entry (sum_by event_count before + event_count entry) refl counted)
-    ∙ told_entries limit table columns (number + 1) (before ++ entry ∷ []) records rows (rest_told columns fields records row rows tell) (omega (arith, ap (sum_by event_count) assoc, within))
+    ∙ told_entries form limit table columns (number + 1) (before ++ entry ∷ []) records rows (rest_told form columns fields records row rows tell) (omega (arith, ap (sum_by event_count) assoc, within))
     ∙ ap (λ (es : List Entry). let r : Result (List Entry) LoadFault = Ok es in r) assoc
 
 -- ---- files
@@ -63,13 +64,13 @@ item_at {A} xs t here = by (slice_get_cases xs t).1
     by (inl (x, less, is, same)) = (x, is)
     by (inr (past, none)) = absurd (omega (arith, past, here))
 
-module _ (files : List TableFile) (limit : ℕ) (schemas : List Schema) (tables : List RowList) (headed : AreHeaded files schemas) (told : AreTold files schemas tables)
+module _ (form : Form) (files : List TableFile) (limit : ℕ) (schemas : List Schema) (tables : List RowList) (headed : AreHeaded files schemas) (told : AreTold form files schemas tables)
     (within : sum_by event_count (entries_from 0 tables) ≤ limit) where
   abbrev so_far : ℕ → Contents
   so_far t = record { tables = take t schemas; entries = entries_from 0 (take t tables) }
 
   step_on : (t : ℕ) (file : TableFile) (schema : Schema) (rows : RowList) → t < length files → slice_get files t ≡ Some file → slice_get schemas t ≡ Some schema → slice_get tables t ≡ Some rows
-      → next_contents limit (so_far t) file ≡ Ok (so_far (t + 1))
+      → next_contents form limit (so_far t) file ≡ Ok (so_far (t + 1))
   step_on t file schema rows here is_file is_schema is_rows =
       let number : length (take t schemas) ≡ t = length-take-le t schemas (omega (arith, here, headed.many)) in
       let many : length (take t tables) ≡ t = length-take-le t tables (omega (arith, here, told.many)) in
@@ -77,15 +78,15 @@ module _ (files : List TableFile) (limit : ℕ) (schemas : List Schema) (tables 
       let more_tables : take (t + 1) tables ≡ take t tables ++ rows ∷ [] = one_more tables t rows is_rows (omega (arith, here, told.many)) in
       let before : List Entry = entries_from 0 (take t tables) in
       let put : entries_from 0 (take (t + 1) tables) ≡ before ++ map (told_by t) rows.items = entries_put (take t tables) (take (t + 1) tables) rows t more_tables many in
-      let of_table : AreRowsOfTable schema.columns file.bytes rows = told.each t rows is_rows file schema is_file is_schema in
+      let of_table : AreRowsOfTable form schema.columns file.bytes rows = told.each t rows is_rows file schema is_file is_schema in
       let few : sum_by event_count (before ++ map (told_by t) rows.items) ≤ limit = omega (arith, ap (sum_by event_count) put, some_events 0 (t + 1) tables, within) in
-      let contents : table_contents limit t before file.bytes ≡ Ok (schema.columns, before ++ map (told_by t) rows.items) =
-      read_ok limit t before file.bytes schema.columns (before ++ map (told_by t) rows.items) (headed.headed t file schema is_file is_schema)
-      (told_entries limit t schema.columns 2 before (drop 1 (csv_records file.bytes)) rows.items of_table.told few) in
+      let contents : table_contents form limit t before file.bytes ≡ Ok (schema.columns, before ++ map (told_by t) rows.items) =
+      read_ok form limit t before file.bytes schema.columns (before ++ map (told_by t) rows.items) (headed.headed t file schema is_file is_schema)
+      (told_entries form limit t schema.columns 2 before (drop 1 (csv_records file.bytes)) rows.items of_table.told few) in
       let named : next_name (take t schemas) file.name ≡ Ok schema.name = headed.named t file schema is_file is_schema in
       rw (named, number, contents, more_schemas, put) refl
 
-  rest_on : (left : List TableFile) (t : ℕ) → drop t files ≡ left → t ≤ length files → contents_after limit (so_far t) left ≡ Ok (record { tables = schemas; entries = entries_from 0 tables })
+  rest_on : (left : List TableFile) (t : ℕ) → drop t files ≡ left → t ≤ length files → contents_after form limit (so_far t) left ≡ Ok (record { tables = schemas; entries = entries_from 0 tables })
   rest_on [] t is upto =
       let past : length files ≤ t = omega (arith, length-drop t files, ap length is) in
       rw (take_all t schemas (omega (arith, past, headed.many)), take_all t tables (omega (arith, past, told.many))) refl
@@ -98,7 +99,7 @@ module _ (files : List TableFile) (limit : ℕ) (schemas : List Schema) (tables 
       let (rows, is_rows) = item_at tables t (omega (arith, here, told.many)) in
       rw (step_on t file schema rows here is_file is_schema is_rows) (rest_on left (t + 1) (cc split) (omega (arith, here)))
 
-  pub all_contents : contents_of files limit ≡ Ok (record { tables = schemas; entries = entries_from 0 tables })
+  pub all_contents : contents_of form files limit ≡ Ok (record { tables = schemas; entries = entries_from 0 tables })
   unfolding entries_from
   all_contents = rest_on files 0 refl (omega arith)
 
@@ -115,7 +116,7 @@ all_wide (s ∷ schemas) (r ∷ tables) many wide =
     rw (first, rest) refl
 
 -- the rows of each table are as wide as its schema
-pub as_wide : (files : List TableFile) (schemas : List Schema) (tables : List RowList) → AreHeaded files schemas → AreTold files schemas tables → AreRead schemas tables
-as_wide files schemas tables headed told = all_wide schemas tables (told.many ∙ sym headed.many) (λ t s r is_schema is_rows.
+pub as_wide : (form : Form) (files : List TableFile) (schemas : List Schema) (tables : List RowList) → AreHeaded files schemas → AreTold form files schemas tables → AreRead schemas tables
+as_wide form files schemas tables headed told = all_wide schemas tables (told.many ∙ sym headed.many) (λ t s r is_schema is_rows.
     let (file, is_file) = item_at files t (omega (arith, slice_get_within tables t r is_rows, told.many)) in
     (told.each t r is_rows file s is_file is_schema).wide)

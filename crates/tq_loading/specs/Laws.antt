@@ -1,5 +1,6 @@
 -- What is known of records and of rows that their records tell. This project's own.
 use Rattle.std.specs.Prelude.{◌≡◌, ◌≤◌, ◌++◌, ℕ, false, List, Ok, sum_by}
+use Rattle.tq_base.specs.declared.form.Form.{Form}
 use Rattle.tq_base.specs.declared.catalogue.Schema.{Schema}
 use Rattle.tq_base.specs.RowLists.{RowList}
 use Rattle.tq_event.specs.declared.file.TableFile.{TableFile}
@@ -13,5 +14,5 @@ RecordsAreApart = (bytes more : List ℕ) → EndsRecords bytes → begins_with_
 
 -- files whose names, headers and records are well hold the rows that their records tell, where their events stay within the limit
 abbrev pub ToldIsContents : Type 0
-ToldIsContents = (files : List TableFile) (limit : ℕ) (schemas : List Schema) (tables : List RowList) → AreHeaded files schemas → AreTold files schemas tables
-    → sum_by event_count (entries_from 0 tables) ≤ limit → contents_of files limit ≡ Ok (record { tables = schemas; entries = entries_from 0 tables })
+ToldIsContents = (form : Form) (files : List TableFile) (limit : ℕ) (schemas : List Schema) (tables : List RowList) → AreHeaded files schemas → AreTold form files schemas tables
+    → sum_by event_count (entries_from 0 tables) ≤ limit → contents_of form files limit ≡ Ok (record { tables = schemas; entries = entries_from 0 tables })

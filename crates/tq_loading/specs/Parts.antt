@@ -5,6 +5,7 @@ use Rattle.csv.specs.Machine.{step}
 use Rattle.csv.specs.Reading.{default_config, strip_bom}
 use Rattle.csv.specs.declared.parser.State.{State}
 use Rattle.csv.specs.declared.parser.State.TheVariants as st
+use Rattle.tq_base.specs.declared.form.Form.{Form}
 use Rattle.tq_base.specs.declared.catalogue.Column.{Column}
 use Rattle.tq_base.specs.declared.catalogue.Schema.{Schema}
 use Rattle.tq_base.specs.declared.fragment.Fragment.{Fragment}
@@ -45,28 +46,28 @@ pub record IsPartOf (files : List TableFile) (part : Part) : Type 0 where
 -- ---- what they tell
 
 -- the records tell the rows, one each
-abbrev pub TellRows : List Column → List (List (List ℕ)) → List Fragment → Type 0
-TellRows columns records rows = (table : ℕ) → map (entry_of table columns) records ≡ map (λ row. Ok (told_by table row)) rows
+abbrev pub TellRows : Form → List Column → List (List (List ℕ)) → List Fragment → Type 0
+TellRows form columns records rows = (table : ℕ) → map (entry_of form table columns) records ≡ map (λ row. Ok (told_by table row)) rows
 
 -- the same of the records of a part from this place on, of which the first one of a file is the header
-abbrev pub PartTells : ℕ → List Column → List (List (List ℕ)) → List Fragment → Type 0
-PartTells zero columns [] rows = ⊥
-PartTells zero columns (header ∷ records) rows = TellRows columns records rows
-PartTells (suc start) columns records rows = TellRows columns records rows
+abbrev pub PartTells : Form → ℕ → List Column → List (List (List ℕ)) → List Fragment → Type 0
+PartTells form zero columns [] rows = ⊥
+PartTells form zero columns (header ∷ records) rows = TellRows form columns records rows
+PartTells form (suc start) columns records rows = TellRows form columns records rows
 
 -- the rows of a part of a table's bytes
-pub record AreRowsOfPart (columns : List Column) (bytes : List ℕ) (part : Part) (rows : RowList) : Type 0 where
+pub record AreRowsOfPart (form : Form) (columns : List Column) (bytes : List ℕ) (part : Part) (rows : RowList) : Type 0 where
   pub part_of : IsPart bytes part
   pub wide : rows.width ≡ length columns
-  pub told : PartTells part.start columns (csv_records (slice_range bytes part.start part.end)) rows.items
+  pub told : PartTells form part.start columns (csv_records (slice_range bytes part.start part.end)) rows.items
 
 -- it holds of the file and the schema of the table
 abbrev pub HoldsAt : List TableFile → List Schema → ℕ → (TableFile → Schema → Type 0) → Type 0
 HoldsAt files schemas table holds = (file : TableFile) (schema : Schema) → slice_get files table ≡ Some file → slice_get schemas table ≡ Some schema → holds file schema
 
 -- the rows are those of their part
-abbrev pub IsRead : List TableFile → List Schema → PartRows → Type 0
-IsRead files schemas read = HoldsAt files schemas read.part.table (λ file schema. AreRowsOfPart schema.columns file.bytes read.part read.rows)
+abbrev pub IsRead : Form → List TableFile → List Schema → PartRows → Type 0
+IsRead form files schemas read = HoldsAt files schemas read.part.table (λ file schema. AreRowsOfPart form schema.columns file.bytes read.part read.rows)
 
 -- the schemas are those that the names and headers of the files make
 pub record AreHeaded (files : List TableFile) (schemas : List Schema) : Type 0 where
@@ -75,14 +76,14 @@ pub record AreHeaded (files : List TableFile) (schemas : List Schema) : Type 0 w
   pub headed : (table : ℕ) → HoldsAt files schemas table (λ file schema. columns_of file.bytes ≡ Ok schema.columns)
 
 -- the rows of a table are those that the records behind its header tell
-pub record AreRowsOfTable (columns : List Column) (bytes : List ℕ) (rows : RowList) : Type 0 where
+pub record AreRowsOfTable (form : Form) (columns : List Column) (bytes : List ℕ) (rows : RowList) : Type 0 where
   pub wide : rows.width ≡ length columns
-  pub told : TellRows columns (drop 1 (csv_records bytes)) rows.items
+  pub told : TellRows form columns (drop 1 (csv_records bytes)) rows.items
 
 -- there are rows of each table
-pub record AreTold (files : List TableFile) (schemas : List Schema) (tables : List RowList) : Type 0 where
+pub record AreTold (form : Form) (files : List TableFile) (schemas : List Schema) (tables : List RowList) : Type 0 where
   pub many : length tables ≡ length files
-  pub each : (table : ℕ) (rows : RowList) → slice_get tables table ≡ Some rows → HoldsAt files schemas table (λ file schema. AreRowsOfTable schema.columns file.bytes rows)
+  pub each : (table : ℕ) (rows : RowList) → slice_get tables table ≡ Some rows → HoldsAt files schemas table (λ file schema. AreRowsOfTable form schema.columns file.bytes rows)
 
 -- ---- a part is one in one way at most
 

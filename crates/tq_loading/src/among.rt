@@ -11,7 +11,7 @@ use crate::well::well;
 use crate::work::read_parts;
 use std::alloc::{AllocError, Global};
 use std::thread::Threads;
-use tq_base::{Catalogue, Items};
+use tq_base::{Catalogue, Form, Items};
 use tq_event::{LoadFault, LoadFaultKind, MAX_EVENTS, TableFile, Tables, load_tables};
 use tq_run::Gate;
 
@@ -27,16 +27,19 @@ fn tables_of_parts<R: Threads + Sync, G: Gate + Sync>(
     workers: u32,
     least: usize,
     gate: &G,
+    form: Form,
 ) -> Result<Option<Tables>, AllocError>
     requires some { 1 ≤ workers }
     requires at_most { workers ≤ 16 }
-    ensures { IfOk result (λ found. IfSome found (AreTables files.now limit)) }
+    ensures { IfOk result (λ found. IfSome found (AreTables form files.now limit)) }
 {
     let Some(schemas) = well(read_schemas(alloc, files))? else {
         return Ok(None);
     };
     let parts = cut(alloc, files, part_len(files, workers, least))?;
-    let read = read_parts(rt, alloc, limit, files, &schemas, &parts, workers, gate)?;
+    let read = read_parts(
+        rt, alloc, limit, files, &schemas, &parts, workers, gate, form,
+    )?;
     let Some(read) = side_by_side(alloc, read)? else {
         return Ok(None);
     };
@@ -63,20 +66,23 @@ pub fn load_tables_by_parts<R: Threads + Sync, G: Gate + Sync>(
     workers: u32,
     least: usize,
     gate: &G,
+    form: Form,
 ) -> Result<Tables, LoadFault>
     requires limit { limit ≤ MAX_EVENTS }
     requires some { 1 ≤ workers }
     requires at_most { workers ≤ 16 }
-    ensures tables { IfOk result (AreTables files.items limit) }
-    ensures fault { IfErr result (λ fault. fault.kind ≢ LoadFaultKind.OutOfMemory → contents_of files.items limit ≡ Err fault) }
+    ensures tables { IfOk result (AreTables form files.items limit) }
+    ensures fault { IfErr result (λ fault. fault.kind ≢ LoadFaultKind.OutOfMemory → contents_of form files.items limit ≡ Err fault) }
     ensures out_of_memory { IfErr result (λ fault. fault.kind ≡ LoadFaultKind.OutOfMemory → fault ≡ out_of_memory) }
 {
     if workers > 1
-        && let Some(tables) = tables_of_parts(rt, alloc, &files, limit, workers, least, gate)?
+        && let Some(tables) = tables_of_parts(
+            rt, alloc, &files, limit, workers, least, gate, form,
+        )?
     {
         return Ok(tables);
     }
-    load_tables(alloc, files, limit)
+    load_tables(alloc, files, limit, form)
 }
 
 /// Loads files into their tables by 1 to 16 workers, the calling thread among them: what `load_tables` answers.
@@ -89,13 +95,14 @@ pub fn load_tables_among<R: Threads + Sync, G: Gate + Sync>(
     limit: u32,
     workers: u32,
     gate: &G,
+    form: Form,
 ) -> Result<Tables, LoadFault>
     requires limit { limit ≤ MAX_EVENTS }
     requires some { 1 ≤ workers }
     requires at_most { workers ≤ 16 }
-    ensures tables { IfOk result (AreTables files.items limit) }
-    ensures fault { IfErr result (λ fault. fault.kind ≢ LoadFaultKind.OutOfMemory → contents_of files.items limit ≡ Err fault) }
+    ensures tables { IfOk result (AreTables form files.items limit) }
+    ensures fault { IfErr result (λ fault. fault.kind ≢ LoadFaultKind.OutOfMemory → contents_of form files.items limit ≡ Err fault) }
     ensures out_of_memory { IfErr result (λ fault. fault.kind ≡ LoadFaultKind.OutOfMemory → fault ≡ out_of_memory) }
 {
-    load_tables_by_parts(rt, alloc, files, limit, workers, LEAST_PART, gate)
+    load_tables_by_parts(rt, alloc, files, limit, workers, LEAST_PART, gate, form)
 }

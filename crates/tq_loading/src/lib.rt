@@ -2,7 +2,7 @@
 //!
 //! A file is cut into parts where the reader of records stands at the start of one, so the records of the file
 //! are those of its parts, one part after another (the law `records_are_apart`). In a file without quotes that
-//! is just behind any line feed; one with a quote is gone through, byte by byte, to know where the reader
+//! is just behind any line feed; one with quotes is gone through, from quote to quote, to know where the reader
 //! stands. Whichever worker took which part, each reads the records of its parts into rows of its own, and these
 //! are put side by side in the order of the parts.
 //!

@@ -8,7 +8,7 @@ ghost use Rattle.tq_loading.specs.Reading.{PassesHeader};
 
 use csv::{ByteRecord, Reader};
 use std::alloc::Global;
-use tq_base::{Column, Rows};
+use tq_base::{Column, Form, Rows};
 use tq_event::LoadFaultKind;
 use tq_event::steps::{next_record, read_entry, record_reader};
 
@@ -34,10 +34,11 @@ fn read_rows(
     limit: u32,
     columns: &[Column],
     reader: &mut Reader<&[u8]>,
+    form: Form,
 ) -> Result<Rows, LoadFaultKind>
     requires { (left : List (List (List ℕ))) × HasLeft reader.old left }
     ensures wide { IfOk result (λ rows. rows.width ≡ length columns.now) }
-    ensures told { (left : List (List (List ℕ))) → HasLeft reader.old left → IfOk result (λ rows. TellRows columns.now left rows.items) }
+    ensures told { (left : List (List (List ℕ))) → HasLeft reader.old left → IfOk result (λ rows. TellRows form columns.now left rows.items) }
 {
     let mut row = ByteRecord::new(alloc);
     let mut values = Vec::new(alloc);
@@ -46,7 +47,7 @@ fn read_rows(
         if !next_record(reader, &mut row)? {
             return Ok(rows);
         }
-        let period = read_entry(alloc, columns, &row, &mut values)?;
+        let period = read_entry(alloc, columns, &row, &mut values, form)?;
         rows.push(&mut values, period)?;
     }
     Err(LoadFaultKind::TooManyEvents)
@@ -62,11 +63,12 @@ pub fn read_part(
     columns: &[Column],
     bytes: &[u8],
     start: usize,
+    form: Form,
 ) -> Result<Rows, LoadFaultKind>
     ensures wide { IfOk result (λ rows. rows.width ≡ length columns.now) }
-    ensures told { IfOk result (λ rows. PartTells start columns.now (csv_records bytes.now) rows.items) }
+    ensures told { IfOk result (λ rows. PartTells form start columns.now (csv_records bytes.now) rows.items) }
 {
     let mut reader = record_reader(alloc, bytes);
     pass_header(alloc, &mut reader, start)?;
-    read_rows(alloc, limit, columns, &mut reader)
+    read_rows(alloc, limit, columns, &mut reader, form)
 }

@@ -9,7 +9,7 @@ use crate::reading::read_part;
 use crate::well::well;
 use std::alloc::{AllocError, Global};
 use std::thread::Threads;
-use tq_base::Schema;
+use tq_base::{Form, Schema};
 use tq_event::TableFile;
 use tq_run::{Gate, Work, run_with};
 
@@ -20,15 +20,16 @@ fn part_rows(
     files: &[TableFile],
     schemas: &[Schema],
     part: Part,
+    form: Form,
 ) -> Result<Option<PartRows>, AllocError>
     requires part { IsPartOf files.now part }
     requires many { length schemas.now ≡ length files.now }
-    ensures { IfOk result (λ read. IfSome read (IsRead files.now schemas.now)) }
+    ensures { IfOk result (λ read. IfSome read (IsRead form files.now schemas.now)) }
 {
     let columns = schemas[part.table as usize].columns.get();
     let bytes = files[part.table as usize].bytes.get();
     let bytes = &bytes[part.start..part.end];
-    match well(read_part(alloc, limit, columns, bytes, part.start))? {
+    match well(read_part(alloc, limit, columns, bytes, part.start, form))? {
         Some(rows) => Ok(Some(PartRows { part, rows })),
         None => Ok(None),
     }
@@ -42,6 +43,7 @@ struct Parts<'p> {
     files: &'p [TableFile],
     schemas: &'p [Schema],
     parts: &'p [Part],
+    form: Form,
     ghost few: { length parts.now ≤ 65552 },
     ghost many: { length schemas.now ≡ length files.now },
     ghost are: { All (IsPartOf files.now) parts.now } by { Prim.hlevel (props, part_of_prop) },
@@ -52,7 +54,7 @@ impl Work for Parts<'_> {
 
     ghost count = { λ w. length w.parts.now };
 
-    ghost relates = { λ w _ read. IfSome read (IsRead w.files.now w.schemas.now) };
+    ghost relates = { λ w _ read. IfSome read (IsRead w.form w.files.now w.schemas.now) };
 
     fn pieces(&self) -> u32 {
         self.parts.len() as u32
@@ -65,6 +67,7 @@ impl Work for Parts<'_> {
             self.files,
             self.schemas,
             self.parts[i as usize],
+            self.form,
         )
     }
 }
@@ -79,13 +82,14 @@ pub fn read_parts<'p, R: Threads + Sync, G: Gate + Sync>(
     parts: &'p [Part],
     workers: u32,
     gate: &G,
+    form: Form,
 ) -> Result<Vec<Option<PartRows>>, AllocError>
     requires few { length parts.now ≤ 65552 }
     requires many { length schemas.now ≡ length files.now }
     requires are { All (IsPartOf files.now) parts.now }
     requires some { 1 ≤ workers }
     requires at_most { workers ≤ 16 }
-    ensures { IfOk result (λ read. All (λ one. IfSome one (IsRead files.now schemas.now)) read.items) }
+    ensures { IfOk result (λ read. All (λ one. IfSome one (IsRead form files.now schemas.now)) read.items) }
 {
     let work = Parts {
         alloc,
@@ -93,6 +97,7 @@ pub fn read_parts<'p, R: Threads + Sync, G: Gate + Sync>(
         files,
         schemas,
         parts,
+        form,
     };
     run_with(rt, alloc, workers, &work, gate)
 }

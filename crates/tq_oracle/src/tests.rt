@@ -6,7 +6,7 @@ ghost use Rattle.tq_plan.specs.Standing.{IsPlanOver};
 use crate::plain::Plain;
 use std::alloc::Global;
 use std::test::Fail;
-use tq_base::{Catalogue, Items};
+use tq_base::{Catalogue, Form, Items};
 use tq_core::Oracle;
 use tq_event::{MAX_EVENTS, TableFile, laws, load};
 use tq_plan::{Plan, plan};
@@ -30,14 +30,14 @@ fn question(alloc: Global, catalogue: &Catalogue) -> Result<Plan, Fail>
     ensures { IfOk result (IsPlanOver catalogue.now) }
 {
     let statement = read(alloc, b"VALIDTIME SELECT name FROM emp")?;
-    Ok(plan(alloc, catalogue, &statement)?)
+    Ok(plan(alloc, catalogue, &statement, Form::Numbers)?)
 }
 
 // As of three events cat, ann and bob have come, and nobody has left.
 #[test]
 fn a_plan_is_answered_as_of_the_first_events(rt: HostRuntime) -> Result<(), Fail> {
     let alloc = rt.alloc();
-    let loaded = load(alloc, files(alloc)?, MAX_EVENTS)?;
+    let loaded = load(alloc, files(alloc)?, MAX_EVENTS, Form::Numbers)?;
     laws::loaded_is_catalogue();
     laws::loaded_is_history();
     laws::loaded_is_within();
@@ -45,7 +45,7 @@ fn a_plan_is_answered_as_of_the_first_events(rt: HostRuntime) -> Result<(), Fail
     let plan = question(alloc, &loaded.catalogue)?;
     let n = events.len().min(3) as u32;
     let table = Plain::new().answer(alloc, &loaded.catalogue, events, n, &plan)?;
-    let text = table_text(alloc, &table)?;
+    let text = table_text(alloc, &table, Form::Numbers)?;
     let wanted = b"name,from,to\nann,10,forever\nbob,15,forever\ncat,5,forever\n";
     assert_eq!(rt; text.as_slice(), wanted.as_slice());
     Ok(())

@@ -17,6 +17,8 @@ use Rattle.tq_base.specs.declared.catalogue.Column.{Column}
 use Rattle.tq_base.specs.declared.catalogue.Schema.{Schema}
 use Rattle.tq_base.specs.Catalogues.{table_number}
 use Rattle.tq_base.specs.Results.{and_then}
+use Rattle.tq_base.specs.declared.form.Form.{Form}
+use Rattle.tq_sql.specs.declared.statement.Statement.{Statement}
 use Rattle.tq_sql.specs.declared.statement.ColumnRef.{ColumnRef}
 use Rattle.tq_sql.specs.declared.statement.What.{What}
 use Rattle.tq_sql.specs.declared.statement.What.TheVariants as what
@@ -31,7 +33,7 @@ use Rattle.tq_plan.specs.declared.plans.Plan.{Plan}
 use Rattle.tq_plan.specs.declared.plans.QueryPlan.{QueryPlan}
 use Rattle.tq_plan.specs.declared.plans.QuerySource.{QuerySource}
 use Rattle.tq_plan.specs.Standing as standing
-use Rattle.tq_plan.specs.Plans.{column_output, group_after, grouped_sum, has_aggregate, is_aggregate, is_groupable, output_of, outputs_after, query_of, right_of, same_kinds, sum_output, with_kinds, column_names}
+use Rattle.tq_plan.specs.Plans.{column_output, group_after, grouped_sum, has_aggregate, is_aggregate, is_groupable, output_of, outputs_after, plan_of, query_of, right_of, same_kinds, sum_output, with_kinds, column_names}
 use Rattle.tq_plan.specs.Conditions.{where_of}
 use Rattle.tq_plan.specs.Scope.{Field, Sources, add_numbered, add_source, add_table, alias_of, is_numbered, no_sources, resolved, source_of, sources_after}
 use Rattle.tq_plan.specs.Windows.{window_plan}
@@ -209,7 +211,7 @@ query_stands catalogue query plan kinds is =
 
 pub left_stands : (catalogue : Catalogue) (plan : Plan) → IsPlanOver catalogue plan → IsQueryOver catalogue plan.left
 left_stands catalogue plan is =
-    let w = both (window_plan is.statement.window) _ plan is.planned in
+    let w = both (window_plan is.form is.statement.window) _ plan is.planned in
     let l = both (query_of catalogue is.statement.left) _ plan w.then_gives in
     let r = both (right_of catalogue l.value.1 is.statement.right) _ plan l.then_gives in
     let made : record { window = w.value; columns = column_names is.statement.left.items; left = l.value.0; right = r.value } ≡ plan = ok_is _ plan r.then_gives in
@@ -228,8 +230,17 @@ right_query catalogue kinds (Some query) plan is =
 
 pub right_stands : (catalogue : Catalogue) (plan : Plan) (query : QueryPlan) → IsPlanOver catalogue plan → plan.right ≡ Some query → IsQueryOver catalogue query
 right_stands catalogue plan query is some =
-    let w = both (window_plan is.statement.window) _ plan is.planned in
+    let w = both (window_plan is.form is.statement.window) _ plan is.planned in
     let l = both (query_of catalogue is.statement.left) _ plan w.then_gives in
     let r = both (right_of catalogue l.value.1 is.statement.right) _ plan l.then_gives in
     let made : record { window = w.value; columns = column_names is.statement.left.items; left = l.value.0; right = r.value } ≡ plan = ok_is _ plan r.then_gives in
     right_query catalogue l.value.1 is.statement.right query (r.first_gives ∙ ap Ok (ap (λ p. p.right) made ∙ some))
+
+-- the window of a plan is the statement's
+pub window_is : (form : Form) (catalogue : Catalogue) (statement : Statement) (plan : Plan) → plan_of form catalogue statement ≡ Ok plan → window_plan form statement.window ≡ Ok plan.window
+window_is form catalogue statement plan is =
+    let w = both (window_plan form statement.window) _ plan is in
+    let l = both (query_of catalogue statement.left) _ plan w.then_gives in
+    let r = both (right_of catalogue l.value.1 statement.right) _ plan l.then_gives in
+    let made : record { window = w.value; columns = column_names statement.left.items; left = l.value.0; right = r.value } ≡ plan = ok_is _ plan r.then_gives in
+    w.first_gives ∙ ap (λ (p : Plan). Ok p.window) made

@@ -3,6 +3,7 @@
 use Rattle.std.specs.Prelude.{ℕ, Bool, true, false, not, ◌&&◌, ◌==◌, if◌then◌else◌, List, [], ◌∷◌, ◌++◌, map, Option, Some, None, Result, Ok, Err, codes}
 use Rattle.std.specs.List.{list_any}
 use Rattle.tq_base.specs.declared.catalogue.Kind.{Kind}
+use Rattle.tq_base.specs.declared.form.Form.{Form}
 use Rattle.tq_base.specs.declared.catalogue.Kind.TheVariants as kind
 use Rattle.tq_base.specs.declared.catalogue.Catalogue.{Catalogue}
 use Rattle.tq_base.specs.Results.{and_then}
@@ -110,9 +111,9 @@ abbrev pub column_names : List Item → List (List ℕ)
 column_names items = map (λ (item : Item). given_or (what_name item.what) item.alias) items
 
 -- the plan of a statement, or its first fault
-abbrev pub plan_of : Catalogue → Statement → Result Plan PlanFault
-plan_of catalogue statement =
-    and_then (window_plan statement.window) (λ window.
+abbrev pub plan_of : Form → Catalogue → Statement → Result Plan PlanFault
+plan_of form catalogue statement =
+    and_then (window_plan form statement.window) (λ window.
     and_then (query_of catalogue statement.left) (λ left.
     and_then (right_of catalogue left.1 statement.right) (λ right.
     Ok (record { window = window; columns = column_names statement.left.items; left = left.0; right = right }))))

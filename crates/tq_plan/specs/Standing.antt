@@ -1,9 +1,13 @@
 -- Which items of a query may stand and where its sources do, and that those of a statement's plan do.
-use Rattle.std.specs.Prelude.{◌≡◌, ℕ, ◌+◌, Bool, true, false, not, All, IsSomeAnd, List, ◌∷◌, [], Ok, Some, length, slice_get}
+use Rattle.std.specs.Prelude.{◌≡◌, ℕ, ◌+◌, ◌≤◌, Bool, true, false, not, All, IsSomeAnd, List, ◌∷◌, [], Ok, Some, length, slice_get}
 use Rattle.std.specs.List.{list_all, list_any}
 use Rattle.std.proofs.Props.{props}
 use Rattle.tq_base.specs.declared.catalogue.Catalogue.{Catalogue}
 use Rattle.tq_base.specs.declared.catalogue.Schema.{Schema}
+use Rattle.tq_base.specs.Numbers.{IsDated}
+use Rattle.tq_base.specs.declared.dates.TheConstants.{LAST_DAY}
+use Rattle.tq_base.specs.declared.form.Form.{Form}
+use Rattle.tq_base.specs.declared.form.Form.TheVariants.{Dates}
 use Rattle.tq_sql.specs.declared.statement.Statement.{Statement}
 use Rattle.tq_plan.specs.declared.plans.Output.{Output}
 use Rattle.tq_plan.specs.declared.plans.Output.TheVariants.{Column, Count, Sum}
@@ -13,16 +17,18 @@ use Rattle.tq_plan.specs.declared.plans.QuerySource.{QuerySource}
 use Rattle.tq_plan.specs.Plans.{is_groupable, plan_of}
 use Rattle.tq_plan.specs.Scope.{is_numbered}
 
--- the plan is that of a statement
+-- the plan is that of a statement, whatever its window is written in
 pub record IsPlan (plan : Plan) : Type 0 where
+  pub form : Form
   pub catalogue : Catalogue
   pub statement : Statement
-  pub planned : plan_of catalogue statement ≡ Ok plan
+  pub planned : plan_of form catalogue statement ≡ Ok plan
 
 -- the plan is that of a statement over this catalogue
 pub record IsPlanOver (catalogue : Catalogue) (plan : Plan) : Type 0 where
+  pub form : Form
   pub statement : Statement
-  pub planned : plan_of catalogue statement ≡ Ok plan
+  pub planned : plan_of form catalogue statement ≡ Ok plan
 
 -- whether the item is a count or a sum
 abbrev pub is_aggregate : Output → Bool
@@ -73,6 +79,10 @@ PlansStand = (plan : Plan) → IsPlan plan → (items_stand plan.left ≡ true) 
 -- the sources of both queries of a statement's plan stand one after the other, from place 0 on
 abbrev pub SourcesStand : Type 0
 SourcesStand = (plan : Plan) → IsPlan plan → StandFrom 0 plan.left.sources × ((query : QueryPlan) → plan.right ≡ Some query → StandFrom 0 query.sources)
+
+-- a window that is written in dates begins at a day that has a date, and ends at one or never
+abbrev pub WindowsAreDated : Type 0
+WindowsAreDated = (catalogue : Catalogue) (statement : Statement) (plan : Plan) → plan_of Dates catalogue statement ≡ Ok plan → (plan.window.start ≤ LAST_DAY) × IsDated plan.window.end
 
 -- both queries of a statement's plan over a catalogue are queries over it
 abbrev pub QueriesStand : Type 0

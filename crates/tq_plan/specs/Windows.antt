@@ -1,8 +1,10 @@
 -- Windows as a statement writes them: `[`, an instant, `-`, a bound, `)`. This project's own.
-use Rattle.std.specs.Prelude.{◌≡◌, ℕ, ◌+◌, ◌-◌, Bool, true, false, ◌&&◌, if◌then◌else◌, ◌==◌, nat_lt, List, [], ◌∷◌, length, take, drop, reverse, position, Option, Some, None, refl, slice_index, Result, Ok, Err}
+use Rattle.std.specs.Prelude.{◌≡◌, ℕ, ◌+◌, ◌-◌, Bool, true, false, ◌&&◌, if◌then◌else◌, ◌==◌, nat_lt, List, [], ◌∷◌, length, take, drop, reverse, position, Option, Some, None, option_map, refl, slice_index, Result, Ok, Err}
 use Rattle.std.proofs.lemmas.Bool.{ltb-true}
 use Rattle.std.proofs.Common.{arith}
 use Rattle.tq_base.specs.Numbers.{instant_of, bound_of}
+use Rattle.tq_base.specs.declared.form.Form.{Form}
+use Rattle.tq_base.specs.declared.form.Form.TheVariants.{Numbers, Dates}
 use Rattle.tq_base.specs.declared.period.Period.{Period}
 use Rattle.tq_base.specs.declared.period.TheConstants.{FOREVER}
 use Rattle.tq_plan.specs.declared.fault.PlanFault.{PlanFault}
@@ -30,10 +32,23 @@ between None end = None
 between (Some start) None = None
 between (Some start) (Some end) = period_between start end
 
+-- how many bytes of an instant may be dashes: none of a number, the ten of a date
+abbrev pub dashed_bytes : Form → ℕ
+dashed_bytes Numbers = 0
+dashed_bytes Dates = 10
+
+-- the place of the first dash behind so many bytes
+abbrev pub dash_behind : ℕ → List ℕ → Option ℕ
+dash_behind many bytes = option_map (λ place. many + place) (position (λ b. b == 45) (drop many bytes))
+
 -- an instant before the dash at this place, and a bound after it
-abbrev pub around_dash : List ℕ → Option ℕ → Option Period
-around_dash inside None = None
-around_dash inside (Some dash) = between (instant_of (trimmed (take dash inside))) (bound_of (trimmed (drop (dash + 1) inside)))
+abbrev pub around_dash : Form → List ℕ → Option ℕ → Option Period
+around_dash form inside None = None
+around_dash form inside (Some dash) = between (instant_of form (trimmed (take dash inside))) (bound_of form (trimmed (drop (dash + 1) inside)))
+
+-- an instant, a dash and a bound, with spaces beside the instant and the bound
+abbrev pub period_in : Form → List ℕ → Option Period
+period_in form inside = around_dash form inside (dash_behind (dashed_bytes form) inside)
 
 -- whether the text begins with `[` and ends with `)`
 abbrev pub is_bracketed : List ℕ → Bool
@@ -43,9 +58,9 @@ is_bracketed text = nat_lt 1 (length text) && (slice_index text 0 == 91 && slice
 abbrev pub inside_of : List ℕ → List ℕ
 inside_of text = take (length text - 2) (drop 1 text)
 
--- the period that the text writes, with spaces beside the instant and the bound
-abbrev pub window_of : List ℕ → Option Period
-window_of text = if is_bracketed text then around_dash (inside_of text) (position (λ b. b == 45) (inside_of text)) else None
+-- the period that the text writes
+abbrev pub window_of : Form → List ℕ → Option Period
+window_of form text = if is_bracketed text then period_in form (front_trimmed (inside_of text)) else None
 
 -- every instant
 abbrev pub always : Period
@@ -56,6 +71,6 @@ window_or_fault None = Err BadWindow
 window_or_fault (Some window) = Ok window
 
 -- the window of a statement: that which the text after PERIOD writes, or else every instant
-abbrev pub window_plan : Option (List ℕ) → Result Period PlanFault
-window_plan None = Ok always
-window_plan (Some text) = window_or_fault (window_of text)
+abbrev pub window_plan : Form → Option (List ℕ) → Result Period PlanFault
+window_plan form None = Ok always
+window_plan form (Some text) = window_or_fault (window_of form text)

@@ -2,6 +2,7 @@
 use Rattle.std.proofs.Common.{◌≡◌, ◌≤◌, ℕ, List, ◌++◌, length, sym, ap, subst, ◌∙◌, append_assoc}
 use Rattle.std.specs.Prelude.{Ok}
 use mathlib.Core.List.{IsPrefix}
+use Rattle.tq_base.specs.declared.form.Form.{Form}
 use Rattle.tq_base.specs.declared.catalogue.Catalogue.{Catalogue}
 use Rattle.tq_event.specs.declared.event.Event.{Event}
 use Rattle.tq_plan.specs.declared.plans.Plan.{Plan}
@@ -17,12 +18,12 @@ use Rattle.tq_session.specs.Asking.{IsPlanOf, Tells}
 use Rattle.tq_session.specs.Transcripts.{Asks, IsPlanned, RefusesAsk}
 
 -- the bytes have a plan over the catalogue
-pub planned_of : (catalogue other : Catalogue) (bytes : List ℕ) (plan : Plan) → catalogue ≡ other → IsPlanOf catalogue bytes plan → IsPlanned other bytes
-planned_of catalogue other bytes plan same is = record {
+pub planned_of : (form : Form) (catalogue other : Catalogue) (bytes : List ℕ) (plan : Plan) → catalogue ≡ other → IsPlanOf form catalogue bytes plan → IsPlanned form other bytes
+planned_of form catalogue other bytes plan same is = record {
   statement = is.statement;
   makes = is.makes;
   plan = plan;
-  planned = subst (λ (c : Catalogue). plan_of c is.statement ≡ Ok plan) same is.planned;
+  planned = subst (λ (c : Catalogue). plan_of form c is.statement ≡ Ok plan) same is.planned;
 }
 
 -- a beginning of a beginning
@@ -30,9 +31,9 @@ pub prefix_of_prefix : {X : Type 0} (a b c : List X) → IsPrefix a b → IsPref
 prefix_of_prefix a b c (x, first) (y, second) = (x ++ y, sym (append_assoc a x y) ∙ ap (λ l. l ++ y) first ∙ second)
 
 -- the answer is told, or memory is refused
-pub asks_told : (catalogue : Catalogue) (events : List Event) (n : ℕ) (bytes : List ℕ) (table : Table) (reply : Reply) (statement : Statement)
-    → n ≤ length events → Makes bytes statement → IsAnswer catalogue statement events n table → Tells table reply → Asks catalogue events n bytes reply
-asks_told catalogue events n bytes table (outcome.Answer rows text) statement within makes is_answer (rows_are, text_is) = record {
+pub asks_told : (form : Form) (catalogue : Catalogue) (events : List Event) (n : ℕ) (bytes : List ℕ) (table : Table) (reply : Reply) (statement : Statement)
+    → n ≤ length events → Makes bytes statement → IsAnswer form catalogue statement events n table → Tells form table reply → Asks form catalogue events n bytes reply
+asks_told form catalogue events n bytes table (outcome.Answer rows text) statement within makes is_answer (rows_are, text_is) = record {
   told = within;
   statement = statement;
   makes = makes;
@@ -41,8 +42,8 @@ asks_told catalogue events n bytes table (outcome.Answer rows text) statement wi
   rows_are = rows_are;
   text_is = text_is;
 }
-asks_told catalogue events n bytes table (outcome.Refused why) statement within makes is_answer is =
-    subst (λ (w : Refusal). RefusesAsk catalogue events n bytes w) (sym is) tt
-asks_told catalogue events n bytes table outcome.Nothing statement within makes is_answer is = absurd is
-asks_told catalogue events n bytes table (outcome.Row row) statement within makes is_answer is = absurd is
-asks_told catalogue events n bytes table (outcome.Published count) statement within makes is_answer is = absurd is
+asks_told form catalogue events n bytes table (outcome.Refused why) statement within makes is_answer is =
+    subst (λ (w : Refusal). RefusesAsk form catalogue events n bytes w) (sym is) tt
+asks_told form catalogue events n bytes table outcome.Nothing statement within makes is_answer is = absurd is
+asks_told form catalogue events n bytes table (outcome.Row row) statement within makes is_answer is = absurd is
+asks_told form catalogue events n bytes table (outcome.Published count) statement within makes is_answer is = absurd is

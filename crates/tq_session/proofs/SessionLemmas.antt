@@ -6,6 +6,7 @@ use Rattle.std.proofs.lemmas.Bool.{false≢true}
 use Rattle.std.proofs.lemmas.List.Elements.{All-append, All-cons, All-nil}
 use Rattle.std.proofs.KnownBytes.{Appends-nil, Appends-trans, Consumes-nil, Consumes-trans}
 use Rattle.std.specs.Io.KnownBytes.{Appends, Consumes, IsAtEnd}
+use Rattle.tq_base.specs.declared.form.Form.{Form}
 use Rattle.tq_base.specs.declared.catalogue.Catalogue.{Catalogue}
 use Rattle.tq_table.specs.Sink.{AppendsPrefix}
 use Rattle.tq_snapshot.specs.Calls.{Shown}
@@ -19,29 +20,29 @@ use Rattle.tq_session.specs.Transcripts.{Answers, IsTranscript}
 use Rattle.tq_session.proofs.LineLemmas.{Parts-line, Parts-nil, ended_lines-parts, lines_of-open}
 
 -- one line more is answered
-pub transcript_on : (catalogue : Catalogue) (lines : List Line) (first before after : Shown) (text : List ℕ) (line : Line) (reply : Reply)
-    → IsTranscript catalogue first lines text before → Answers catalogue before line reply after
-    → IsTranscript catalogue first (lines ++ line ∷ []) (text ++ reply_text reply) after
+pub transcript_on : (form : Form) (catalogue : Catalogue) (lines : List Line) (first before after : Shown) (text : List ℕ) (line : Line) (reply : Reply)
+    → IsTranscript form catalogue first lines text before → Answers form catalogue before line reply after
+    → IsTranscript form catalogue first (lines ++ line ∷ []) (text ++ reply_text form reply) after
 unfolding IsTranscript
-transcript_on catalogue [] first before after text line reply (none, same) answers = (
+transcript_on form catalogue [] first before after text line reply (none, same) answers = (
   reply,
   after,
   [],
-  subst (λ (w : Shown). Answers catalogue w line reply after) same answers,
+  subst (λ (w : Shown). Answers form catalogue w line reply after) same answers,
   (refl, refl),
-  ap (λ t. t ++ reply_text reply) none ∙ sym (append-nil (reply_text reply)),
+  ap (λ t. t ++ reply_text form reply) none ∙ sym (append-nil (reply_text form reply)),
 )
-transcript_on catalogue (other ∷ lines) first before after text line reply (told, next, more, answered, rest, is) answers = (
+transcript_on form catalogue (other ∷ lines) first before after text line reply (told, next, more, answered, rest, is) answers = (
   told,
   next,
-  more ++ reply_text reply,
+  more ++ reply_text form reply,
   answered,
-  transcript_on catalogue lines next before after more line reply rest answers,
-  ap (λ t. t ++ reply_text reply) is ∙ append_assoc (reply_text told) more (reply_text reply),
+  transcript_on form catalogue lines next before after more line reply rest answers,
+  ap (λ t. t ++ reply_text form reply) is ∙ append_assoc (reply_text form told) more (reply_text form reply),
 )
 
 -- what was read up to the bytes that were not gone through yet, and what its lines were answered with
-pub record SoFar (catalogue : Catalogue) (first now : Shown) (before after : Streams) (unread : List ℕ) : Type 0 where
+pub record SoFar (form : Form) (catalogue : Catalogue) (first now : Shown) (before after : Streams) (unread : List ℕ) : Type 0 where
   pub read : List ℕ
   pub consumed : Consumes before.input after.input read
   pub done : List ℕ
@@ -50,12 +51,12 @@ pub record SoFar (catalogue : Catalogue) (first now : Shown) (before after : Str
   pub parts : Parts done lines
   pub ended : All (λ (line : Line). line.ended ≡ true) lines
   pub text : List ℕ
-  pub is_transcript : IsTranscript catalogue first lines text now
+  pub is_transcript : IsTranscript form catalogue first lines text now
   pub appended : Appends before.output after.output text
 
-pub so_far_none : (catalogue : Catalogue) (first : Shown) (before : Streams) (unread : List ℕ) → unread ≡ [] → SoFar catalogue first first before before unread
+pub so_far_none : (form : Form) (catalogue : Catalogue) (first : Shown) (before : Streams) (unread : List ℕ) → unread ≡ [] → SoFar form catalogue first first before before unread
 unfolding IsTranscript
-so_far_none catalogue first before unread none = record {
+so_far_none form catalogue first before unread none = record {
   read = [];
   consumed = Consumes-nil before.input;
   done = [];
@@ -95,11 +96,11 @@ lines_last done lines line is none some parts =
     (parts line.bytes ∙ ap (λ l. lines ++ l) (lines_of-open line.bytes none some))
 
 -- a line that a line feed ends was answered, and more may follow
-pub so_far_on : (catalogue : Catalogue) (first now next : Shown) (before mid after : Streams) (unread left taken : List ℕ) (line : Line) (reply : Reply)
-    → SoFar catalogue first now before mid unread → Consumes mid.input after.input taken → Takes line unread taken left → line.ended ≡ true
-    → Answers catalogue now line reply next → Appends mid.output after.output (reply_text reply)
-    → SoFar catalogue first next before after left
-so_far_on catalogue first now next before mid after unread left taken line reply so consumed takes ended answers appended = record {
+pub so_far_on : (form : Form) (catalogue : Catalogue) (first now next : Shown) (before mid after : Streams) (unread left taken : List ℕ) (line : Line) (reply : Reply)
+    → SoFar form catalogue first now before mid unread → Consumes mid.input after.input taken → Takes line unread taken left → line.ended ≡ true
+    → Answers form catalogue now line reply next → Appends mid.output after.output (reply_text form reply)
+    → SoFar form catalogue first next before after left
+so_far_on form catalogue first now next before mid after unread left taken line reply so consumed takes ended answers appended = record {
   read = so.read ++ taken;
   consumed = Consumes-trans before.input mid.input after.input so.read taken so.consumed consumed;
   done = so.done ++ line_bytes line;
@@ -107,37 +108,37 @@ so_far_on catalogue first now next before mid after unread left taken line reply
   lines = so.lines ++ line ∷ [];
   parts = parts_on so.done so.lines line ended takes.no_feed so.parts;
   ended = All-append (λ (l : Line). l.ended ≡ true) so.lines (line ∷ []) so.ended (All-cons (λ (l : Line). l.ended ≡ true) line [] ended (All-nil (λ (l : Line). l.ended ≡ true)));
-  text = so.text ++ reply_text reply;
-  is_transcript = transcript_on catalogue so.lines first now next so.text line reply so.is_transcript answers;
-  appended = Appends-trans before.output mid.output after.output so.text (reply_text reply) so.appended appended;
+  text = so.text ++ reply_text form reply;
+  is_transcript = transcript_on form catalogue so.lines first now next so.text line reply so.is_transcript answers;
+  appended = Appends-trans before.output mid.output after.output so.text (reply_text form reply) so.appended appended;
 }
 
 -- the last line was answered, which no line feed ends
-pub so_far_last : (catalogue : Catalogue) (first now next : Shown) (before mid after : Streams) (unread left taken : List ℕ) (line : Line) (reply : Reply)
-    → SoFar catalogue first now before mid unread → Consumes mid.input after.input taken → Takes line unread taken left → line.ended ≡ false → IsAtEnd after.input
-    → Answers catalogue now line reply next → Appends mid.output after.output (reply_text reply)
-    → AnswersAll catalogue first before after
-so_far_last catalogue first now next before mid after unread left taken line reply so consumed takes unended at_end answers appended =
+pub so_far_last : (form : Form) (catalogue : Catalogue) (first now next : Shown) (before mid after : Streams) (unread left taken : List ℕ) (line : Line) (reply : Reply)
+    → SoFar form catalogue first now before mid unread → Consumes mid.input after.input taken → Takes line unread taken left → line.ended ≡ false → IsAtEnd after.input
+    → Answers form catalogue now line reply next → Appends mid.output after.output (reply_text form reply)
+    → AnswersAll form catalogue first before after
+so_far_last form catalogue first now next before mid after unread left taken line reply so consumed takes unended at_end answers appended =
     let read : so.read ++ taken ≡ so.done ++ line_bytes line
     = read_on so.read so.done unread taken (line_bytes line) left so.split takes.is ∙ ap (λ l. (so.done ++ line_bytes line) ++ l) (takes.last unended) ∙ append-nil (so.done ++ line_bytes line) in
     record {
       read = so.read ++ taken;
       consumed = Consumes-trans before.input mid.input after.input so.read taken so.consumed consumed;
       at_end = at_end;
-      text = so.text ++ reply_text reply;
+      text = so.text ++ reply_text form reply;
       last = next;
-      is_transcript = subst (λ l. IsTranscript catalogue first l (so.text ++ reply_text reply) next)
+      is_transcript = subst (λ l. IsTranscript form catalogue first l (so.text ++ reply_text form reply) next)
           (sym (ap lines_of read ∙ lines_last so.done so.lines line unended takes.no_feed (takes.some unended) so.parts))
-          (transcript_on catalogue so.lines first now next so.text line reply so.is_transcript answers);
-      appended = Appends-trans before.output mid.output after.output so.text (reply_text reply) so.appended appended;
+          (transcript_on form catalogue so.lines first now next so.text line reply so.is_transcript answers);
+      appended = Appends-trans before.output mid.output after.output so.text (reply_text form reply) so.appended appended;
     }
 
 -- the input ended behind a line feed, or was empty
-pub so_far_end : (catalogue : Catalogue) (first now : Shown) (before mid : Streams) (input : Option (List ℕ)) (unread taken : List ℕ)
-    → SoFar catalogue first now before mid unread → Consumes mid.input input taken → unread ++ taken ≡ [] → IsAtEnd input
-    → AnswersAll catalogue first before (record { input = input; output = mid.output })
+pub so_far_end : (form : Form) (catalogue : Catalogue) (first now : Shown) (before mid : Streams) (input : Option (List ℕ)) (unread taken : List ℕ)
+    → SoFar form catalogue first now before mid unread → Consumes mid.input input taken → unread ++ taken ≡ [] → IsAtEnd input
+    → AnswersAll form catalogue first before (record { input = input; output = mid.output })
 unfolding lines_of
-so_far_end catalogue first now before mid input unread taken so consumed none at_end =
+so_far_end form catalogue first now before mid input unread taken so consumed none at_end =
     let read : so.read ++ taken ≡ so.done
     = ap (λ r. r ++ taken) so.split ∙ append_assoc so.done unread taken ∙ ap (λ l. so.done ++ l) none ∙ append-nil so.done in
     record {
@@ -146,24 +147,24 @@ so_far_end catalogue first now before mid input unread taken so consumed none at
       at_end = at_end;
       text = so.text;
       last = now;
-      is_transcript = subst (λ l. IsTranscript catalogue first l so.text now)
+      is_transcript = subst (λ l. IsTranscript form catalogue first l so.text now)
           (sym (ap lines_of read ∙ ap lines_of (sym (append-nil so.done)) ∙ so.parts [] ∙ append-nil so.lines))
           so.is_transcript;
       appended = so.appended;
     }
 
 -- no line was ended in what was read
-pub so_far_cut_off : (catalogue : Catalogue) (first now : Shown) (before mid : Streams) (input : Option (List ℕ)) (unread taken : List ℕ)
-    → SoFar catalogue first now before mid unread → Consumes mid.input input taken → HasNoFeed (unread ++ taken)
-    → AnswersEnded catalogue first before (record { input = input; output = mid.output })
-so_far_cut_off catalogue first now before mid input unread taken so consumed none =
+pub so_far_cut_off : (form : Form) (catalogue : Catalogue) (first now : Shown) (before mid : Streams) (input : Option (List ℕ)) (unread taken : List ℕ)
+    → SoFar form catalogue first now before mid unread → Consumes mid.input input taken → HasNoFeed (unread ++ taken)
+    → AnswersEnded form catalogue first before (record { input = input; output = mid.output })
+so_far_cut_off form catalogue first now before mid input unread taken so consumed none =
     let read : so.read ++ taken ≡ so.done ++ (unread ++ taken) = ap (λ r. r ++ taken) so.split ∙ append_assoc so.done unread taken in
     record {
       read = so.read ++ taken;
       consumed = Consumes-trans before.input mid.input input so.read taken so.consumed consumed;
       text = so.text;
       last = now;
-      is_transcript = subst (λ l. IsTranscript catalogue first l so.text now)
+      is_transcript = subst (λ l. IsTranscript form catalogue first l so.text now)
           (sym (ap (λ r. ended_lines (lines_of r)) read ∙ ended_lines-parts so.done (unread ++ taken) so.lines so.parts so.ended none))
           so.is_transcript;
       appended = so.appended;
@@ -186,11 +187,11 @@ lines_begin read done left lines line false is none some last parts read_is = (
       ∙ lines_last done lines line is none (some is) parts ∙ sym (append-nil (lines ++ line ∷ [])),
 )
 
-pub so_far_unwritten : (catalogue : Catalogue) (first now next : Shown) (before mid after : Streams) (unread left taken : List ℕ) (line : Line) (reply : Reply)
-    → SoFar catalogue first now before mid unread → Consumes mid.input after.input taken → Takes line unread taken left
-    → Answers catalogue now line reply next → AppendsPrefix mid.output after.output (reply_text reply)
-    → AnswersPart catalogue first before after
-so_far_unwritten catalogue first now next before mid after unread left taken line reply so consumed takes answers appended =
+pub so_far_unwritten : (form : Form) (catalogue : Catalogue) (first now next : Shown) (before mid after : Streams) (unread left taken : List ℕ) (line : Line) (reply : Reply)
+    → SoFar form catalogue first now before mid unread → Consumes mid.input after.input taken → Takes line unread taken left
+    → Answers form catalogue now line reply next → AppendsPrefix mid.output after.output (reply_text form reply)
+    → AnswersPart form catalogue first before after
+so_far_unwritten form catalogue first now next before mid after unread left taken line reply so consumed takes answers appended =
     let begins = lines_begin (so.read ++ taken) so.done left so.lines line line.ended refl takes.no_feed takes.some takes.last so.parts
     (read_on so.read so.done unread taken (line_bytes line) left so.split takes.is) in
     record {
@@ -199,10 +200,10 @@ so_far_unwritten catalogue first now next before mid after unread left taken lin
       lines = so.lines ++ line ∷ [];
       more = begins.0;
       are_first = begins.1;
-      text = so.text ++ reply_text reply;
+      text = so.text ++ reply_text form reply;
       last = next;
-      is_transcript = transcript_on catalogue so.lines first now next so.text line reply so.is_transcript answers;
-      appended = prefix_on before.output mid.output after.output so.text (reply_text reply) so.appended appended;
+      is_transcript = transcript_on form catalogue so.lines first now next so.text line reply so.is_transcript answers;
+      appended = prefix_on before.output mid.output after.output so.text (reply_text form reply) so.appended appended;
     }
 
 -- fewer bytes may be found than before
@@ -216,35 +217,35 @@ fewer_left before after line taken takes ended few left =
 
 -- ---- the same of a step
 
-pub reply_on : (catalogue : Catalogue) (first now next : Shown) (before mid after : Streams) (old new : InputState) (reply : Reply) (last : Bool)
-    → SoFar catalogue first now before mid old.unread → IsReply catalogue now next old new mid.input after.input reply last → last ≡ false
-    → Appends mid.output after.output (reply_text reply) → SoFar catalogue first next before after new.unread
-reply_on catalogue first now next before mid after old new reply last so r more appended =
-    so_far_on catalogue first now next before mid after old.unread new.unread r.taken r.line reply so r.consumed r.takes (r.ended ∙ ap not more) r.answers appended
+pub reply_on : (form : Form) (catalogue : Catalogue) (first now next : Shown) (before mid after : Streams) (old new : InputState) (reply : Reply) (last : Bool)
+    → SoFar form catalogue first now before mid old.unread → IsReply form catalogue now next old new mid.input after.input reply last → last ≡ false
+    → Appends mid.output after.output (reply_text form reply) → SoFar form catalogue first next before after new.unread
+reply_on form catalogue first now next before mid after old new reply last so r more appended =
+    so_far_on form catalogue first now next before mid after old.unread new.unread r.taken r.line reply so r.consumed r.takes (r.ended ∙ ap not more) r.answers appended
 
-pub reply_last : (catalogue : Catalogue) (first now next : Shown) (before mid after : Streams) (old new : InputState) (reply : Reply) (last : Bool)
-    → SoFar catalogue first now before mid old.unread → IsReply catalogue now next old new mid.input after.input reply last → last ≡ true
-    → Appends mid.output after.output (reply_text reply) → AnswersAll catalogue first before after
-reply_last catalogue first now next before mid after old new reply last so r is appended =
-    so_far_last catalogue first now next before mid after old.unread new.unread r.taken r.line reply so r.consumed r.takes (r.ended ∙ ap not is) (r.at_end is) r.answers appended
+pub reply_last : (form : Form) (catalogue : Catalogue) (first now next : Shown) (before mid after : Streams) (old new : InputState) (reply : Reply) (last : Bool)
+    → SoFar form catalogue first now before mid old.unread → IsReply form catalogue now next old new mid.input after.input reply last → last ≡ true
+    → Appends mid.output after.output (reply_text form reply) → AnswersAll form catalogue first before after
+reply_last form catalogue first now next before mid after old new reply last so r is appended =
+    so_far_last form catalogue first now next before mid after old.unread new.unread r.taken r.line reply so r.consumed r.takes (r.ended ∙ ap not is) (r.at_end is) r.answers appended
 
-pub reply_unwritten : (catalogue : Catalogue) (first now next : Shown) (before mid after : Streams) (old new : InputState) (reply : Reply) (last : Bool)
-    → SoFar catalogue first now before mid old.unread → IsReply catalogue now next old new mid.input after.input reply last
-    → AppendsPrefix mid.output after.output (reply_text reply) → AnswersPart catalogue first before after
-reply_unwritten catalogue first now next before mid after old new reply last so r appended =
-    so_far_unwritten catalogue first now next before mid after old.unread new.unread r.taken r.line reply so r.consumed r.takes r.answers appended
+pub reply_unwritten : (form : Form) (catalogue : Catalogue) (first now next : Shown) (before mid after : Streams) (old new : InputState) (reply : Reply) (last : Bool)
+    → SoFar form catalogue first now before mid old.unread → IsReply form catalogue now next old new mid.input after.input reply last
+    → AppendsPrefix mid.output after.output (reply_text form reply) → AnswersPart form catalogue first before after
+reply_unwritten form catalogue first now next before mid after old new reply last so r appended =
+    so_far_unwritten form catalogue first now next before mid after old.unread new.unread r.taken r.line reply so r.consumed r.takes r.answers appended
 
-pub reply_fewer : (catalogue : Catalogue) (now next : Shown) (old new : InputState) (known rest : Option (List ℕ)) (reply : Reply) (last : Bool)
-    → IsReply catalogue now next old new known rest reply last → last ≡ false → new.left ≤ old.left → most_left new < most_left old
-reply_fewer catalogue now next old new known rest reply last r more left = fewer_left old new r.line r.taken r.takes (r.ended ∙ ap not more) r.few left
+pub reply_fewer : (form : Form) (catalogue : Catalogue) (now next : Shown) (old new : InputState) (known rest : Option (List ℕ)) (reply : Reply) (last : Bool)
+    → IsReply form catalogue now next old new known rest reply last → last ≡ false → new.left ≤ old.left → most_left new < most_left old
+reply_fewer form catalogue now next old new known rest reply last r more left = fewer_left old new r.line r.taken r.takes (r.ended ∙ ap not more) r.few left
 
-pub end_all : (catalogue : Catalogue) (first now next : Shown) (before mid : Streams) (old : InputState) (input : Option (List ℕ))
-    → SoFar catalogue first now before mid old.unread → IsEnd now next old mid.input input → AnswersAll catalogue first before (record { input = input; output = mid.output })
-end_all catalogue first now next before mid old input so e = so_far_end catalogue first now before mid input old.unread e.taken so e.consumed e.none e.at_end
+pub end_all : (form : Form) (catalogue : Catalogue) (first now next : Shown) (before mid : Streams) (old : InputState) (input : Option (List ℕ))
+    → SoFar form catalogue first now before mid old.unread → IsEnd now next old mid.input input → AnswersAll form catalogue first before (record { input = input; output = mid.output })
+end_all form catalogue first now next before mid old input so e = so_far_end form catalogue first now before mid input old.unread e.taken so e.consumed e.none e.at_end
 
-pub broken_ended : (catalogue : Catalogue) (first now next : Shown) (before mid : Streams) (old : InputState) (input : Option (List ℕ))
-    → SoFar catalogue first now before mid old.unread → IsBroken now next old mid.input input → AnswersEnded catalogue first before (record { input = input; output = mid.output })
-broken_ended catalogue first now next before mid old input so b = so_far_cut_off catalogue first now before mid input old.unread b.taken so b.consumed b.none
+pub broken_ended : (form : Form) (catalogue : Catalogue) (first now next : Shown) (before mid : Streams) (old : InputState) (input : Option (List ℕ))
+    → SoFar form catalogue first now before mid old.unread → IsBroken now next old mid.input input → AnswersEnded form catalogue first before (record { input = input; output = mid.output })
+broken_ended form catalogue first now next before mid old input so b = so_far_cut_off form catalogue first now before mid input old.unread b.taken so b.consumed b.none
 
 -- no more reads are counted than were made
 pub reads_few : (reads more : ℕ) → reads_after reads more ≤ reads + more

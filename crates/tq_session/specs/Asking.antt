@@ -1,5 +1,6 @@
 -- What a question of a session is answered with. This project's own.
 use Rattle.std.specs.Prelude.{◌≡◌, ◌≢◌, ℕ, List, length, Ok, Err}
+use Rattle.tq_base.specs.declared.form.Form.{Form}
 use Rattle.tq_base.specs.declared.catalogue.Catalogue.{Catalogue}
 use Rattle.tq_plan.specs.declared.plans.Plan.{Plan}
 use Rattle.tq_plan.specs.Plans.{plan_of}
@@ -14,29 +15,29 @@ use Rattle.tq_session.specs.declared.reply.Reply.{Reply}
 use Rattle.tq_session.specs.declared.reply.Reply.TheVariants as reply
 
 -- the plan is that of the statement that the bytes make
-pub record IsPlanOf (catalogue : Catalogue) (bytes : List ℕ) (plan : Plan) : Type 0 where
+pub record IsPlanOf (form : Form) (catalogue : Catalogue) (bytes : List ℕ) (plan : Plan) : Type 0 where
   pub statement : Statement
   pub makes : Makes bytes statement
-  pub planned : plan_of catalogue statement ≡ Ok plan
+  pub planned : plan_of form catalogue statement ≡ Ok plan
 
 -- why the bytes have no plan: the first reason that applies, or memory is refused
-abbrev pub NotPlanned : Catalogue → List ℕ → Refusal → Type 0
-NotPlanned catalogue bytes (refusal.Statement fault) = IsSqlFault bytes fault × (fault.kind ≢ sql.OutOfMemory)
-NotPlanned catalogue bytes (refusal.Plan fault) = (statement : Statement) × Makes bytes statement × (plan_of catalogue statement ≡ Err fault)
-NotPlanned catalogue bytes refusal.OutOfMemory = Unit {0}
-NotPlanned catalogue bytes refusal.BadLine = ⊥
-NotPlanned catalogue bytes refusal.UnknownTable = ⊥
-NotPlanned catalogue bytes refusal.BadValues = ⊥
-NotPlanned catalogue bytes (refusal.TooEarly last) = ⊥
-NotPlanned catalogue bytes refusal.NoOpenRow = ⊥
-NotPlanned catalogue bytes refusal.TooManyEvents = ⊥
-NotPlanned catalogue bytes (refusal.TooNew count) = ⊥
-NotPlanned catalogue bytes refusal.Closed = ⊥
+abbrev pub NotPlanned : Form → Catalogue → List ℕ → Refusal → Type 0
+NotPlanned form catalogue bytes (refusal.Statement fault) = IsSqlFault bytes fault × (fault.kind ≢ sql.OutOfMemory)
+NotPlanned form catalogue bytes (refusal.Plan fault) = (statement : Statement) × Makes bytes statement × (plan_of form catalogue statement ≡ Err fault)
+NotPlanned form catalogue bytes refusal.OutOfMemory = Unit {0}
+NotPlanned form catalogue bytes refusal.BadLine = ⊥
+NotPlanned form catalogue bytes refusal.UnknownTable = ⊥
+NotPlanned form catalogue bytes refusal.BadValues = ⊥
+NotPlanned form catalogue bytes (refusal.TooEarly last) = ⊥
+NotPlanned form catalogue bytes refusal.NoOpenRow = ⊥
+NotPlanned form catalogue bytes refusal.TooManyEvents = ⊥
+NotPlanned form catalogue bytes (refusal.TooNew count) = ⊥
+NotPlanned form catalogue bytes refusal.Closed = ⊥
 
 -- the rows and the text of the table are told, or memory is refused
-abbrev pub Tells : Table → Reply → Type 0
-Tells table (reply.Answer rows text) = (rows ≡ length table.rows) × (text.items ≡ text_of table)
-Tells table (reply.Refused why) = why ≡ refusal.OutOfMemory
-Tells table reply.Nothing = ⊥
-Tells table (reply.Row row) = ⊥
-Tells table (reply.Published count) = ⊥
+abbrev pub Tells : Form → Table → Reply → Type 0
+Tells form table (reply.Answer rows text) = (rows ≡ length table.rows) × (text.items ≡ text_of form table)
+Tells form table (reply.Refused why) = why ≡ refusal.OutOfMemory
+Tells form table reply.Nothing = ⊥
+Tells form table (reply.Row row) = ⊥
+Tells form table (reply.Published count) = ⊥

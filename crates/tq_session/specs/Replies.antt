@@ -3,6 +3,8 @@ use Rattle.std.specs.Prelude.{◌≡◌, ℕ, List, [], ◌++◌, Option, Some, 
 use Rattle.std.specs.Borrow.{Bor}
 use Rattle.std.specs.Io.KnownBytes.{Appends}
 use Rattle.std.specs.List.{flat_map}
+use Rattle.tq_base.specs.declared.form.Form.{Form}
+use Rattle.tq_base.specs.Numbers.{instant_text}
 use Rattle.tq_engine.specs.FaultNames.{plan_name, sql_name}
 use Rattle.tq_snapshot.specs.declared.faults.AppendFault.{AppendFault}
 use Rattle.tq_snapshot.specs.declared.faults.AppendFault.TheVariants as append
@@ -34,33 +36,34 @@ refusal_name (refusal.TooNew published) = codes "TooNew"
 refusal_name refusal.Closed = codes "Closed"
 refusal_name refusal.OutOfMemory = codes "OutOfMemory"
 
--- its number, where it has one: the time of the last event, the offset in the statement, or how many events are
--- published
-abbrev pub refusal_number : Refusal → Option ℕ
-refusal_number refusal.BadLine = None
-refusal_number refusal.UnknownTable = None
-refusal_number refusal.BadValues = None
-refusal_number (refusal.TooEarly last) = Some last
-refusal_number refusal.NoOpenRow = None
-refusal_number refusal.TooManyEvents = None
-refusal_number (refusal.Statement fault) = Some fault.at
-refusal_number (refusal.Plan fault) = None
-refusal_number (refusal.TooNew published) = Some published
-refusal_number refusal.Closed = None
-refusal_number refusal.OutOfMemory = None
+-- its number as it is printed, where it has one: the time of the last event, the offset in the statement, or how many
+-- events are published
+abbrev pub refusal_number : Form → Refusal → Option (List ℕ)
+refusal_number form refusal.BadLine = None
+refusal_number form refusal.UnknownTable = None
+refusal_number form refusal.BadValues = None
+refusal_number form (refusal.TooEarly last) = Some (instant_text form last)
+refusal_number form refusal.NoOpenRow = None
+refusal_number form refusal.TooManyEvents = None
+refusal_number form (refusal.Statement fault) = Some (decimal fault.at)
+refusal_number form (refusal.Plan fault) = None
+refusal_number form (refusal.TooNew published) = Some (decimal published)
+refusal_number form refusal.Closed = None
+refusal_number form refusal.OutOfMemory = None
 
--- a line: what stands first in it, a word, a number behind a space where there is one; and a text behind the line
-abbrev pub line_text : List ℕ → List ℕ → Option ℕ → List ℕ → List ℕ
+-- a line: what stands first in it, a word, the digits of a number behind a space where there is one; and a text behind
+-- the line
+abbrev pub line_text : List ℕ → List ℕ → Option (List ℕ) → List ℕ → List ℕ
 line_text first word None text = first ++ (word ++ (codes "\n" ++ text))
-line_text first word (Some number) text = first ++ (word ++ (codes " " ++ (decimal number ++ (codes "\n" ++ text))))
+line_text first word (Some digits) text = first ++ (word ++ (codes " " ++ (digits ++ (codes "\n" ++ text))))
 
 -- what is printed: nothing for an empty line, else a line, and behind it the text of an answer
-abbrev pub reply_text : Reply → List ℕ
-reply_text reply.Nothing = []
-reply_text (reply.Row row) = line_text [] (codes "row") (Some row) []
-reply_text (reply.Published count) = line_text [] (codes "published") (Some count) []
-reply_text (reply.Answer rows text) = line_text [] (codes "answer") (Some rows) text.items
-reply_text (reply.Refused why) = line_text (codes "refused ") (refusal_name why) (refusal_number why) []
+abbrev pub reply_text : Form → Reply → List ℕ
+reply_text form reply.Nothing = []
+reply_text form (reply.Row row) = line_text [] (codes "row") (Some (decimal row)) []
+reply_text form (reply.Published count) = line_text [] (codes "published") (Some (decimal count)) []
+reply_text form (reply.Answer rows text) = line_text [] (codes "answer") (Some (decimal rows)) text.items
+reply_text form (reply.Refused why) = line_text (codes "refused ") (refusal_name why) (refusal_number form why) []
 
 -- the bytes of slices, one behind the other
 abbrev pub joined : List (Bor (List ℕ)) → List ℕ

@@ -2,6 +2,7 @@
 use Rattle.std.specs.Prelude.{ℕ, ◌+◌, ◌≤◌, ◌==◌, if◌then◌else◌, nat_le, List, take, drop, position, Option, Some, None, option_map, codes}
 use Rattle.std.specs.Option.{option_and_then}
 use Rattle.std.specs.Str.{bytes_eq}
+use Rattle.tq_base.specs.declared.form.Form.{Form}
 use Rattle.tq_base.specs.Numbers.{instant_of, natural_up_to}
 use Rattle.tq_session.specs.declared.request.Command.{Command}
 use Rattle.tq_session.specs.declared.request.Command.TheVariants as command
@@ -23,9 +24,9 @@ abbrev pub workers_of : List ℕ → Option ℕ
 workers_of bytes = option_and_then (λ n. if nat_le 1 n then Some n else None) (natural_up_to 16 bytes)
 
 -- a table's name, a time and values, with a space between each two
-abbrev pub event_words : List ℕ → Option (List ℕ × (ℕ × List ℕ))
-event_words rest =
-    option_and_then (λ t. option_and_then (λ a. option_map (λ at. (t.0, (at, a.1))) (instant_of a.0)) (parted t.1)) (parted rest)
+abbrev pub event_words : Form → List ℕ → Option (List ℕ × (ℕ × List ℕ))
+event_words form rest =
+    option_and_then (λ t. option_and_then (λ a. option_map (λ at. (t.0, (at, a.1))) (instant_of form a.0)) (parted t.1)) (parted rest)
 
 -- a count of events, a number of workers and a statement, with a space between each two
 abbrev pub ask_words : List ℕ → Option (ℕ × (ℕ × List ℕ))
@@ -34,16 +35,16 @@ ask_words rest =
     (natural_up_to 16777216 c.0)) (parted rest)
 
 -- what the words behind the first one ask for
-abbrev pub worded : List ℕ → List ℕ → Option Request
-worded word rest =
-    if bytes_eq word (codes "start") then option_map (λ e. Start e.0 e.1.0 e.1.1) (event_words rest)
-    else (if bytes_eq word (codes "end") then option_map (λ e. End e.0 e.1.0 e.1.1) (event_words rest)
+abbrev pub worded : Form → List ℕ → List ℕ → Option Request
+worded form word rest =
+    if bytes_eq word (codes "start") then option_map (λ e. Start e.0 e.1.0 e.1.1) (event_words form rest)
+    else (if bytes_eq word (codes "end") then option_map (λ e. End e.0 e.1.0 e.1.1) (event_words form rest)
     else (if bytes_eq word (codes "ask") then option_map (λ a. Ask a.0 a.1.0 a.1.1) (ask_words rest) else None))
 
 -- what a line asks for, where it is a command
-abbrev pub request_of : List ℕ → Option Request
-request_of line =
-    if bytes_eq line (codes "publish") then Some Publish else option_and_then (λ p. worded p.0 p.1) (parted line)
+abbrev pub request_of : Form → List ℕ → Option Request
+request_of form line =
+    if bytes_eq line (codes "publish") then Some Publish else option_and_then (λ p. worded form p.0 p.1) (parted line)
 
 -- the request that a command is
 abbrev pub requested : Command → Request

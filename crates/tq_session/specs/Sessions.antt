@@ -1,6 +1,7 @@
 -- What a session does to the bytes of its input and of its output. This project's own.
 use Rattle.std.specs.Prelude.{◌≡◌, ℕ, ◌⊎◌, List, ◌++◌, Option, Err}
 use Rattle.std.specs.Io.KnownBytes.{Appends, Consumes, IsAtEnd}
+use Rattle.tq_base.specs.declared.form.Form.{Form}
 use Rattle.tq_base.specs.declared.catalogue.Catalogue.{Catalogue}
 use Rattle.tq_event.specs.declared.file.Loaded.{Loaded}
 use Rattle.tq_event.specs.declared.file.TableFile.{TableFile}
@@ -23,26 +24,26 @@ abbrev pub streams : Option (List ℕ) → Option (List ℕ) → Streams
 streams input output = record { input = input; output = output }
 
 -- the input was read to its end, and what its lines are answered with was printed
-pub record AnswersAll (catalogue : Catalogue) (first : Shown) (before after : Streams) : Type 0 where
+pub record AnswersAll (form : Form) (catalogue : Catalogue) (first : Shown) (before after : Streams) : Type 0 where
   pub read : List ℕ
   pub consumed : Consumes before.input after.input read
   pub at_end : IsAtEnd after.input
   pub text : List ℕ
   pub last : Shown
-  pub is_transcript : IsTranscript catalogue first (lines_of read) text last
+  pub is_transcript : IsTranscript form catalogue first (lines_of read) text last
   pub appended : Appends before.output after.output text
 
 -- the input was read up to somewhere, and what the lines that a line feed ended there are answered with was printed
-pub record AnswersEnded (catalogue : Catalogue) (first : Shown) (before after : Streams) : Type 0 where
+pub record AnswersEnded (form : Form) (catalogue : Catalogue) (first : Shown) (before after : Streams) : Type 0 where
   pub read : List ℕ
   pub consumed : Consumes before.input after.input read
   pub text : List ℕ
   pub last : Shown
-  pub is_transcript : IsTranscript catalogue first (ended_lines (lines_of read)) text last
+  pub is_transcript : IsTranscript form catalogue first (ended_lines (lines_of read)) text last
   pub appended : Appends before.output after.output text
 
 -- the input was read up to somewhere, and a beginning of what its first lines are answered with was printed
-pub record AnswersPart (catalogue : Catalogue) (first : Shown) (before after : Streams) : Type 0 where
+pub record AnswersPart (form : Form) (catalogue : Catalogue) (first : Shown) (before after : Streams) : Type 0 where
   pub read : List ℕ
   pub consumed : Consumes before.input after.input read
   pub lines : List Line
@@ -50,24 +51,24 @@ pub record AnswersPart (catalogue : Catalogue) (first : Shown) (before after : S
   pub are_first : lines_of read ≡ lines ++ more
   pub text : List ℕ
   pub last : Shown
-  pub is_transcript : IsTranscript catalogue first lines text last
+  pub is_transcript : IsTranscript form catalogue first lines text last
   pub appended : AppendsPrefix before.output after.output text
 
 -- the same over the tables of the files
-pub record HasAnsweredAll (files : List TableFile) (before after : Streams) : Type 0 where
+pub record HasAnsweredAll (form : Form) (files : List TableFile) (before after : Streams) : Type 0 where
   pub loaded : Loaded
-  pub is_loaded : IsLoaded files 16777216 loaded
-  pub answers : AnswersAll loaded.catalogue (opening loaded.events) before after
+  pub is_loaded : IsLoaded form files 16777216 loaded
+  pub answers : AnswersAll form loaded.catalogue (opening loaded.events) before after
 
-pub record HasAnsweredEnded (files : List TableFile) (before after : Streams) : Type 0 where
+pub record HasAnsweredEnded (form : Form) (files : List TableFile) (before after : Streams) : Type 0 where
   pub loaded : Loaded
-  pub is_loaded : IsLoaded files 16777216 loaded
-  pub answers : AnswersEnded loaded.catalogue (opening loaded.events) before after
+  pub is_loaded : IsLoaded form files 16777216 loaded
+  pub answers : AnswersEnded form loaded.catalogue (opening loaded.events) before after
 
-pub record HasAnsweredPart (files : List TableFile) (before after : Streams) : Type 0 where
+pub record HasAnsweredPart (form : Form) (files : List TableFile) (before after : Streams) : Type 0 where
   pub loaded : Loaded
-  pub is_loaded : IsLoaded files 16777216 loaded
-  pub answers : AnswersPart loaded.catalogue (opening loaded.events) before after
+  pub is_loaded : IsLoaded form files 16777216 loaded
+  pub answers : AnswersPart form loaded.catalogue (opening loaded.events) before after
 
 -- why a session did not begin where no store was opened
 abbrev pub unopened : OpenFault → SessionFault
@@ -75,9 +76,9 @@ unopened open_fault.NoPlace = session.NoPlace
 unopened open_fault.OutOfMemory = session.OutOfMemory
 
 -- why a session did not begin: the first fault of the files, or the store or memory was refused
-abbrev pub IsStartFault : List TableFile → SessionFault → Type 0
-IsStartFault files (session.Load fault) = contents_of files 16777216 ≡ Err fault
-IsStartFault files session.NoPlace = Unit {0}
-IsStartFault files session.OutOfMemory = Unit {0}
-IsStartFault files session.Read = ⊥
-IsStartFault files session.Write = ⊥
+abbrev pub IsStartFault : Form → List TableFile → SessionFault → Type 0
+IsStartFault form files (session.Load fault) = contents_of form files 16777216 ≡ Err fault
+IsStartFault form files session.NoPlace = Unit {0}
+IsStartFault form files session.OutOfMemory = Unit {0}
+IsStartFault form files session.Read = ⊥
+IsStartFault form files session.Write = ⊥

@@ -2,6 +2,7 @@
 -- it is read. This project's own.
 use Rattle.std.specs.Prelude.{◌≡◌, ◌≢◌, ℕ, ◌<◌, ◌≤◌, ◌⊎◌, nat_lt, List, [], ◌∷◌, ◌++◌, length, slice_get, Option, MatchBool, MatchOption, Ok, Err}
 use Rattle.std.specs.Option.{option_and_then}
+use Rattle.tq_base.specs.declared.form.Form.{Form}
 use Rattle.tq_base.specs.declared.catalogue.Catalogue.{Catalogue}
 use Rattle.tq_base.specs.declared.catalogue.Schema.{Schema}
 use Rattle.tq_base.specs.declared.value.Value.{Value}
@@ -91,70 +92,70 @@ Publishes before (outcome.Answer rows text) after = ⊥
 -- ---- questions
 
 -- the bytes are a statement that has a plan
-pub record IsPlanned (catalogue : Catalogue) (bytes : List ℕ) : Type 0 where
+pub record IsPlanned (form : Form) (catalogue : Catalogue) (bytes : List ℕ) : Type 0 where
   pub statement : Statement
   pub makes : Makes bytes statement
   pub plan : Plan
-  pub planned : plan_of catalogue statement ≡ Ok plan
+  pub planned : plan_of form catalogue statement ≡ Ok plan
 
 -- the answer of the statement as of the first n published events: how many rows it has, and its text
-pub record IsToldAnswer (catalogue : Catalogue) (events : List Event) (n : ℕ) (bytes : List ℕ) (rows : ℕ) (text : List ℕ) : Type 0 where
+pub record IsToldAnswer (form : Form) (catalogue : Catalogue) (events : List Event) (n : ℕ) (bytes : List ℕ) (rows : ℕ) (text : List ℕ) : Type 0 where
   pub told : n ≤ length events
   pub statement : Statement
   pub makes : Makes bytes statement
   pub table : Table
-  pub is_answer : IsAnswer catalogue statement events n table
+  pub is_answer : IsAnswer form catalogue statement events n table
   pub rows_are : rows ≡ length table.rows
-  pub text_is : text ≡ text_of table
+  pub text_is : text ≡ text_of form table
 
 -- why a statement is not answered as of the first n of these events: the first reason that applies, or memory is
 -- refused, or the store
-abbrev pub RefusesAsk : Catalogue → List Event → ℕ → List ℕ → Refusal → Type 0
-RefusesAsk catalogue events n bytes (refusal.Statement fault) = IsSqlFault bytes fault × (fault.kind ≢ sql.OutOfMemory)
-RefusesAsk catalogue events n bytes (refusal.Plan fault) = (statement : Statement) × Makes bytes statement × (plan_of catalogue statement ≡ Err fault)
-RefusesAsk catalogue events n bytes (refusal.TooNew count) = IsPlanned catalogue bytes × (count ≡ length events) × (length events < n)
-RefusesAsk catalogue events n bytes refusal.Closed = IsPlanned catalogue bytes × (n ≤ length events)
-RefusesAsk catalogue events n bytes refusal.OutOfMemory = Unit {0}
-RefusesAsk catalogue events n bytes refusal.BadLine = ⊥
-RefusesAsk catalogue events n bytes refusal.UnknownTable = ⊥
-RefusesAsk catalogue events n bytes refusal.BadValues = ⊥
-RefusesAsk catalogue events n bytes (refusal.TooEarly last) = ⊥
-RefusesAsk catalogue events n bytes refusal.NoOpenRow = ⊥
-RefusesAsk catalogue events n bytes refusal.TooManyEvents = ⊥
+abbrev pub RefusesAsk : Form → Catalogue → List Event → ℕ → List ℕ → Refusal → Type 0
+RefusesAsk form catalogue events n bytes (refusal.Statement fault) = IsSqlFault bytes fault × (fault.kind ≢ sql.OutOfMemory)
+RefusesAsk form catalogue events n bytes (refusal.Plan fault) = (statement : Statement) × Makes bytes statement × (plan_of form catalogue statement ≡ Err fault)
+RefusesAsk form catalogue events n bytes (refusal.TooNew count) = IsPlanned form catalogue bytes × (count ≡ length events) × (length events < n)
+RefusesAsk form catalogue events n bytes refusal.Closed = IsPlanned form catalogue bytes × (n ≤ length events)
+RefusesAsk form catalogue events n bytes refusal.OutOfMemory = Unit {0}
+RefusesAsk form catalogue events n bytes refusal.BadLine = ⊥
+RefusesAsk form catalogue events n bytes refusal.UnknownTable = ⊥
+RefusesAsk form catalogue events n bytes refusal.BadValues = ⊥
+RefusesAsk form catalogue events n bytes (refusal.TooEarly last) = ⊥
+RefusesAsk form catalogue events n bytes refusal.NoOpenRow = ⊥
+RefusesAsk form catalogue events n bytes refusal.TooManyEvents = ⊥
 
 -- the answer is told, or why there is none; the number of workers changes nothing
-abbrev pub Asks : Catalogue → List Event → ℕ → List ℕ → Reply → Type 0
-Asks catalogue events n bytes (outcome.Answer rows text) = IsToldAnswer catalogue events n bytes rows text.items
-Asks catalogue events n bytes (outcome.Refused why) = RefusesAsk catalogue events n bytes why
-Asks catalogue events n bytes outcome.Nothing = ⊥
-Asks catalogue events n bytes (outcome.Row row) = ⊥
-Asks catalogue events n bytes (outcome.Published count) = ⊥
+abbrev pub Asks : Form → Catalogue → List Event → ℕ → List ℕ → Reply → Type 0
+Asks form catalogue events n bytes (outcome.Answer rows text) = IsToldAnswer form catalogue events n bytes rows text.items
+Asks form catalogue events n bytes (outcome.Refused why) = RefusesAsk form catalogue events n bytes why
+Asks form catalogue events n bytes outcome.Nothing = ⊥
+Asks form catalogue events n bytes (outcome.Row row) = ⊥
+Asks form catalogue events n bytes (outcome.Published count) = ⊥
 
 -- ---- lines
 
 -- the reply to a request, and what is published and pending then
-abbrev pub Does : Catalogue → Shown → Request → Reply → Shown → Type 0
-Does catalogue before (Start name at fields) reply after =
+abbrev pub Does : Form → Catalogue → Shown → Request → Reply → Shown → Type 0
+Does form catalogue before (Start name at fields) reply after =
     Records catalogue before (λ table values. Starts catalogue before table at values) name fields reply after
-Does catalogue before (End name at fields) reply after =
+Does form catalogue before (End name at fields) reply after =
     Records catalogue before (λ table values. Ends catalogue before table at values) name fields reply after
-Does catalogue before Publish reply after = Publishes before reply after
-Does catalogue before (Ask n workers bytes) reply after = Asks catalogue before.published n bytes reply × (after ≡ before)
+Does form catalogue before Publish reply after = Publishes before reply after
+Does form catalogue before (Ask n workers bytes) reply after = Asks form catalogue before.published n bytes reply × (after ≡ before)
 
 -- the reply to what a line says: none where that is nothing
-abbrev pub Replies : Catalogue → Shown → List ℕ → Reply → Shown → Type 0
-Replies catalogue before [] reply after = (reply ≡ outcome.Nothing) × (after ≡ before)
-Replies catalogue before (byte ∷ bytes) reply after =
-    MatchOption (request_of (byte ∷ bytes)) (Refuses before refusal.BadLine reply after) (λ request. Does catalogue before request reply after)
+abbrev pub Replies : Form → Catalogue → Shown → List ℕ → Reply → Shown → Type 0
+Replies form catalogue before [] reply after = (reply ≡ outcome.Nothing) × (after ≡ before)
+Replies form catalogue before (byte ∷ bytes) reply after =
+    MatchOption (request_of form (byte ∷ bytes)) (Refuses before refusal.BadLine reply after) (λ request. Does form catalogue before request reply after)
 
 -- the reply to a line: one that is too long is refused
-abbrev pub Answers : Catalogue → Shown → Line → Reply → Shown → Type 0
-Answers catalogue before line reply after =
-    MatchBool (nat_lt most_of_line (length line.bytes)) (Refuses before refusal.BadLine reply after) (Replies catalogue before (said line) reply after)
+abbrev pub Answers : Form → Catalogue → Shown → Line → Reply → Shown → Type 0
+Answers form catalogue before line reply after =
+    MatchBool (nat_lt most_of_line (length line.bytes)) (Refuses before refusal.BadLine reply after) (Replies form catalogue before (said line) reply after)
 
 -- the text is what may be printed for the lines, one after another, and what is published and pending then
-unfoldable pub IsTranscript : Catalogue → Shown → List Line → List ℕ → Shown → Type 0
-IsTranscript catalogue before [] text after = (text ≡ []) × (after ≡ before)
-IsTranscript catalogue before (line ∷ lines) text after =
+unfoldable pub IsTranscript : Form → Catalogue → Shown → List Line → List ℕ → Shown → Type 0
+IsTranscript form catalogue before [] text after = (text ≡ []) × (after ≡ before)
+IsTranscript form catalogue before (line ∷ lines) text after =
     (reply : Reply) × (next : Shown) × (more : List ℕ)
-    × Answers catalogue before line reply next × IsTranscript catalogue next lines more after × (text ≡ reply_text reply ++ more)
+    × Answers form catalogue before line reply next × IsTranscript form catalogue next lines more after × (text ≡ reply_text form reply ++ more)

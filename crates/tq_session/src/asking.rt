@@ -10,7 +10,7 @@ use crate::reply::{Refusal, Reply};
 use std::alloc::Global;
 use std::sync::Wait;
 use std::thread::Threads;
-use tq_base::Catalogue;
+use tq_base::{Catalogue, Form};
 use tq_plan::{Plan, PlanFault, plan};
 use tq_run::Open;
 use tq_snapshot::laws::told_answers;
@@ -19,8 +19,8 @@ use tq_sql::{SqlFaultKind, read};
 use tq_table::{Table, table_text};
 
 // The plan of the statement that the bytes make, or the first fault of either.
-fn planned(alloc: Global, catalogue: &Catalogue, bytes: &[u8]) -> Result<Plan, Refusal>
-    ensures { MatchResult result (IsPlanOf catalogue.now bytes.now) (NotPlanned catalogue.now bytes.now) }
+fn planned(alloc: Global, catalogue: &Catalogue, bytes: &[u8], form: Form) -> Result<Plan, Refusal>
+    ensures { MatchResult result (IsPlanOf form catalogue.now bytes.now) (NotPlanned form catalogue.now bytes.now) }
 {
     let statement = match read(alloc, bytes) {
         Ok(statement) => statement,
@@ -29,7 +29,7 @@ fn planned(alloc: Global, catalogue: &Catalogue, bytes: &[u8]) -> Result<Plan, R
         }
         Err(fault) => return Err(Refusal::Statement(fault)),
     };
-    match plan(alloc, catalogue, &statement) {
+    match plan(alloc, catalogue, &statement, form) {
         Ok(plan) => Ok(plan),
         Err(PlanFault::OutOfMemory) => Err(Refusal::OutOfMemory),
         Err(fault) => Err(Refusal::Plan(fault)),
@@ -37,10 +37,10 @@ fn planned(alloc: Global, catalogue: &Catalogue, bytes: &[u8]) -> Result<Plan, R
 }
 
 // The answer of the table: how many rows it has, and its text.
-fn told(alloc: Global, table: &Table<'_>) -> Reply
-    ensures { Tells table.now result }
+fn told(alloc: Global, table: &Table<'_>, form: Form) -> Reply
+    ensures { Tells form table.now result }
 {
-    match table_text(alloc, table) {
+    match table_text(alloc, table, form) {
         Ok(text) => Reply::Answer(table.rows.len(), text),
         Err(_) => Reply::Refused(Refusal::OutOfMemory),
     }
@@ -56,15 +56,16 @@ pub fn ask<J: Naming, R: Threads + Wait + Sync>(
     n: u32,
     workers: u32,
     bytes: &[u8],
+    form: Form,
 ) -> Reply
     requires catalogue { catalogue.now ≡ J.catalogue }
     requires some { 1 ≤ workers }
     requires at_most { workers ≤ 16 }
-    ensures reply { (events : List AnyEvent) → (published ≡ length events) → IsPrefix events reader.old → Asks J.catalogue events n bytes.now result }
+    ensures reply { (events : List AnyEvent) → (published ≡ length events) → IsPrefix events reader.old → Asks form J.catalogue events n bytes.now result }
     ensures told { IsPrefix reader.old reader.new }
 {
     told_answers();
-    let plan = match planned(alloc, catalogue, bytes) {
+    let plan = match planned(alloc, catalogue, bytes, form) {
         Ok(plan) => plan,
         Err(why) => return Reply::Refused(why),
     };
@@ -72,7 +73,7 @@ pub fn ask<J: Naming, R: Threads + Wait + Sync>(
         return Reply::Refused(Refusal::TooNew { published });
     }
     match reader.ask_with(rt, alloc, n, &plan, workers, &Open) {
-        Ok(table) => told(alloc, &table),
+        Ok(table) => told(alloc, &table, form),
         Err(AskFault::TooNew { seen: _ }) | Err(AskFault::Closed) => Reply::Refused(
             Refusal::Closed,
         ),

@@ -13,6 +13,7 @@ use std::alloc::Global;
 use std::marker::Model;
 use std::sync::Wait;
 use std::thread::Threads;
+use tq_base::Form;
 use tq_event::{Loaded, MAX_EVENTS};
 use tq_snapshot::{Naming, OpenFault, Opened, Reader, Writer, open};
 
@@ -70,9 +71,10 @@ impl<J: Naming> Desk<J> {
         rt: &R,
         alloc: Global,
         command: &Command<'_>,
+        form: Form,
     ) -> Reply
         requires { HasWorkers command.now }
-        ensures { Does J.catalogue self.old (requested command.now) result self.new }
+        ensures { Does form J.catalogue self.old (requested command.now) result self.new }
     {
         match command {
             Command::Start(words) => start(alloc, &mut self.writer, words),
@@ -90,20 +92,27 @@ impl<J: Naming> Desk<J> {
                     *n,
                     *workers,
                     bytes,
+                    form,
                 )
             }
         }
     }
 
-    /// Does what the line says.
-    pub fn reply<R: Threads + Wait + Sync>(&mut self, rt: &R, alloc: Global, line: &[u8]) -> Reply
-        ensures { Replies J.catalogue self.old line.now result self.new }
+    /// Does what the line says; instants are read and written in the form.
+    pub fn reply<R: Threads + Wait + Sync>(
+        &mut self,
+        rt: &R,
+        alloc: Global,
+        line: &[u8],
+        form: Form,
+    ) -> Reply
+        ensures { Replies form J.catalogue self.old line.now result self.new }
     {
         if line.is_empty() {
             return Reply::Nothing;
         }
-        match read_command(line) {
-            Some(command) => self.carry_out(rt, alloc, &command),
+        match read_command(line, form) {
+            Some(command) => self.carry_out(rt, alloc, &command, form),
             None => Reply::Refused(Refusal::BadLine),
         }
     }

@@ -1,15 +1,16 @@
 // Replies to the lines of a session, and what is printed of them.
 
-ghost use Rattle.std.specs.Prelude.{◌≡◌, ◌++◌, OnOk, OnErr, if◌then◌else◌};
+ghost use Rattle.std.specs.Prelude.{◌≡◌, ◌++◌, [], codes, decimal, option_copied, OnOk, OnErr, Some, if◌then◌else◌};
 ghost use Rattle.std.specs.Result.{is_err};
 ghost use Rattle.std.specs.Io.KnownBytes.{Appends};
+ghost use Rattle.tq_base.specs.Numbers.{instant_text};
 ghost use Rattle.tq_table.specs.Sink.{AppendsPrefix, one_more};
 ghost use Rattle.tq_session.specs.Replies.{AppendsAllBut, joined, line_text, refusal_name, refusal_number, refused_event, reply_text};
 
 use arrayvec::ArrayVec;
 use itoa::Buffer;
 use std::io::Write;
-use tq_base::Instant;
+use tq_base::{Form, Instant, put_instant};
 use tq_engine::{plan_name, sql_name};
 use tq_plan::PlanFault;
 use tq_snapshot::AppendFault;
@@ -91,18 +92,6 @@ impl Refusal {
             Refusal::OutOfMemory => "OutOfMemory",
         }
     }
-
-    // Its number, where it has one.
-    fn number(&self) -> Option<u64>
-        ensures { result ≡ refusal_number self.now }
-    {
-        match self {
-            Refusal::TooEarly { last } => Some(last.number()),
-            Refusal::Statement(fault) => Some(u64::from(fault.at)),
-            Refusal::TooNew { published } => Some(u64::from(*published)),
-            _ => None,
-        }
-    }
 }
 
 // The bytes that are held for the next write.
@@ -155,48 +144,100 @@ fn send_six<'a, W: Write>(
     send_parts(sink, &[first, second, third, fourth, fifth, sixth])
 }
 
-// Writes a line of what stands first, a word and a number, and a text behind it. It takes no memory.
+// Writes a line of what stands first, a word and the digits of a number, and a text behind it. It takes no memory.
 fn send_line<W: Write>(
     sink: &mut Sink<W>,
     first: &str,
     word: &str,
-    number: Option<u64>,
+    digits: Option<&[u8]>,
     text: &[u8],
 ) -> Result<(), WriteFault>
-    ensures whole { OnOk result (Appends (W.contents sink.old.writer) (W.contents sink.new.writer) (line_text first.now word.now number text.now)) }
-    ensures prefix { OnErr result (AppendsPrefix (W.contents sink.old.writer) (W.contents sink.new.writer) (line_text first.now word.now number text.now)) }
+    ensures whole { OnOk result (Appends (W.contents sink.old.writer) (W.contents sink.new.writer) (line_text first.now word.now (option_copied digits.entry) text.now)) }
+    ensures prefix { OnErr result (AppendsPrefix (W.contents sink.old.writer) (W.contents sink.new.writer) (line_text first.now word.now (option_copied digits.entry) text.now)) }
     ensures failed { sink.new.failed ≡ (if is_err result then one_more sink.old.failed else sink.old.failed) }
 {
     let (first, word) = (first.as_bytes(), word.as_bytes());
-    match number {
-        Some(number) => {
-            let mut digits = Buffer::new();
-            let digits = digits.format(number).as_bytes();
-            send_six(sink, first, word, b" ", digits, b"\n", text)
-        }
+    match digits {
+        Some(digits) => send_six(sink, first, word, b" ", digits, b"\n", text),
         None => send_six(sink, first, word, b"", b"", b"\n", text),
     }
 }
 
+// The same with a number.
+fn send_number<W: Write>(
+    sink: &mut Sink<W>,
+    first: &str,
+    word: &str,
+    number: u64,
+    text: &[u8],
+) -> Result<(), WriteFault>
+    ensures whole { OnOk result (Appends (W.contents sink.old.writer) (W.contents sink.new.writer) (line_text first.now word.now (Some (decimal number)) text.now)) }
+    ensures prefix { OnErr result (AppendsPrefix (W.contents sink.old.writer) (W.contents sink.new.writer) (line_text first.now word.now (Some (decimal number)) text.now)) }
+    ensures failed { sink.new.failed ≡ (if is_err result then one_more sink.old.failed else sink.old.failed) }
+{
+    let mut digits = Buffer::new();
+    send_line(
+        sink,
+        first,
+        word,
+        Some(digits.format(number).as_bytes()),
+        text,
+    )
+}
+
+// The same with an instant, written in the form.
+fn send_instant<W: Write>(
+    sink: &mut Sink<W>,
+    first: &str,
+    word: &str,
+    instant: Instant,
+    form: Form,
+) -> Result<(), WriteFault>
+    ensures whole { OnOk result (Appends (W.contents sink.old.writer) (W.contents sink.new.writer) (line_text first.now word.now (Some (instant_text form instant)) [])) }
+    ensures prefix { OnErr result (AppendsPrefix (W.contents sink.old.writer) (W.contents sink.new.writer) (line_text first.now word.now (Some (instant_text form instant)) [])) }
+    ensures failed { sink.new.failed ≡ (if is_err result then one_more sink.old.failed else sink.old.failed) }
+{
+    let mut text = [0; 12];
+    let len = put_instant(instant, form, &mut text);
+    send_line(sink, first, word, Some(&text[..len]), b"")
+}
+
+impl Refusal {
+    // Writes the line of a refusal.
+    fn send<W: Write>(&self, sink: &mut Sink<W>, form: Form) -> Result<(), WriteFault>
+        ensures whole { OnOk result (Appends (W.contents sink.old.writer) (W.contents sink.new.writer) (line_text (codes "refused ") (refusal_name self.now) (refusal_number form self.now) [])) }
+        ensures prefix { OnErr result (AppendsPrefix (W.contents sink.old.writer) (W.contents sink.new.writer) (line_text (codes "refused ") (refusal_name self.now) (refusal_number form self.now) [])) }
+        ensures failed { sink.new.failed ≡ (if is_err result then one_more sink.old.failed else sink.old.failed) }
+    {
+        let (first, word) = ("refused ", self.name());
+        match self {
+            Refusal::TooEarly { last } => send_instant(sink, first, word, *last, form),
+            Refusal::Statement(fault) => {
+                send_number(sink, first, word, u64::from(fault.at), b"")
+            }
+            Refusal::TooNew { published } => {
+                send_number(sink, first, word, u64::from(*published), b"")
+            }
+            _ => send_line(sink, first, word, None, b""),
+        }
+    }
+}
+
 impl Reply {
-    /// Writes what is printed, and flushes the writer. It takes no memory.
-    pub fn send<W: Write>(&self, sink: &mut Sink<W>) -> Result<(), WriteFault>
-        ensures whole { OnOk result (Appends (W.contents sink.old.writer) (W.contents sink.new.writer) (reply_text self.now)) }
-        ensures prefix { OnErr result (AppendsPrefix (W.contents sink.old.writer) (W.contents sink.new.writer) (reply_text self.now)) }
+    /// Writes what is printed, instants in the form, and flushes the writer. It takes no memory.
+    pub fn send<W: Write>(&self, sink: &mut Sink<W>, form: Form) -> Result<(), WriteFault>
+        ensures whole { OnOk result (Appends (W.contents sink.old.writer) (W.contents sink.new.writer) (reply_text form self.now)) }
+        ensures prefix { OnErr result (AppendsPrefix (W.contents sink.old.writer) (W.contents sink.new.writer) (reply_text form self.now)) }
         ensures failed { sink.new.failed ≡ (if is_err result then one_more sink.old.failed else sink.old.failed) }
     {
         match self {
             Reply::Nothing => Ok(()),
-            Reply::Row(row) => send_line(sink, "", "row", Some(u64::from(*row)), b""),
-            Reply::Published(count) => send_line(
-                sink,
-                "",
-                "published",
-                Some(u64::from(*count)),
-                b"",
-            ),
-            Reply::Answer(rows, text) => send_line(sink, "", "answer", Some(*rows as u64), text),
-            Reply::Refused(why) => send_line(sink, "refused ", why.name(), why.number(), b""),
+            Reply::Row(row) => send_number(sink, "", "row", u64::from(*row), b""),
+            Reply::Published(count) => {
+                send_number(sink, "", "published", u64::from(*count), b"")
+            }
+            Reply::Answer(rows, text) => send_number(sink, "", "answer", *rows as u64, text),
+            Reply::Refused(why) => why.send(sink, form),
         }
     }
 }

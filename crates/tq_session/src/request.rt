@@ -4,7 +4,7 @@ ghost use Rattle.std.specs.Prelude.{◌≡◌, ◌==◌, ◌<◌, ◌≤◌, IfS
 ghost use Rattle.std.specs.Str.{bytes_eq};
 ghost use Rattle.tq_session.specs.Requests.{Start, End, Ask, HasWorkers, ask_words, event_words, parted, request_of, requested, worded, workers_of};
 
-use tq_base::{Instant, read_instant, read_natural};
+use tq_base::{Form, Instant, read_instant, read_natural};
 
 /// What a command says of the event that it asks for: the table's name, the time, and the row's values as they are
 /// written.
@@ -57,12 +57,12 @@ fn workers_of(bytes: &[u8]) -> Option<u32>
 }
 
 // A table's name, a time, and values.
-fn event_words(rest: &[u8]) -> Option<EventWords<'_>>
-    ensures { option_map (λ e. (e.table.now, (e.at, e.fields.now))) result ≡ event_words rest.now }
+fn event_words(rest: &[u8], form: Form) -> Option<EventWords<'_>>
+    ensures { option_map (λ e. (e.table.now, (e.at, e.fields.now))) result ≡ event_words form rest.now }
 {
     let (table, rest) = parted(rest)?;
     let (time, fields) = parted(rest)?;
-    let at = read_instant(time)?;
+    let at = read_instant(time, form)?;
     Some(EventWords { table, at, fields })
 }
 
@@ -86,22 +86,22 @@ fn is_word(bytes: &[u8], word: &str) -> bool
 }
 
 // The start of a row that the words behind the first one ask for.
-fn read_start(rest: &[u8]) -> Option<Command<'_>>
-    ensures asked { option_map requested result ≡ option_map (λ e. Start e.0 e.1.0 e.1.1) (event_words rest.now) }
+fn read_start(rest: &[u8], form: Form) -> Option<Command<'_>>
+    ensures asked { option_map requested result ≡ option_map (λ e. Start e.0 e.1.0 e.1.1) (event_words form rest.now) }
     ensures few { IfSome result HasWorkers }
 {
-    match event_words(rest) {
+    match event_words(rest, form) {
         Some(words) => Some(Command::Start(words)),
         None => None,
     }
 }
 
 // The end of a row that they ask for.
-fn read_end(rest: &[u8]) -> Option<Command<'_>>
-    ensures asked { option_map requested result ≡ option_map (λ e. End e.0 e.1.0 e.1.1) (event_words rest.now) }
+fn read_end(rest: &[u8], form: Form) -> Option<Command<'_>>
+    ensures asked { option_map requested result ≡ option_map (λ e. End e.0 e.1.0 e.1.1) (event_words form rest.now) }
     ensures few { IfSome result HasWorkers }
 {
-    match event_words(rest) {
+    match event_words(rest, form) {
         Some(words) => Some(Command::End(words)),
         None => None,
     }
@@ -117,14 +117,14 @@ fn read_ask(rest: &[u8]) -> Option<Command<'_>>
 }
 
 // What the words behind the first one ask for.
-fn worded<'a>(word: &[u8], rest: &'a [u8]) -> Option<Command<'a>>
-    ensures asked { option_map requested result ≡ worded word.now rest.now }
+fn worded<'a>(word: &[u8], rest: &'a [u8], form: Form) -> Option<Command<'a>>
+    ensures asked { option_map requested result ≡ worded form word.now rest.now }
     ensures few { IfSome result HasWorkers }
 {
     if is_word(word, "start") {
-        read_start(rest)
+        read_start(rest, form)
     } else if is_word(word, "end") {
-        read_end(rest)
+        read_end(rest, form)
     } else if is_word(word, "ask") {
         read_ask(rest)
     } else {
@@ -132,14 +132,14 @@ fn worded<'a>(word: &[u8], rest: &'a [u8]) -> Option<Command<'a>>
     }
 }
 
-/// What the line asks for, where it is a command.
-pub fn read_command(line: &[u8]) -> Option<Command<'_>>
-    ensures asked { option_map requested result ≡ request_of line.now }
+/// What the line asks for, where it is a command; times are written in the form.
+pub fn read_command(line: &[u8], form: Form) -> Option<Command<'_>>
+    ensures asked { option_map requested result ≡ request_of form line.now }
     ensures few { IfSome result HasWorkers }
 {
     if is_word(line, "publish") {
         return Some(Command::Publish);
     }
     let (word, rest) = parted(line)?;
-    worded(word, rest)
+    worded(word, rest, form)
 }

@@ -17,6 +17,7 @@ use std::marker::Brand;
 use std::sync::Wait;
 use std::thread::Threads;
 use thiserror::Error;
+use tq_base::Form;
 use tq_engine::Source;
 use tq_event::laws::{loaded_is_history, loaded_is_within};
 use tq_event::{LoadFault, LoadFaultKind, Loaded, MAX_EVENTS, TableFile, load};
@@ -74,9 +75,10 @@ fn next_reply<J: Naming, R: Threads + Wait + Sync, I: Read>(
     desk: &mut Desk<J>,
     input: &mut Input,
     source: &mut Source<I>,
+    form: Form,
 ) -> Result<Option<(Reply, bool)>, SessionFault>
     ensures replied { IfOk result (λ next. MatchOption next (IsEnd desk.old desk.new input.old (I.remaining source.old.reader) (I.remaining source.new.reader))
-        (λ r. IsReply J.catalogue desk.old desk.new input.old input.new (I.remaining source.old.reader) (I.remaining source.new.reader) r.0 r.1)) }
+        (λ r. IsReply form J.catalogue desk.old desk.new input.old input.new (I.remaining source.old.reader) (I.remaining source.new.reader) r.0 r.1)) }
     ensures broken { OnErr result (IsBroken desk.old desk.new input.old (I.remaining source.old.reader) (I.remaining source.new.reader)) }
     ensures fault { IfErr result (λ fault. fault ≡ SessionFault.Read) }
     ensures unfailed { OnOk result (source.new.failed ≡ source.old.failed) }
@@ -86,7 +88,7 @@ fn next_reply<J: Naming, R: Threads + Wait + Sync, I: Read>(
     ensures left { input.new.left ≤ input.old.left }
 {
     match input.next(source) {
-        Ok(Found::Line(last)) => Ok(Some((desk.reply(rt, alloc, input.line()), last))),
+        Ok(Found::Line(last)) => Ok(Some((desk.reply(rt, alloc, input.line(), form), last))),
         Ok(Found::TooLong(last)) => Ok(Some((Reply::Refused(Refusal::BadLine), last))),
         Ok(Found::End) => Ok(None),
         Err(_) => Err(SessionFault::Read),
@@ -101,12 +103,13 @@ fn answer_lines<J: Naming, R: Threads + Wait + Sync, I: Read, W: Write>(
     input: &mut Input,
     source: &mut Source<I>,
     sink: &mut Sink<W>,
+    form: Form,
 ) -> Result<(), SessionFault>
     requires { input.old.unread ≡ [] }
-    ensures all { OnOk result (AnswersAll J.catalogue desk.old (streams (I.remaining source.old.reader) (W.contents sink.old.writer)) (streams (I.remaining source.new.reader) (W.contents sink.new.writer))) }
+    ensures all { OnOk result (AnswersAll form J.catalogue desk.old (streams (I.remaining source.old.reader) (W.contents sink.old.writer)) (streams (I.remaining source.new.reader) (W.contents sink.new.writer))) }
     ensures unfailed { OnOk result ((source.new.failed ≡ source.old.failed) × (sink.new.failed ≡ sink.old.failed)) }
-    ensures read { result ≡ Err SessionFault.Read → AnswersEnded J.catalogue desk.old (streams (I.remaining source.old.reader) (W.contents sink.old.writer)) (streams (I.remaining source.new.reader) (W.contents sink.new.writer)) }
-    ensures write { result ≡ Err SessionFault.Write → AnswersPart J.catalogue desk.old (streams (I.remaining source.old.reader) (W.contents sink.old.writer)) (streams (I.remaining source.new.reader) (W.contents sink.new.writer)) }
+    ensures read { result ≡ Err SessionFault.Read → AnswersEnded form J.catalogue desk.old (streams (I.remaining source.old.reader) (W.contents sink.old.writer)) (streams (I.remaining source.new.reader) (W.contents sink.new.writer)) }
+    ensures write { result ≡ Err SessionFault.Write → AnswersPart form J.catalogue desk.old (streams (I.remaining source.old.reader) (W.contents sink.old.writer)) (streams (I.remaining source.new.reader) (W.contents sink.new.writer)) }
     ensures fault { IfErr result (λ fault. (fault ≡ SessionFault.Read) ⊎ (fault ≡ SessionFault.Write)) }
     ensures read_failed { result ≡ Err SessionFault.Read → (sink.new.failed ≡ sink.old.failed) × ((source.new.failed ≡ one_more source.old.failed)
         ⊎ ((source.new.failed ≡ source.old.failed) × (input.new.left ≡ 0))) }
@@ -115,10 +118,10 @@ fn answer_lines<J: Naming, R: Threads + Wait + Sync, I: Read, W: Write>(
     ensures left { input.new.left ≤ input.old.left }
 {
     'lines: loop {
-        let Some((reply, last)) = next_reply(rt, alloc, desk, input, source)? else {
+        let Some((reply, last)) = next_reply(rt, alloc, desk, input, source, form)? else {
             return Ok(());
         };
-        if reply.send(sink).is_err() {
+        if reply.send(sink, form).is_err() {
             return Err(SessionFault::Write);
         }
         if last {
@@ -136,15 +139,16 @@ fn run<J: Naming, R: Threads + Wait + Sync, I: Read, W: Write>(
     mut input: Input,
     source: &mut Source<I>,
     sink: &mut Sink<W>,
+    form: Form,
 ) -> Result<(), SessionFault>
     requires named { (opened ≡ J.book) × (loaded.catalogue ≡ J.catalogue) }
     requires history { IsHistory loaded.catalogue loaded.events }
     requires few { length loaded.events ≤ 16777216 }
     requires input { (input.unread ≡ []) × (input.left ≡ 1073741824) }
-    ensures all { OnOk result (AnswersAll loaded.catalogue (opening loaded.events) (streams (I.remaining source.old.reader) (W.contents sink.old.writer)) (streams (I.remaining source.new.reader) (W.contents sink.new.writer))) }
+    ensures all { OnOk result (AnswersAll form loaded.catalogue (opening loaded.events) (streams (I.remaining source.old.reader) (W.contents sink.old.writer)) (streams (I.remaining source.new.reader) (W.contents sink.new.writer))) }
     ensures unfailed { OnOk result ((source.new.failed ≡ source.old.failed) × (sink.new.failed ≡ sink.old.failed)) }
-    ensures read { result ≡ Err SessionFault.Read → AnswersEnded loaded.catalogue (opening loaded.events) (streams (I.remaining source.old.reader) (W.contents sink.old.writer)) (streams (I.remaining source.new.reader) (W.contents sink.new.writer)) }
-    ensures write { result ≡ Err SessionFault.Write → AnswersPart loaded.catalogue (opening loaded.events) (streams (I.remaining source.old.reader) (W.contents sink.old.writer)) (streams (I.remaining source.new.reader) (W.contents sink.new.writer)) }
+    ensures read { result ≡ Err SessionFault.Read → AnswersEnded form loaded.catalogue (opening loaded.events) (streams (I.remaining source.old.reader) (W.contents sink.old.writer)) (streams (I.remaining source.new.reader) (W.contents sink.new.writer)) }
+    ensures write { result ≡ Err SessionFault.Write → AnswersPart form loaded.catalogue (opening loaded.events) (streams (I.remaining source.old.reader) (W.contents sink.old.writer)) (streams (I.remaining source.new.reader) (W.contents sink.new.writer)) }
     ensures read_failed { result ≡ Err SessionFault.Read → (sink.new.failed ≡ sink.old.failed) × ((source.new.failed ≡ one_more source.old.failed)
         ⊎ ((source.new.failed ≡ source.old.failed) × (source.new.reads ≡ reads_after source.old.reads 1073741824))) }
     ensures write_failed { result ≡ Err SessionFault.Write → (sink.new.failed ≡ one_more sink.old.failed) × (source.new.failed ≡ source.old.failed) }
@@ -152,7 +156,7 @@ fn run<J: Naming, R: Threads + Wait + Sync, I: Read, W: Write>(
     ensures reads { source.new.reads ≤ source.old.reads + 1073741824 }
 {
     let mut desk = Desk::<J>::open(alloc, opened, loaded)?;
-    let ended = answer_lines(rt, alloc, &mut desk, &mut input, source, sink);
+    let ended = answer_lines(rt, alloc, &mut desk, &mut input, source, sink, form);
     desk.close(rt);
     ended
 }
@@ -160,29 +164,30 @@ fn run<J: Naming, R: Threads + Wait + Sync, I: Read, W: Write>(
 /// Answers the lines of the source over the tables of the files, one after another, each as soon as its line feed was
 /// read, or the end of the input. A refused line changes nothing, and the lines before a fault stand answered. Files
 /// are loaded, and all memory for reading lines is taken, before the first read; printing takes none but for the text of
-/// an answer.
+/// an answer. Instants are read and written in the form.
 pub fn session<R: Threads + Wait + Sync, I: Read, W: Write>(
     rt: &R,
     alloc: Global,
     files: Vec<TableFile>,
     source: &mut Source<I>,
     sink: &mut Sink<W>,
+    form: Form,
 ) -> Result<(), SessionFault>
-    ensures all { OnOk result (HasAnsweredAll files.items (streams (I.remaining source.old.reader) (W.contents sink.old.writer)) (streams (I.remaining source.new.reader) (W.contents sink.new.writer))) }
+    ensures all { OnOk result (HasAnsweredAll form files.items (streams (I.remaining source.old.reader) (W.contents sink.old.writer)) (streams (I.remaining source.new.reader) (W.contents sink.new.writer))) }
     ensures unfailed { OnOk result ((source.new.failed ≡ source.old.failed) × (sink.new.failed ≡ sink.old.failed)) }
-    ensures read { result ≡ Err SessionFault.Read → HasAnsweredEnded files.items (streams (I.remaining source.old.reader) (W.contents sink.old.writer)) (streams (I.remaining source.new.reader) (W.contents sink.new.writer)) }
-    ensures write { result ≡ Err SessionFault.Write → HasAnsweredPart files.items (streams (I.remaining source.old.reader) (W.contents sink.old.writer)) (streams (I.remaining source.new.reader) (W.contents sink.new.writer)) }
+    ensures read { result ≡ Err SessionFault.Read → HasAnsweredEnded form files.items (streams (I.remaining source.old.reader) (W.contents sink.old.writer)) (streams (I.remaining source.new.reader) (W.contents sink.new.writer)) }
+    ensures write { result ≡ Err SessionFault.Write → HasAnsweredPart form files.items (streams (I.remaining source.old.reader) (W.contents sink.old.writer)) (streams (I.remaining source.new.reader) (W.contents sink.new.writer)) }
     ensures read_failed { result ≡ Err SessionFault.Read → (sink.new.failed ≡ sink.old.failed) × ((source.new.failed ≡ one_more source.old.failed)
         ⊎ ((source.new.failed ≡ source.old.failed) × (source.new.reads ≡ reads_after source.old.reads 1073741824))) }
     ensures write_failed { result ≡ Err SessionFault.Write → (sink.new.failed ≡ one_more sink.old.failed) × (source.new.failed ≡ source.old.failed) }
-    ensures start { IfErr result (λ fault. fault ≢ SessionFault.Read → fault ≢ SessionFault.Write → IsStartFault files.items fault × (source.new ≡ source.old) × (sink.new ≡ sink.old)) }
+    ensures start { IfErr result (λ fault. fault ≢ SessionFault.Read → fault ≢ SessionFault.Write → IsStartFault form files.items fault × (source.new ≡ source.old) × (sink.new ≡ sink.old)) }
     ensures reads { source.new.reads ≤ source.old.reads + 1073741824 }
 {
     loaded_is_history();
     loaded_is_within();
-    let loaded = load(alloc, files, MAX_EVENTS)?;
+    let loaded = load(alloc, files, MAX_EVENTS, form)?;
     let Ok(input) = Input::new(alloc) else {
         return Err(SessionFault::OutOfMemory);
     };
-    run::<Brand, R, I, W>(rt, alloc, Opened::new(), loaded, input, source, sink)
+    run::<Brand, R, I, W>(rt, alloc, Opened::new(), loaded, input, source, sink, form)
 }

@@ -1,11 +1,13 @@
 -- The text of a table: CSV (RFC 4180) as the `csv` crate writes it by its defaults, lines ended by LF.
-use Rattle.std.specs.Prelude.{◌≡◌, ℕ, ◌==◌, if◌then◌else◌, List, [], ◌∷◌, ◌++◌, map, decimal, codes, true}
+use Rattle.std.specs.Prelude.{◌≡◌, ℕ, ◌==◌, if◌then◌else◌, List, [], ◌∷◌, ◌++◌, map, codes, true}
 use Rattle.std.specs.Fmt.{signed_decimal}
 use Rattle.std.specs.List.{flat_map}
 use Rattle.csv.specs.Writing.{default_writer, row_text, with_flexible}
 use Rattle.csv.specs.declared.writer.WriterBuilder.{WriterBuilder}
 use Rattle.tq_base.specs.declared.value.Value.{Value}
 use Rattle.tq_base.specs.Contents.{Int, Text}
+use Rattle.tq_base.specs.Numbers.{instant_text}
+use Rattle.tq_base.specs.declared.form.Form.{Form}
 use Rattle.tq_base.specs.declared.period.TheConstants.{FOREVER}
 use Rattle.tq_base.specs.declared.fragment.Fragment.{Fragment}
 use Rattle.tq_table.specs.declared.table.Table.{Table}
@@ -19,13 +21,13 @@ abbrev pub value_field : Value → List ℕ
 value_field (Int n) = signed_decimal n
 value_field (Text t) = t
 
--- a bound in decimal; the last one is `forever`
-abbrev pub bound_field : ℕ → List ℕ
-bound_field bound = if bound == FOREVER then codes "forever" else decimal bound
+-- a bound as an instant is written; the last one is `forever`
+abbrev pub bound_field : Form → ℕ → List ℕ
+bound_field form bound = if bound == FOREVER then codes "forever" else instant_text form bound
 
 -- the values of a row, and the start and the end of its period
-abbrev pub row_fields : Fragment → List (List ℕ)
-row_fields row = map value_field row.values ++ (decimal row.period.start ∷ bound_field row.period.end ∷ [])
+abbrev pub row_fields : Form → Fragment → List (List ℕ)
+row_fields form row = map value_field row.values ++ (instant_text form row.period.start ∷ bound_field form row.period.end ∷ [])
 
 -- the column names, and `from` and `to`
 abbrev pub header_fields : List (List ℕ) → List (List ℕ)
@@ -36,13 +38,13 @@ abbrev pub header_text : List (List ℕ) → List ℕ
 header_text columns = row_text answer_format (header_fields columns)
 
 -- a line for each row
-abbrev pub rows_text : List Fragment → List ℕ
-rows_text rows = flat_map (λ row. row_text answer_format (row_fields row)) rows
+abbrev pub rows_text : Form → List Fragment → List ℕ
+rows_text form rows = flat_map (λ row. row_text answer_format (row_fields form row)) rows
 
 -- the header's line, and a line for each row
-abbrev pub text_of : Table → List ℕ
-text_of table = header_text table.columns ++ rows_text table.rows
+abbrev pub text_of : Form → Table → List ℕ
+text_of form table = header_text table.columns ++ rows_text form table.rows
 
 -- the bytes are the text of such a table
-abbrev pub IsTextOf : (Table → Type 0) → List ℕ → Type 0
-IsTextOf Is text = (table : Table) × Is table × (text ≡ text_of table)
+abbrev pub IsTextOf : Form → (Table → Type 0) → List ℕ → Type 0
+IsTextOf form Is text = (table : Table) × Is table × (text ≡ text_of form table)

@@ -11,7 +11,7 @@ use crate::instants::asked;
 use crate::statements::random_statement;
 use std::alloc::{AllocError, Global};
 use std::fmt::Write;
-use tq_base::{Instant, Items, Value, Values};
+use tq_base::{Form, Instant, Items, Value, Values};
 use tq_eval::answer;
 use tq_event::{Event, MAX_EVENTS, TableFile};
 use tq_plan::{Plan, plan};
@@ -108,7 +108,7 @@ impl Known {
         let sources = draws.below(2) + 1;
         let statement = random_statement(alloc, draws, sources)?;
         let statement = read(alloc, statement.as_bytes())?;
-        Ok(plan(alloc, self.db.catalogue(), &statement)?)
+        Ok(plan(alloc, self.db.catalogue(), &statement, Form::Numbers)?)
     }
 
     // Sees the answer of a random statement as of a random count of events at three random instants.

@@ -7,7 +7,7 @@ use crate::fault::Fault;
 use crate::telling::{line_of, tell_rows};
 use std::alloc::Global;
 use std::mem;
-use tq_base::{Catalogue, FOREVER};
+use tq_base::{Catalogue, FOREVER, Form};
 use tq_event::{Event, MAX_EVENTS, TableFile, load};
 use tq_plain::rows_at;
 use tq_plan::{Plan, plan};
@@ -40,10 +40,10 @@ pub(crate) fn asked(
 ) -> Result<Question, Fault>
     ensures { IfOk result (λ question. IsPlanOver question.db.catalogue question.plan) }
 {
-    let loaded = load(alloc, files, MAX_EVENTS)?;
+    let loaded = load(alloc, files, MAX_EVENTS, Form::Numbers)?;
     let statement = read(alloc, statement.as_bytes())?;
     let db = db_of(alloc, loaded.catalogue, loaded.events.get())?;
-    let plan = plan(alloc, db.catalogue(), &statement)?;
+    let plan = plan(alloc, db.catalogue(), &statement, Form::Numbers)?;
     Ok(Question { db, plan })
 }
 

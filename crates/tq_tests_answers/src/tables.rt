@@ -7,6 +7,7 @@ ghost use Rattle.tq_eval.specs.Fitting.{AreAllFitting};
 use crate::fault::Fault;
 use crate::instants::asked;
 use std::alloc::Global;
+use tq_base::Form;
 use tq_eval::laws::held_rows_fit;
 use tq_eval::{answer, answer_tables};
 use tq_event::laws::{loaded_is_history, tables_are_loaded};
@@ -19,7 +20,7 @@ use tq_table::table_text;
 fn tables_of(alloc: Global, files: Vec<TableFile>) -> Result<Tables, Fault>
     ensures { IfOk result (λ tables. AreAllFitting tables.catalogue (lists_of tables.rows)) }
 {
-    let tables = load_tables(alloc, files, MAX_EVENTS)?;
+    let tables = load_tables(alloc, files, MAX_EVENTS, Form::Numbers)?;
     tables_are_loaded();
     loaded_is_history();
     held_rows_fit();
@@ -30,9 +31,14 @@ fn tables_of(alloc: Global, files: Vec<TableFile>) -> Result<Tables, Fault>
 fn answered(alloc: Global, tables: &Tables, statement: &[u8]) -> Result<Vec<u8>, Fault>
     requires { AreAllFitting tables.now.catalogue (lists_of tables.now.rows) }
 {
-    let plan = plan(alloc, &tables.catalogue, &read(alloc, statement)?)?;
+    let plan = plan(
+        alloc,
+        &tables.catalogue,
+        &read(alloc, statement)?,
+        Form::Numbers,
+    )?;
     let table = answer_tables(alloc, &tables.catalogue, tables.rows.get(), &plan)?;
-    Ok(table_text(alloc, &table)?)
+    Ok(table_text(alloc, &table, Form::Numbers)?)
 }
 
 /// The text of the statement's answer over the tables of the files.
@@ -53,5 +59,5 @@ pub(crate) fn answered_by_events(
 ) -> Result<Vec<u8>, Fault> {
     let question = asked(alloc, files, statement)?;
     let table = answer(alloc, &question.db, question.db.count(), &question.plan)?;
-    Ok(table_text(alloc, &table)?)
+    Ok(table_text(alloc, &table, Form::Numbers)?)
 }

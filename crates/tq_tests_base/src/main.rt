@@ -4,6 +4,9 @@
 //!     int TEXT                        the number of 64 signed bits that the text is
 //!     natural MOST TEXT               the number up to the most that it is
 //!     instant TEXT                    the instant and the bound that it is
+//!     date TEXT                       the day and the bound that it is in dates
+//!     day NUMBER                      the day of that number in dates, and in numbers
+//!     days COUNT                      how many of so many days are read again as what they are printed of
 //!     instants NUMBER                 whether the number is an instant, and whether it is a bound
 //!     name TEXT                       whether the text is a name, and the name
 //!     word TEXT                       whether it is a word of the language, and no name
@@ -33,6 +36,7 @@
 //! comma, \0 the byte 0, and T^N is the text T, N times. Lines that begin with # say what follows.
 #![tactic(auto)]
 
+mod dates;
 mod lists;
 mod names;
 mod orders;

@@ -4,12 +4,12 @@ use std::alloc::{AllocError, Global};
 use std::fmt::Write;
 use std::str;
 use tq_base::{
-    Bound, Instant, Name, fold_name, is_name, is_reserved, is_same_word, read_bound, read_instant,
-    read_int, read_natural,
+    Bound, Form, Instant, Name, fold_name, is_name, is_reserved, is_same_word, read_bound,
+    read_instant, read_int, read_natural,
 };
 
-// The number, or `none`.
-fn tell_number(number: Option<u64>, out: &mut String) -> Result<(), AllocError> {
+/// The number, or `none`.
+pub(crate) fn tell_number(number: Option<u64>, out: &mut String) -> Result<(), AllocError> {
     match number {
         Some(number) => writeln!(out, "    {number}"),
         None => out.push_str("    none\n"),
@@ -31,8 +31,14 @@ pub(crate) fn tell_natural(most: u64, bytes: &[u8], out: &mut String) -> Result<
 
 /// The instant and the bound that the bytes are.
 pub(crate) fn tell_instant(bytes: &[u8], out: &mut String) -> Result<(), AllocError> {
-    tell_number(read_instant(bytes).map(|instant| instant.number()), out)?;
-    tell_number(read_bound(bytes).map(|bound| bound.number()), out)
+    tell_number(
+        read_instant(bytes, Form::Numbers).map(|instant| instant.number()),
+        out,
+    )?;
+    tell_number(
+        read_bound(bytes, Form::Numbers).map(|bound| bound.number()),
+        out,
+    )
 }
 
 /// Whether the number is an instant, and whether it is a bound.

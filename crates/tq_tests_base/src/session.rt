@@ -1,5 +1,6 @@
 //! The lists of rows that a script makes, by their names, and what it asks.
 
+use crate::dates::{tell_date, tell_day, tell_days};
 use crate::lists::rows_of;
 use crate::names::{
     tell_count_name, tell_instant, tell_instants, tell_int, tell_name, tell_natural, tell_same,
@@ -52,6 +53,9 @@ fn tell_of_text(
     match word {
         "int" => tell_int(bytes, out),
         "instant" => tell_instant(bytes, out),
+        "date" => tell_date(bytes, out),
+        "day" => tell_day(text.as_str().parse().unwrap_or(0), out),
+        "days" => tell_days(text.as_str().parse().unwrap_or(0), out),
         "instants" => tell_instants(text.as_str().parse().unwrap_or(0), out),
         "name" => tell_name(alloc, bytes, out),
         "word" => tell_word(alloc, bytes, out),

@@ -1,6 +1,7 @@
 //! Answers as of the first events of a history.
 
 use std::alloc::{AllocError, Global};
+use tq_base::Form;
 use tq_eval::answer;
 use tq_event::{Event, MAX_EVENTS, TableFile, load};
 use tq_plan::plan;
@@ -19,8 +20,12 @@ fn take_all(db: &mut Db, events: &[Event]) -> Result<bool, AllocError> {
 }
 
 /// A history in which the events that the files make have happened, if they make some.
-pub(crate) fn history_of(alloc: Global, files: Vec<TableFile>) -> Result<Option<Db>, AllocError> {
-    let Ok(loaded) = load(alloc, files, MAX_EVENTS) else {
+pub(crate) fn history_of(
+    alloc: Global,
+    files: Vec<TableFile>,
+    form: Form,
+) -> Result<Option<Db>, AllocError> {
+    let Ok(loaded) = load(alloc, files, MAX_EVENTS, form) else {
         return Ok(None);
     };
     let mut db = Db::new(alloc, loaded.catalogue)?;
@@ -34,13 +39,14 @@ pub(crate) fn answer_of(
     db: &Db,
     n: u32,
     statement: &str,
+    form: Form,
 ) -> Result<Option<Vec<u8>>, AllocError> {
     let Ok(statement) = read(alloc, statement.as_bytes()) else {
         return Ok(None);
     };
-    let Ok(plan) = plan(alloc, db.catalogue(), &statement) else {
+    let Ok(plan) = plan(alloc, db.catalogue(), &statement, form) else {
         return Ok(None);
     };
     let table = answer(alloc, db, n.min(db.count()), &plan)?;
-    Ok(Some(table_text(alloc, &table)?))
+    Ok(Some(table_text(alloc, &table, form)?))
 }

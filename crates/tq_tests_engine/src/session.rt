@@ -7,7 +7,7 @@ use crate::writing::{answer_in_memory, tell_after_failure, tell_broken, tell_lin
 use std::alloc::{AllocError, Global};
 use std::fmt::Write;
 use std::thread::Threads;
-use tq_base::Items;
+use tq_base::{Form, Items};
 use tq_event::{MAX_EVENTS, TableFile};
 use tq_store::Db;
 
@@ -17,10 +17,12 @@ struct File {
     bytes: Vec<u8>,
 }
 
-/// The files so far, and the history in which their events have happened, once it was asked for.
+/// The files so far, how instants are written, and the history in which the files' events have happened, once it was
+/// asked for.
 #[derive(Drop)]
 pub(crate) struct Session {
     files: Vec<File>,
+    form: Form,
     history: Option<Db>,
 }
 
@@ -57,6 +59,7 @@ impl Session {
     pub(crate) fn new(alloc: Global) -> Session {
         Session {
             files: Vec::new(alloc),
+            form: Form::Numbers,
             history: None,
         }
     }
@@ -124,10 +127,10 @@ impl Session {
         statement: &str,
     ) -> Result<Option<Vec<u8>>, AllocError> {
         if self.history.is_none() {
-            self.history = history_of(alloc, self.copies(alloc)?)?;
+            self.history = history_of(alloc, self.copies(alloc)?, self.form)?;
         }
         match &self.history {
-            Some(db) => answer_of(alloc, db, n, statement),
+            Some(db) => answer_of(alloc, db, n, statement, self.form),
             None => Ok(None),
         }
     }
@@ -140,7 +143,15 @@ impl Session {
         statement: &str,
         out: &mut String,
     ) -> Result<(), AllocError> {
-        let bytes = answer_in_memory(rt, alloc, self.copies(alloc)?, statement, 16, out)?;
+        let bytes = answer_in_memory(
+            rt,
+            alloc,
+            self.copies(alloc)?,
+            statement,
+            16,
+            self.form,
+            out,
+        )?;
         tell_lines(&bytes, out)?;
         match self.answered(alloc, MAX_EVENTS, statement)? {
             Some(text) if text == bytes => Ok(()),
@@ -156,7 +167,7 @@ impl Session {
         statement: &str,
         out: &mut String,
     ) -> Result<(), AllocError> {
-        let bytes = answer_in_memory(rt, alloc, self.copies(alloc)?, statement, 1, out)?;
+        let bytes = answer_in_memory(rt, alloc, self.copies(alloc)?, statement, 1, self.form, out)?;
         tell_lines(&bytes, out)
     }
 
@@ -256,6 +267,8 @@ impl Session {
             "big" => self.add_big(alloc, number)?,
             "wide" => self.add_wide(alloc, number)?,
             "clear" => self.files.clear(),
+            "dates" => self.form = Form::Dates,
+            "numbers" => self.form = Form::Numbers,
             _ => return Ok(false),
         }
         Ok(true)

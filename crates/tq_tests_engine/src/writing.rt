@@ -8,6 +8,7 @@ use std::fmt::Write as Format;
 use std::io::{self, ErrorKind, Write};
 use std::str;
 use std::thread::Threads;
+use tq_base::Form;
 use tq_engine::{AnswerFault, answer, answer_bytes};
 use tq_event::TableFile;
 use tq_table::Sink;
@@ -71,13 +72,22 @@ pub(crate) fn answer_in_memory<R: Threads + Sync>(
     files: Vec<TableFile>,
     statement: &str,
     workers: u32,
+    form: Form,
     out: &mut String,
 ) -> Result<Vec<u8>, AllocError>
     requires some { 1 ≤ workers }
     requires few { workers ≤ 16 }
 {
     let mut sink = Sink::over(Vec::new(alloc));
-    let written = answer_bytes(rt, alloc, files, statement.as_bytes(), workers, &mut sink);
+    let written = answer_bytes(
+        rt,
+        alloc,
+        files,
+        statement.as_bytes(),
+        workers,
+        &mut sink,
+        form,
+    );
     tell_fault(written, sink.failed(), out)?;
     Ok(sink.into_inner())
 }
@@ -98,7 +108,15 @@ pub(crate) fn tell_broken<R: Threads + Sync>(
         calls: 0,
     };
     let mut sink = Sink::over(&mut writer);
-    let written = answer_bytes(rt, alloc, files, statement.as_bytes(), 1, &mut sink);
+    let written = answer_bytes(
+        rt,
+        alloc,
+        files,
+        statement.as_bytes(),
+        1,
+        &mut sink,
+        Form::Numbers,
+    );
     tell_fault(written, sink.failed(), out)?;
     tell_lines(&writer.taken, out)?;
     writeln!(out, "    {} calls", writer.calls)
@@ -137,7 +155,15 @@ pub(crate) fn tell_after_failure<R: Threads + Sync>(
     )?;
     for (place, files) in copies.into_iter().enumerate() {
         let statement = if place == 0 { small } else { large.as_str() };
-        let written = answer_bytes(rt, alloc, files, statement.as_bytes(), 16, &mut sink);
+        let written = answer_bytes(
+            rt,
+            alloc,
+            files,
+            statement.as_bytes(),
+            16,
+            &mut sink,
+            Form::Numbers,
+        );
         writeln!(out, "    {written:?}, {} failed", sink.failed())?;
     }
     let whole = is_whole(alloc, &writer, count)?;
@@ -152,7 +178,7 @@ pub(crate) fn tell_shape<R: Threads + Sync>(
     statement: &str,
     out: &mut String,
 ) -> Result<(), AllocError> {
-    match answer(rt, alloc, files, statement.as_bytes(), 3) {
+    match answer(rt, alloc, files, statement.as_bytes(), 3, Form::Numbers) {
         Ok(table) => {
             let columns = table.columns.get();
             writeln!(

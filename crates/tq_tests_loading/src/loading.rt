@@ -8,7 +8,7 @@ use std::sync::atomic::{AtomicBool, AtomicU64, Ordering};
 use std::test::Fail;
 use std::thread;
 use std::thread::Threads;
-use tq_base::{Items, Rows, Seen};
+use tq_base::{Form, Items, Rows, Seen};
 use tq_event::{LoadFault, MAX_EVENTS, TableFile, Tables, load_tables};
 use tq_loading::{load_tables_among, load_tables_by_parts};
 use tq_run::{Gate, Open};
@@ -72,7 +72,16 @@ fn is_loaded<R: Threads + Sync>(
     requires at_most { workers ≤ 16 }
 {
     let files = files_of(alloc, texts.0, texts.1)?;
-    let loaded = load_tables_by_parts(rt, alloc, files, limit, workers, least, &Open);
+    let loaded = load_tables_by_parts(
+        rt,
+        alloc,
+        files,
+        limit,
+        workers,
+        least,
+        &Open,
+        Form::Numbers,
+    );
     Ok(told(alloc, loaded)?.as_str() == wanted)
 }
 
@@ -85,7 +94,12 @@ fn is_loaded_by_all<R: Threads + Sync>(
 ) -> Result<bool, Fail>
     requires { limit ≤ MAX_EVENTS }
 {
-    let here = load_tables(alloc, files_of(alloc, texts.0, texts.1)?, limit);
+    let here = load_tables(
+        alloc,
+        files_of(alloc, texts.0, texts.1)?,
+        limit,
+        Form::Numbers,
+    );
     let wanted = told(alloc, here)?;
     for workers in [1, 2, 7, 16] {
         for least in [0, 1, 7, 50, 100_000] {
@@ -229,9 +243,14 @@ fn is_loaded_among<R: Threads + Sync, G: Gate + Sync>(
     requires some { 1 ≤ workers }
     requires at_most { workers ≤ 16 }
 {
-    let here = load_tables(alloc, files_of(alloc, texts.0, texts.1)?, MAX_EVENTS);
+    let here = load_tables(
+        alloc,
+        files_of(alloc, texts.0, texts.1)?,
+        MAX_EVENTS,
+        Form::Numbers,
+    );
     let files = files_of(alloc, texts.0, texts.1)?;
-    let among = load_tables_among(rt, alloc, files, MAX_EVENTS, workers, gate);
+    let among = load_tables_among(rt, alloc, files, MAX_EVENTS, workers, gate, Form::Numbers);
     Ok(told(alloc, here)? == told(alloc, among)?)
 }
 

@@ -4,7 +4,7 @@ ghost use Rattle.std.specs.Prelude.{◌≡◌, ◌≤◌, length};
 ghost use Rattle.tq_core.specs.Counting.{start_count, starts_row};
 
 use std::alloc::{AllocError, Global};
-use tq_base::{Catalogue, Items};
+use tq_base::{Catalogue, Form, Items};
 use tq_core::{Oracle, World};
 use tq_event::{Event, LoadFault, TableFile, laws, load};
 
@@ -63,7 +63,7 @@ pub(crate) fn world(alloc: Global, readers: u32) -> Result<World, LoadFault>
     };
     let mut files = Vec::new(alloc);
     files.push(file).map_err(AllocError::from)?;
-    let loaded = load(alloc, files, 1000)?;
+    let loaded = load(alloc, files, 1000, Form::Numbers)?;
     laws::loaded_is_catalogue();
     Ok(World::new(alloc, loaded.catalogue, readers)?)
 }

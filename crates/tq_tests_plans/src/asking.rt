@@ -3,7 +3,7 @@
 use crate::telling::{tell_fault, tell_names, tell_nothing, tell_plan, tell_range, tell_window};
 use std::alloc::{AllocError, Global};
 use std::fmt::Write;
-use tq_base::Catalogue;
+use tq_base::{Catalogue, Form};
 use tq_ops::Test;
 use tq_plan::{Plan, PlanFault, plan};
 use tq_sql::read;
@@ -42,10 +42,11 @@ fn planned(
     alloc: Global,
     catalogue: &Catalogue,
     statement: &str,
+    form: Form,
 ) -> Result<Option<Result<Plan, PlanFault>>, AllocError> {
     let text = text_of(alloc, statement)?;
     match read(alloc, text.as_bytes()) {
-        Ok(statement) => Ok(Some(plan(alloc, catalogue, &statement))),
+        Ok(statement) => Ok(Some(plan(alloc, catalogue, &statement, form))),
         Err(_) => Ok(None),
     }
 }
@@ -81,15 +82,16 @@ fn tell(alloc: Global, plan: &Plan, asked: Asked, out: &mut String) -> Result<()
     }
 }
 
-/// What is asked of the statement's plan, or its fault.
+/// What is asked of the statement's plan, its window written in the form, or its fault.
 pub(crate) fn ask(
     alloc: Global,
     catalogue: &Catalogue,
     statement: &str,
     asked: Asked,
+    form: Form,
     out: &mut String,
 ) -> Result<(), AllocError> {
-    match planned(alloc, catalogue, statement)? {
+    match planned(alloc, catalogue, statement, form)? {
         Some(Ok(plan)) => tell(alloc, &plan, asked, out),
         Some(Err(fault)) => tell_fault(fault, out),
         None => tell_nothing(out),
@@ -101,13 +103,21 @@ pub(crate) fn ask_window(
     alloc: Global,
     catalogue: &Catalogue,
     text: &str,
+    form: Form,
     out: &mut String,
 ) -> Result<(), AllocError> {
     let statement = match text {
         "" => format!(in alloc; "VALIDTIME SELECT name FROM emp")?,
         _ => format!(in alloc; "VALIDTIME PERIOD {text} SELECT name FROM emp")?,
     };
-    ask(alloc, catalogue, statement.as_str(), Asked::Window, out)
+    ask(
+        alloc,
+        catalogue,
+        statement.as_str(),
+        Asked::Window,
+        form,
+        out,
+    )
 }
 
 /// A statement with a condition of so many parts after a first one, and a last one after a semicolon.
@@ -124,5 +134,12 @@ pub(crate) fn ask_chain(
         write!(text, " {part}")?;
     }
     write!(text, " {last}")?;
-    ask(alloc, catalogue, text.as_str(), Asked::Condition, out)
+    ask(
+        alloc,
+        catalogue,
+        text.as_str(),
+        Asked::Condition,
+        Form::Numbers,
+        out,
+    )
 }

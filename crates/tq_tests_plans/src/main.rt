@@ -9,6 +9,7 @@
 //!     show STATEMENT               the parts of its queries
 //!     keys SIDE SOURCE STATEMENT   the keys that it leaves of a source on a side
 //!     window TEXT                  from when until when a statement asks in which this text stands after PERIOD
+//!     dates TEXT                   the same where its instants are written in dates
 //!     chain COUNT PART             a condition of a = 1 and so many of the part, and a last one after a semicolon
 //!     copy STATEMENT               whether the copy of its plan is the plan
 //!     faults                       the numbers and names of the faults

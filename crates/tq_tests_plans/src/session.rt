@@ -5,7 +5,7 @@ use crate::telling::{tell_faults, tell_nothing};
 use std::alloc::{AllocError, Global};
 use std::fmt::Write;
 use std::mem;
-use tq_base::{Catalogue, Items};
+use tq_base::{Catalogue, Form, Items};
 use tq_event::{TableFile, load};
 
 #[derive(Drop)]
@@ -78,7 +78,7 @@ impl Session {
                 bytes: Items::of(file.bytes),
             })?;
         }
-        match load(alloc, files, 1000) {
+        match load(alloc, files, 1000, Form::Numbers) {
             Ok(loaded) => {
                 self.catalogue = loaded.catalogue;
                 Ok(())
@@ -96,13 +96,21 @@ impl Session {
         out: &mut String,
     ) -> Result<(), AllocError> {
         match word {
-            "window" => ask_window(alloc, &self.catalogue, rest, out),
+            "window" => ask_window(alloc, &self.catalogue, rest, Form::Numbers, out),
+            "dates" => ask_window(alloc, &self.catalogue, rest, Form::Dates, out),
             "chain" => {
                 let (count, parts) = number_and(rest);
                 ask_chain(alloc, &self.catalogue, count, parts, out)
             }
             _ => match asked_of(word, rest) {
-                Some((asked, statement)) => ask(alloc, &self.catalogue, statement, asked, out),
+                Some((asked, statement)) => ask(
+                    alloc,
+                    &self.catalogue,
+                    statement,
+                    asked,
+                    Form::Numbers,
+                    out,
+                ),
                 None => tell_nothing(out),
             },
         }

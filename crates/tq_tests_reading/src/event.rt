@@ -8,7 +8,7 @@ mod values;
 use std::alloc::{AllocError, Global};
 use std::fmt::Write;
 use std::test::Fail;
-use tq_base::{Items, Rows, Seen, Value};
+use tq_base::{Form, Items, Rows, Seen, Value};
 use tq_event::{Event, LoadFault, Loaded, TableFile, load};
 
 const EMP: &[u8] = b"emp:int,name:text,dept:text,from,to
@@ -38,7 +38,7 @@ fn two_files(alloc: Global, name: &[u8], bytes: &[u8]) -> Result<Vec<TableFile>,
 
 // What one table of this name loads as, with room for many events.
 fn load_one(alloc: Global, name: &[u8], bytes: &[u8]) -> Result<Loaded, LoadFault> {
-    load(alloc, one_file(alloc, name, bytes)?, 1000)
+    load(alloc, one_file(alloc, name, bytes)?, 1000, Form::Numbers)
 }
 
 // The values, with a space before each.

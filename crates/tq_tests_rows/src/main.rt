@@ -17,6 +17,8 @@
 //!     count START END ROW..                the number of such rows
 //!     coalesce FROM COLUMN..               the text of their layers
 //!     write FROM COLUMN..                  the text of the rows as they stand
+//!     draw FROM WIDTH COLUMN..             the rows as they stand, as a picture of a width
+//!     draw-dates FROM WIDTH COLUMN..       the same, their instants as dates
 //!     send FROM COLUMN..                   the same, by a sink into memory
 //!     send-short FROM COLUMN..             the same, by one whose writer takes five bytes
 //!     short ROOM END FLUSH TEXT            bytes by a sink whose writer takes three bytes a call
@@ -28,6 +30,7 @@
 //! test after the word `if`, if there is one. Lines that begin with # say what follows.
 #![tactic(auto)]
 
+mod drawing;
 mod grouping;
 mod lists;
 mod operators;

@@ -8,7 +8,7 @@ use std::alloc::{AllocError, Global};
 use std::fmt::Write as Format;
 use std::io::{self, ErrorKind, Write};
 use std::str;
-use tq_base::{Items, Relation, Rows, fold_name};
+use tq_base::{Form, Items, Relation, Rows, fold_name};
 use tq_table::{Lines, Sink, Table, WriteFault, coalesce, table_text, write_table};
 
 // What the writer does once its room is used up.
@@ -55,7 +55,7 @@ impl Write for ShortWriter {
 }
 
 // A table of these lines, with columns of these names.
-fn table_of<'a>(alloc: Global, rows: Lines<'a>, names: &[&str]) -> Result<Table<'a>, AllocError> {
+pub(crate) fn table_of<'a>(alloc: Global, rows: Lines<'a>, names: &[&str]) -> Result<Table<'a>, AllocError> {
     let mut columns = Vec::new(alloc);
     for name in names {
         if let Some(name) = fold_name(alloc, name.as_bytes())? {
@@ -69,7 +69,7 @@ fn table_of<'a>(alloc: Global, rows: Lines<'a>, names: &[&str]) -> Result<Table<
 }
 
 // Each row once, in the order of the rows.
-fn lines<'a>(alloc: Global, rows: &Rows) -> Result<Lines<'a>, AllocError> {
+pub(crate) fn lines<'a>(alloc: Global, rows: &Rows) -> Result<Lines<'a>, AllocError> {
     Ok(Lines::of(Relation::made(alloc, copy_of(alloc, rows)?)?))
 }
 
@@ -98,7 +98,7 @@ pub(crate) fn tell_text(
         lines(alloc, rows)?
     };
     let table = table_of(alloc, lines, names)?;
-    tell_bytes(&table_text(alloc, &table)?, out)
+    tell_bytes(&table_text(alloc, &table, Form::Numbers)?, out)
 }
 
 // What became of a sending, how often its sink failed, and what was taken.
@@ -126,7 +126,7 @@ pub(crate) fn send(
 ) -> Result<(), AllocError> {
     let table = table_of(alloc, lines(alloc, rows)?, names)?;
     let mut sink = Sink::over(Vec::new(alloc));
-    let sent = write_table(alloc, &table, &mut sink);
+    let sent = write_table(alloc, &table, &mut sink, Form::Numbers);
     let failed = sink.failed();
     tell_sent(sent, failed, &sink.into_inner(), out)
 }
@@ -147,7 +147,7 @@ pub(crate) fn send_short(
         flushes: true,
         calls: 0,
     });
-    let sent = write_table(alloc, &table, &mut sink);
+    let sent = write_table(alloc, &table, &mut sink, Form::Numbers);
     let failed = sink.failed();
     tell_sent(sent, failed, &sink.into_inner().taken, out)
 }

@@ -1,5 +1,6 @@
 //! The lists of rows that a script makes, by their names.
 
+use crate::drawing::tell_picture;
 use crate::grouping::{count, group};
 use crate::lists::{rising, rows_of, show, show_counts};
 use crate::operators::{joined, joined_all, left_over, projected, selected};
@@ -7,7 +8,7 @@ use crate::output::{send, send_bytes, send_short, tell_faults, tell_memory, tell
 use crate::tests::{check, check_chains, may_pass, tests_of};
 use crate::words::{period_of, tell_nothing};
 use std::alloc::{AllocError, Global};
-use tq_base::{Period, Rows};
+use tq_base::{Form, Period, Rows};
 use tq_ops::Test;
 
 #[derive(Drop)]
@@ -182,6 +183,12 @@ impl Session {
             ("counts", [count]) => show_counts(rows, count.parse().unwrap_or(0), out),
             ("coalesce", _) => tell_text(alloc, rows, words, true, out),
             ("write", _) => tell_text(alloc, rows, words, false, out),
+            ("draw", [width, names @ ..]) => {
+                tell_picture(alloc, rows, names, width, Form::Numbers, out)
+            }
+            ("draw-dates", [width, names @ ..]) => {
+                tell_picture(alloc, rows, names, width, Form::Dates, out)
+            }
             ("send", _) => send(alloc, rows, words, out),
             ("send-short", _) => send_short(alloc, rows, words, out),
             _ => tell_nothing(out),

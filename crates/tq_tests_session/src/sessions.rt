@@ -7,7 +7,7 @@ use std::sync::Wait;
 use std::sync::atomic::AtomicU64;
 use std::test::Fail;
 use std::thread::Threads;
-use tq_base::Items;
+use tq_base::{Form, Items};
 use tq_engine::Source;
 use tq_event::{LoadFault, LoadFaultKind, TableFile};
 use tq_session::{SessionFault, session};
@@ -146,6 +146,39 @@ refused NoOpenRow
     ),
 ];
 
+const DATED: &str = "d:int,v:text,from,to
+1,x,2024-02-28,2024-03-01
+2,x,2024-03-01,forever
+";
+
+// Each input of a session in dates over that, and what is printed for it.
+const IN_DATES: [(&str, &str); 6] = [
+    (
+        "start emp 2024-02-29 3,y\n",
+        "refused TooEarly 2024-03-01\n",
+    ),
+    (
+        "start emp 2024-03-01 3,y\nend emp 2024-03-02 3,y\nstart emp 2024-03-01 4,z\npublish\nask 5 1 VALIDTIME SELECT v FROM emp WHERE v = 'y'\n",
+        "row 2\nrow 2\nrefused TooEarly 2024-03-02\npublished 5\nanswer 1\nv,from,to\ny,2024-03-01,2024-03-02\n",
+    ),
+    (
+        "ask 3 1 VALIDTIME SELECT v FROM emp\nask 3 2 VALIDTIME PERIOD '[2024-02-29-2024-03-01)' SELECT v FROM emp\n",
+        "answer 1\nv,from,to\nx,2024-02-28,forever\nanswer 1\nv,from,to\nx,2024-02-29,2024-03-01\n",
+    ),
+    (
+        "ask 3 1 VALIDTIME PERIOD '[20 - 30)' SELECT v FROM emp\n",
+        "refused BadWindow\n",
+    ),
+    (
+        "start emp 738945 3,y\nstart emp 2024-3-1 3,y\nstart emp 2025-02-29 3,y\nend emp 20240301 2,x\nend emp +024-03-02 2,x\nend emp 12024-03-02 2,x\n",
+        "refused BadLine\nrefused BadLine\nrefused BadLine\nrefused BadLine\nrefused BadLine\nrefused BadLine\n",
+    ),
+    (
+        "ask 4 1 VALIDTIME SELECT v FROM emp\n",
+        "refused TooNew 3\n",
+    ),
+];
+
 // The file of one table, `emp`, of this text.
 fn files_of(alloc: Global, text: &str) -> Result<Vec<TableFile>, AllocError> {
     let mut files = Vec::new(alloc);
@@ -156,16 +189,46 @@ fn files_of(alloc: Global, text: &str) -> Result<Vec<TableFile>, AllocError> {
     Ok(files)
 }
 
-// What is printed for the input, and how the session ended.
+// What is printed for the input over a table of this text, and how the session ended.
+fn printed_over<R: Threads + Wait + Sync, I: Read + Drop>(
+    rt: &R,
+    alloc: Global,
+    text: &str,
+    form: Form,
+    input: I,
+) -> Result<(Vec<u8>, Result<(), SessionFault>), Fail> {
+    let mut source = Source::over(input);
+    let mut sink = Sink::over(Vec::new(alloc));
+    let ended = session(
+        rt,
+        alloc,
+        files_of(alloc, text)?,
+        &mut source,
+        &mut sink,
+        form,
+    );
+    Ok((sink.into_inner(), ended))
+}
+
+// The same over the table of four rows.
 fn printed<R: Threads + Wait + Sync, I: Read + Drop>(
     rt: &R,
     alloc: Global,
     input: I,
 ) -> Result<(Vec<u8>, Result<(), SessionFault>), Fail> {
-    let mut source = Source::over(input);
-    let mut sink = Sink::over(Vec::new(alloc));
-    let ended = session(rt, alloc, files_of(alloc, EMP)?, &mut source, &mut sink);
-    Ok((sink.into_inner(), ended))
+    printed_over(rt, alloc, EMP, Form::Numbers, input)
+}
+
+#[test]
+fn lines_in_dates_are_answered_in_dates(rt: HostRuntime) -> Result<(), Fail> {
+    for (input, wanted) in &IN_DATES {
+        let (text, ended) = printed_over(&rt, rt.alloc(), DATED, Form::Dates, input.as_bytes())?;
+        assert!(rt;
+            ended == Ok(()) && text.as_slice() == wanted.as_bytes(),
+            "{input}"
+        );
+    }
+    Ok(())
 }
 
 #[test]
@@ -256,6 +319,7 @@ fn a_failed_write_ends_a_session(rt: HostRuntime) -> Result<(), Fail> {
         files_of(rt.alloc(), EMP)?,
         &mut source,
         &mut sink,
+        Form::Numbers,
     );
     assert_eq!(rt; ended, Err(SessionFault::Write));
     assert_eq!(rt; sink.failed(), 1);
@@ -285,7 +349,7 @@ fn noted<R: Threads + Wait + Sync>(
         taken: 0,
         writes: 0,
     });
-    session(rt, alloc, files_of(alloc, EMP)?, &mut source, &mut sink)?;
+    session(rt, alloc, files_of(alloc, EMP)?, &mut source, &mut sink, Form::Numbers)?;
     Ok((typist.noted, sink.into_inner().writes))
 }
 
@@ -318,7 +382,14 @@ fn files_at_fault_begin_no_session(rt: HostRuntime) -> Result<(), Fail> {
     let files = files_of(rt.alloc(), "emp:int,from,to\n1,3,2\n")?;
     let mut source = Source::over(b"publish\n".as_slice());
     let mut sink = Sink::over(Vec::new(rt.alloc()));
-    let ended = session(&rt, rt.alloc(), files, &mut source, &mut sink);
+    let ended = session(
+        &rt,
+        rt.alloc(),
+        files,
+        &mut source,
+        &mut sink,
+        Form::Numbers,
+    );
     let fault = LoadFault {
         kind: LoadFaultKind::BadPeriod,
         table: 0,

@@ -6,7 +6,7 @@ ghost use Rattle.tq_plan.specs.Standing.{IsPlanOver};
 
 use std::alloc::{AllocError, Global};
 use std::test::Fail;
-use tq_base::{Instant, Items, Value, Values};
+use tq_base::{Form, Instant, Items, Value, Values};
 use tq_event::laws::{loaded_is_history, loaded_is_within};
 use tq_event::{Loaded, TableFile, load};
 use tq_plan::{Plan, plan};
@@ -36,7 +36,7 @@ pub fn emp(alloc: Global) -> Result<Loaded, Fail>
     })?;
     loaded_is_history();
     loaded_is_within();
-    let loaded = load(alloc, files, 7)?;
+    let loaded = load(alloc, files, 7, Form::Numbers)?;
     Ok(loaded)
 }
 
@@ -45,7 +45,7 @@ pub fn names(alloc: Global, loaded: &Loaded) -> Result<Plan, Fail>
     ensures { IfOk result (IsPlanOver loaded.now.catalogue) }
 {
     let statement = read(alloc, b"VALIDTIME SELECT name FROM emp")?;
-    let plan = plan(alloc, &loaded.catalogue, &statement)?;
+    let plan = plan(alloc, &loaded.catalogue, &statement, Form::Numbers)?;
     Ok(plan)
 }
 
@@ -100,7 +100,7 @@ pub fn answers<J: Naming>(
     requires { IsPlanOver J.catalogue plan.now }
 {
     match reader.ask(alloc, n, plan) {
-        Ok(table) => match table_text(alloc, &table) {
+        Ok(table) => match table_text(alloc, &table, Form::Numbers) {
             Ok(text) => text.as_slice() == wanted.as_bytes(),
             Err(_) => false,
         },

@@ -11,7 +11,7 @@ use std::process::Abort;
 use std::sync::Wait;
 use std::test::Fail;
 use std::thread::Threads;
-use tq_base::{Instant, Values};
+use tq_base::{Form, Instant, Values};
 use tq_event::Loaded;
 use tq_plan::Plan;
 use tq_run::Open;
@@ -192,7 +192,7 @@ fn answers_with<J: Naming, R: Threads + Wait + Sync>(
     requires at_most { workers ≤ 16 }
 {
     match reader.ask_with(rt, alloc, n, plan, workers, &Open) {
-        Ok(table) => match table_text(alloc, &table) {
+        Ok(table) => match table_text(alloc, &table, Form::Numbers) {
             Ok(text) => text.as_slice() == wanted.as_bytes(),
             Err(_) => false,
         },

@@ -4,7 +4,7 @@ ghost use Rattle.std.specs.Prelude.{◌<◌, max};
 
 use std::alloc::{AllocError, Global};
 use std::fmt::Write;
-use tq_base::{Catalogue, Instant, Items, Value, Values};
+use tq_base::{Catalogue, Form, Instant, Items, Value, Values};
 use tq_event::{Event, MAX_EVENTS, TableFile, load};
 use tq_store::Db;
 
@@ -63,7 +63,11 @@ fn two_tables(alloc: Global) -> Result<Option<Catalogue>, AllocError> {
             bytes: Items::of(b"k:int,from,to\n".to_vec(alloc)?),
         })?;
     }
-    Ok(load(alloc, files, 0).ok().map(|loaded| loaded.catalogue))
+    Ok(
+        load(alloc, files, 0, Form::Numbers)
+            .ok()
+            .map(|loaded| loaded.catalogue),
+    )
 }
 
 impl Known {

@@ -7,7 +7,7 @@ use crate::telling::{tell_list, tell_nothing, tell_reads, tell_rows, tell_versio
 use std::alloc::{AllocError, Global};
 use std::fmt::Write;
 use std::mem;
-use tq_base::{Catalogue, FOREVER, Instant, Items, Value, Values};
+use tq_base::{Catalogue, FOREVER, Form, Instant, Items, Value, Values};
 use tq_event::{Event, MAX_EVENTS, TableFile, load};
 use tq_store::Db;
 
@@ -136,7 +136,7 @@ impl Session {
                 bytes: Items::of(file.bytes),
             })?;
         }
-        match load(alloc, files, MAX_EVENTS) {
+        match load(alloc, files, MAX_EVENTS, Form::Numbers) {
             Ok(loaded) => {
                 self.db = Db::new(alloc, loaded.catalogue)?;
                 self.events = loaded.events;

@@ -10,7 +10,7 @@ use std::sync::atomic::{AtomicBool, AtomicU64, Ordering};
 use std::test::Fail;
 use std::thread;
 use std::thread::Threads;
-use tq_base::Items;
+use tq_base::{Form, Items};
 use tq_eval::answer_tables;
 use tq_eval::laws::held_rows_fit;
 use tq_event::laws::{loaded_is_history, tables_are_loaded};
@@ -70,7 +70,7 @@ fn files_of(alloc: Global, text: &str) -> Result<Vec<TableFile>, AllocError> {
 fn tables_of(alloc: Global, text: &str) -> Result<Tables, Fail>
     ensures { IfOk result (λ tables. AreAllFitting tables.catalogue (lists_of tables.rows)) }
 {
-    let tables = load_tables(alloc, files_of(alloc, text)?, MAX_EVENTS)?;
+    let tables = load_tables(alloc, files_of(alloc, text)?, MAX_EVENTS, Form::Numbers)?;
     tables_are_loaded();
     loaded_is_history();
     held_rows_fit();
@@ -79,7 +79,7 @@ fn tables_of(alloc: Global, text: &str) -> Result<Tables, Fail>
 
 // A `Db` that took the events of the table of this text.
 fn db_of(alloc: Global, text: &str) -> Result<Db, Fail> {
-    let loaded = load(alloc, files_of(alloc, text)?, MAX_EVENTS)?;
+    let loaded = load(alloc, files_of(alloc, text)?, MAX_EVENTS, Form::Numbers)?;
     let mut db = Db::new(alloc, loaded.catalogue)?;
     for event in loaded.events.get() {
         if db.count() >= MAX_EVENTS || !db.apply(event)? {
@@ -106,10 +106,11 @@ fn text_among<R: Threads + Sync, G: Gate + Sync>(
         alloc,
         &tables.catalogue,
         &read(alloc, statement.as_bytes())?,
+        Form::Numbers,
     )?;
     let rows = tables.rows.get();
     let table = answer_among(rt, alloc, &tables.catalogue, rows, &plan, workers, gate)?;
-    Ok(table_text(alloc, &table)?)
+    Ok(table_text(alloc, &table, Form::Numbers)?)
 }
 
 // The same as of all events of the `Db`.
@@ -124,9 +125,14 @@ fn text_with<R: Threads + Sync, G: Gate + Sync>(
     requires some { 1 ≤ workers }
     requires at_most { workers ≤ 16 }
 {
-    let plan = plan(alloc, db.catalogue(), &read(alloc, statement.as_bytes())?)?;
+    let plan = plan(
+        alloc,
+        db.catalogue(),
+        &read(alloc, statement.as_bytes())?,
+        Form::Numbers,
+    )?;
     let table = answer_with(rt, alloc, db, db.count(), &plan, workers, gate)?;
-    Ok(table_text(alloc, &table)?)
+    Ok(table_text(alloc, &table, Form::Numbers)?)
 }
 
 // The same over the table, with ranges of values from the first row on.
@@ -146,9 +152,20 @@ fn text_in_ranges<R: Threads + Sync, G: Gate + Sync>(
         alloc,
         &tables.catalogue,
         &read(alloc, statement.as_bytes())?,
+        Form::Numbers,
     )?;
     let rows = tables.rows.get();
-    let text = text_by_ranges(rt, alloc, &tables.catalogue, rows, &plan, workers, 1, gate)?;
+    let text = text_by_ranges(
+        rt,
+        alloc,
+        &tables.catalogue,
+        rows,
+        &plan,
+        workers,
+        1,
+        gate,
+        Form::Numbers,
+    )?;
     let mut bytes = Vec::new(alloc);
     for part in text.parts() {
         bytes.extend_from_slice(part)?;
@@ -280,16 +297,39 @@ fn two_workers_have_a_piece_at_once_in_each_run(rt: HostRuntime) -> Result<(), F
     Ok(())
 }
 
+// How often piece 1 arrived where two workers wrote the statement's answer; none where piece 0 waited in vain, or where
+// the text is another than that of one thread.
+fn seconds_of<R: Threads + Sync>(
+    rt: &R,
+    alloc: Global,
+    tables: &Tables,
+    statement: &str,
+) -> Result<Option<u64>, Fail>
+    requires { AreAllFitting tables.now.catalogue (lists_of tables.now.rows) }
+{
+    let gate = Turns::new();
+    let text = text_in_ranges(rt, alloc, tables, statement, 2, &gate)?;
+    let here = text_here(alloc, tables, statement)?;
+    if gate.limit_met.load(Ordering::SeqCst) || text.as_slice() != here.as_slice() {
+        return Ok(None);
+    }
+    Ok(Some(gate.seconds.load(Ordering::SeqCst)))
+}
+
+#[test]
+fn two_workers_have_a_share_of_values_at_once(rt: HostRuntime) -> Result<(), Fail> {
+    let tables = tables_of(rt.alloc(), &many_rows(rt.alloc())?)?;
+    let seconds = seconds_of(&rt, rt.alloc(), &tables, "VALIDTIME SELECT k FROM emp")?;
+    assert_eq!(rt; seconds, Some(1));
+    Ok(())
+}
+
 #[test]
 fn two_workers_have_a_range_of_values_at_once(rt: HostRuntime) -> Result<(), Fail> {
-    let text = many_rows(rt.alloc())?;
-    let statement = "VALIDTIME SELECT k FROM emp";
-    let tables = tables_of(rt.alloc(), &text)?;
-    let gate = Turns::new();
-    let ranges = text_in_ranges(&rt, rt.alloc(), &tables, statement, 2, &gate)?;
-    assert!(rt; !gate.limit_met.load(Ordering::SeqCst));
-    assert_eq!(rt; gate.seconds.load(Ordering::SeqCst), 2);
-    assert_eq!(rt; ranges, text_here(rt.alloc(), &tables, statement)?);
+    let tables = tables_of(rt.alloc(), &many_rows(rt.alloc())?)?;
+    let statement = "VALIDTIME SELECT a.k FROM emp a, emp b WHERE b.k = 7";
+    let seconds = seconds_of(&rt, rt.alloc(), &tables, statement)?;
+    assert_eq!(rt; seconds, Some(3));
     Ok(())
 }
 
@@ -324,9 +364,10 @@ fn text_here(alloc: Global, tables: &Tables, statement: &str) -> Result<Vec<u8>,
         alloc,
         &tables.catalogue,
         &read(alloc, statement.as_bytes())?,
+        Form::Numbers,
     )?;
     let table = answer_tables(alloc, &tables.catalogue, tables.rows.get(), &plan)?;
-    Ok(table_text(alloc, &table)?)
+    Ok(table_text(alloc, &table, Form::Numbers)?)
 }
 
 // Whether each of the statements over a table of this text is answered by all as by one thread.

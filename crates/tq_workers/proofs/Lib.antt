@@ -3,3 +3,4 @@ pub mod FetchLemmas
 pub mod PieceLemmas
 pub mod RangeLemmas
 pub mod ShareLemmas
+pub mod StretchLemmas

@@ -11,6 +11,7 @@ use Rattle.std.proofs.lemmas.List.Concat.{flat_map-cons}
 use Rattle.std.proofs.lemmas.List.FromFn.{filter_of_map_range_with_len_more, get_or-map-range_with_len, get_or-range_with_len, length-map-range_with_len, length-range_with_len}
 use Rattle.std.proofs.lemmas.List.Elements.{All-filter}
 use Rattle.std.proofs.lemmas.List.Sums.{sum_by-cons}
+use Rattle.tq_base.specs.declared.form.Form.{Form}
 use Rattle.tq_base.specs.Copies.{copies-append}
 use Rattle.tq_base.specs.declared.fragment.Fragment.{Fragment}
 use Rattle.tq_base.specs.declared.value.Value.{Value}
@@ -117,17 +118,17 @@ numbers_within told count len range =
 
 -- ---- the texts of the ranges
 
-pub texts_follow : (ranges : List RangeText) → All (λ (r : RangeText). r.text.items ≡ rows_text r.lines) ranges
-    → bytes_of (map (λ (r : RangeText). r.text) ranges) ≡ rows_text (one_after_other (map (λ (r : RangeText). r.lines) ranges))
-texts_follow [] each = refl
-texts_follow (r ∷ ranges) each =
+pub texts_follow : (form : Form) (ranges : List RangeText) → All (λ (r : RangeText). r.text.items ≡ rows_text form r.lines) ranges
+    → bytes_of (map (λ (r : RangeText). r.text) ranges) ≡ rows_text form (one_after_other (map (λ (r : RangeText). r.lines) ranges))
+texts_follow form [] each = refl
+texts_follow form (r ∷ ranges) each =
     let lines = map (λ (r : RangeText). r.lines) ranges in
     let texts = map (λ (r : RangeText). r.text) ranges in
     flat_map-cons (λ (t : Vec ℕ). t.items) r.text texts
     ∙ ap (λ l. l ++ bytes_of texts) (each 0 r (omega arith))
-    ∙ ap (λ l. rows_text r.lines ++ l) (texts_follow ranges (λ k d less. each (suc k) d (omega (arith, less))))
+    ∙ ap (λ l. rows_text form r.lines ++ l) (texts_follow form ranges (λ k d less. each (suc k) d (omega (arith, less))))
     ∙ sym (flat_map-append _ r.lines (one_after_other lines))
-    ∙ ap rows_text (sym (flat_map-cons (λ (l : List Fragment). l) r.lines lines))
+    ∙ ap (rows_text form) (sym (flat_map-cons (λ (l : List Fragment). l) r.lines lines))
 
 -- the lines of a range, read from those of all
 pub lines_at : (ranges : List RangeText) (i : ℕ) (d : List Fragment) → i < length ranges → (e : RangeText) × (get_or (map (λ (r : RangeText). r.lines) ranges) i d ≡ (get_or ranges i e).lines)
@@ -135,9 +136,9 @@ lines_at [] i d less = absurd (omega (arith, less))
 lines_at (r ∷ ranges) i d less = (r, get_or-map (λ (s : RangeText). s.lines) (r ∷ ranges) i r d less)
 
 -- where the ranges stand in order, their texts are that of the layers of all rows
-pub have_layers : (rows : List Fragment) (told : List ℕ) (count : ℕ) (ranges : List RangeText) → 1 ≤ count → IsResultList (IsRange rows told count) count ranges → StandInOrder (map (λ (r : RangeText). r.lines) ranges)
-    → HaveLayers rows (map (λ (r : RangeText). r.text) ranges)
-have_layers rows told count ranges some are order =
+pub have_layers : (form : Form) (rows : List Fragment) (told : List ℕ) (count : ℕ) (ranges : List RangeText) → 1 ≤ count → IsResultList (IsRange form rows told count) count ranges → StandInOrder (map (λ (r : RangeText). r.lines) ranges)
+    → HaveLayers form rows (map (λ (r : RangeText). r.text) ranges)
+have_layers form rows told count ranges some are order =
     let lists = map (λ (r : RangeText). r.lines) ranges in
     let many : length lists ≡ count = length-map ranges (λ (r : RangeText). r.lines) ∙ are.0 in
     let count_of = λ (i : ℕ). copies (map (row_at rows) (numbers_in told count (length rows) i)) in
@@ -155,5 +156,5 @@ have_layers rows told count ranges some are order =
         coalesced = layers.coalesced;
         counted = λ v t. layers.counted v t ∙ ap (λ n. sum_by (λ i. count_of i v t) (range_with_len 0 n)) many ∙ all_copies rows told count some v t;
       };
-      text = texts_follow ranges (λ k d less. (are.1 k d (omega (arith, less, are.0))).text);
+      text = texts_follow form ranges (λ k d less. (are.1 k d (omega (arith, less, are.0))).text);
     }

@@ -6,6 +6,7 @@ use Rattle.std.specs.List.{range_with_len}
 use Rattle.std.proofs.lemmas.List.{length-map, take_more}
 use Rattle.std.proofs.lemmas.List.Elements.{filter-append}
 use Rattle.tq_base.specs.declared.catalogue.Catalogue.{Catalogue}
+use Rattle.tq_base.specs.declared.form.Form.{Form}
 use Rattle.tq_base.specs.declared.fragment.Fragment.{Fragment}
 use Rattle.tq_base.specs.declared.value.Value.{Value}
 use Rattle.tq_base.specs.Fragments.{at}
@@ -39,10 +40,10 @@ few_left p (cut ∷ cuts) = by (p cut) (few_left p cuts)
     by false few = omega (arith, few)
 
 -- where the shares stand in order, their texts are that of the answer
-pub have_answer : SharesPartAnswers → (catalogue : Catalogue) (valid : ValidRows) (plan : Plan) (cuts : List ℕ) (columns : List (Option ℕ)) (shares : List RangeText) → AreFitting catalogue valid → AreQueriesOver catalogue plan
-    → ArePartedBy (columns_in columns) plan → IsResultList (IsShareText valid plan cuts columns) (length cuts + 1) shares → StandInOrder (map (λ (r : RangeText). r.lines) shares)
-    → HaveAnswer valid plan (map (λ (r : RangeText). r.text) shares)
-have_answer law catalogue valid plan cuts columns shares fit over parted are order =
+pub have_answer : SharesPartAnswers → (form : Form) (catalogue : Catalogue) (valid : ValidRows) (plan : Plan) (cuts : List ℕ) (columns : List (Option ℕ)) (shares : List RangeText) → AreFitting catalogue valid → AreQueriesOver catalogue plan
+    → ArePartedBy (columns_in columns) plan → IsResultList (IsShareText form valid plan cuts columns) (length cuts + 1) shares → StandInOrder (map (λ (r : RangeText). r.lines) shares)
+    → HaveAnswer form valid plan (map (λ (r : RangeText). r.text) shares)
+have_answer law form catalogue valid plan cuts columns shares fit over parted are order =
     let lists = map (λ (r : RangeText). r.lines) shares in
     let count = length cuts + 1 in
     let many : length lists ≡ count = length-map shares (λ (r : RangeText). r.lines) ∙ are.0 in
@@ -65,7 +66,7 @@ have_answer law catalogue valid plan cuts columns shares fit over parted are ord
             ∙ ap (λ (f : ℕ → ℕ). sum_by f (range_with_len 0 count)) (λ k i. law (share_of cuts) (columns_in columns) i catalogue valid plan fit over parted v t k)
             ∙ counted_once (share_of cuts (value_at v 0)) (times_at valid plan v t) 0 count (omega arith) (omega (arith, few_left (λ cut. nat_le cut (value_rank (value_at v 0))) cuts));
       };
-      text = texts_follow shares (λ k d less. (are.1 k d (omega (arith, less, are.0))).text);
+      text = texts_follow form shares (λ k d less. (are.1 k d (omega (arith, less, are.0))).text);
     }
 
 -- ---- the rows of a share

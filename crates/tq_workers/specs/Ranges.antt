@@ -3,6 +3,7 @@ use Rattle.std.specs.Prelude.{◌≡◌, ℕ, ◌-◌, ◌==◌, min, List, filt
 use Rattle.std.specs.Global.{Vec}
 use Rattle.std.specs.List.{range_with_len}
 use Rattle.tq_base.specs.declared.fragment.Fragment.{Fragment}
+use Rattle.tq_base.specs.declared.form.Form.{Form}
 use Rattle.tq_base.specs.Fragments.{copies}
 use Rattle.tq_base.specs.Layers.{IsLayers}
 use Rattle.tq_base.specs.Relations.{row_at}
@@ -19,12 +20,12 @@ abbrev pub numbers_in : List ℕ → ℕ → ℕ → ℕ → List ℕ
 numbers_in told count len range = filter (λ number. range_at told count number == range) (range_with_len 0 len)
 
 -- the layers of the rows of the range, and their text
-pub record IsRange (rows : List Fragment) (told : List ℕ) (count i : ℕ) (range : RangeText) : Type 0 where
+pub record IsRange (form : Form) (rows : List Fragment) (told : List ℕ) (count i : ℕ) (range : RangeText) : Type 0 where
   pub layers : IsLayers (copies (map (row_at rows) (numbers_in told count (length rows) i))) range.lines
-  pub text : range.text.items ≡ rows_text range.lines
+  pub text : range.text.items ≡ rows_text form range.lines
 
 -- the texts are together that of the layers of the rows
-pub record HaveLayers (rows : List Fragment) (texts : List (Vec ℕ)) : Type 0 where
+pub record HaveLayers (form : Form) (rows : List Fragment) (texts : List (Vec ℕ)) : Type 0 where
   pub lines : List Fragment
   pub layers : IsLayers (copies rows) lines
-  pub text : bytes_of texts ≡ rows_text lines
+  pub text : bytes_of texts ≡ rows_text form lines

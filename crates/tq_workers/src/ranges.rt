@@ -9,7 +9,7 @@ ghost use Rattle.tq_workers.specs.declared.ranges.RangeText.{RangeText as AnyRan
 use crate::parting::ranges_of;
 use std::alloc::{AllocError, Global};
 use std::thread::Threads;
-use tq_base::Relation;
+use tq_base::{Form, Relation};
 use tq_run::{Gate, Work, run_with};
 use tq_table::{Lines, coalesce, rows_text};
 
@@ -30,6 +30,7 @@ struct Ranges<'p, 'a> {
     rows: &'p Relation<'a>,
     told: &'p [u8],
     count: u32,
+    form: Form,
     ghost some: { 1 ≤ count },
 }
 
@@ -68,7 +69,7 @@ impl<'p> Work for Ranges<'p, '_> {
 
     ghost count = { λ w. w.count };
 
-    ghost relates = { λ w i out. IsRange w.rows.now.items w.told.now w.count i out };
+    ghost relates = { λ w i out. IsRange w.form w.rows.now.items w.told.now w.count i out };
 
     fn pieces(&self) -> u32 {
         self.count
@@ -77,7 +78,7 @@ impl<'p> Work for Ranges<'p, '_> {
     fn run(&self, i: u32) -> Result<RangeText<'p>, AllocError> {
         let numbers = numbers_in(self.alloc, self.told, self.count, self.rows.len(), i)?;
         let lines = coalesce(self.alloc, self.rows.picked(self.alloc, &numbers)?)?;
-        let text = rows_text(self.alloc, &lines)?;
+        let text = rows_text(self.alloc, &lines, self.form)?;
         Ok(RangeText { lines, text })
     }
 }
@@ -127,10 +128,11 @@ pub(crate) fn range_texts<R: Threads + Sync, G: Gate + Sync>(
     rows: &Relation<'_>,
     workers: u32,
     gate: &G,
+    form: Form,
 ) -> Result<Option<Vec<Vec<u8>>>, AllocError>
     requires some { 1 ≤ workers }
     requires at_most { workers ≤ 16 }
-    ensures { IfOk result (λ made. IfSome made (λ texts. HaveLayers rows.now.items texts.items)) }
+    ensures { IfOk result (λ made. IfSome made (λ texts. HaveLayers form rows.now.items texts.items)) }
 {
     let count = RANGES_EACH * workers;
     let told = ranges_of(rt, alloc, rows, count, workers, gate)?;
@@ -139,6 +141,7 @@ pub(crate) fn range_texts<R: Threads + Sync, G: Gate + Sync>(
         rows,
         told: &told,
         count,
+        form,
     };
     let ranges = run_with(rt, alloc, workers, &work, gate)?;
     if !stand_in_order(&ranges) {

@@ -14,7 +14,7 @@ use crate::share::Share;
 use crate::telling::{cuts_of, told_of};
 use std::alloc::{AllocError, Global};
 use std::thread::Threads;
-use tq_base::Rows;
+use tq_base::{Form, Rows};
 use tq_eval::laws::shares_part_answers;
 use tq_eval::{Snapshot, TablesOfRows, rows_within};
 use tq_plan::Plan;
@@ -33,6 +33,7 @@ struct Shares<'p> {
     alloc: Global,
     all: TablesOfRows<'p>,
     plan: &'p Plan,
+    form: Form,
     cuts: &'p [u128],
     columns: &'p [Option<u32>],
     told: &'p [Vec<u8>],
@@ -46,7 +47,7 @@ impl<'p> Work for Shares<'p> {
 
     ghost count = { λ w. length w.cuts.now + 1 };
 
-    ghost relates = { λ w i out. IsShareText (in_tables (lists_of w.all.tables.now)) w.plan.now w.cuts.now w.columns.now i out };
+    ghost relates = { λ w i out. IsShareText w.form (in_tables (lists_of w.all.tables.now)) w.plan.now w.cuts.now w.columns.now i out };
 
     fn pieces(&self) -> u32 {
         self.cuts.len() as u32 + 1
@@ -62,7 +63,7 @@ impl<'p> Work for Shares<'p> {
         };
         let rows = rows_within(self.alloc, &share, self.plan, &self.plan.window)?;
         let lines = coalesce(self.alloc, rows)?;
-        let text = rows_text(self.alloc, &lines)?;
+        let text = rows_text(self.alloc, &lines, self.form)?;
         Ok(RangeText { lines, text })
     }
 }
@@ -90,8 +91,13 @@ fn first_cuts(
     }
 }
 
+// Whether not all of the ranks are alike, so that rows go to more than two shares.
+fn are_apart(cuts: &[u128]) -> bool {
+    cuts.first() != cuts.last()
+}
+
 /// The texts of the plan's answer, those of the values of a share after those of the one before it, made by these
-/// workers; none where the plan does not fall apart by a value.
+/// workers; none where the plan does not fall apart by a value, or where most rows have values that no rank tells apart.
 pub(crate) fn share_texts<'p, R: Threads + Sync, G: Gate + Sync>(
     rt: &R,
     alloc: Global,
@@ -99,11 +105,12 @@ pub(crate) fn share_texts<'p, R: Threads + Sync, G: Gate + Sync>(
     plan: &'p Plan,
     workers: u32,
     gate: &G,
+    form: Form,
 ) -> Result<Option<Vec<Vec<u8>>>, AllocError>
     requires over { AreQueriesOver all.catalogue.now plan.now }
     requires some { 1 ≤ workers }
     requires at_most { workers ≤ 16 }
-    ensures { IfOk result (λ made. IfSome made (λ texts. HaveAnswer (in_tables (lists_of all.entry.tables.now)) plan.now texts.items)) }
+    ensures { IfOk result (λ made. IfSome made (λ texts. HaveAnswer form (in_tables (lists_of all.entry.tables.now)) plan.now texts.items)) }
 {
     shares_part_answers();
     all.fit();
@@ -114,11 +121,15 @@ pub(crate) fn share_texts<'p, R: Threads + Sync, G: Gate + Sync>(
         return Ok(None);
     };
     let cuts = first_cuts(alloc, plan, all.tables, &columns, SHARES_EACH * workers)?;
+    if !are_apart(&cuts) {
+        return Ok(None);
+    }
     let told = told_of(rt, alloc, &cuts, &columns, all.tables, workers, gate)?;
     let work = Shares {
         alloc,
         all,
         plan,
+        form,
         cuts: &cuts,
         columns: &columns,
         told: &told,

@@ -1,16 +1,20 @@
 // Which share each row of a table goes to.
 
-ghost use Rattle.std.specs.Prelude.{◌≡◌, ◌≤◌, IfOk, length, map};
+ghost use Rattle.std.specs.Prelude.{◌≡◌, ◌≤◌, ◌<◌, ◌+◌, ◌/◌, ◌++◌, IfOk, length, map, take};
 ghost use Rattle.tq_base.specs.declared.fragment.Fragment.{Fragment};
 ghost use Rattle.tq_event.specs.Tables.{lists_of, rows_in};
 ghost use Rattle.tq_ops.specs.Conditions.{value_at};
-ghost use Rattle.tq_workers.specs.Shares.{columns_in, share_of, AreTold, IsTold};
+ghost use Rattle.tq_table.specs.Sink.{bytes_of};
+ghost use Rattle.tq_workers.specs.Shares.{columns_in, share_of, stretch_start, AreTold, IsStretch, IsTold};
 
 use crate::columns::column_in;
 use std::alloc::{AllocError, Global};
 use std::thread::Threads;
 use tq_base::{Rows, Value, rank_of};
 use tq_run::{Gate, Work, run_with};
+
+// The rows of a piece.
+const STRETCH: usize = 65_536;
 
 // About as many rows are looked at for each share, so that finding the cuts costs next to nothing.
 const LOOKED_AT: usize = 64;
@@ -35,55 +39,137 @@ fn share_at(cuts: &[u128], values: &[Value], column: u32) -> u8
     }
 }
 
-// The share of each row.
-fn shares_at(alloc: Global, cuts: &[u128], rows: &Rows, column: u32) -> Result<Vec<u8>, AllocError>
-    requires { length cuts.now ≤ 63 }
-    ensures { IfOk result (λ told. told.items ≡ map (λ (row : Fragment). share_of cuts.now (value_at row.values column)) rows.now.items) }
+// The shares of the rows from one to another.
+fn shares_at(
+    alloc: Global,
+    cuts: &[u128],
+    rows: &Rows,
+    column: u32,
+    start: usize,
+    end: usize,
+) -> Result<Vec<u8>, AllocError>
+    requires short { length cuts.now ≤ 63 }
+    requires ordered { start ≤ end }
+    requires within { end ≤ length rows.now.items }
+    ensures { IfOk result (λ told. map (λ (row : Fragment). share_of cuts.now (value_at row.values column)) (take start rows.now.items) ++ told.items
+        ≡ map (λ (row : Fragment). share_of cuts.now (value_at row.values column)) (take end rows.now.items)) }
 {
-    let mut told = Vec::with_capacity(alloc, rows.len())?;
-    'rows: for number in 0..rows.len() {
+    let mut told = Vec::with_capacity(alloc, end - start)?;
+    'rows: for number in start..end {
         told.push(share_at(cuts, rows.values(number), column))?;
     }
     Ok(told)
 }
 
-// Tables of rows, a piece for each.
-#[derive(Drop)]
-struct Telling<'p> {
-    alloc: Global,
-    cuts: &'p [u128],
-    columns: &'p [Option<u32>],
-    tables: &'p [Rows],
-    ghost short: { length cuts.now ≤ 63 },
-    ghost few: { length tables.now ≤ 64 },
+// Where a stretch begins, of so many rows.
+fn start_of(len: usize, stretch: u32) -> usize
+    ensures { result ≡ stretch_start len stretch }
+{
+    (stretch as usize * STRETCH).min(len)
 }
 
-impl Work for Telling<'_> {
+// The rows of a table, a piece for each stretch of them.
+#[derive(Drop)]
+struct Stretches<'p> {
+    alloc: Global,
+    cuts: &'p [u128],
+    rows: &'p Rows,
+    column: u32,
+    ghost short: { length cuts.now ≤ 63 },
+}
+
+impl Work for Stretches<'_> {
     type Out = Vec<u8>;
 
-    ghost count = { λ w. length w.tables.now };
+    ghost count = { λ w. length w.rows.now.items / 65536 + 1 };
 
-    ghost relates = { λ w i told. IsTold w.cuts.now (columns_in w.columns.now i) (rows_in (lists_of w.tables.now) i) told.items };
+    ghost relates = { λ w i told. IsStretch w.cuts.now w.column w.rows.now.items i told.items };
 
     fn pieces(&self) -> u32 {
-        self.tables.len() as u32
+        (self.rows.len() / STRETCH) as u32 + 1
     }
 
     fn run(&self, i: u32) -> Result<Vec<u8>, AllocError> {
-        match column_in(self.columns, i) {
-            Some(column) => shares_at(self.alloc, self.cuts, &self.tables[i as usize], column),
-            None => Ok(Vec::new(self.alloc)),
-        }
+        let len = self.rows.len();
+        let (start, end) = (start_of(len, i), start_of(len, i + 1));
+        shares_at(self.alloc, self.cuts, self.rows, self.column, start, end)
     }
 }
 
-/// Of each table that is parted the share of each row.
-pub(crate) fn told_of<'p, R: Threads + Sync, G: Gate + Sync>(
+// The stretches, one after the other.
+fn all_stretches(alloc: Global, len: usize, stretches: Vec<Vec<u8>>) -> Result<Vec<u8>, AllocError>
+    ensures { IfOk result (λ all. all.items ≡ bytes_of stretches.items) }
+{
+    let mut all = Vec::with_capacity(alloc, len)?;
+    'stretches: for stretch in stretches {
+        let mut stretch = stretch;
+        all.append(&mut stretch)?;
+    }
+    Ok(all)
+}
+
+// The share of each row of these, told by these workers where they are more than a stretch.
+fn told_by<R: Threads + Sync, G: Gate + Sync>(
     rt: &R,
     alloc: Global,
-    cuts: &'p [u128],
-    columns: &'p [Option<u32>],
-    tables: &'p [Rows],
+    cuts: &[u128],
+    rows: &Rows,
+    column: u32,
+    workers: u32,
+    gate: &G,
+) -> Result<Vec<u8>, AllocError>
+    requires short { length cuts.now ≤ 63 }
+    requires some { 1 ≤ workers }
+    requires at_most { workers ≤ 16 }
+    ensures { IfOk result (λ told. told.items ≡ map (λ (row : Fragment). share_of cuts.now (value_at row.values column)) rows.now.items) }
+{
+    let len = rows.len();
+    if len <= STRETCH {
+        return shares_at(alloc, cuts, rows, column, 0, len);
+    }
+    let work = Stretches {
+        alloc,
+        cuts,
+        rows,
+        column,
+    };
+    let stretches = run_with(rt, alloc, workers, &work, gate)?;
+    all_stretches(alloc, len, stretches)
+}
+
+// The share of each row of a table, where it is parted.
+fn told_in<R: Threads + Sync, G: Gate + Sync>(
+    rt: &R,
+    alloc: Global,
+    cuts: &[u128],
+    columns: &[Option<u32>],
+    tables: &[Rows],
+    table: u32,
+    workers: u32,
+    gate: &G,
+) -> Result<Vec<u8>, AllocError>
+    requires short { length cuts.now ≤ 63 }
+    requires here { table < length tables.now }
+    requires some { 1 ≤ workers }
+    requires at_most { workers ≤ 16 }
+    ensures { IfOk result (λ told. IsTold cuts.now (columns_in columns.now table) (rows_in (lists_of tables.now) table) told.items) }
+{
+    match column_in(columns, table) {
+        Some(column) => {
+            let rows = &tables[table as usize];
+            told_by(rt, alloc, cuts, rows, column, workers, gate)
+        }
+        None => Ok(Vec::new(alloc)),
+    }
+}
+
+/// Of each table that is parted the share of each row, told by these workers, a table after the other.
+pub(crate) fn told_of<R: Threads + Sync, G: Gate + Sync>(
+    rt: &R,
+    alloc: Global,
+    cuts: &[u128],
+    columns: &[Option<u32>],
+    tables: &[Rows],
     workers: u32,
     gate: &G,
 ) -> Result<Vec<Vec<u8>>, AllocError>
@@ -93,13 +179,12 @@ pub(crate) fn told_of<'p, R: Threads + Sync, G: Gate + Sync>(
     requires at_most { workers ≤ 16 }
     ensures { IfOk result (λ told. AreTold cuts.now columns.now (lists_of tables.now) told.items) }
 {
-    let work = Telling {
-        alloc,
-        cuts,
-        columns,
-        tables,
-    };
-    run_with(rt, alloc, workers, &work, gate)
+    let mut told = Vec::with_capacity(alloc, tables.len())?;
+    'tables: for table in 0..tables.len() {
+        let table = table as u32;
+        told.push(told_in(rt, alloc, cuts, columns, tables, table, workers, gate)?)?;
+    }
+    Ok(told)
 }
 
 // The rank of the row's value in the column.

@@ -19,7 +19,7 @@ use crate::shares::share_texts;
 use std::alloc::{AllocError, Global};
 use std::marker::Model;
 use std::thread::Threads;
-use tq_base::{Catalogue, Relation, Rows};
+use tq_base::{Catalogue, Form, Relation, Rows};
 use tq_eval::{TablesOfRows, rows_within};
 use tq_plan::laws::queries_stand;
 use tq_plan::{Output, Plan};
@@ -68,12 +68,12 @@ fn is_one_list(plan: &Plan) -> bool {
 }
 
 // Whether an answer may be worked out in shares of the rows of the tables.
-fn are_worth_shares(tables: &[Rows], plan: &Plan, workers: u32, few: usize) -> bool {
+fn are_worth_shares(tables: &[Rows], workers: u32, few: usize) -> bool {
     let mut rows: usize = 0;
     'tables: for table in tables {
         rows = rows.saturating_add(table.len());
     }
-    workers > 1 && rows >= few && !is_one_list(plan)
+    workers > 1 && rows >= few
 }
 
 // The plan's rows at each instant of its window, found by these workers.
@@ -103,13 +103,18 @@ fn rows_among<'a, R: Threads + Sync, G: Gate + Sync>(
 }
 
 // The header and the text of the layers of the rows, made by one thread.
-fn whole_text(alloc: Global, header: Vec<u8>, rows: Relation<'_>) -> Result<AnswerText, AllocError>
-    ensures { IfOk result (λ text. (lines : List Fragment) × IsLayers (copies rows.entry.items) lines × (text ≡ header.items ++ rows_text lines)) }
+fn whole_text(
+    alloc: Global,
+    header: Vec<u8>,
+    rows: Relation<'_>,
+    form: Form,
+) -> Result<AnswerText, AllocError>
+    ensures { IfOk result (λ text. (lines : List Fragment) × IsLayers (copies rows.entry.items) lines × (text ≡ header.items ++ rows_text form lines)) }
 {
     let lines = coalesce(alloc, rows)?;
     let mut parts = Vec::with_capacity(alloc, 2)?;
     parts.push(header)?;
-    parts.push(rows_text(alloc, &lines)?)?;
+    parts.push(rows_text(alloc, &lines, form)?)?;
     Ok(AnswerText { parts })
 }
 
@@ -133,17 +138,18 @@ fn rows_answered<R: Threads + Sync, G: Gate + Sync>(
     workers: u32,
     few: usize,
     gate: &G,
+    form: Form,
 ) -> Result<AnswerText, AllocError>
     requires some { 1 ≤ workers }
     requires at_most { workers ≤ 16 }
-    ensures { IfOk result (λ text. (lines : List Fragment) × IsLayers (copies rows.entry.items) lines × (text ≡ header.items ++ rows_text lines)) }
+    ensures { IfOk result (λ text. (lines : List Fragment) × IsLayers (copies rows.entry.items) lines × (text ≡ header.items ++ rows_text form lines)) }
 {
     if workers == 1 || rows.len() < few {
-        return whole_text(alloc, header, rows);
+        return whole_text(alloc, header, rows, form);
     }
-    match range_texts(rt, alloc, &rows, workers, gate)? {
+    match range_texts(rt, alloc, &rows, workers, gate, form)? {
         Some(texts) => joined(alloc, header, texts),
-        None => whole_text(alloc, header, rows),
+        None => whole_text(alloc, header, rows, form),
     }
 }
 
@@ -157,29 +163,30 @@ pub fn text_by_ranges<R: Threads + Sync, G: Gate + Sync>(
     workers: u32,
     few: usize,
     gate: &G,
+    form: Form,
 ) -> Result<AnswerText, AllocError>
     requires fit { AreAllFitting catalogue.now (lists_of tables.now) }
     requires plan { IsPlanOver catalogue.now plan.now }
     requires some { 1 ≤ workers }
     requires at_most { workers ≤ 16 }
-    ensures { IfOk result (IsTextOf (IsTablesAnswer (lists_of tables.now) plan.now)) }
+    ensures { IfOk result (IsTextOf form (IsTablesAnswer (lists_of tables.now) plan.now)) }
 {
     queries_stand();
     let header = header_text(alloc, plan.columns())?;
     let snapshot = TablesOfRows { catalogue, tables };
-    if are_worth_shares(tables, plan, workers, few)
-        && let Some(texts) = share_texts(rt, alloc, snapshot, plan, workers, gate)?
+    if are_worth_shares(tables, workers, few)
+        && let Some(texts) = share_texts(rt, alloc, snapshot, plan, workers, gate, form)?
     {
         return joined(alloc, header, texts);
     }
     let rows = rows_among(rt, alloc, snapshot, plan, workers, gate)?;
-    rows_answered(rt, alloc, header, rows, workers, few, gate)
+    rows_answered(rt, alloc, header, rows, workers, few, gate, form)
 }
 
-/// The text of the answer of a statement's plan over tables of rows, worked out by 1 to 16 workers, the calling thread
-/// among them: the same for every number of them. The gate is told of each piece before it is run. Several workers
-/// make two runs where the plan falls apart by a value: the share of each row of a table, then the lines and the text
-/// of each share. Else they make up to three: the plan's rows in periods of the window, unless they are those of one
+/// The text, in the form, of the answer of a statement's plan over tables of rows, worked out by 1 to 16 workers, the
+/// calling thread among them: the same for every number of them. The gate is told of each piece before it is run. Several workers
+/// tell where the plan falls apart by a value, table by table, the share of each row, and then make the lines and the
+/// text of each share. Else they make up to three: the plan's rows in periods of the window, unless they are those of one
 /// table; to which range of values each row belongs; and the lines and the text of each range. `AllocError` where a
 /// growth was refused.
 pub fn text_among<R: Threads + Sync, G: Gate + Sync>(
@@ -190,12 +197,15 @@ pub fn text_among<R: Threads + Sync, G: Gate + Sync>(
     plan: &Plan,
     workers: u32,
     gate: &G,
+    form: Form,
 ) -> Result<AnswerText, AllocError>
     requires fit { AreAllFitting catalogue.now (lists_of tables.now) }
     requires plan { IsPlanOver catalogue.now plan.now }
     requires some { 1 ≤ workers }
     requires at_most { workers ≤ 16 }
-    ensures { IfOk result (IsTextOf (IsTablesAnswer (lists_of tables.now) plan.now)) }
+    ensures { IfOk result (IsTextOf form (IsTablesAnswer (lists_of tables.now) plan.now)) }
 {
-    text_by_ranges(rt, alloc, catalogue, tables, plan, workers, FEW_ROWS, gate)
+    text_by_ranges(
+        rt, alloc, catalogue, tables, plan, workers, FEW_ROWS, gate, form,
+    )
 }

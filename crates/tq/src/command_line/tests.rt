@@ -1,10 +1,11 @@
 // Command lines that are read, answered with help, or refused.
 
-use super::{AskRequest, CommandLineFault, Request, read_command_line};
+use super::{AskRequest, CommandLineFault, Request, SessionRequest, read_command_line};
 use crate::words::text_of;
 use std::alloc::{AllocError, Global};
 use std::process::Abort;
 use std::test::Fail;
+use tq_base::Form;
 
 // What these words ask.
 fn read(alloc: Global, words: &[&[u8]]) -> Result<Result<Request, CommandLineFault>, AllocError> {
@@ -27,6 +28,7 @@ fn assert_asks(
                 AskRequest {
                     tables,
                     workers: some,
+                    form: _,
                     statement: text,
                 },
             ),
@@ -65,6 +67,7 @@ fn assert_asks_of_two(rt: &impl Abort, read: Result<Request, CommandLineFault>) 
                 AskRequest {
                     tables,
                     workers: some,
+                    form: _,
                     statement: text,
                 },
             ),
@@ -101,13 +104,48 @@ fn read_line(alloc: Global, line: &str) -> Result<Result<Request, CommandLineFau
 #[test]
 fn a_session_is_about_its_tables(rt: HostRuntime) -> Result<(), Fail> {
     match read_line(rt.alloc(), "session --table emp=a=b.csv --table sal=")? {
-        Ok(Request::Session(tables)) => {
+        Ok(Request::Session(SessionRequest { tables, form })) => {
             assert_eq!(rt; tables.len(), 2);
             assert_eq!(rt; tables[0].path.as_slice(), b"a=b.csv".as_slice());
             assert_eq!(rt; tables[1].name.as_slice(), b"sal".as_slice());
+            assert!(rt; matches!(form, Form::Numbers));
         }
         Ok(_request) => assert!(rt; false, "another request"),
         Err(_fault) => assert!(rt; false, "not read"),
+    }
+    Ok(())
+}
+
+// The form that a line asks for.
+fn form_of(alloc: Global, line: &str) -> Result<Option<Form>, AllocError> {
+    match read_line(alloc, line)? {
+        Ok(Request::Ask(request)) => Ok(Some(request.form)),
+        Ok(Request::Draw(request)) => Ok(Some(request.ask.form)),
+        Ok(Request::Session(request)) => Ok(Some(request.form)),
+        Ok(Request::Help(_)) | Err(_) => Ok(None),
+    }
+}
+
+#[test]
+fn both_commands_take_dates(rt: HostRuntime) -> Result<(), Fail> {
+    for line in [
+        "ask --dates --table emp=e S",
+        "ask --table emp=e --dates S",
+        "ask --table emp=e S --dates",
+        "session --dates --table emp=e",
+        "session --table emp=e --dates",
+    ] {
+        assert_eq!(rt; form_of(rt.alloc(), line)?, Some(Form::Dates), "{line}");
+    }
+    for line in ["ask --table emp=e S", "session --table emp=e"] {
+        assert_eq!(rt; form_of(rt.alloc(), line)?, Some(Form::Numbers), "{line}");
+    }
+    for line in [
+        "ask --dates=1 --table emp=e S",
+        "ask --date --table emp=e S",
+        "--dates ask --table emp=e S",
+    ] {
+        assert_eq!(rt; form_of(rt.alloc(), line)?, None, "{line}");
     }
     Ok(())
 }
@@ -143,7 +181,8 @@ fn help_of(alloc: Global, line: &str) -> Result<Option<String>, AllocError> {
     match read_line(alloc, line)? {
         Ok(Request::Help(text)) => Ok(Some(text)),
         Ok(Request::Ask(_request)) => Ok(None),
-        Ok(Request::Session(_tables)) => Ok(None),
+        Ok(Request::Draw(_request)) => Ok(None),
+        Ok(Request::Session(_request)) => Ok(None),
         Err(_fault) => Ok(None),
     }
 }

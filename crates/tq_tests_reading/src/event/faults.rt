@@ -3,6 +3,7 @@
 use super::{EMP, file, load_one, one_file, two_files};
 use std::alloc::{AllocError, Global};
 use std::test::Fail;
+use tq_base::Form;
 use tq_event::LoadFaultKind::{
     BadHeader, BadInt, BadPeriod, DuplicateName, FieldCount, NotUtf8, OutOfMemory, TextTooLong,
     TooManyColumns, TooManyEvents, TooManyTables,
@@ -139,7 +140,11 @@ fn events_stay_within_the_limit(rt: HostRuntime) -> Result<(), Fail> {
         (7, None),
     ] {
         let files = one_file(rt.alloc(), b"emp", EMP)?;
-        assert_eq!(rt; load(rt.alloc(), files, limit).err(), want, "{limit}");
+        assert_eq!(rt;
+            load(rt.alloc(), files, limit, Form::Numbers).err(),
+            want,
+            "{limit}"
+        );
     }
     Ok(())
 }
@@ -171,7 +176,7 @@ fn a_table_is_refused_by_its_number(rt: HostRuntime) -> Result<(), Fail> {
     ] {
         let files = two_files(rt.alloc(), name, bytes)?;
         assert_eq!(rt;
-            load(rt.alloc(), files, 10).err(),
+            load(rt.alloc(), files, 10, Form::Numbers).err(),
             want,
             "{name:?} {bytes:?}"
         );
@@ -190,11 +195,11 @@ fn there_are_at_most_sixteen_tables(rt: HostRuntime) -> Result<(), Fail> {
     more.push(file(rt.alloc(), b"q", b"id:int,from,to")?)?;
     assert_eq!(rt; more.len(), MAX_TABLES + 1);
     assert_eq!(rt;
-        load(rt.alloc(), more, 10).err(),
+        load(rt.alloc(), more, 10, Form::Numbers).err(),
         fault(TooManyTables, 16, 0)
     );
     assert_eq!(rt;
-        load(rt.alloc(), files, 10)?.catalogue.tables.get().len(),
+        load(rt.alloc(), files, 10, Form::Numbers)?.catalogue.tables.get().len(),
         16
     );
     Ok(())

@@ -2,7 +2,7 @@
 
 use super::{EMP, file, load_one, told};
 use std::test::Fail;
-use tq_base::Kind;
+use tq_base::{Form, Kind};
 use tq_event::load;
 
 #[test]
@@ -95,7 +95,12 @@ fn at_an_instant_ends_come_first_then_tables_then_records(rt: HostRuntime) -> Re
         file(rt.alloc(), b"a", first)?,
         file(rt.alloc(), b"b", second)?,
     ];
-    let loaded = load(rt.alloc(), Vec::from_array(rt.alloc(), files)?, 9)?;
+    let loaded = load(
+        rt.alloc(),
+        Vec::from_array(rt.alloc(), files)?,
+        9,
+        Form::Numbers,
+    )?;
     let events = told(rt.alloc(), loaded.events.get())?;
     assert_eq!(rt;
         events.as_str(),
@@ -116,7 +121,7 @@ end 0: row 1 at 9
 
 #[test]
 fn no_files_hold_no_tables(rt: HostRuntime) -> Result<(), Fail> {
-    let loaded = load(rt.alloc(), Vec::new(rt.alloc()), 0)?;
+    let loaded = load(rt.alloc(), Vec::new(rt.alloc()), 0, Form::Numbers)?;
     assert_eq!(rt; loaded.catalogue.tables.get().len(), 0);
     assert_eq!(rt; loaded.events.get().len(), 0);
     Ok(())

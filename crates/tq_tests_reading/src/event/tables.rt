@@ -2,12 +2,18 @@
 
 use super::{EMP, file, one_file, told_rows, two_files};
 use std::test::Fail;
+use tq_base::Form;
 use tq_event::LoadFaultKind::{BadInt, BadPeriod, DuplicateName, TooManyEvents};
 use tq_event::{LoadFault, load, load_tables};
 
 #[test]
 fn rows_stand_in_the_order_of_their_records(rt: HostRuntime) -> Result<(), Fail> {
-    let loaded = load_tables(rt.alloc(), one_file(rt.alloc(), b"emp", EMP)?, 7)?;
+    let loaded = load_tables(
+        rt.alloc(),
+        one_file(rt.alloc(), b"emp", EMP)?,
+        7,
+        Form::Numbers,
+    )?;
     assert_eq!(rt; loaded.catalogue.table(b"emp"), Some(0));
     let tables = loaded.rows.get();
     assert_eq!(rt; tables.len(), 1);
@@ -30,7 +36,12 @@ fn each_file_has_a_table_of_its_own(rt: HostRuntime) -> Result<(), Fail> {
         file(rt.alloc(), b"none", b"k:int,from,to\n")?,
         file(rt.alloc(), b"b", b"k:int,v:text,from,to\n3,x,1,5\n")?,
     ];
-    let loaded = load_tables(rt.alloc(), Vec::from_array(rt.alloc(), files)?, 6)?;
+    let loaded = load_tables(
+        rt.alloc(),
+        Vec::from_array(rt.alloc(), files)?,
+        6,
+        Form::Numbers,
+    )?;
     assert_eq!(rt; loaded.catalogue.table(b"b"), Some(2));
     let tables = loaded.rows.get();
     assert_eq!(rt; tables.len(), 3);
@@ -66,15 +77,18 @@ fn files_are_refused_just_as_load_refuses_them(rt: HostRuntime) -> Result<(), Fa
             table,
             number,
         });
-        assert_eq!(rt; load_tables(rt.alloc(), files, 10).err(), want);
-        assert_eq!(rt; load(rt.alloc(), same, 10).err(), want);
+        assert_eq!(rt;
+            load_tables(rt.alloc(), files, 10, Form::Numbers).err(),
+            want
+        );
+        assert_eq!(rt; load(rt.alloc(), same, 10, Form::Numbers).err(), want);
     }
     Ok(())
 }
 
 #[test]
 fn no_files_have_no_tables(rt: HostRuntime) -> Result<(), Fail> {
-    let loaded = load_tables(rt.alloc(), Vec::new(rt.alloc()), 0)?;
+    let loaded = load_tables(rt.alloc(), Vec::new(rt.alloc()), 0, Form::Numbers)?;
     assert_eq!(rt; loaded.catalogue.tables.get().len(), 0);
     assert_eq!(rt; loaded.rows.get().len(), 0);
     Ok(())

@@ -6,9 +6,9 @@ use Rattle.tq_engine.proofs.answering.answer.Goals as goal
 pub returns-in_err-table-clause-fault : goal.returns-in_err-table-clause-fault
 returns-in_err-table-clause-fault g c =
     let p = err_from_is_err_and c.from_residual-in_err-table.result c.from_residual-in_err-table.ensures.1 in
-    rw p.1 (subst (IsFault c.args.files.items c.args.bytes.now) (sym p.2) (c.in_err-table.ensures.fault c.args.files.items c.args.bytes.now c.in_ok-question.ensures.asked))
+    rw p.1 (subst (IsFault c.args.form c.args.files.items c.args.bytes.now) (sym p.2) (c.in_err-table.ensures.fault c.args.files.items c.args.bytes.now c.in_ok-question.ensures.asked))
 
 pub returns-clause-answer : goal.returns-clause-answer
 returns-clause-answer g c =
-    subst (HasAnswer c.args.files.items c.args.bytes.now) (sym c.in_ok-detached.ensures)
+    subst (HasAnswer c.args.form c.args.files.items c.args.bytes.now) (sym c.in_ok-detached.ensures)
     (c.in_ok-table.ensures.answer c.args.files.items c.args.bytes.now c.in_ok-question.ensures.asked)

@@ -6,22 +6,22 @@ use Rattle.tq_engine.proofs.answering.answer_bytes.Goals as goal
 pub returns-in_err-text-clause-write : goal.returns-in_err-text-clause-write
 returns-in_err-text-clause-write g c e =
     let p = err_from_is_err_and c.from_residual-in_err-text.result c.from_residual-in_err-text.ensures.1 in
-    let is : IfErr c.from_residual-in_err-text.result (IsFault c.args.files.items c.args.bytes.now) =
-    rw p.1 (subst (IsFault c.args.files.items c.args.bytes.now) (sym p.2) (c.in_err-text.ensures.fault c.args.files.items c.args.bytes.now c.in_ok-question.ensures.asked)) in
-    absurd (subst (λ r. IfErr r (IsFault c.args.files.items c.args.bytes.now)) e is)
+    let is : IfErr c.from_residual-in_err-text.result (IsFault c.args.form c.args.files.items c.args.bytes.now) =
+    rw p.1 (subst (IsFault c.args.form c.args.files.items c.args.bytes.now) (sym p.2) (c.in_err-text.ensures.fault c.args.files.items c.args.bytes.now c.in_ok-question.ensures.asked)) in
+    absurd (subst (λ r. IfErr r (IsFault c.args.form c.args.files.items c.args.bytes.now)) e is)
 
 pub returns-in_err-text-clause-failed : goal.returns-in_err-text-clause-failed
 returns-in_err-text-clause-failed g c e =
     let p = err_from_is_err_and c.from_residual-in_err-text.result c.from_residual-in_err-text.ensures.1 in
-    let is : IfErr c.from_residual-in_err-text.result (IsFault c.args.files.items c.args.bytes.now) =
-    rw p.1 (subst (IsFault c.args.files.items c.args.bytes.now) (sym p.2) (c.in_err-text.ensures.fault c.args.files.items c.args.bytes.now c.in_ok-question.ensures.asked)) in
-    absurd (subst (λ r. IfErr r (IsFault c.args.files.items c.args.bytes.now)) e is)
+    let is : IfErr c.from_residual-in_err-text.result (IsFault c.args.form c.args.files.items c.args.bytes.now) =
+    rw p.1 (subst (IsFault c.args.form c.args.files.items c.args.bytes.now) (sym p.2) (c.in_err-text.ensures.fault c.args.files.items c.args.bytes.now c.in_ok-question.ensures.asked)) in
+    absurd (subst (λ r. IfErr r (IsFault c.args.form c.args.files.items c.args.bytes.now)) e is)
 
 pub returns-in_err-text-clause-fault : goal.returns-in_err-text-clause-fault
 returns-in_err-text-clause-fault g c =
     let p = err_from_is_err_and c.from_residual-in_err-text.result c.from_residual-in_err-text.ensures.1 in
-    let is : IfErr c.from_residual-in_err-text.result (IsFault c.args.files.items c.args.bytes.now) =
-    rw p.1 (subst (IsFault c.args.files.items c.args.bytes.now) (sym p.2) (c.in_err-text.ensures.fault c.args.files.items c.args.bytes.now c.in_ok-question.ensures.asked)) in
+    let is : IfErr c.from_residual-in_err-text.result (IsFault c.args.form c.args.files.items c.args.bytes.now) =
+    rw p.1 (subst (IsFault c.args.form c.args.files.items c.args.bytes.now) (sym p.2) (c.in_err-text.ensures.fault c.args.files.items c.args.bytes.now c.in_ok-question.ensures.asked)) in
     IfErr-weaker c.from_residual-in_err-text.result _ _ (λ fault f other. (f, refl)) is
 
 pub returns-in-Ok-clause-answer : goal.returns-in-Ok-clause-answer

@@ -11,7 +11,7 @@ returns-clause-answer g c history hold = record {
   planned = c.in_ok-plan.ensures.plan;
   is_answer =
       c.tables_answer.ensures (lists_of c.args.tables.now.rows) history (length history) c.in_ok-plan.plan c.in_ok-table.table
-      (record { catalogue = c.args.tables.now.catalogue; statement = c.args.statement.now; planned = c.in_ok-plan.ensures.plan })
+      (record { form = c.args.form; catalogue = c.args.tables.now.catalogue; statement = c.args.statement.now; planned = c.in_ok-plan.ensures.plan })
       (λ k d less. hold (get_or (tables_read c.in_ok-plan.plan) k d))
       (subst (λ (tables : List RowList). IsTablesAnswer (lists_of tables) c.in_ok-plan.plan c.in_ok-table.table) c.get-rows.ensures c.in_ok-table.ensures);
 }
@@ -20,4 +20,4 @@ pub answer_among-requires-clause-fit : goal.answer_among-requires-clause-fit
 answer_among-requires-clause-fit g c κs within = subst (λ (tables : List RowList). AreAllFitting c.args.tables.now.catalogue (lists_of tables)) (sym c.get-rows.ensures) c.requires.fit
 
 pub answer_among-requires-clause-plan : goal.answer_among-requires-clause-plan
-answer_among-requires-clause-plan g c κs within = record { statement = c.args.statement.now; planned = c.in_ok-plan.ensures.plan }
+answer_among-requires-clause-plan g c κs within = record { form = c.args.form; statement = c.args.statement.now; planned = c.in_ok-plan.ensures.plan }

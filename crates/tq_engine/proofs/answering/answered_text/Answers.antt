@@ -9,7 +9,7 @@ use Rattle.tq_engine.proofs.answering.answered_text.Goals as goal
 
 pub returns-clause-answer : goal.returns-clause-answer
 returns-clause-answer g c files bytes asked =
-    let of : AreLoaded files 16777216 c.args.question.now.tables = asked.loaded in
+    let of : AreLoaded c.args.form files 16777216 c.args.question.now.tables = asked.loaded in
     let statement = c.args.question.now.statement in
     IfOk-weaker c.statement_text.result _ _
     (λ text made.
@@ -20,7 +20,7 @@ returns-clause-answer g c files bytes asked =
         is_loaded = of.is_loaded;
         statement = statement;
         makes = asked.makes;
-        is_answer = subst (λ (catalogue : Catalogue). IsAnswer catalogue statement of.loaded.events (length of.loaded.events) table) (sym of.catalogue) is;
+        is_answer = subst (λ (catalogue : Catalogue). IsAnswer c.args.form catalogue statement of.loaded.events (length of.loaded.events) table) (sym of.catalogue) is;
       },
       same,
     ))
@@ -28,9 +28,9 @@ returns-clause-answer g c files bytes asked =
 
 pub returns-clause-fault : goal.returns-clause-fault
 returns-clause-fault g c files bytes asked =
-    let of : AreLoaded files 16777216 c.args.question.now.tables = asked.loaded in
+    let of : AreLoaded c.args.form files 16777216 c.args.question.now.tables = asked.loaded in
     let statement = c.args.question.now.statement in
     IfErr-weaker c.statement_text.result _ _
-    (λ fault is. statement_fault files bytes of.loaded statement fault of.is_loaded asked.makes
-    (subst (λ (catalogue : Catalogue). IsStatementFault catalogue statement fault) (sym of.catalogue) is))
+    (λ fault is. statement_fault c.args.form files bytes of.loaded statement fault of.is_loaded asked.makes
+    (subst (λ (catalogue : Catalogue). IsStatementFault c.args.form catalogue statement fault) (sym of.catalogue) is))
     c.statement_text.ensures.fault

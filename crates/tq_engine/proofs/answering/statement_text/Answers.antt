@@ -9,14 +9,14 @@ use Rattle.tq_engine.proofs.answering.statement_text.Goals as goal
 pub returns-clause-answer : goal.returns-clause-answer
 returns-clause-answer g c history hold =
     let (table, is, text) =
-    subst (λ (tables : List RowList). IsTextOf (IsTablesAnswer (lists_of tables) c.in_ok-plan.plan) c.in_ok-text.text) c.get-rows.ensures c.in_ok-text.ensures in (
+    subst (λ (tables : List RowList). IsTextOf c.args.form (IsTablesAnswer (lists_of tables) c.in_ok-plan.plan) c.in_ok-text.text) c.get-rows.ensures c.in_ok-text.ensures in (
       table,
       record {
         plan = c.in_ok-plan.plan;
         planned = c.in_ok-plan.ensures.plan;
         is_answer =
             c.tables_answer.ensures (lists_of c.args.tables.now.rows) history (length history) c.in_ok-plan.plan table
-            (record { catalogue = c.args.tables.now.catalogue; statement = c.args.statement.now; planned = c.in_ok-plan.ensures.plan })
+            (record { form = c.args.form; catalogue = c.args.tables.now.catalogue; statement = c.args.statement.now; planned = c.in_ok-plan.ensures.plan })
             (λ k d less. hold (get_or (tables_read c.in_ok-plan.plan) k d))
             is;
       },
@@ -27,4 +27,4 @@ pub text_among-requires-clause-fit : goal.text_among-requires-clause-fit
 text_among-requires-clause-fit g c κs within = subst (λ (tables : List RowList). AreAllFitting c.args.tables.now.catalogue (lists_of tables)) (sym c.get-rows.ensures) c.requires.fit
 
 pub text_among-requires-clause-plan : goal.text_among-requires-clause-plan
-text_among-requires-clause-plan g c κs within = record { statement = c.args.statement.now; planned = c.in_ok-plan.ensures.plan }
+text_among-requires-clause-plan g c κs within = record { form = c.args.form; statement = c.args.statement.now; planned = c.in_ok-plan.ensures.plan }

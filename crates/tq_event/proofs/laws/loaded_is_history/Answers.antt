@@ -8,9 +8,9 @@ use Rattle.tq_event.proofs.LoadedLemmas.{Placeable, contents_placeable}
 use Rattle.tq_event.proofs.laws.loaded_is_history.Goals as goal
 
 pub returns : goal.returns
-returns c = λ files limit loaded is.
-    let good = contents_loaded limit files is.contents is.is_contents in
-    let placed = contents_placeable limit files is.contents is.is_contents in
+returns c = λ form files limit loaded is.
+    let good = contents_loaded form limit files is.contents is.is_contents in
+    let placed = contents_placeable form limit files is.contents is.is_contents in
     is_history loaded.catalogue is.contents.entries loaded.events is.events
     (All-weaker (Placeable (length is.contents.tables)) (λ (e : Entry). e.from < e.to) (λ e p. p.0) is.contents.entries placed)
     (subst (λ ts. All (Stored ts) is.contents.entries) (sym is.catalogue) good.stored)

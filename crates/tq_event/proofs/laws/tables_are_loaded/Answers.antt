@@ -9,11 +9,11 @@ use Rattle.tq_event.proofs.HeldLemmas.{entries_have_some, tables_hold}
 use Rattle.tq_event.proofs.laws.tables_are_loaded.Goals as goal
 
 pub returns : goal.returns
-returns c = λ files limit tables are.
+returns c = λ form files limit tables are.
     let entries = are.contents.entries in
     let some = entries_have_some entries in
-    let good = contents_loaded limit files are.contents are.is_contents in
-    let placed = contents_placeable limit files are.contents are.is_contents in
+    let good = contents_loaded form limit files are.contents are.is_contents in
+    let placed = contents_placeable form limit files are.contents are.is_contents in
     let periods = All-weaker (Placeable (length are.contents.tables)) (λ (e : Entry). e.from < e.to) (λ e p. p.0) entries placed in
     let stored = subst (λ ts. All (Stored ts) entries) (sym are.catalogue) good.stored in
     record {

@@ -22,7 +22,7 @@ returns-clause-ok c =
     let good : is_ok c.push-2.result ≡ true = search rules in
     let pushed : c.push-2.new.self.items ≡ rows ++ read ∷ [] = rw good at c.push-2.ensures.items in
     let told : entries_from 0 c.push-2.new.self.items ≡ entries ++ map (told_by c.len-number.result) read.items = entries_put rows c.push-2.new.self.items read c.len-number.result pushed many in
-    let contents : table_contents c.args.limit c.len-number.result entries c.args.file.now.bytes ≡ Ok (columns, entries ++ map (told_by c.len-number.result) read.items) =
+    let contents : table_contents c.args.form c.args.limit c.len-number.result entries c.args.file.now.bytes ≡ Ok (columns, entries ++ map (told_by c.len-number.result) read.items) =
     rw c.get-2.ensures at (c.in_ok-columns.ensures.ok entries (sym c.requires.counted)) in
     let named : next_name tables c.args.file.now.name ≡ Ok c.in-Ok.name = rw (c.deref.ensures.value, c.get.ensures) at c.in-Ok.ensures.ok in
     let number : length tables ≡ c.len-number.result = omega (arith, c.len-number.ensures, c.args.tables.now.ok.0) in

@@ -13,5 +13,5 @@ files-init c =
       read = refl;
       counted = refl;
       within = omega arith;
-      rest = ap (contents_after c.args.limit (record { tables = []; entries = [] })) (sym given);
+      rest = ap (contents_after c.args.form c.args.limit (record { tables = []; entries = [] })) (sym given);
     })

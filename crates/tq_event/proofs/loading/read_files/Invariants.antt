@@ -11,5 +11,5 @@ invariant-files l = record {
   read : AreRead l.tables.items l.rows.items;
   counted : l.events ≡ sum_by event_count (entries_from 0 l.rows.items);
   within : l.events ≤ l.limit;
-  rest : contents_of l.fn.files.items l.limit ≡ contents_after l.limit (record { tables = l.tables.items; entries = entries_from 0 l.rows.items }) (into_iter_items l.file-iterator);
+  rest : contents_of l.form l.fn.files.items l.limit ≡ contents_after l.form l.limit (record { tables = l.tables.items; entries = entries_from 0 l.rows.items }) (into_iter_items l.file-iterator);
 }

@@ -18,8 +18,8 @@ pub returns-then-not-branch-clause-fault : goal.returns-then-not-branch-clause-f
 returns-then-not-branch-clause-fault c before same known =
     let bytes = c.args.bytes.now in
     let none = rw c.if-not-branch.true at (c.in_ok-next_record.ensures (csv_records bytes) c.record_reader-reader.ensures) in
-    header_fault c.args.limit c.args.table before bytes BadHeader c.fault_at-then-not-branch.result
-    (columns_none c.args.limit c.args.table before bytes (sym c.is_marked_twice.ensures ∙ c.if-is_marked_twice.false) none)
+    header_fault c.args.form c.args.limit c.args.table before bytes BadHeader c.fault_at-then-not-branch.result
+    (columns_none bytes (sym c.is_marked_twice.ensures ∙ c.if-is_marked_twice.false) none)
     (c.fault_at-then-not-branch.ensures.named bad_header)
 
 pub returns-in-Err-clause-fault : goal.returns-in-Err-clause-fault
@@ -27,8 +27,8 @@ returns-in-Err-clause-fault c before same known =
     let bytes = c.args.bytes.now in
     let (more, split, has) = rw c.if-not-branch.false at (c.in_ok-next_record.ensures (csv_records bytes) c.record_reader-reader.ensures) in
     let kind = known_kind c.in-Err.kind c.fault_at-in-Err.result c.fault_at-in-Err.ensures.out_of_memory known in
-    header_fault c.args.limit c.args.table before bytes c.in-Err.kind c.fault_at-in-Err.result
-    (columns_first c.args.limit c.args.table before bytes (fields_of c.next_record.new.record) more (sym c.is_marked_twice.ensures ∙ c.if-is_marked_twice.false) split ∙ c.in-Err.ensures.fault kind)
+    header_fault c.args.form c.args.limit c.args.table before bytes c.in-Err.kind c.fault_at-in-Err.result
+    (columns_first bytes (fields_of c.next_record.new.record) more (sym c.is_marked_twice.ensures ∙ c.if-is_marked_twice.false) split ∙ c.in-Err.ensures.fault kind)
     (c.fault_at-in-Err.ensures.named kind)
 
 pub records-init : goal.records-init
@@ -36,15 +36,15 @@ records-init c =
     let bytes = c.args.bytes.now in
     let (more, split, has) = rw c.if-not-branch.false at (c.in_ok-next_record.ensures (csv_records bytes) c.record_reader-reader.ensures) in
     record {
-      columns = columns_first c.args.limit c.args.table [] bytes (fields_of c.next_record.new.record) more (sym c.is_marked_twice.ensures ∙ c.if-is_marked_twice.false) split ∙ c.in-Ok.ensures.ok;
+      columns = columns_first bytes (fields_of c.next_record.new.record) more (sym c.is_marked_twice.ensures ∙ c.if-is_marked_twice.false) split ∙ c.in-Ok.ensures.ok;
       width = omega (arith, c.new-rows.ensures.width, c.len.ensures, c.in-Ok.columns.ok.0);
       counted = rw c.new-rows.ensures.rows (omega arith);
       within = c.requires.within;
       few = omega arith;
       left = more;
       has = has;
-      rest = λ before same. ap (λ (l : List (List (List ℕ))). entries_after c.args.limit c.args.table c.in-Ok.columns.items 2 before (drop 1 l)) split
-          ∙ ap (λ es. entries_after c.args.limit c.args.table c.in-Ok.columns.items 2 es more) (sym (rw c.new-rows.ensures.rows (append-nil before)));
+      rest = λ before same. ap (λ (l : List (List (List ℕ))). entries_after c.args.form c.args.limit c.args.table c.in-Ok.columns.items 2 before (drop 1 l)) split
+          ∙ ap (λ es. entries_after c.args.form c.args.limit c.args.table c.in-Ok.columns.items 2 es more) (sym (rw c.new-rows.ensures.rows (append-nil before)));
     }
 
 pub records-preserved : goal.records-preserved
@@ -68,25 +68,25 @@ records-preserved c =
       left = more;
       has = has;
       rest = λ before same. i.rest before same
-          ∙ add_ok c.args.limit table c.in-Ok.columns.items c.records.number (before ++ told) (fields_of c.next_record-in-records.new.record) more i.left split entry ((before ++ told) ++ entry ∷ [])
+          ∙ add_ok c.args.form c.args.limit table c.in-Ok.columns.items c.records.number (before ++ told) (fields_of c.next_record-in-records.new.record) more i.left split entry ((before ++ told) ++ entry ∷ [])
           (rw c.deref.ensures.value at (c.in-Ok-read_entry.ensures.ok table))
           (next_ok c.args.limit (before ++ told) entry c.add_row.new.events (omega (arith, counted, told_count before told c.args.events.now c.records.events same i.counted)) c.in_default.ensures.within)
-          ∙ ap (λ es. entries_after c.args.limit table c.in-Ok.columns.items (c.records.number + 1) es more) (append_assoc before told (entry ∷ []) ∙ ap (λ es. before ++ es) (sym grown));
+          ∙ ap (λ es. entries_after c.args.form c.args.limit table c.in-Ok.columns.items (c.records.number + 1) es more) (append_assoc before told (entry ∷ []) ∙ ap (λ es. before ++ es) (sym grown));
     }
 
 pub returns-then-not-branch-2-clause-ok : goal.returns-then-not-branch-2-clause-ok
 returns-then-not-branch-2-clause-ok c before same =
     let i = c.records.invariant in
     let none = rw c.if-not-branch-2.true at (c.in_ok-next_record-2.ensures i.left i.has) in
-    read_ok c.args.limit c.args.table before c.args.bytes.now c.in-Ok.columns.items (before ++ map (told_by c.args.table) c.records.rows.items) i.columns (i.rest before same ∙ rw none refl)
+    read_ok c.args.form c.args.limit c.args.table before c.args.bytes.now c.in-Ok.columns.items (before ++ map (told_by c.args.table) c.records.rows.items) i.columns (i.rest before same ∙ rw none refl)
 
 pub returns-in-Err-read_entry-clause-fault : goal.returns-in-Err-read_entry-clause-fault
 returns-in-Err-read_entry-clause-fault c before same known =
     let i = c.records.invariant in
     let (more, split, has) = rw c.if-not-branch-2.false at (c.in_ok-next_record-2.ensures i.left i.has) in
     let kind = known_kind c.in-Err-read_entry.kind c.fault_at-in-Err-read_entry.result c.fault_at-in-Err-read_entry.ensures.out_of_memory known in
-    read_fault c.args.limit c.args.table before c.args.bytes.now c.in-Ok.columns.items c.fault_at-in-Err-read_entry.result i.columns
-    (i.rest before same ∙ entry_fault c.args.limit c.args.table c.in-Ok.columns.items c.records.number (before ++ map (told_by c.args.table) c.records.rows.items) (fields_of c.next_record-in-records.new.record) more i.left split
+    read_fault c.args.form c.args.limit c.args.table before c.args.bytes.now c.in-Ok.columns.items c.fault_at-in-Err-read_entry.result i.columns
+    (i.rest before same ∙ entry_fault c.args.form c.args.limit c.args.table c.in-Ok.columns.items c.records.number (before ++ map (told_by c.args.table) c.records.rows.items) (fields_of c.next_record-in-records.new.record) more i.left split
     c.in-Err-read_entry.kind c.fault_at-in-Err-read_entry.result (rw c.deref.ensures.value at (c.in-Err-read_entry.ensures.fault c.args.table kind)) (c.fault_at-in-Err-read_entry.ensures.named kind))
 
 pub returns-in-Err-add_row-clause-fault : goal.returns-in-Err-add_row-clause-fault
@@ -100,7 +100,7 @@ returns-in-Err-add_row-clause-fault c before same known =
     let entry : Entry = told_by table row in
     let many : next_entries c.args.limit (before ++ told) entry ≡ Err TooManyEvents = next_many c.args.limit (before ++ told) entry (c.records.events + event_count entry)
     (omega (arith, told_count before told c.args.events.now c.records.events same i.counted)) (c.in-Err-add_row.ensures.many kind) in
-    read_fault c.args.limit table before c.args.bytes.now c.in-Ok.columns.items c.fault_at-in-Err-add_row.result i.columns
-    (i.rest before same ∙ add_fault c.args.limit table c.in-Ok.columns.items c.records.number (before ++ told) (fields_of c.next_record-in-records.new.record) more i.left split entry
+    read_fault c.args.form c.args.limit table before c.args.bytes.now c.in-Ok.columns.items c.fault_at-in-Err-add_row.result i.columns
+    (i.rest before same ∙ add_fault c.args.form c.args.limit table c.in-Ok.columns.items c.records.number (before ++ told) (fields_of c.next_record-in-records.new.record) more i.left split entry
     c.in-Err-add_row.kind c.fault_at-in-Err-add_row.result (rw c.deref.ensures.value at (c.in-Ok-read_entry.ensures.ok table))
     (many ∙ ap (λ (k : LoadFaultKind). let r : Result (List Entry) LoadFaultKind = Err k in r) (sym (c.in-Err-add_row.ensures.kind kind))) (c.fault_at-in-Err-add_row.ensures.named kind))

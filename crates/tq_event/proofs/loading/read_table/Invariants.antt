@@ -17,5 +17,5 @@ invariant-records l = record {
   left : List (List (List ℕ));
   has : HasLeft l.reader left;
   rest : (before : List Entry) → sum_by event_count before ≡ l.fn.events
-      → entries_after l.limit l.table l.columns.items 2 before (drop 1 (csv_records l.bytes)) ≡ entries_after l.limit l.table l.columns.items l.number (before ++ map (told_by l.table) l.rows.items) left;
+      → entries_after l.form l.limit l.table l.columns.items 2 before (drop 1 (csv_records l.bytes)) ≡ entries_after l.form l.limit l.table l.columns.items l.number (before ++ map (told_by l.table) l.rows.items) left;
 }

@@ -14,24 +14,24 @@ use Rattle.tq_event.proofs.reading.read_entry.Goals as goal
 pub returns-in_err-read_fields-clause-fault : goal.returns-in_err-read_fields-clause-fault
 returns-in_err-read_fields-clause-fault c table =
     let p = err_from_is_err_and c.from_residual.result c.from_residual.ensures.1 in
-    rw (p.1, p.2) (λ known. entry_fails table c.args.columns.now (fields_of c.args.record.now) (omega (arith, c.len-width.ensures, c.if-width-lt2.false, c.if-width-columns.false)) _ (c.in_err-read_fields.ensures.fault known))
+    rw (p.1, p.2) (λ known. entry_fails c.args.form table c.args.columns.now (fields_of c.args.record.now) (omega (arith, c.len-width.ensures, c.if-width-lt2.false, c.if-width-columns.false)) _ (c.in_err-read_fields.ensures.fault known))
 
 pub returns-clause-ok : goal.returns-clause-ok
 returns-clause-ok c table = by c.read_period.result c.read_period.ensures.ok
   where
-    by : (r : Result Period LoadFaultKind) → IfOk r (λ period. period_of (period_fields (fields_of c.args.record.now)) ≡ Ok (period.start, period.end))
-        → IfOk r (λ period. let row : Fragment = record { values = c.read_fields.new.values.items; period = period } in entry_of table c.args.columns.now (fields_of c.args.record.now) ≡ Ok (told_by table row))
+    by : (r : Result Period LoadFaultKind) → IfOk r (λ period. period_of c.args.form (period_fields (fields_of c.args.record.now)) ≡ Ok (period.start, period.end))
+        → IfOk r (λ period. let row : Fragment = record { values = c.read_fields.new.values.items; period = period } in entry_of c.args.form table c.args.columns.now (fields_of c.args.record.now) ≡ Ok (told_by table row))
     by (Ok period) until =
-        entry_told table c.args.columns.now (fields_of c.args.record.now) (omega (arith, c.len-width.ensures, c.if-width-lt2.false, c.if-width-columns.false)) c.read_fields.new.values.items _
+        entry_told c.args.form table c.args.columns.now (fields_of c.args.record.now) (omega (arith, c.len-width.ensures, c.if-width-lt2.false, c.if-width-columns.false)) c.read_fields.new.values.items _
         c.in_ok-read_fields.ensures.ok until
     by (Err fault) until = tt
 
 pub returns-clause-fault : goal.returns-clause-fault
 returns-clause-fault c table = by c.read_period.result c.read_period.ensures.fault
   where
-    by : (r : Result Period LoadFaultKind) → IfErr r (λ fault. period_of (period_fields (fields_of c.args.record.now)) ≡ Err fault)
-        → IfErr r (λ fault. fault ≢ OutOfMemory → entry_of table c.args.columns.now (fields_of c.args.record.now) ≡ Err fault)
+    by : (r : Result Period LoadFaultKind) → IfErr r (λ fault. period_of c.args.form (period_fields (fields_of c.args.record.now)) ≡ Err fault)
+        → IfErr r (λ fault. fault ≢ OutOfMemory → entry_of c.args.form table c.args.columns.now (fields_of c.args.record.now) ≡ Err fault)
     by (Ok period) until = tt
     by (Err fault) until = λ known.
-        entry_told table c.args.columns.now (fields_of c.args.record.now) (omega (arith, c.len-width.ensures, c.if-width-lt2.false, c.if-width-columns.false)) c.read_fields.new.values.items _
+        entry_told c.args.form table c.args.columns.now (fields_of c.args.record.now) (omega (arith, c.len-width.ensures, c.if-width-lt2.false, c.if-width-columns.false)) c.read_fields.new.values.items _
         c.in_ok-read_fields.ensures.ok until

@@ -15,14 +15,14 @@ returns g c =
     let rows = c.in-Some-3.rows.items in
     let well : c.read_schemas.result ≡ Ok c.in-Some.schemas = rw c.in-Some.is at c.in_ok-schemas.ensures in
     let headed : AreHeaded files schemas = rw well at c.read_schemas.ensures.headed in
-    let read : All (λ (one : Option PartRows). IfSome one (IsRead files schemas)) c.in_ok-read.read.items = rw c.deref.ensures.value at c.in_ok-read.ensures in
-    let sides : All (IsRead files schemas) c.in-Some-2.read.items = rw c.in-Some-2.is at (c.in_ok-read-2.ensures files schemas read) in
-    let told : AreTold files schemas rows = rw c.in-Some-3.is at (c.in_ok-rows.ensures schemas sides) in
+    let read : All (λ (one : Option PartRows). IfSome one (IsRead c.args.form files schemas)) c.in_ok-read.read.items = rw c.deref.ensures.value at c.in_ok-read.ensures in
+    let sides : All (IsRead c.args.form files schemas) c.in-Some-2.read.items = rw c.in-Some-2.is at (c.in_ok-read-2.ensures c.args.form files schemas read) in
+    let told : AreTold c.args.form files schemas rows = rw c.in-Some-3.is at (c.in_ok-rows.ensures c.args.form schemas sides) in
     let within : sum_by event_count (entries_from 0 rows) ≤ c.args.limit = rw c.deref-3.ensures.value at (c.is_within.ensures c.if-not-is_within.false) in
     record {
       contents = record { tables = schemas; entries = entries_from 0 rows };
-      is_contents = all_contents files c.args.limit schemas rows headed told within;
+      is_contents = all_contents c.args.form files c.args.limit schemas rows headed told within;
       catalogue = c.of.ensures;
-      read = subst (AreRead schemas) (sym c.of-2.ensures) (as_wide files schemas rows headed told);
+      read = subst (AreRead schemas) (sym c.of-2.ensures) (as_wide c.args.form files schemas rows headed told);
       rows = subst (λ tables. AreRowsOf (entries_from 0 rows) (lists_of tables)) (sym c.of-2.ensures) (rows_are_told rows);
     }

@@ -17,7 +17,7 @@ pub returns-then-not-branch-clause-told : goal.returns-then-not-branch-clause-to
 returns-then-not-branch-clause-told c all has =
     let (seen, left, split, after, tell) = c.rows.invariant.told all has in
     let none = rw c.if-not-branch.true at (c.in_ok-next_record.ensures left after) in
-    subst (λ l. TellRows c.args.columns.now l c.rows.rows.items) (sym (split ∙ ap (λ l. seen ++ l) none ∙ append-nil seen)) tell
+    subst (λ l. TellRows c.args.form c.args.columns.now l c.rows.rows.items) (sym (split ∙ ap (λ l. seen ++ l) none ∙ append-nil seen)) tell
 
 pub rows-preserved : goal.rows-preserved
 rows-preserved c =
@@ -29,11 +29,11 @@ rows-preserved c =
           let (seen, left, split, after, tell) = c.rows.invariant.told all has in
           let (more, first, rest) = rw c.if-not-branch.false at (c.in_ok-next_record.ensures left after) in
           let fields = fields_of c.next_record.new.record in
-          let one : TellRows columns (fields ∷ []) (row ∷ []) = λ table. ap (λ (r : Result Entry LoadFaultKind). r ∷ []) (c.in_ok-period.ensures.ok table) in (
+          let one : TellRows c.args.form columns (fields ∷ []) (row ∷ []) = λ table. ap (λ (r : Result Entry LoadFaultKind). r ∷ []) (c.in_ok-period.ensures.ok table) in (
             seen ++ fields ∷ [],
             more,
             split ∙ ap (λ l. seen ++ l) first ∙ sym (append_assoc seen (fields ∷ []) more),
             rest,
-            subst (λ l. TellRows columns (seen ++ fields ∷ []) l) (sym c.in_ok-push.ensures.pushed) (tell_both columns seen (fields ∷ []) c.rows.rows.items (row ∷ []) tell one),
+            subst (λ l. TellRows c.args.form columns (seen ++ fields ∷ []) l) (sym c.in_ok-push.ensures.pushed) (tell_both c.args.form columns seen (fields ∷ []) c.rows.rows.items (row ∷ []) tell one),
           );
     }

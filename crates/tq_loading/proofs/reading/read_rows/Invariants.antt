@@ -8,5 +8,5 @@ abbrev pub invariant-rows : goal.invariant-rows
 invariant-rows l = record {
   wide : l.rows.width ≡ length l.columns;
   told : (all : List (List (List ℕ))) → HasLeft l.fn.reader all
-      → (seen : List (List (List ℕ))) × (left : List (List (List ℕ))) × (all ≡ seen ++ left) × HasLeft l.reader left × TellRows l.columns seen l.rows.items;
+      → (seen : List (List (List ℕ))) × (left : List (List (List ℕ))) × (all ≡ seen ++ left) × HasLeft l.reader left × TellRows l.form l.columns seen l.rows.items;
 }

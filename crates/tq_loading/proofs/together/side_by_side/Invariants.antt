@@ -2,6 +2,7 @@
 use Rattle.std.proofs.Common.{◌≡◌, ◌++◌, List}
 use Rattle.std.specs.Prelude.{All, IfSome}
 use Rattle.std.specs.Vec.Iter.{into_iter_items}
+use Rattle.tq_base.specs.declared.form.Form.{Form}
 use Rattle.tq_base.specs.declared.catalogue.Schema.{Schema}
 use Rattle.tq_event.specs.declared.file.TableFile.{TableFile}
 use Rattle.tq_loading.specs.Parts.{IsRead}
@@ -10,5 +11,5 @@ use Rattle.tq_loading.proofs.together.side_by_side.Given as goal
 abbrev pub invariant-parts : goal.invariant-parts
 invariant-parts l = record {
   reads : l.yielded ++ into_iter_items l.part-iterator ≡ l.fn.parts.items;
-  all : (files : List TableFile) (schemas : List Schema) → All (λ one. IfSome one (IsRead files schemas)) l.fn.parts.items → All (IsRead files schemas) l.all.items;
+  all : (form : Form) (files : List TableFile) (schemas : List Schema) → All (λ one. IfSome one (IsRead form files schemas)) l.fn.parts.items → All (IsRead form files schemas) l.all.items;
 }

@@ -15,8 +15,8 @@ parts-init c =
     let given : into_iter_items c.into_iter-part-iterator.result ≡ c.args.parts.items = c.into_iter-part-iterator.ensures.into_iter_gives.0 in
     rw c.in_ok-tables.ensures.items (record {
       many = omega (arith, ap length given, c.len.ensures, c.if-len-files.false, c.args.parts.ok.0);
-      left = λ schemas all. subst (All (IsRead c.args.files.now schemas)) (sym given) all;
-      told = λ schemas all table rows is. absurd (none-some rows is);
+      left = λ form schemas all. subst (All (IsRead form c.args.files.now schemas)) (sym given) all;
+      told = λ form schemas all table rows is. absurd (none-some rows is);
     })
 
 pub parts-preserved : goal.parts-preserved
@@ -34,22 +34,22 @@ parts-preserved c =
     let file_at : slice_get files c.len-table.result ≡ Some c.index-files-table.result = slice_get_read files (length files) c.len-table.result c.index-files-table.result refl here c.index-files-table.is in
     record {
       many = omega (arith, ap length grown, length-append tables (part.rows ∷ []), ap length split, i.many);
-      left = λ schemas all. All-tail (IsRead files schemas) part rest (subst (All (IsRead files schemas)) split (i.left schemas all));
-      told = λ schemas all table rows is file schema is_file is_schema.
-          let read = All-head (IsRead files schemas) part rest (subst (All (IsRead files schemas)) split (i.left schemas all)) in
+      left = λ form schemas all. All-tail (IsRead form files schemas) part rest (subst (All (IsRead form files schemas)) split (i.left form schemas all));
+      told = λ form schemas all table rows is file schema is_file is_schema.
+          let read = All-head (IsRead form files schemas) part rest (subst (All (IsRead form files schemas)) split (i.left form schemas all)) in
           elim (pushed_at tables part.rows table rows (rw grown at is)) [
-            | inl before ↦ i.told schemas all table rows before.1 file schema is_file is_schema
+            | inl before ↦ i.told form schemas all table rows before.1 file schema is_file is_schema
             | inr last ↦
                 let at : part.part.table ≡ table = whole.same ∙ place ∙ sym last.0 in
                 let found : Some c.index-files-table.result ≡ Some file = sym file_at ∙ ap (slice_get files) (place ∙ sym last.0) ∙ is_file in
                 let same : c.index-files-table.result ≡ file = cc found in
                 let end : part.part.end ≡ length file.bytes = whole.last ∙ ap length (c.get.ensures ∙ ap (λ (f : TableFile). f.bytes) (sym c.index-files-table.is ∙ same)) in
-                subst (AreRowsOfTable schema.columns file.bytes) last.1
-                (whole_read schema.columns file.bytes part.part part.rows whole.first end (read file schema (ap (slice_get files) at ∙ is_file) (ap (slice_get schemas) at ∙ is_schema)))
+                subst (AreRowsOfTable form schema.columns file.bytes) last.1
+                (whole_read form schema.columns file.bytes part.part part.rows whole.first end (read file schema (ap (slice_get files) at ∙ is_file) (ap (slice_get schemas) at ∙ is_schema)))
           ];
     }
 
 pub returns : goal.returns
-returns c schemas all =
+returns c form schemas all =
     let none : length (into_iter_items c.parts.part-iterator) ≡ 0 = sym c.parts.part-iterator.rest.ok.0 ∙ c.in-None.ensures.steps.0 in
-    record { many = omega (arith, none, c.parts.invariant.many); each = c.parts.invariant.told schemas all }
+    record { many = omega (arith, none, c.parts.invariant.many); each = c.parts.invariant.told form schemas all }

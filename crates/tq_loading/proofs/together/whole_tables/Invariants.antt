@@ -2,6 +2,7 @@
 use Rattle.std.proofs.Common.{◌≡◌, ◌+◌, ℕ, List, Some, length, slice_get}
 use Rattle.std.specs.Prelude.{All}
 use Rattle.std.specs.Vec.Iter.{into_iter_items}
+use Rattle.tq_base.specs.declared.form.Form.{Form}
 use Rattle.tq_base.specs.declared.catalogue.Schema.{Schema}
 use Rattle.tq_base.specs.RowLists.{RowList}
 use Rattle.tq_loading.specs.Parts.{AreRowsOfTable, HoldsAt, IsRead}
@@ -10,7 +11,7 @@ use Rattle.tq_loading.proofs.together.whole_tables.Given as goal
 abbrev pub invariant-parts : goal.invariant-parts
 invariant-parts l = record {
   many : length l.tables.items + length (into_iter_items l.part-iterator) ≡ length l.files;
-  left : (schemas : List Schema) → All (IsRead l.files schemas) l.fn.parts.items → All (IsRead l.files schemas) (into_iter_items l.part-iterator);
-  told : (schemas : List Schema) → All (IsRead l.files schemas) l.fn.parts.items → (table : ℕ) (rows : RowList) → slice_get l.tables.items table ≡ Some rows
-      → HoldsAt l.files schemas table (λ file schema. AreRowsOfTable schema.columns file.bytes rows);
+  left : (form : Form) (schemas : List Schema) → All (IsRead form l.files schemas) l.fn.parts.items → All (IsRead form l.files schemas) (into_iter_items l.part-iterator);
+  told : (form : Form) (schemas : List Schema) → All (IsRead form l.files schemas) l.fn.parts.items → (table : ℕ) (rows : RowList) → slice_get l.tables.items table ≡ Some rows
+      → HoldsAt l.files schemas table (λ file schema. AreRowsOfTable form schema.columns file.bytes rows);
 }

@@ -3,12 +3,6 @@ use Rattle.std.proofs.Common.{◌≡◌, length, reverse}
 use Rattle.tq_plan.specs.Windows.{front_trimmed, trimmed}
 use Rattle.tq_plan.proofs.windows.trimmed.Given as goal
 
-abbrev pub invariant-front : goal.invariant-front
-invariant-front l = front_trimmed l.rest ≡ front_trimmed l.bytes
-
-abbrev pub decreases-front : goal.decreases-front
-decreases-front l = length l.rest
-
 abbrev pub invariant-back : goal.invariant-back
 invariant-back l = reverse (front_trimmed (reverse l.rest)) ≡ trimmed l.bytes
 

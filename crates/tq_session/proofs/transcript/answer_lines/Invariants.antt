@@ -7,7 +7,7 @@ use Rattle.tq_session.proofs.transcript.answer_lines.Given as goal
 
 abbrev pub invariant-lines : goal.invariant-lines
 invariant-lines g l = record {
-  so_far : SoFar g.J.Naming.catalogue l.fn.desk l.desk (streams (g.I.Read.remaining l.fn.source.reader) (g.W.Write.contents l.fn.sink.writer)) (streams (g.I.Read.remaining l.source.reader) (g.W.Write.contents l.sink.writer)) l.input.unread;
+  so_far : SoFar l.form g.J.Naming.catalogue l.fn.desk l.desk (streams (g.I.Read.remaining l.fn.source.reader) (g.W.Write.contents l.fn.sink.writer)) (streams (g.I.Read.remaining l.source.reader) (g.W.Write.contents l.sink.writer)) l.input.unread;
   source_failed : l.source.failed ≡ l.fn.source.failed;
   sink_failed : l.sink.failed ≡ l.fn.sink.failed;
   reads : l.source.reads ≡ reads_after l.fn.source.reads (l.fn.input.left - l.input.left);

@@ -2,7 +2,7 @@ use Rattle.tq_session.proofs.SessionLemmas.{on_ok}
 use Rattle.tq_session.proofs.transcript.session.Goals as goal
 
 pub run-requires-clause-history : goal.run-requires-clause-history
-run-requires-clause-history g c κs within = c.loaded_is_history.ensures c.args.files.items 16777216 c.in_ok-loaded.loaded c.in_ok-loaded.ensures.loaded
+run-requires-clause-history g c κs within = c.loaded_is_history.ensures c.args.form c.args.files.items 16777216 c.in_ok-loaded.loaded c.in_ok-loaded.ensures.loaded
 
 pub returns-clause-all : goal.returns-clause-all
 returns-clause-all g c =

@@ -4,6 +4,6 @@ use Rattle.tq_table.proofs.text.table_text.Goals as goal
 
 pub returns : goal.returns
 returns c =
-    c.text_written.ensures (text_of c.args.table.now)
+    c.text_written.ensures (text_of c.args.form c.args.table.now)
     (c.in_ok-write_rows.ensures (header_text c.args.table.now.columns)
     (rw (c.in_ok-fill_header.ensures, c.get.ensures) at (c.in_ok-write_line.ensures [] c.line_writer-writer.ensures)))

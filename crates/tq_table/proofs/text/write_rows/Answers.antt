@@ -9,7 +9,7 @@ use Rattle.tq_table.proofs.text.write_rows.Goals as goal
 
 pub rows-preserved : goal.rows-preserved
 rows-preserved c text written =
-    let line = λ (row : Fragment). row_text answer_format (row_fields row) in
+    let line = λ (row : Fragment). row_text answer_format (row_fields c.args.form row) in
     let rows = c.args.rows.now in
     let at = c.rows.row in
     let within : at < length rows = omega (arith, c.rows-test.true, c.len-row-end.ensures) in
@@ -18,13 +18,13 @@ rows-preserved c text written =
     let is : row ≡ get_or rows at row = λ i. record { values = values i; period = c.period.ensures row i } in
     let so_far = take at rows in
     let one_more = take_more rows at row within in
-    let longer : (text ++ rows_text so_far) ++ line row ≡ text ++ rows_text (take (at + 1) rows) =
-    flat_map_more line text so_far row ∙ ap (λ (r : Fragment). text ++ rows_text (so_far ++ r ∷ [])) is ∙ ap (λ l. text ++ rows_text l) (sym one_more) in
+    let longer : (text ++ rows_text c.args.form so_far) ++ line row ≡ text ++ rows_text c.args.form (take (at + 1) rows) =
+    flat_map_more line text so_far row ∙ ap (λ (r : Fragment). text ++ rows_text c.args.form (so_far ++ r ∷ [])) is ∙ ap (λ l. text ++ rows_text c.args.form l) (sym one_more) in
     subst (HasWritten c.write_line.new.writer) longer
-    (rw c.in_ok-fill_row.ensures at (c.in_ok-write_line.ensures (text ++ rows_text so_far) (c.rows.invariant text written)))
+    (rw c.in_ok-fill_row.ensures at (c.in_ok-write_line.ensures (text ++ rows_text c.args.form so_far) (c.rows.invariant text written)))
 
 pub returns : goal.returns
 returns c text written =
-    subst (λ l. HasWritten c.rows.writer (text ++ rows_text l))
+    subst (λ l. HasWritten c.rows.writer (text ++ rows_text c.args.form l))
     (take_all c.rows.row c.args.rows.now (omega (arith, c.rows-test.false, c.len-row-end.ensures)))
     (c.rows.invariant text written)

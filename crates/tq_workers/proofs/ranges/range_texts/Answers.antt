@@ -9,6 +9,6 @@ pub returns : goal.returns
 returns g c =
     let rows = c.args.rows.now.items in
     let ranges = c.in_ok-ranges.ranges.items in
-    subst (HaveLayers rows) (sym c.in_ok-texts_of.ensures)
-    (have_layers rows c.deref.result.now (4 * c.args.workers) ranges (omega (arith, c.requires.some)) c.in_ok-ranges.ensures
+    subst (HaveLayers c.args.form rows) (sym c.in_ok-texts_of.ensures)
+    (have_layers c.args.form rows c.deref.result.now (4 * c.args.workers) ranges (omega (arith, c.requires.some)) c.in_ok-ranges.ensures
     (subst (λ (l : List RangeText). StandInOrder (map (λ (r : RangeText). r.lines) l)) c.deref-2.ensures.value (c.if-not-stand_in_order.ensures refl)))

@@ -15,9 +15,9 @@ returns g c =
     let all = c.args.all in
     let plan = c.args.plan.now in
     let valid = in_tables (lists_of all.tables.now) in
-    let columns = c.deref-5.result.now in
+    let columns = c.deref-6.result.now in
     let found = subst (λ (o : Option (Vec (Option ℕ))). IfSome o (λ columns. ArePartedBy (columns_in columns.items) plan)) c.in-Some.is c.in_ok-columns.ensures in
-    let parted = subst (λ l. ArePartedBy (columns_in l) plan) (sym c.deref-5.ensures.value) found in
-    subst (HaveAnswer valid plan) (sym c.in_ok-texts_of.ensures)
-    (have_answer c.shares_part_answers.ensures all.catalogue.now valid plan c.deref-4.result.now columns c.in_ok-shares.shares.items c.fit.ensures c.requires.over parted c.in_ok-shares.ensures
-    (subst (λ (l : List RangeText). StandInOrder (map (λ (r : RangeText). r.lines) l)) c.deref-7.ensures.value (c.if-not-stand_in_order.ensures refl)))
+    let parted = subst (λ l. ArePartedBy (columns_in l) plan) (sym c.deref-6.ensures.value) found in
+    subst (HaveAnswer c.args.form valid plan) (sym c.in_ok-texts_of.ensures)
+    (have_answer c.shares_part_answers.ensures c.args.form all.catalogue.now valid plan c.deref-5.result.now columns c.in_ok-shares.shares.items c.fit.ensures c.requires.over parted c.in_ok-shares.ensures
+    (subst (λ (l : List RangeText). StandInOrder (map (λ (r : RangeText). r.lines) l)) c.deref-8.ensures.value (c.if-not-stand_in_order.ensures refl)))

@@ -1,4 +1,4 @@
-use Rattle.std.proofs.Common.{◌∙◌, ◌++◌, ◌∷◌, [], List, ap, arith, get_or, map, sym, take}
+use Rattle.std.proofs.Common.{◌∙◌, ◌++◌, ◌∷◌, [], List, ap, append_assoc, arith, get_or, map, sym, take}
 use Rattle.std.proofs.lemmas.List.{map-append, take_more}
 use Rattle.tq_base.specs.declared.fragment.Fragment.{Fragment}
 use Rattle.tq_base.specs.declared.value.Value.{Value}
@@ -12,7 +12,9 @@ rows-preserved c =
     let rows = c.args.rows.now.items in
     let place = c.rows.number in
     let share = λ (row : Fragment). share_of c.args.cuts.now (value_at row.values c.args.column) in
-    c.in_ok-push.ensures.items
+    let before = map share (take c.args.start rows) in
+    ap (λ l. before ++ l) c.in_ok-push.ensures.items
+    ∙ sym (append_assoc before c.rows.told.items (c.share_at.result ∷ []))
     ∙ ap (λ l. l ++ c.share_at.result ∷ []) c.rows.invariant
     ∙ ap (λ n. map share (take place rows) ++ n ∷ []) (c.share_at.ensures ∙ ap (λ (values : List Value). share_of c.args.cuts.now (value_at values c.args.column)) (c.values.ensures no_row))
-    ∙ sym (ap (map share) (take_more rows place no_row (omega (arith, c.rows-test.true))) ∙ map-append share (take place rows) (get_or rows place no_row ∷ []))
+    ∙ sym (ap (map share) (take_more rows place no_row (omega (arith, c.rows-test.true, c.requires.within))) ∙ map-append share (take place rows) (get_or rows place no_row ∷ []))

@@ -14,7 +14,7 @@ share_texts-requires-clause-over g c κs within = c.queries_stand.ensures c.args
 pub returns : goal.returns
 returns g c =
     let valid = in_tables (lists_of c.args.tables.now) in
-    let have = subst (λ (o : Option (Vec (Vec ℕ))). IfSome o (λ texts. HaveAnswer valid c.args.plan.now texts.items)) c.in-Some.is c.in_ok-texts.ensures in
+    let have = subst (λ (o : Option (Vec (Vec ℕ))). IfSome o (λ texts. HaveAnswer c.args.form valid c.args.plan.now texts.items)) c.in-Some.is c.in_ok-texts.ensures in
     IfOk-weaker c.joined.result _ _
     (λ text is. (
       record { columns = c.args.plan.now.columns; rows = have.lines },
@@ -40,6 +40,6 @@ returns-2 g c =
           counted = λ v t. layers.counted v t ∙ c.in_ok-rows.ensures v t;
         };
       },
-      is ∙ ap (λ h. h ++ rows_text lines) (c.in_ok-header.ensures ∙ ap header_text c.columns.ensures),
+      is ∙ ap (λ h. h ++ rows_text c.args.form lines) (c.in_ok-header.ensures ∙ ap header_text c.columns.ensures),
     ))
     c.rows_answered.ensures

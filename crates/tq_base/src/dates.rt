@@ -1,0 +1,91 @@
+//! Dates of the Gregorian calendar carried back, as `YYYY-MM-DD`.
+
+ghost use Rattle.std.specs.Prelude.{◌≡◌, ◌≤◌, ◌+◌, ◌%◌, drop, take};
+ghost use Rattle.tq_base.specs.Dates.{CivilDate, date_of, date_text, day_of};
+ghost use Rattle.tq_base.specs.Numbers.{instant_of};
+ghost use Rattle.tq_base.specs.declared.form.Form.TheVariants.{Dates};
+
+use crate::number::read_natural;
+use crate::period::Instant;
+use jiff_core::civil::Date;
+
+/// The day of 9999-12-31, the last that has a date.
+pub const LAST_DAY: u64 = 3_652_058;
+
+// The days from -9999-01-01, from which `jiff` counts, to 0001-01-01.
+const DAYS_BEFORE: u32 = 3_652_425;
+
+/// The day of a date; `None` where the bytes are no date of the years 1 to 9999.
+pub fn read_date(bytes: &[u8]) -> Option<Instant>
+    ensures { result ≡ instant_of Dates bytes.now }
+{
+    if bytes.len() != 10 || bytes[4] != b'-' || bytes[7] != b'-' {
+        return None;
+    }
+    let year = read_natural(&bytes[..4], 9999)?;
+    let month = read_natural(&bytes[5..7], 12)?;
+    let day = read_natural(&bytes[8..10], 31)?;
+    instant_on(year, month, day)
+}
+
+// The day of the date of these parts; `None` where the calendar has no such date.
+fn instant_on(year: u64, month: u64, day: u64) -> Option<Instant>
+    requires year_in { year ≤ 9999 }
+    requires month_in { month ≤ 12 }
+    requires day_in { day ≤ 31 }
+    ensures { let date : CivilDate = record { year = year; month = month; day = day } in result ≡ day_of date }
+{
+    if year == 0 {
+        return None;
+    }
+    match Date::new(year as i16, month as i8, day as i8) {
+        Ok(date) => Instant::new(u64::from(date.days_since_min() - DAYS_BEFORE)),
+        Err(_) => None,
+    }
+}
+
+// The year, the month and the day in the month of the date of a day.
+fn parts_of(day: u32) -> (u32, u32, u32)
+    requires { day ≤ 3652058 }
+    ensures year { result.0 ≡ (date_of day).year }
+    ensures month { result.1 ≡ (date_of day).month }
+    ensures day { result.2 ≡ (date_of day).day }
+{
+    let date = Date::from_days_since_min(day + DAYS_BEFORE);
+    (
+        u32::from(date.year.unsigned_abs()),
+        u32::from(date.month),
+        u32::from(date.day),
+    )
+}
+
+// The last digit.
+fn digit(number: u32) -> u8
+    ensures { result ≡ 48 + number % 10 }
+{
+    b'0' + (number % 10) as u8
+}
+
+/// Writes the date of a day at the front of the array, and tells that it took ten bytes.
+pub fn put_date(day: u32, into: &mut [u8; 12]) -> usize
+    requires { day ≤ 3652058 }
+    ensures text { take result into.new ≡ date_text (date_of day) }
+    ensures rest { drop result into.new ≡ drop result into.old }
+    ensures ten { result ≡ 10 }
+{
+    let (year, month, day) = parts_of(day);
+    let text = [
+        digit(year / 1000),
+        digit(year / 100),
+        digit(year / 10),
+        digit(year),
+        b'-',
+        digit(month / 10),
+        digit(month),
+        b'-',
+        digit(day / 10),
+        digit(day),
+    ];
+    into[..10].copy_from_slice(&text);
+    10
+}

@@ -1,0 +1,5 @@
+pub mod Bars
+pub mod Labels
+pub mod Laws
+pub mod Pictures
+pub mod Scales

@@ -1,0 +1,44 @@
+// Bars: where on the scale a row is valid.
+
+ghost use Rattle.std.specs.Prelude.{◌≡◌, ◌++◌, ◌<◌, OnOk};
+ghost use Rattle.tq_draw.specs.Bars.{arrow_of, bar_byte, bar_of};
+ghost use Rattle.tq_draw.specs.Scales.{IsScale};
+
+use crate::scale::Scale;
+use std::alloc::AllocError;
+use tq_base::{FOREVER, Period};
+
+// Whether the period and the cell share an instant, as a byte.
+fn bar_byte(scale: &Scale, period: &Period, cell: usize) -> u8
+    requires scale { IsScale scale.now }
+    requires cell { cell < scale.now.cells }
+    ensures { result ≡ bar_byte scale.now period.now cell }
+{
+    let begins_before = period.start.number() < scale.edge(cell + 1);
+    if begins_before && scale.edge(cell) < period.end.number() {
+        b'#'
+    } else {
+        b'.'
+    }
+}
+
+/// A byte for each cell of the scale.
+pub(crate) fn push_bar(text: &mut Vec<u8>, scale: &Scale, period: &Period) -> Result<(), AllocError>
+    requires { IsScale scale.now }
+    ensures { OnOk result (text.new.items ≡ text.old.items ++ bar_of scale.now period.now) }
+{
+    'cells: for cell in 0..scale.cells {
+        text.push(bar_byte(scale, period, cell))?;
+    }
+    Ok(())
+}
+
+/// An arrow where the period has no end.
+pub(crate) fn push_arrow(text: &mut Vec<u8>, period: &Period) -> Result<(), AllocError>
+    ensures { OnOk result (text.new.items ≡ text.old.items ++ arrow_of period.now) }
+{
+    if period.end.number() == FOREVER {
+        text.push(b'>')?;
+    }
+    Ok(())
+}

@@ -1,0 +1,151 @@
+// Names and values as they are shown.
+
+ghost use Rattle.std.specs.Prelude.{◌≡◌, ◌++◌, ◌<◌, ◌≤◌, IfOk, OnOk, replicate};
+ghost use Rattle.std.specs.Fmt.{is_char_start, take_chars};
+ghost use Rattle.tq_draw.specs.Labels.{chars_in, filled, hex_digit, label_of, parted, shown, shown_byte};
+ghost use Rattle.tq_table.specs.Text.{bound_field, value_field};
+
+use itoa::Buffer;
+use std::alloc::{AllocError, Global};
+use tq_base::{Form, Instant, Seen, Value, put_instant};
+
+/// The most characters of a label.
+pub(crate) const LABEL: usize = 24;
+
+fn hex_digit(digit: u8) -> u8
+    requires { digit < 16 }
+    ensures { result ≡ hex_digit digit }
+{
+    if digit < 10 {
+        b'0' + digit
+    } else {
+        b'a' - 10 + digit
+    }
+}
+
+fn push_shown(text: &mut Vec<u8>, byte: u8) -> Result<(), AllocError>
+    ensures { OnOk result (text.new.items ≡ text.old.items ++ shown_byte byte) }
+{
+    if byte.is_ascii_control() {
+        let digits = [b'\\', b'x', hex_digit(byte / 16), hex_digit(byte % 16)];
+        return text.extend_from_slice(&digits);
+    }
+    if byte == b'\\' {
+        return text.extend_from_slice(b"\\\\");
+    }
+    text.push(byte)?;
+    Ok(())
+}
+
+fn shown(alloc: Global, bytes: &[u8]) -> Result<Vec<u8>, AllocError>
+    ensures { IfOk result (λ text. text.items ≡ shown bytes.now) }
+{
+    let mut text = Vec::new(alloc);
+    'bytes: for byte in bytes {
+        push_shown(&mut text, *byte)?;
+    }
+    Ok(text)
+}
+
+fn begins_char(byte: u8) -> bool
+    ensures { result ≡ is_char_start byte }
+{
+    byte < 0x80 || byte >= 0xC0
+}
+
+/// How many characters begin in the bytes.
+pub(crate) fn chars_in(bytes: &[u8]) -> usize
+    ensures { result ≡ chars_in bytes.now }
+{
+    bytes.iter().filter(|byte| begins_char(**byte)).count()
+}
+
+// The first so many characters.
+fn front(alloc: Global, bytes: &[u8], chars: usize) -> Result<Vec<u8>, AllocError>
+    ensures { IfOk result (λ front. front.items ≡ take_chars chars bytes.now) }
+{
+    let mut front = Vec::new(alloc);
+    let mut left = chars;
+    'bytes: for byte in bytes {
+        if begins_char(*byte) {
+            if left == 0 {
+                return Ok(front);
+            }
+            left -= 1;
+        }
+        front.push(*byte)?;
+    }
+    Ok(front)
+}
+
+/// What is shown of a text.
+pub(crate) fn label(alloc: Global, bytes: &[u8]) -> Result<Vec<u8>, AllocError>
+    ensures { IfOk result (λ label. label.items ≡ label_of bytes.now) }
+{
+    let text = shown(alloc, bytes)?;
+    if chars_in(&text) <= LABEL {
+        return Ok(text);
+    }
+    let mut label = front(alloc, &text, LABEL - 1)?;
+    label.push(b'~')?;
+    Ok(label)
+}
+
+/// What is shown of a value.
+pub(crate) fn value_label(alloc: Global, value: &Value) -> Result<Vec<u8>, AllocError>
+    ensures { IfOk result (λ label. label.items ≡ label_of (value_field value.now)) }
+{
+    match value.seen() {
+        Seen::Int(number) => label(alloc, Buffer::new().format(number).as_bytes()),
+        Seen::Text(text) => label(alloc, text.as_bytes()),
+    }
+}
+
+/// A bound as answers write it.
+pub(crate) fn bound_label(alloc: Global, bound: u64, form: Form) -> Result<Vec<u8>, AllocError>
+    requires { bound ≤ 1000000000000 }
+    ensures { IfOk result (λ label. label.items ≡ bound_field form bound) }
+{
+    match Instant::new(bound) {
+        Some(instant) => {
+            let mut text = [0; 12];
+            let len = put_instant(instant, form, &mut text);
+            Vec::from_slice(alloc, &text[..len])
+        }
+        None => Vec::from_slice(alloc, b"forever"),
+    }
+}
+
+fn push_times(text: &mut Vec<u8>, byte: u8, times: usize) -> Result<(), AllocError>
+    ensures { OnOk result (text.new.items ≡ text.old.items ++ replicate times byte) }
+{
+    'times: for _time in 0..times {
+        text.push(byte)?;
+    }
+    Ok(())
+}
+
+/// The label, and spaces behind it up to the width.
+pub(crate) fn push_filled(text: &mut Vec<u8>, label: &[u8], width: usize) -> Result<(), AllocError>
+    ensures { OnOk result (text.new.items ≡ text.old.items ++ filled width label.now) }
+{
+    text.extend_from_slice(label)?;
+    push_times(text, b' ', width.saturating_sub(chars_in(label)))
+}
+
+/// Two labels, with spaces between them up to the width, and one at least.
+pub(crate) fn push_parted(
+    text: &mut Vec<u8>,
+    left: &[u8],
+    right: &[u8],
+    width: usize,
+) -> Result<(), AllocError>
+    ensures { OnOk result (text.new.items ≡ text.old.items ++ parted width left.now right.now) }
+{
+    let spaces = width
+        .saturating_sub(chars_in(left))
+        .saturating_sub(chars_in(right));
+    text.extend_from_slice(left)?;
+    push_times(text, b' ', spaces.max(1))?;
+    text.extend_from_slice(right)
+}

@@ -1,0 +1,60 @@
+// A table as a picture.
+
+ghost use Rattle.std.specs.Prelude.{◌≡◌, ◌++◌, IfOk, OnOk, length};
+ghost use Rattle.tq_draw.specs.Pictures.{head_text, picture_of};
+ghost use Rattle.tq_draw.specs.Scales.{IsScale};
+
+use crate::marks::{push_marks, push_ruler};
+use crate::rows::{push_blanks, push_names, push_rows};
+use crate::scale::{Scale, room_of, scale_of};
+use crate::widths::widths_of;
+use std::alloc::{AllocError, Global};
+use tq_base::{Form, Name};
+use tq_table::Table;
+
+// The two lines above the rows.
+fn push_head(
+    alloc: Global,
+    text: &mut Vec<u8>,
+    columns: &[Name],
+    widths: &[usize],
+    scale: &Scale,
+    form: Form,
+) -> Result<(), AllocError>
+    requires widths { length widths.now ≡ length columns.now }
+    requires scale { IsScale scale.now }
+    ensures { OnOk result (text.new.items ≡ text.old.items ++ head_text form columns.now widths.now scale.now) }
+{
+    push_blanks(text, widths)?;
+    push_marks(alloc, text, scale, form)?;
+    text.push(b'\n')?;
+    push_names(alloc, text, columns, widths)?;
+    push_ruler(text, scale.cells)?;
+    text.push(b'\n')?;
+    Ok(())
+}
+
+/// The table as a picture of a width, in characters, its bounds in the form: a line for each row, with its values and
+/// a bar over the scale of time that stands above all rows. Where the values leave less than 17 characters of the
+/// width, the picture is wider. `AllocError` where a growth was refused.
+pub fn draw(
+    alloc: Global,
+    table: &Table<'_>,
+    form: Form,
+    width: usize,
+) -> Result<Vec<u8>, AllocError>
+    ensures { IfOk result (λ text. text.items ≡ picture_of form width table.now) }
+{
+    let widths = widths_of(alloc, table)?;
+    let columns = table.columns.get();
+    let mut text = Vec::new(alloc);
+    if table.rows.len() == 0 {
+        push_names(alloc, &mut text, columns, &widths)?;
+        text.extend_from_slice(b"(no rows)\n")?;
+        return Ok(text);
+    }
+    let scale = scale_of(room_of(width, &widths), &table.rows);
+    push_head(alloc, &mut text, columns, &widths, &scale, form)?;
+    push_rows(alloc, &mut text, &table.rows, &widths, &scale)?;
+    Ok(text)
+}
