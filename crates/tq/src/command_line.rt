@@ -186,10 +186,7 @@ fn dates_argument<'a>(alloc: Global) -> Arg<'a> {
 }
 
 // What a command asks, and of which tables, with how many workers, and how instants are written.
-fn question_arguments<'a>(
-    alloc: Global,
-    command: Command<'a>,
-) -> Result<Command<'a>, AllocError> {
+fn question_arguments<'a>(alloc: Global, command: Command<'a>) -> Result<Command<'a>, AllocError> {
     let workers = Arg::new(alloc, "workers")
         .long("workers")
         .value_name("N")

@@ -55,7 +55,11 @@ impl Write for ShortWriter {
 }
 
 // A table of these lines, with columns of these names.
-pub(crate) fn table_of<'a>(alloc: Global, rows: Lines<'a>, names: &[&str]) -> Result<Table<'a>, AllocError> {
+pub(crate) fn table_of<'a>(
+    alloc: Global,
+    rows: Lines<'a>,
+    names: &[&str],
+) -> Result<Table<'a>, AllocError> {
     let mut columns = Vec::new(alloc);
     for name in names {
         if let Some(name) = fold_name(alloc, name.as_bytes())? {

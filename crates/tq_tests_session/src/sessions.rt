@@ -349,7 +349,14 @@ fn noted<R: Threads + Wait + Sync>(
         taken: 0,
         writes: 0,
     });
-    session(rt, alloc, files_of(alloc, EMP)?, &mut source, &mut sink, Form::Numbers)?;
+    session(
+        rt,
+        alloc,
+        files_of(alloc, EMP)?,
+        &mut source,
+        &mut sink,
+        Form::Numbers,
+    )?;
     Ok((typist.noted, sink.into_inner().writes))
 }
 

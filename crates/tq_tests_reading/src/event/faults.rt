@@ -199,7 +199,11 @@ fn there_are_at_most_sixteen_tables(rt: HostRuntime) -> Result<(), Fail> {
         fault(TooManyTables, 16, 0)
     );
     assert_eq!(rt;
-        load(rt.alloc(), files, 10, Form::Numbers)?.catalogue.tables.get().len(),
+        load(rt.alloc(), files, 10, Form::Numbers)?
+            .catalogue
+            .tables
+            .get()
+            .len(),
         16
     );
     Ok(())
