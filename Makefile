@@ -2,7 +2,10 @@
 # `make bench` measures the program beside what one would write without it.
 SHELL := /bin/bash
 .SHELLFLAGS := -eu -o pipefail -c
-.PHONY: answer first build test bench
+.PHONY: answer first build test bench install tools
+
+PREFIX := /usr/local
+SHARE := $(DESTDIR)$(PREFIX)/share
 
 QUESTION := ask --table emp=examples/emp.csv "VALIDTIME SELECT name FROM emp"
 
@@ -10,14 +13,19 @@ answer: first build
 	bin/tq $(QUESTION)
 
 # The first answer from a build that is not proved, where there is no proved one yet: some 70 seconds.
-first:
+first: tools
 	@[ -x bin/tq ] || { mkdir -p crates/tq/out; cd crates/tq; \
 		echo "a first answer in a minute or two, from a build that is not proved yet:"; \
 		rt try --data emp.csv=../../examples/emp.csv -- $(subst examples/,,$(QUESTION)) 2> out/first.log || cat out/first.log; }
 
 # What was proved before is kept: a first build takes minutes, a later one what changed.
-build:
+build: tools
 	@python3 gate/build.py
+
+# What must be there before.
+tools:
+	@for tool in rt python3; do command -v $$tool > /dev/null \
+		|| { echo "make: $$tool is missing; the Rattle toolchain (rt) and Python 3 build tq"; exit 1; }; done
 
 # The gate: proves every crate and its tests from nothing, tries the must-fail edits, runs tests and programs, and
 # puts the cases of gate/ to the program.
@@ -26,3 +34,12 @@ test:
 
 bench: build
 	bench/run.sh
+
+# The program, its page of the manual, and what shells complete.
+install: build
+	packaging/pages.py bin/tq bin/pages
+	install -D bin/tq $(DESTDIR)$(PREFIX)/bin/tq
+	install -D -m 644 bin/pages/tq.1 $(SHARE)/man/man1/tq.1
+	install -D -m 644 bin/pages/tq.bash $(SHARE)/bash-completion/completions/tq
+	install -D -m 644 bin/pages/_tq $(SHARE)/zsh/site-functions/_tq
+	install -D -m 644 bin/pages/tq.fish $(SHARE)/fish/vendor_completions.d/tq.fish

@@ -55,6 +55,19 @@ def sweep(script, table, columns, answer, output):
     return seconds
 
 
+def build(crate):
+    """Builds a program of crates/, and gives its path."""
+    folder = os.path.join(HERE, "..", "crates", crate)
+    subprocess.run(["rt", "run"], cwd=folder, check=True, stdout=subprocess.DEVNULL)
+    return os.path.join(folder, "out", crate)
+
+
+def held_in_one(rows):
+    """The peak memory in bytes of a process that holds so many rows in one `Db`."""
+    _, peak = run([build("bench_snapshot"), "db", str(rows)], os.devnull)
+    return peak
+
+
 def bytes_per_row(peak, table, rows):
     """The peak memory a row beyond the file, as text. A child begins with this script's own peak, below
     which nothing is known of it."""

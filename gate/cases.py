@@ -23,6 +23,7 @@ class Case:
     to: str | None = None  # FULL, UNREAD, CLOSED
     memory: int | None = None
     taken: bytes = b""  # what standard input gives
+    terminal: bool = False  # whether standard error is a terminal
     holds: list = field(default_factory=list)
 
 
@@ -158,6 +159,7 @@ def command_lines():
     for workers in ("1", "5", "16"):
         yield Case(f"{workers} workers", ["ask", *emp, "--workers", workers, ALL_NAMES], out=NAMES)
     yield Case("options after the statement", ["ask", ALL_NAMES, *emp], out=NAMES)
+    yield Case("the version", ["--version"], out=b"tq 0.1.0\n")
     for words in (["--help"], ["-h"], ["help"], ["ask", "--help"], ["help", "ask"]):
         yield Case(f"help: {words}", words, out=None, holds=[b"VALIDTIME SELECT", b"emp:int,name:text,dept:text,from,to"])
 
@@ -189,6 +191,10 @@ def paths():
         words = ["ask", "--table", word, "#"]
         yield Case(f"no file: {path!r}", words, err=b"tq: cannot read " + shown + b"\n", status=1, files={"emp.csv": EMP})
     bad = ["--table", "bad=ROOM/bad.csv", "--table", "emp=ROOM/none.csv"]
+    yield Case("a table from standard input", ["ask", "--table", "emp=-", ALL_NAMES], out=NAMES, taken=EMP)
+    yield Case("a file that is named as standard input is", ["ask", "--table", "emp=./-", ALL_NAMES], err=b"tq: cannot read ./-\n", status=1, taken=EMP)
+    for words in (["ask", "--table", "a=-", "--table", "b=-", ALL_NAMES], ["session", "--table", "emp=-"]):
+        yield Case(f"standard input is read once: {words[0]}", words, err=b"tq: BadCommandLine\n", status=2, taken=EMP)
     yield Case("files are read before any is loaded", ["ask", *bad, "#"], err=b"tq: cannot read ROOM/none.csv\n", status=1, files={"bad.csv": b""})
 
 
@@ -383,6 +389,30 @@ def dates():
     yield Case("dates that are told apart", ["ask", "--dates=yes", "--table", "d=ROOM/d.csv", asked], files={"d.csv": DATED}, err=b"tq: BadCommandLine\n", status=2)
 
 
+def explanations():
+    emp = ["ask", "--table", "emp=examples/emp.csv"]
+    statement = "VALIDTIME SELECT name FROM emp ORDER BY name"
+    line = b"tq: statement UnexpectedToken at 37\n"
+    detail = b"""  VALIDTIME SELECT name FROM emp ORDER BY name
+                                       ^
+  answers are in the order of their values; `| sort -t, -k2n` puts lines in that of time
+  expected:  WHERE  GROUP BY  EXCEPT ALL  ,  ;  the end
+"""
+    yield Case("a fault of a statement in a pipe", [*emp, statement], err=line, status=1)
+    yield Case("a fault of a statement, explained", [*emp, "--explain", statement], err=line + detail, status=1)
+    yield Case("a fault of a statement in a terminal", [*emp, statement], err=line + detail, status=1, terminal=True)
+    picture = ["draw", "--explain", "--table", "emp=examples/emp.csv", statement]
+    yield Case("a fault of a picture's statement, explained", picture, err=line + detail, status=1)
+    yield Case("a fault of a plan, explained", [*emp, "--explain", "VALIDTIME SELECT age FROM emp"], err=b"tq: plan UnknownColumn\n", status=1)
+    yield Case("an answer in a terminal", [*emp, "--explain", ALL_NAMES], out=NAMES, terminal=True)
+    for words, reason in (
+        ([*emp, "--workers", "17", ALL_NAMES], b"--workers takes 1 to 16"),
+        (["ask", "--table", "emp", ALL_NAMES], b"--table takes NAME=PATH"),
+    ):
+        said = b"tq: BadCommandLine\nerror: " + reason + b"\n\nFor more information, try '--help'.\n"
+        yield Case(f"a command line in a terminal: {words}", words, err=said, status=2, terminal=True)
+
+
 def outputs_that_fail():
     emp = ["ask", "--table", "emp=examples/emp.csv", ALL_NAMES]
     for to in (FULL, UNREAD, CLOSED):
@@ -393,5 +423,5 @@ def outputs_that_fail():
 
 def table():
     """All cases."""
-    makers = (files_at_fault, statements_at_fault, command_lines, words_of_all_lengths, paths, large, among_threads, sessions, pictures, dates, outputs_that_fail)
+    makers = (files_at_fault, statements_at_fault, command_lines, words_of_all_lengths, paths, large, among_threads, sessions, pictures, dates, explanations, outputs_that_fail)
     return [case for maker in makers for case in maker()]

@@ -1,5 +1,5 @@
 #!/usr/bin/env python3
-"""Puts the cases of cases.py, and each command that README.md and examples/ print, to the program.
+"""Puts the cases of cases.py, and each command that README.md, examples/ and docs/recipes.md print, to the program.
 
     gate/program.py PROGRAM
 
@@ -8,12 +8,14 @@ has one line; the last line is 'N passed, M failed'.
 """
 
 import os
+import pty
 import re
 import resource
 import shlex
 import subprocess
 import sys
 import tempfile
+import termios
 from pathlib import Path
 
 import cases
@@ -22,6 +24,7 @@ from cases import Case
 ROOT = Path(__file__).resolve().parent.parent
 SECONDS = 120
 COMMAND = re.compile(r"    \$ bin/tq (.*)")
+SHELL_COMMAND = re.compile(r"    \$ (.*)")
 FORM = re.compile(r"    bin/tq (.*) STATEMENT")
 
 
@@ -34,6 +37,13 @@ def blocks_of(text):
         elif block:
             yield block
             block = []
+
+
+def commands_of(block, command):
+    """The commands of a block, each with the lines printed below it."""
+    starts = [at for at, line in enumerate(block) if command.match(line)]
+    for start, end in zip(starts, [*starts[1:], len(block)]):
+        yield command.match(block[start])[1], block[start + 1 : end]
 
 
 def printed(name, words, lines):
@@ -62,10 +72,9 @@ def cases_of_page(path):
         if form and block[0].startswith("    VALIDTIME") and place + 1 < len(blocks):
             statement = block[0].strip()
             yield printed(f"{path.name}: {statement}", [*form, statement], blocks[place + 1])
-        starts = [at for at, line in enumerate(block) if COMMAND.match(line)]
-        for start, end in zip(starts, [*starts[1:], len(block)]):
-            words = shlex.split(COMMAND.match(block[start])[1])
-            yield printed(f"{path.name}: {words[-1]}", words, block[start + 1 : end])
+        for command, lines in commands_of(block, COMMAND):
+            words = shlex.split(command)
+            yield printed(f"{path.name}: {words[-1]}", words, lines)
 
 
 def make_files(case, room):
@@ -91,6 +100,18 @@ def standard_output(case):
     return subprocess.PIPE
 
 
+def read_terminal(terminal):
+    """What was written to a terminal, whose other end is closed."""
+    said = b""
+    try:
+        while part := os.read(terminal, 65_536):
+            said += part
+    except OSError:  # what a terminal gives at its end
+        pass
+    os.close(terminal)
+    return said.replace(b"\r\n", b"\n")
+
+
 def prepare(case):
     """What is done in the new process before the program begins."""
     if case.memory:
@@ -104,18 +125,21 @@ def run(program, case, room):
     make_files(case, Path(room))
     words = [word if isinstance(word, bytes) else word.replace("ROOM", room) for word in case.words]
     out = standard_output(case)
+    terminal, errors = pty.openpty() if case.terminal else (None, subprocess.PIPE)
     ran = subprocess.run(
         [program, *words],
         cwd=ROOT,
         input=case.taken,
         stdout=out,
-        stderr=subprocess.PIPE,
+        stderr=errors,
         preexec_fn=lambda: prepare(case),
         timeout=SECONDS,
     )
-    if out != subprocess.PIPE:
-        os.close(out)
-    return ran.returncode, ran.stdout or b"", ran.stderr
+    for end in (out, errors):
+        if end != subprocess.PIPE:
+            os.close(end)
+    said = read_terminal(terminal) if case.terminal else ran.stderr
+    return ran.returncode, ran.stdout or b"", said
 
 
 def faults_of(program, case):
@@ -153,22 +177,71 @@ def cases_of_help(program):
         yield cases.ask(f"help: {statement}", tables, statement, ["--dates"], out=b"name,from,to\nann,2024-02-29,2024-03-01\n")
 
 
+def recipes(program):
+    """Each command of docs/recipes.md, run by the shell in one folder in their order, with what is wrong with it."""
+    text = (ROOT / "docs" / "recipes.md").read_text()
+    with tempfile.TemporaryDirectory(prefix="tq-") as room:
+        (Path(room) / "bin").mkdir()
+        (Path(room) / "bin" / "tq").symlink_to(program)
+        (Path(room) / "examples").symlink_to(ROOT / "examples")
+        for block in blocks_of(text):
+            for command, lines in commands_of(block, SHELL_COMMAND):
+                wanted = "".join(line.removeprefix("    ") + "\n" for line in lines)
+                shell = ["bash", "-euo", "pipefail", "-c", command]
+                ran = subprocess.run(shell, cwd=room, stdout=subprocess.PIPE, stderr=subprocess.STDOUT, timeout=SECONDS)
+                out = ran.stdout.decode()
+                faults = [] if ran.returncode == 0 else [f"status {ran.returncode}"]
+                yield command, faults + ([] if out == wanted else [f"output {out[:200]!r}, not {wanted[:200]!r}"])
+
+
+def made_pages(program):
+    """Each page that is made of the program's helps, with what is wrong with it: each option stands in it."""
+    options = {"--help"}
+    for command in ("ask", "draw", "session"):
+        said = subprocess.run([program, command, "--help"], stdout=subprocess.PIPE, timeout=SECONDS).stdout.decode()
+        options |= set(re.findall(r"^ +(?:-\w, )?(--[\w-]+)", said, re.MULTILINE))
+    with tempfile.TemporaryDirectory(prefix="tq-") as room:
+        made = subprocess.run([ROOT / "packaging" / "pages.py", program, room], timeout=SECONDS).returncode
+        for page in ("tq.1", "tq.bash", "_tq", "tq.fish"):
+            path = Path(room) / page
+            text = path.read_text().replace("\\-", "-").replace(" -l ", " --") if path.exists() else ""
+            faults = [f"{option} is missing" for option in sorted(options) if option not in text]
+            yield f"page {page}", faults + ([] if made == 0 else [f"status {made}"])
+
+
+def session_at_a_terminal(program):
+    """A session whose input and outputs are one terminal, with what is wrong with it: a prompt stands before each line."""
+    terminal, end = pty.openpty()
+    attributes = termios.tcgetattr(end)
+    attributes[3] &= ~termios.ECHO
+    termios.tcsetattr(end, termios.TCSANOW, attributes)
+    os.write(terminal, b"publish\n\x04")
+    words = [program, "session", "--table", "emp=examples/emp.csv"]
+    status = subprocess.run(words, cwd=ROOT, stdin=end, stdout=end, stderr=end, timeout=SECONDS).returncode
+    os.close(end)
+    said, wanted = read_terminal(terminal), b"tq> published 7\ntq> "
+    yield "a session at a terminal", [] if (status, said) == (0, wanted) else [f"status {status}, {said!r}, not {wanted!r}"]
+
+
 def main():
     program = str(Path(sys.argv[1]).resolve())
-    pages = [ROOT / "README.md", ROOT / "examples" / "payroll.md", ROOT / "examples" / "dates.md", ROOT / "examples" / "session.md"]
-    shown = [list(cases_of_page(page)) for page in pages] + [list(cases_of_help(program))]
-    table = [*(case for part in shown for case in part), *cases.table()]
+    pages = ["README.md", "examples/payroll.md", "examples/dates.md", "examples/session.md"]
+    shown = {page: list(cases_of_page(ROOT / page)) for page in pages}
+    shown["the help"] = list(cases_of_help(program))
+    table = [*(case for part in shown.values() for case in part), *cases.table()]
+    tried = [(case.name, faults_of(program, case)) for case in table]
+    shown["docs/recipes.md"] = list(recipes(program))
+    tried += [*shown["docs/recipes.md"], *made_pages(program), *session_at_a_terminal(program)]
     passed = failed = 0
-    for part, place in zip(shown, ["README.md", "examples/payroll.md", "examples/dates.md", "examples/session.md", "the help"]):
-        if len(part) < 1:
+    for place, part in shown.items():
+        if not part:
             failed += 1
             print(f"FAILED: {place} shows no command that is found")
-    for case in table:
-        faults = faults_of(program, case)
+    for name, faults in tried:
         passed += not faults
         if faults:
             failed += 1
-            print(f"FAILED: {case.name[:120]}: {'; '.join(faults)}")
+            print(f"FAILED: {name[:120]}: {'; '.join(faults)}")
     print(f"{passed} passed, {failed} failed")
     return 1 if failed else 0
 

@@ -1,5 +1,5 @@
 -- Which refusal each fault is, the lines that tell them, and the statuses that the program ends with.
-use Rattle.std.specs.Prelude.{ℕ, Vec, List, ◌++◌, codes, decimal}
+use Rattle.std.specs.Prelude.{ℕ, Vec, List, ◌++◌, codes, decimal, length, min}
 use Rattle.std.specs.declared.alloc.Global.{Global}
 use Rattle.tq_engine.specs.declared.answering.AnswerFault.{AnswerFault}
 use Rattle.tq_engine.specs.declared.answering.AnswerFault.TheVariants as answer
@@ -8,6 +8,7 @@ use Rattle.tq.specs.declared.command_line.CommandLineFault.TheVariants as comman
 use Rattle.tq_engine.specs.declared.source.FileFault.{FileFault}
 use Rattle.tq_engine.specs.declared.source.FileFault.TheVariants as source
 use Rattle.tq_engine.specs.FaultNames.{load_name, plan_name, sql_name}
+use Rattle.tq_explain.specs.Details.{IsDetail}
 use Rattle.tq_session.specs.declared.transcript.SessionFault.{SessionFault}
 use Rattle.tq_session.specs.declared.transcript.SessionFault.TheVariants as session
 use Rattle.tq.specs.declared.report.Refusal.{Refusal}
@@ -31,6 +32,15 @@ refused_answer (answer.Sql fault) = Statement fault
 refused_answer (answer.Plan fault) = Plan fault
 refused_answer answer.Write = WriteFailed
 refused_answer answer.OutOfMemory = OutOfMemory
+
+-- What is told of a question's fault below its line: of a fault of the statement's text its detail, of no other
+-- anything. (This project's own.)
+abbrev pub IsAnswerDetail : AnswerFault → List ℕ → List ℕ → Type 0
+IsAnswerDetail (answer.Sql fault) statement text = IsDetail fault.kind statement (min fault.at (length statement)) text
+IsAnswerDetail (answer.Load fault) statement text = ⊥
+IsAnswerDetail (answer.Plan fault) statement text = ⊥
+IsAnswerDetail answer.Write statement text = ⊥
+IsAnswerDetail answer.OutOfMemory statement text = ⊥
 
 -- The refusal of a session that ended with this fault. (This project's own.)
 abbrev pub refused_session : SessionFault → Refusal

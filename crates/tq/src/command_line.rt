@@ -15,6 +15,8 @@ use tq_base::Form;
 /// The most workers of one answer.
 pub const WORKER_LIMIT: u32 = 16;
 
+const VERSION: &str = "0.1.0";
+
 const ABOUT: &str = "Answers sequenced queries over valid-time tables in CSV files.";
 
 // What the help of a session ends with, beside the forms of statements and files.
@@ -85,14 +87,15 @@ pub struct TableOption {
     pub path: Vec<u8>,
 }
 
-/// What `tq ask` was asked: the tables in the order of their options, 1 to 16 workers, how instants are written, and
-/// a statement.
+/// What `tq ask` was asked: the tables in the order of their options, 1 to 16 workers, how instants are written, a
+/// statement, and whether a refusal is explained wherever it goes.
 #[derive(Drop)]
 pub struct AskRequest {
     pub tables: Vec<TableOption>,
     pub workers: u32,
     pub form: Form,
     pub statement: Vec<u8>,
+    pub explain: bool,
     ghost some_workers: { 1 ≤ workers },
     ghost few_workers: { workers ≤ 16 },
 }
@@ -111,26 +114,61 @@ pub struct SessionRequest {
     pub form: Form,
 }
 
-/// What the program was asked: to print this help, to answer a statement, to draw its answer, or to hold a session.
+/// What the program was asked: to print this text, to answer a statement, to draw its answer, or to hold a session.
 #[derive(Drop)]
 pub enum Request {
-    Help(String),
+    Print(String),
     Ask(AskRequest),
     Draw(DrawRequest),
     Session(SessionRequest),
 }
 
+/// Why a command line was not read, and what a person is told of it, if anything.
+#[derive(Drop)]
+pub struct Misread {
+    pub fault: CommandLineFault,
+    pub detail: Option<String>,
+}
+
+impl From<AllocError> for Misread {
+    fn from(_error: AllocError) -> Misread {
+        Misread {
+            fault: CommandLineFault::OutOfMemory,
+            detail: None,
+        }
+    }
+}
+
+impl From<CommandLineFault> for Misread {
+    fn from(fault: CommandLineFault) -> Misread {
+        Misread {
+            fault,
+            detail: None,
+        }
+    }
+}
+
+impl Misread {
+    // A command line that is none of `tq`, for a reason.
+    fn because(reason: Result<String, AllocError>) -> Misread {
+        Misread {
+            fault: CommandLineFault::BadCommandLine,
+            detail: reason.ok(),
+        }
+    }
+}
+
 /// Reads the words after the program's name, each as `text_of` its bytes.
-pub fn read_command_line(alloc: Global, words: &[String]) -> Result<Request, CommandLineFault> {
+pub fn read_command_line(alloc: Global, words: &[String]) -> Result<Request, Misread> {
     let command = tq_command(alloc)?;
     match command.try_get_matches_from(words) {
         Ok(matches) => read_request(alloc, &matches),
-        Err(error) => help_text(alloc, &error),
+        Err(error) => wanted_text(alloc, &error),
     }
 }
 
 // What the command asks.
-fn read_request(alloc: Global, matches: &ArgMatches<'_>) -> Result<Request, CommandLineFault> {
+fn read_request(alloc: Global, matches: &ArgMatches<'_>) -> Result<Request, Misread> {
     if let Some(ask) = matches.subcommand_matches("ask") {
         return Ok(Request::Ask(read_ask(alloc, ask)?));
     }
@@ -138,25 +176,27 @@ fn read_request(alloc: Global, matches: &ArgMatches<'_>) -> Result<Request, Comm
         return Ok(Request::Draw(read_draw(alloc, draw)?));
     }
     if let Some(session) = matches.subcommand_matches("session") {
-        let tables = read_options(alloc, session.get_strs("table").unwrap_or(&[]))?;
+        let tables = read_tables(alloc, session, 0)?;
         let form = read_form(session);
         return Ok(Request::Session(SessionRequest { tables, form }));
     }
-    Err(CommandLineFault::BadCommandLine)
+    Err(Misread::from(CommandLineFault::BadCommandLine))
 }
 
-// The help that was asked for, or the fault.
-fn help_text(alloc: Global, error: &Error) -> Result<Request, CommandLineFault> {
+// The help or the version that was asked for, or the fault.
+fn wanted_text(alloc: Global, error: &Error) -> Result<Request, Misread> {
+    let text = format!(in alloc; "{error}");
     match error.kind() {
-        ErrorKind::DisplayHelp => Ok(Request::Help(format!(in alloc; "{error}")?)),
-        ErrorKind::OutOfMemory => Err(CommandLineFault::OutOfMemory),
-        _ => Err(CommandLineFault::BadCommandLine),
+        ErrorKind::DisplayHelp | ErrorKind::DisplayVersion => Ok(Request::Print(text?)),
+        ErrorKind::OutOfMemory => Err(Misread::from(CommandLineFault::OutOfMemory)),
+        _ => Err(Misread::because(text)),
     }
 }
 
 // The command line that the program reads.
 fn tq_command<'a>(alloc: Global) -> Result<Command<'a>, AllocError> {
     Command::new(alloc, "tq")
+        .version(VERSION)
         .about(ABOUT)
         .after_help(FORMS)
         .no_binary_name(true)
@@ -172,7 +212,7 @@ fn table_argument<'a>(alloc: Global) -> Arg<'a> {
     Arg::new(alloc, "table")
         .long("table")
         .value_name("NAME=PATH")
-        .help("A table's name, and its CSV file")
+        .help("A table's name, and its CSV file, or `-` for standard input")
         .required(true)
         .action(ArgAction::Append)
 }
@@ -182,6 +222,14 @@ fn dates_argument<'a>(alloc: Global) -> Arg<'a> {
     Arg::new(alloc, "dates")
         .long("dates")
         .help("Instants are dates, written YYYY-MM-DD, in files, statements, lines and answers")
+        .action(ArgAction::SetTrue)
+}
+
+// Whether refusals are explained.
+fn explain_argument<'a>(alloc: Global) -> Arg<'a> {
+    Arg::new(alloc, "explain")
+        .long("explain")
+        .help("Explains a refusal below its line, as is done where standard error is a terminal")
         .action(ArgAction::SetTrue)
 }
 
@@ -200,6 +248,7 @@ fn question_arguments<'a>(alloc: Global, command: Command<'a>) -> Result<Command
     command
         .arg(table_argument(alloc))?
         .arg(dates_argument(alloc))?
+        .arg(explain_argument(alloc))?
         .arg(workers)?
         .arg(statement)
 }
@@ -250,6 +299,33 @@ fn read_options(alloc: Global, words: &[&str]) -> Result<Vec<TableOption>, Comma
     Ok(tables)
 }
 
+// How many of the tables come from standard input.
+fn inputs_among(tables: &[TableOption]) -> usize {
+    tables
+        .iter()
+        .filter(|table| table.path.as_slice() == b"-".as_slice())
+        .count()
+}
+
+// The tables that a command is about, in the order of their options, of which so many may come from standard input.
+fn read_tables(
+    alloc: Global,
+    command: &ArgMatches<'_>,
+    inputs: usize,
+) -> Result<Vec<TableOption>, Misread> {
+    match read_options(alloc, command.get_strs("table").unwrap_or(&[])) {
+        Ok(tables) if inputs_among(&tables) > inputs => Err(Misread::because(format!(in alloc;
+            "error: standard input is read once: for one --table NAME=-, or for the lines of a session\n\n\
+             For more information, try '--help'.\n"
+        ))),
+        Ok(tables) => Ok(tables),
+        Err(CommandLineFault::OutOfMemory) => Err(Misread::from(CommandLineFault::OutOfMemory)),
+        Err(CommandLineFault::BadCommandLine) => Err(Misread::because(format!(in alloc;
+            "error: --table takes NAME=PATH\n\nFor more information, try '--help'.\n"
+        ))),
+    }
+}
+
 // How the instants of a command are written.
 fn read_form(command: &ArgMatches<'_>) -> Form {
     if command.get_flag("dates") {
@@ -260,11 +336,13 @@ fn read_form(command: &ArgMatches<'_>) -> Form {
 }
 
 // What `tq ask` was asked.
-fn read_ask(alloc: Global, ask: &ArgMatches<'_>) -> Result<AskRequest, CommandLineFault> {
-    let tables = read_options(alloc, ask.get_strs("table").unwrap_or(&[]))?;
+fn read_ask(alloc: Global, ask: &ArgMatches<'_>) -> Result<AskRequest, Misread> {
+    let tables = read_tables(alloc, ask, 1)?;
     let workers = ask.get_one::<u32>("workers").unwrap_or(0);
     if workers < 1 || workers > WORKER_LIMIT {
-        return Err(CommandLineFault::BadCommandLine);
+        return Err(Misread::because(format!(in alloc;
+            "error: --workers takes 1 to 16\n\nFor more information, try '--help'.\n"
+        )));
     }
     let statement = bytes_of(alloc, ask.get_str("statement").unwrap_or(""))?;
     Ok(AskRequest {
@@ -272,11 +350,12 @@ fn read_ask(alloc: Global, ask: &ArgMatches<'_>) -> Result<AskRequest, CommandLi
         workers,
         form: read_form(ask),
         statement,
+        explain: ask.get_flag("explain"),
     })
 }
 
 // What `tq draw` was asked.
-fn read_draw(alloc: Global, draw: &ArgMatches<'_>) -> Result<DrawRequest, CommandLineFault> {
+fn read_draw(alloc: Global, draw: &ArgMatches<'_>) -> Result<DrawRequest, Misread> {
     let width = draw.get_one::<u32>("width").unwrap_or(0);
     let ask = read_ask(alloc, draw)?;
     Ok(DrawRequest { ask, width })

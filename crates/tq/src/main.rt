@@ -5,7 +5,7 @@
 //! The words of the command line (`words`) are read as a request (`command_line`), the files that it names
 //! are read to their bytes, and the engine (`tq_engine`) answers the statement over them on standard
 //! output, or a session (`tq_session`) the lines. Where there is no answer, one line on standard error says why
-//! (`report`).
+//! (`report`), and where that is a terminal, or with `--explain`, more stands below it (`tq_explain`).
 #![tactic(auto)]
 
 ghost use Rattle.std.specs.Prelude.{◌≡◌, ◌≢◌, IfErr, IfOk, map};
@@ -13,16 +13,18 @@ ghost use Rattle.tq.specs.declared.command_line.TableOption.{TableOption as AnyO
 ghost use Rattle.tq_event.specs.declared.file.TableFile.{TableFile as AnyFile};
 
 mod command_line;
+mod prompt;
 mod report;
 mod words;
 
 use command_line::{
     AskRequest, DrawRequest, Request, SessionRequest, TableOption, read_command_line,
 };
-use report::Refusal;
+use prompt::Prompted;
+use report::{Refusal, Told};
 use std::alloc::AllocError;
 use std::env::Env;
-use std::io::{ErrorKind, Input};
+use std::io::{ErrorKind, Input, IsTerminal, Write};
 use std::process::ExitCode;
 use std::rt::Files;
 use std::sync::Wait;
@@ -36,8 +38,12 @@ use tq_session::session;
 use tq_table::Sink;
 use words::read_words;
 
-// The bytes of the file at a path. The standard library opens no path that is no UTF-8.
-fn read_path<R: Files + AllocGlobal>(rt: &R, path: &[u8]) -> Result<Vec<u8>, FileFault> {
+// The bytes of the file at a path, or of standard input where the path is `-`. The standard library opens no path that
+// is no UTF-8.
+fn read_path<R: Files + AllocGlobal + Input>(rt: &R, path: &[u8]) -> Result<Vec<u8>, FileFault> {
+    if path == b"-".as_slice() {
+        return read_file(rt.alloc(), &mut Source::over(rt.reader()));
+    }
     let Ok(path) = str::from_utf8(path) else {
         return Err(FileFault::Read);
     };
@@ -49,7 +55,10 @@ fn read_path<R: Files + AllocGlobal>(rt: &R, path: &[u8]) -> Result<Vec<u8>, Fil
 }
 
 // A table's name, and the bytes of its file.
-fn read_table<R: Files + AllocGlobal>(rt: &R, option: TableOption) -> Result<TableFile, Refusal>
+fn read_table<R: Files + AllocGlobal + Input>(
+    rt: &R,
+    option: TableOption,
+) -> Result<TableFile, Refusal>
     ensures name { IfOk result (λ file. file.name ≡ option.name.items) }
     ensures refused { IfErr result (λ refusal. refusal ≢ Refusal.OutOfMemory → refusal ≡ Refusal.CannotRead option.path) }
 {
@@ -64,7 +73,7 @@ fn read_table<R: Files + AllocGlobal>(rt: &R, option: TableOption) -> Result<Tab
 }
 
 // The tables in the order of their options.
-fn read_tables<R: Files + AllocGlobal>(
+fn read_tables<R: Files + AllocGlobal + Input>(
     rt: &R,
     options: Vec<TableOption>,
 ) -> Result<Vec<TableFile>, Refusal>
@@ -79,52 +88,66 @@ fn read_tables<R: Files + AllocGlobal>(
     Ok(tables)
 }
 
-// Answers a request on standard output, once all files are read.
-fn ask<R: Files + AllocGlobal + Print + Threads + Sync>(
+// Answers a request on standard output, once all files are read. What a refusal is about is explained where a person
+// sees it, or where that was asked for.
+fn ask<R: Files + AllocGlobal + Input + Print + Threads + Sync>(
     rt: &R,
     request: AskRequest,
-) -> Result<(), Refusal> {
+    seen: bool,
+) -> Result<(), Told> {
     let AskRequest {
         tables: options,
         workers,
         form,
         statement,
+        explain,
     } = request;
     let tables = read_tables(rt, options)?;
     let mut sink = Sink::over(io::writer(rt));
-    answer_bytes(rt, rt.alloc(), tables, &statement, workers, &mut sink, form)?;
-    Ok(())
+    match answer_bytes(rt, rt.alloc(), tables, &statement, workers, &mut sink, form) {
+        Ok(()) => Ok(()),
+        Err(fault) => Err(Told::of_answer(rt.alloc(), fault, &statement, explain || seen)),
+    }
 }
 
 // Draws the answer of a request on standard output, once all files are read.
-fn draw_answer<R: Files + AllocGlobal + Print + Threads + Sync>(
+fn draw_answer<R: Files + AllocGlobal + Input + Print + Threads + Sync>(
     rt: &R,
     request: DrawRequest,
-) -> Result<(), Refusal> {
+    seen: bool,
+) -> Result<(), Told> {
     let DrawRequest { ask, width } = request;
     let AskRequest {
         tables: options,
         workers,
         form,
         statement,
+        explain,
     } = ask;
     let tables = read_tables(rt, options)?;
-    let table = answer(rt, rt.alloc(), tables, &statement, workers, form)?;
-    let picture = draw(rt.alloc(), &table, form, width as usize)?;
-    print_bytes(rt, &picture)
+    match answer(rt, rt.alloc(), tables, &statement, workers, form) {
+        Ok(table) => {
+            let picture = draw(rt.alloc(), &table, form, width as usize)?;
+            Ok(print_bytes(rt, &picture)?)
+        }
+        Err(fault) => Err(Told::of_answer(rt.alloc(), fault, &statement, explain || seen)),
+    }
 }
 
-// Answers the lines of standard input on standard output, once all files are read.
-fn converse<R: Files + AllocGlobal + Input + Print + Threads + Wait + Sync>(
+// Answers the lines of standard input on standard output, once all files are read, each after a prompt where there is
+// somewhere to print it.
+fn converse<R: Files + AllocGlobal + Input + Print + Threads + Wait + Sync, W: Write + Drop>(
     rt: &R,
     request: SessionRequest,
+    prompts: Option<W>,
 ) -> Result<(), Refusal> {
     let SessionRequest {
         tables: options,
         form,
     } = request;
     let tables = read_tables(rt, options)?;
-    let mut source = Source::over(rt.reader());
+    let reader = rt.reader();
+    let mut source = Source::over(Prompted { reader, prompts });
     let mut sink = Sink::over(io::writer(rt));
     session(rt, rt.alloc(), tables, &mut source, &mut sink, form)?;
     Ok(())
@@ -139,25 +162,36 @@ fn print_bytes<R: Print>(rt: &R, bytes: &[u8]) -> Result<(), Refusal> {
 }
 
 // Does what the command line asks.
-fn run<R: Files + AllocGlobal + Env + Input + Print + Threads + Wait + Sync>(
+fn run<R: Files + AllocGlobal + Env + Input + Print + Threads + Wait + Sync, W: Write + Drop>(
     rt: &R,
-) -> Result<(), Refusal> {
+    seen: bool,
+    prompts: Option<W>,
+) -> Result<(), Told> {
     let words = read_words(rt)?;
-    match read_command_line(rt.alloc(), &words)? {
-        Request::Ask(request) => ask(rt, request),
-        Request::Session(request) => converse(rt, request),
-        Request::Draw(request) => draw_answer(rt, request),
-        Request::Help(text) => print_bytes(rt, text.as_bytes()),
+    match read_command_line(rt.alloc(), &words) {
+        Ok(Request::Ask(request)) => ask(rt, request, seen),
+        Ok(Request::Session(request)) => Ok(converse(rt, request, prompts)?),
+        Ok(Request::Draw(request)) => draw_answer(rt, request, seen),
+        Ok(Request::Print(text)) => Ok(print_bytes(rt, text.as_bytes())?),
+        Err(misread) => Err(Told::of_command_line(misread, seen)),
     }
 }
 
 fn main(rt: HostRuntime) -> ExitCode {
-    match run(&rt) {
+    let mut errors = rt.stderr();
+    let seen = errors.is_terminal();
+    let prompts = if rt.stdin().is_terminal() && rt.stdout().is_terminal() {
+        Some(rt.stderr())
+    } else {
+        None
+    };
+    match run(&rt, seen, prompts) {
         Ok(()) => ExitCode::SUCCESS,
-        Err(refusal) => {
+        Err(told) => {
             // Where the line cannot be printed, the status still tells.
-            let _ = refusal.print(&mut rt.stderr());
-            refusal.status()
+            let _ = told.refusal.print(&mut errors);
+            let _ = errors.write_all(told.detail());
+            told.refusal.status()
         }
     }
 }

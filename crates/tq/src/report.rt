@@ -1,16 +1,17 @@
 // What the program prints where it gives no answer, and its status then.
 
-ghost use Rattle.std.specs.Prelude.{◌≡◌, OnOk};
+ghost use Rattle.std.specs.Prelude.{◌≡◌, false, IfSome, None, OnOk};
 ghost use Rattle.std.specs.Io.KnownBytes.{Appends};
 ghost use Rattle.std.specs.Process.{exit_status};
-ghost use Rattle.tq.specs.Report.{line_of, refused_answer, refused_command_line, refused_file, refused_session, status_of};
+ghost use Rattle.tq.specs.Report.{IsAnswerDetail, line_of, refused_answer, refused_command_line, refused_file, refused_session, status_of};
 
-use crate::command_line::CommandLineFault;
-use std::alloc::AllocError;
+use crate::command_line::{CommandLineFault, Misread};
+use std::alloc::{AllocError, Global};
 use std::io::{self, Write};
 use std::process::ExitCode;
 use tq_engine::{AnswerFault, FileFault, load_name, plan_name, sql_name};
 use tq_event::LoadFault;
+use tq_explain::explain_statement;
 use tq_plan::PlanFault;
 use tq_session::SessionFault;
 use tq_sql::SqlFault;
@@ -129,6 +130,72 @@ impl Refusal {
             Refusal::ReadFailed => errors.write_all(b"tq: read failed\n"),
             Refusal::WriteFailed => errors.write_all(b"tq: write failed\n"),
             Refusal::OutOfMemory => errors.write_all(b"tq: OutOfMemory\n"),
+        }
+    }
+}
+
+/// A refusal, and what a person is told of it below its line, if anything.
+#[derive(Drop)]
+pub struct Told {
+    pub refusal: Refusal,
+    detail: Option<Vec<u8>>,
+}
+
+impl From<Refusal> for Told {
+    fn from(refusal: Refusal) -> Told {
+        Told {
+            refusal,
+            detail: None,
+        }
+    }
+}
+
+impl From<AllocError> for Told {
+    fn from(error: AllocError) -> Told {
+        Told::from(Refusal::from(error))
+    }
+}
+
+impl Told {
+    /// The refusal of a command line that was not read; of what is told of it a person sees all, and a pipe nothing.
+    pub fn of_command_line(misread: Misread, seen: bool) -> Told
+        ensures { result.refusal ≡ refused_command_line misread.fault }
+    {
+        let Misread { fault, detail } = misread;
+        let refusal = Refusal::from(fault);
+        match detail {
+            Some(text) if seen => Told {
+                refusal,
+                detail: Some(text.into_bytes()),
+            },
+            _ => Told {
+                refusal,
+                detail: None,
+            },
+        }
+    }
+
+    /// The refusal of a question; where it is to be explained, a fault of the statement's text is.
+    pub fn of_answer(alloc: Global, fault: AnswerFault, statement: &[u8], explain: bool) -> Told
+        ensures refusal { result.refusal ≡ refused_answer fault }
+        ensures detail { IfSome result.detail (λ text. IsAnswerDetail fault statement.now text.items) }
+        ensures silent { explain ≡ false → result.detail ≡ None }
+    {
+        let detail = match fault {
+            AnswerFault::Sql(fault) if explain => explain_statement(alloc, statement, fault).ok(),
+            _ => None,
+        };
+        Told {
+            refusal: Refusal::from(fault),
+            detail,
+        }
+    }
+
+    /// What is told below the line.
+    pub fn detail(&self) -> &[u8] {
+        match &self.detail {
+            Some(text) => text,
+            None => b"",
         }
     }
 }

@@ -3,7 +3,9 @@
 use crate::telling::{tell_fault, tell_names, tell_nothing, tell_plan, tell_range, tell_window};
 use std::alloc::{AllocError, Global};
 use std::fmt::Write;
+use std::str;
 use tq_base::{Catalogue, Form};
+use tq_explain::explain_statement;
 use tq_ops::Test;
 use tq_plan::{Plan, PlanFault, plan};
 use tq_sql::read;
@@ -96,6 +98,23 @@ pub(crate) fn ask(
         Some(Err(fault)) => tell_fault(fault, out),
         None => tell_nothing(out),
     }
+}
+
+/// What is told of the statement's text, if it is none.
+pub(crate) fn ask_detail(
+    alloc: Global,
+    statement: &str,
+    out: &mut String,
+) -> Result<(), AllocError> {
+    let text = text_of(alloc, statement)?;
+    let Err(fault) = read(alloc, text.as_bytes()) else {
+        return tell_nothing(out);
+    };
+    let detail = explain_statement(alloc, text.as_bytes(), fault)?;
+    for line in str::from_utf8(&detail).unwrap_or("no text").lines() {
+        writeln!(out, "    {line}")?;
+    }
+    Ok(())
 }
 
 /// From when until when a statement asks in which the text stands after PERIOD, or one without PERIOD.

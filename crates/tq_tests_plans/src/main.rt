@@ -13,6 +13,7 @@
 //!     chain COUNT PART             a condition of a = 1 and so many of the part, and a last one after a semicolon
 //!     copy STATEMENT               whether the copy of its plan is the plan
 //!     faults                       the numbers and names of the faults
+//!     explain STATEMENT            what is told of its text, if it is no statement
 //!
 //! In a statement \n and \t are the control characters. Tables, sources, columns and sides are numbered from 0. Other
 //! lines are copied.

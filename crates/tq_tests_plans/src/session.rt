@@ -1,6 +1,6 @@
 //! The tables of a script, over which statements are planned.
 
-use crate::asking::{Asked, ask, ask_chain, ask_window};
+use crate::asking::{Asked, ask, ask_chain, ask_detail, ask_window};
 use crate::telling::{tell_faults, tell_nothing};
 use std::alloc::{AllocError, Global};
 use std::fmt::Write;
@@ -130,6 +130,7 @@ impl Session {
             "line" => self.add_line(rest),
             "load" => self.load(alloc, out),
             "faults" => tell_faults(out),
+            "explain" => ask_detail(alloc, rest, out),
             _ => self.answer(alloc, word, rest, out),
         }
     }

@@ -13,7 +13,7 @@ fn read(alloc: Global, words: &[&[u8]]) -> Result<Result<Request, CommandLineFau
     for word in words {
         texts.push(text_of(alloc, word)?)?;
     }
-    Ok(read_command_line(alloc, &texts))
+    Ok(read_command_line(alloc, &texts).map_err(|misread| misread.fault))
 }
 
 fn assert_asks(
@@ -30,6 +30,7 @@ fn assert_asks(
                     workers: some,
                     form: _,
                     statement: text,
+                    explain: _,
                 },
             ),
         ) => {
@@ -69,6 +70,7 @@ fn assert_asks_of_two(rt: &impl Abort, read: Result<Request, CommandLineFault>) 
                     workers: some,
                     form: _,
                     statement: text,
+                    explain: _,
                 },
             ),
         ) => {
@@ -122,7 +124,7 @@ fn form_of(alloc: Global, line: &str) -> Result<Option<Form>, AllocError> {
         Ok(Request::Ask(request)) => Ok(Some(request.form)),
         Ok(Request::Draw(request)) => Ok(Some(request.ask.form)),
         Ok(Request::Session(request)) => Ok(Some(request.form)),
-        Ok(Request::Help(_)) | Err(_) => Ok(None),
+        Ok(Request::Print(_)) | Err(_) => Ok(None),
     }
 }
 
@@ -179,7 +181,7 @@ fn other_command_lines_are_refused(rt: HostRuntime) -> Result<(), Fail> {
 // The help that a line asks for.
 fn help_of(alloc: Global, line: &str) -> Result<Option<String>, AllocError> {
     match read_line(alloc, line)? {
-        Ok(Request::Help(text)) => Ok(Some(text)),
+        Ok(Request::Print(text)) => Ok(Some(text)),
         Ok(Request::Ask(_request)) => Ok(None),
         Ok(Request::Draw(_request)) => Ok(None),
         Ok(Request::Session(_request)) => Ok(None),

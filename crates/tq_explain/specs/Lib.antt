@@ -1,0 +1,4 @@
+pub mod Details
+pub mod Expected
+pub mod Hints
+pub mod Pointing

@@ -1,0 +1,14 @@
+//! What a person is told beside the one line of a refusal.
+//!
+//! `explain_statement` shows the line of a statement that goes wrong, with a caret below the place, and says what is
+//! wrong there: the language's own spelling where another language's was written, and what a statement may go on with.
+//! The latter is no second grammar: each word and sign of the language is tried at the place by reading what stands
+//! before it and then the sample (`read` in `tq_sql`), and is told just where that reading does not stop at the sample.
+#![tactic(auto)]
+
+mod expected;
+mod hints;
+mod pointing;
+mod statements;
+
+pub use statements::explain_statement;
