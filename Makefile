@@ -18,7 +18,7 @@ first: tools
 		echo "a first answer in a minute or two, from a build that is not proved yet:"; \
 		rt try --data emp.csv=../../examples/emp.csv -- $(subst examples/,,$(QUESTION)) 2> out/first.log || cat out/first.log; }
 
-# What was proved before is kept: a first build takes minutes, a later one what changed.
+# What was proved before is kept: a first build takes about an hour on four cores, a later one what changed.
 build: tools
 	@python3 gate/build.py
 
