@@ -5,9 +5,9 @@ use std::sync::atomic::{AtomicU64, Ordering};
 
 /// Gives a byte a call, and fails at each call after so many good ones.
 #[derive(Drop)]
-pub struct SlowReader<'a> {
-    pub left: &'a [u8],
-    pub good_calls: u32,
+pub(crate) struct SlowReader<'a> {
+    pub(crate) left: &'a [u8],
+    pub(crate) good_calls: u32,
 }
 
 impl Read for SlowReader<'_> {
@@ -29,11 +29,11 @@ impl Read for SlowReader<'_> {
 
 /// Gives a byte a call, and notes at the first byte of each line how many bytes were printed by then.
 #[derive(Drop)]
-pub struct Typist<'a> {
-    pub left: &'a [u8],
-    pub printed: &'a AtomicU64,
-    pub begins: bool,
-    pub noted: Vec<u64>,
+pub(crate) struct Typist<'a> {
+    pub(crate) left: &'a [u8],
+    pub(crate) printed: &'a AtomicU64,
+    pub(crate) begins: bool,
+    pub(crate) noted: Vec<u64>,
 }
 
 impl Read for Typist<'_> {
@@ -58,10 +58,10 @@ impl Read for Typist<'_> {
 
 /// Counts the bytes that it takes, once they are flushed, and the writes that bring them.
 #[derive(Drop)]
-pub struct Screen<'a> {
-    pub printed: &'a AtomicU64,
-    pub taken: u64,
-    pub writes: u64,
+pub(crate) struct Screen<'a> {
+    pub(crate) printed: &'a AtomicU64,
+    pub(crate) taken: u64,
+    pub(crate) writes: u64,
 }
 
 impl Write for Screen<'_> {
@@ -79,9 +79,9 @@ impl Write for Screen<'_> {
 
 /// Takes so many bytes, and fails then.
 #[derive(Drop)]
-pub struct ShortWriter {
-    pub taken: Vec<u8>,
-    pub room: usize,
+pub(crate) struct ShortWriter {
+    pub(crate) taken: Vec<u8>,
+    pub(crate) room: usize,
 }
 
 impl Write for ShortWriter {
