@@ -109,7 +109,6 @@ fn tree_of_33_keys(rt: HostRuntime) -> Result<(), Fail> {
 
 // The node lies over all keys from version 33 on, and links no other.
 fn check_root<R: Abort>(rt: &R, root: &Node) {
-    assert!(rt; !root.is_leaf());
     assert_eq!(rt; (root.low(), root.high()), (0, TOP));
     assert_eq!(rt; (root.born(), root.died()), (33, None));
     assert_eq!(rt; root.links().len(), 0);
@@ -117,6 +116,7 @@ fn check_root<R: Abort>(rt: &R, root: &Node) {
 
 // Its entries are two nodes with half of the keys each.
 fn check_children<R: Abort>(rt: &R, root: &Node) {
+    assert!(rt; !root.is_leaf());
     assert_eq!(rt; root.len(), 2);
     assert_eq!(rt; (root.child(0), root.child(1)), (NodeNo(1), NodeNo(2)));
     assert_eq!(rt; (root.key(0), root.high_of(0)), (0, key(16)));
