@@ -5,7 +5,7 @@ use crate::telling::{tell_name, tell_nothing};
 use std::alloc::{AllocError, Global};
 use std::fmt::Write;
 use tq_base::{Catalogue, Column, Form, Kind};
-use tq_event::{TableFile, load, load_tables, read_values};
+use tq_event::{MAX_EVENTS, TableFile, load, load_tables, read_values};
 
 /// The events that the files hold, at most so many, or their first fault.
 pub(crate) fn tell_load(
@@ -14,7 +14,7 @@ pub(crate) fn tell_load(
     limit: u32,
     out: &mut String,
 ) -> Result<(), AllocError> {
-    match load(alloc, files, limit, Form::Numbers) {
+    match load(alloc, files, limit.min(MAX_EVENTS), Form::Numbers) {
         Ok(loaded) => {
             let tables = loaded.catalogue.tables.get().len();
             let events = loaded.events.get().len();
@@ -32,7 +32,7 @@ pub(crate) fn tell_tables(
     limit: u32,
     out: &mut String,
 ) -> Result<(), AllocError> {
-    match load_tables(alloc, files, limit, Form::Numbers) {
+    match load_tables(alloc, files, limit.min(MAX_EVENTS), Form::Numbers) {
         Ok(loaded) => {
             writeln!(out, "    {} tables", loaded.rows.get().len())?;
             for (table, rows) in loaded.rows.get().iter().enumerate() {

@@ -22,27 +22,40 @@ fn escaped(letter: u8) -> u8 {
     }
 }
 
+// What a byte is read as.
+#[derive(Clone, Copy)]
+enum Place {
+    Text,
+    Backslash,
+    High,
+    Low { high: u8 },
+}
+
+// What the next byte is read as, once this one is added where it is one or ends one.
+fn add(bytes: &mut Vec<u8>, place: Place, byte: u8) -> Result<Place, AllocError> {
+    match place {
+        Place::Text if byte == b'\\' => return Ok(Place::Backslash),
+        Place::Text => bytes.push(byte)?,
+        Place::Backslash if byte == b'x' => return Ok(Place::High),
+        Place::Backslash => bytes.push(escaped(byte))?,
+        Place::High => {
+            return Ok(Place::Low {
+                high: digit_of(byte),
+            });
+        }
+        Place::Low { high } => bytes.push(high.wrapping_mul(16).wrapping_add(digit_of(byte)))?,
+    }
+    Ok(Place::Text)
+}
+
 /// The bytes of a text in which a backslash stands before control characters and bytes.
 pub(crate) fn bytes_of(alloc: Global, text: &str) -> Result<Vec<u8>, AllocError> {
     let mut bytes = Vec::new(alloc);
-    let mut rest = text.as_bytes();
-    loop {
-        match rest {
-            [] => return Ok(bytes),
-            [b'\\', b'x', high, low, more @ ..] => {
-                bytes.push(digit_of(*high) * 16 + digit_of(*low))?;
-                rest = more;
-            }
-            [b'\\', letter, more @ ..] => {
-                bytes.push(escaped(*letter))?;
-                rest = more;
-            }
-            [byte, more @ ..] => {
-                bytes.push(*byte)?;
-                rest = more;
-            }
-        }
+    let mut place = Place::Text;
+    for byte in text.as_bytes() {
+        place = add(&mut bytes, place, *byte)?;
     }
+    Ok(bytes)
 }
 
 /// The number before the first blank, and what comes after it.

@@ -28,20 +28,18 @@ fn escaped(letter: u8) -> u8 {
 
 // Adds the bytes of a text in which a backslash stands before control characters.
 fn add(bytes: &mut Vec<u8>, text: &str) -> Result<(), AllocError> {
-    let mut rest = text.as_bytes();
-    loop {
-        match rest {
-            [] => return Ok(()),
-            [b'\\', letter, more @ ..] => {
-                bytes.push(escaped(*letter))?;
-                rest = more;
-            }
-            [byte, more @ ..] => {
-                bytes.push(*byte)?;
-                rest = more;
-            }
+    let mut after_backslash = false;
+    for byte in text.as_bytes() {
+        if after_backslash {
+            bytes.push(escaped(*byte))?;
+            after_backslash = false;
+        } else if *byte == b'\\' {
+            after_backslash = true;
+        } else {
+            bytes.push(*byte)?;
         }
     }
+    Ok(())
 }
 
 // The number before the first blank, and what comes after it.

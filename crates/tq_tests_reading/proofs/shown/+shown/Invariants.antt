@@ -1,5 +1,5 @@
 use Rattle.std.proofs.Common.{◌+◌, ◌*◌}
-use Rattle.tq_tests_reading.proofs.sql.shown.+shown.Given as goal
+use Rattle.tq_tests_reading.proofs.shown.+shown.Given as goal
 
 abbrev pub decreases-show_condition : goal.decreases-show_condition
 decreases-show_condition l = 2 * l.depth
