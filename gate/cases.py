@@ -329,6 +329,21 @@ def sessions():
 DATED = b"k:int,v:text,from,to\n1,x,2024-02-28,2024-03-01\n2,x,2024-03-01,forever\n"
 
 
+ARROW = "m2 0h2m2 0h2m-8 0"
+
+
+def image(left, cells, head, labels, bars):
+    """The image of a picture: its lines of text, and its bars, behind so many characters."""
+    lines = [*head, *(label + b"  " for label in labels)]
+    width, height = 9 * (left + max(cells, 24) + 3), 20 * len(lines) + 10
+    texts = b"".join(b'<tspan x="9" dy="20">' + line + b"</tspan\n>" for line in lines)
+    path = "".join(f"{bar}m-{9 * cells} 20" for bar in bars)
+    return (
+        f'<svg xmlns="http://www.w3.org/2000/svg" width="{width}" height="{height}" font-family="monospace" font-size="15">\n'
+        '<rect width="100%" height="100%" fill="#fff"/>\n<text xml:space="preserve">'
+    ).encode() + texts + f'</text>\n<path fill="none" stroke="#36c" stroke-width="12" d="M{9 * (left + 1)} 55{path}"/>\n</svg>\n'.encode()
+
+
 def pictures():
     """Answers that are drawn. Of these periods a cell is one instant, or, in 16 cells, one or two of them."""
     emp = ["draw", "--table", "emp=examples/emp.csv"]
@@ -356,6 +371,10 @@ def pictures():
     drawn = b"   2024-02-29 2024-03-02\nv  |-|\na  ##\n"
     yield Case("a picture in dates", ["draw", "--dates", "--table", "d=ROOM/d.csv", "VALIDTIME SELECT v FROM d"], files={"d.csv": days}, out=drawn)
     nobody = "VALIDTIME SELECT name, dept FROM emp WHERE name = 'dan'"
+    yield Case("a picture in SVG", [*emp, "--svg", ALL_NAMES], out=image(6, 25, wide[:2], [b"ann ", b"bob ", b"cat "], ["m9 0" * 5 + "h9" * 20, "m9 0" * 10 + "h9" * 10 + "m9 0" * 5, "h9" * 25 + ARROW]))
+    yield Case("a picture of no rows in SVG", [*emp, "--svg", nobody], out=None, holds=[b'width="', b">name  dept  (no rows)</tspan", b"</text>\n</svg>\n"])
+    signs = SMALL + b"1,<a&b>,1,2\n"
+    yield Case("signs in SVG", ["draw", "--svg", "--table", "d=ROOM/d.csv", "VALIDTIME SELECT v FROM d"], files={"d.csv": signs}, out=None, holds=[b">&lt;a&amp;b&gt;  </tspan"])
     yield Case("a picture of no rows", [*emp, nobody], out=b"name  dept  (no rows)\n")
     yield Case("a picture of an unknown column", [*emp, "VALIDTIME SELECT age FROM emp"], err=b"tq: plan UnknownColumn\n", status=1)
     for width in ("-1", "x", "", "4294967296"):

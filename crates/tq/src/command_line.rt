@@ -100,11 +100,13 @@ pub struct AskRequest {
     ghost few_workers: { workers ≤ 16 },
 }
 
-/// What `tq draw` was asked: what `tq ask` is asked, and how wide the picture may be, in characters.
+/// What `tq draw` was asked: what `tq ask` is asked, how wide the picture may be, in characters, and whether it is to be
+/// an image in SVG.
 #[derive(Drop)]
 pub struct DrawRequest {
     pub ask: AskRequest,
     pub width: u32,
+    pub svg: bool,
 }
 
 /// What `tq session` is about: the tables in the order of their options, and how instants are written.
@@ -269,10 +271,15 @@ fn draw_command<'a>(alloc: Global) -> Result<Command<'a>, AllocError> {
         .help("How many characters a line may have")
         .value_parser(value_parser!(u32))
         .default_value("80");
+    let svg = Arg::new(alloc, "svg")
+        .long("svg")
+        .help("The picture is an image in SVG")
+        .action(ArgAction::SetTrue);
     let command = Command::new(alloc, "draw")
         .about("Draws the answer of a statement: a line for each row, with a bar where it is valid")
         .after_help(FORMS)
-        .arg(width)?;
+        .arg(width)?
+        .arg(svg)?;
     question_arguments(alloc, command)
 }
 
@@ -358,7 +365,8 @@ fn read_ask(alloc: Global, ask: &ArgMatches<'_>) -> Result<AskRequest, Misread> 
 fn read_draw(alloc: Global, draw: &ArgMatches<'_>) -> Result<DrawRequest, Misread> {
     let width = draw.get_one::<u32>("width").unwrap_or(0);
     let ask = read_ask(alloc, draw)?;
-    Ok(DrawRequest { ask, width })
+    let svg = draw.get_flag("svg");
+    Ok(DrawRequest { ask, width, svg })
 }
 
 // A table's name and path: what stands before and after the first `=`. Without one the word is refused.

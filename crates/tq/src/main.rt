@@ -31,7 +31,7 @@ use std::sync::Wait;
 use std::thread::Threads;
 use std::{fs, io, str};
 use tq_base::Items;
-use tq_draw::draw;
+use tq_draw::{draw, draw_svg};
 use tq_engine::{FileFault, Source, answer, answer_bytes, read_file};
 use tq_event::TableFile;
 use tq_session::session;
@@ -116,7 +116,7 @@ fn draw_answer<R: Files + AllocGlobal + Input + Print + Threads + Sync>(
     request: DrawRequest,
     seen: bool,
 ) -> Result<(), Told> {
-    let DrawRequest { ask, width } = request;
+    let DrawRequest { ask, width, svg } = request;
     let AskRequest {
         tables: options,
         workers,
@@ -127,7 +127,11 @@ fn draw_answer<R: Files + AllocGlobal + Input + Print + Threads + Sync>(
     let tables = read_tables(rt, options)?;
     match answer(rt, rt.alloc(), tables, &statement, workers, form) {
         Ok(table) => {
-            let picture = draw(rt.alloc(), &table, form, width as usize)?;
+            let picture = if svg {
+                draw_svg(rt.alloc(), &table, form, width as usize)?
+            } else {
+                draw(rt.alloc(), &table, form, width as usize)?
+            };
             Ok(print_bytes(rt, &picture)?)
         }
         Err(fault) => Err(Told::of_answer(rt.alloc(), fault, &statement, explain || seen)),

@@ -29,3 +29,7 @@ pub items_step : {X : Type 0} (f : X → List ℕ) (text : List ℕ) (xs : List 
     → (text ++ flat_map f (take n xs)) ++ f (get_or xs n d) ≡ text ++ flat_map f (take (n + 1) xs)
 items_step f text xs n d within =
     flat_map_more f text (take n xs) (get_or xs n d) ∙ ap (λ l. text ++ flat_map f l) (sym (take_more xs n d within))
+
+-- three pieces behind a text are one behind it
+pub as_one_piece : (t a b c : List ℕ) → t ++ a ++ b ++ c ≡ t ++ (a ++ b ++ c)
+as_one_piece t a b c = ap (λ l. l ++ c) (append_assoc t a b) ∙ append_assoc t (a ++ b) c

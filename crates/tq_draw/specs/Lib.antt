@@ -3,3 +3,4 @@ pub mod Labels
 pub mod Laws
 pub mod Pictures
 pub mod Scales
+pub mod Svg

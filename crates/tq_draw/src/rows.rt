@@ -49,8 +49,8 @@ pub(crate) fn push_blanks(text: &mut Vec<u8>, widths: &[usize]) -> Result<(), Al
     Ok(())
 }
 
-// The values of a row.
-fn push_values(
+/// The values of a row.
+pub(crate) fn push_values(
     alloc: Global,
     text: &mut Vec<u8>,
     row: &Row<'_>,
