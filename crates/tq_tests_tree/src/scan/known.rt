@@ -144,26 +144,18 @@ fn a_leaf_that_two_others_link_is_read_once(rt: HostRuntime) -> Result<(), Fail>
 }
 
 #[test]
-fn windows_that_are_none(rt: HostRuntime) {
+fn windows_and_cuts_that_are_none(rt: HostRuntime) -> Result<(), Fail> {
     assert!(rt; Window::new(5, 5, 0, 0).is_none());
     assert!(rt; Window::new(0, TOP + 1, 0, 0).is_none());
     assert!(rt; Window::new(0, 1, 2, 1).is_none());
     assert!(rt; Window::new(0, 1, 0, 16777217).is_none());
-}
-
-#[test]
-fn cuts_lie_inside_their_window_in_order(rt: HostRuntime) {
     let window = Window::new(10, 20, 3, 7).expect(&rt, "a window");
-    let some: [(&[u128], &[u32], bool); 7] = [
-        (&[], &[], true),
-        (&[11, 19], &[4, 7], true),
-        (&[10], &[], false),
-        (&[20], &[], false),
-        (&[12, 12], &[], false),
-        (&[], &[3], false),
-        (&[], &[8], false),
-    ];
-    for (key_cuts, version_cuts, wanted) in some {
-        assert_eq!(rt; window.admits(key_cuts, version_cuts), wanted);
-    }
+    assert!(rt; window.admits(&[], &[]));
+    assert!(rt; window.admits(&[11, 19], &[4, 7]));
+    assert!(rt; !window.admits(&[10], &[]));
+    assert!(rt; !window.admits(&[20], &[]));
+    assert!(rt; !window.admits(&[12, 12], &[]));
+    assert!(rt; !window.admits(&[], &[3]));
+    assert!(rt; !window.admits(&[], &[8]));
+    Ok(())
 }
