@@ -18,7 +18,7 @@ use Rattle.tq_base.specs.declared.sides.Side.{Side}
 use Rattle.tq_base.specs.declared.sides.Side.TheVariants as side
 use Rattle.tq_base.specs.Groups.{below_differs, below_then, Below, NotAbove}
 use Rattle.tq_base.specs.KeyLaws.{alike, key_cmp_total, marks_rest, whole_row}
-use Rattle.tq_base.specs.Keys.{columns_on, held, held_on, key_cmp, key_row, key_values, no_row, rows_on, value_key_cmp, Held, IsKey, Rises, SidesState}
+use Rattle.tq_base.specs.Keys.{columns_on, held, held_on, key_cmp, key_row, key_values, no_row, rows_on, value_key_cmp, Held, IsKey, SidesState}
 use Rattle.tq_base.specs.ValueOrder.{values_cmp, values_same}
 use Rattle.tq_check.specs.EqualRows.{meeting, overlapping}
 use Rattle.tq_check.specs.Runs.{starting_behind, starting_inside, Ascend, AreInOrder, AreWhole}

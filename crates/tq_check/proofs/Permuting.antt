@@ -1,5 +1,5 @@
 -- Counts of items that a test is told the items above of, where the items stand in another order.
-use Rattle.std.proofs.Common.{◌≡◌, ◌∙◌, ℕ, zero, suc, ◌+◌, ◌<◌, Bool, cond, List, [], ◌∷◌, ◌||◌, ap, refl, sym, subst, get_or, length, arith}
+use Rattle.std.proofs.Common.{◌≡◌, ◌∙◌, ℕ, zero, suc, ◌+◌, ◌<◌, Bool, cond, List, [], ◌∷◌, ◌||◌, ap, refl, sym, get_or, length, arith}
 use Rattle.std.specs.Prelude.{IsPermutation}
 use Rattle.std.specs.List.{list_any, swap}
 use Rattle.std.proofs.Math.ListN.{set}

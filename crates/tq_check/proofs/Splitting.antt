@@ -1,5 +1,5 @@
 -- Counts of items that a test is told the items above of, part by part.
-use Rattle.std.proofs.Common.{◌≡◌, ◌∙◌, ℕ, ◌+◌, Bool, cond, List, [], ◌∷◌, ◌++◌, ap, refl, sym, arith}
+use Rattle.std.proofs.Common.{◌≡◌, ◌∙◌, ◌+◌, Bool, cond, List, [], ◌∷◌, ◌++◌, ap, refl, sym, arith}
 use Rattle.std.specs.Prelude.{All}
 use Rattle.std.proofs.lemmas.List.Elements.{All-cons, All-head, All-tail}
 use Rattle.tq_check.specs.EqualRows.{count_rows}

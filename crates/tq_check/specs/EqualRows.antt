@@ -29,7 +29,7 @@ is_overlapping rows above row =
 abbrev pub is_meeting : List Fragment → List Fragment → Fragment → Bool
 is_meeting rows above row = not (is_overlapping rows above row) && list_any (ends_at row.values row.period.start) rows
 
--- how many items pass a test that is told which items stand above them; of those above the first one it is told too
+-- how many rows pass a test that is told which rows stand above the row, where these stand above the first one
 unfoldable pub count_rows : {X : Type 0} → (List X → X → Bool) → List X → List X → ℕ
 count_rows test above [] = 0
 count_rows test above (row ∷ rows) = cond (test above row) 1 0 + count_rows test (row ∷ above) rows

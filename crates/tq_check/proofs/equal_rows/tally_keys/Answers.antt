@@ -1,12 +1,12 @@
-use Rattle.std.proofs.Common.{◌≡◌, ◌≢◌, ◌∙◌, List, ℕ, ◌<◌, ◌≤◌, ◌+◌, ◌-◌, [], ap, sym, refl, subst, arith, drop, get_or, length, map, take}
+use Rattle.std.proofs.Common.{◌≡◌, ◌≢◌, ◌∙◌, List, ◌<◌, ◌≤◌, ◌+◌, ◌-◌, [], ap, sym, refl, subst, arith, drop, get_or, length, map, take}
 use Rattle.std.specs.Prelude.{All}
-use Rattle.std.proofs.lemmas.List.{drop-drop, drop_all, length-drop, length-map, length-take, take_rest}
+use Rattle.std.proofs.lemmas.List.{drop-drop, drop_all, length-drop, length-take, take_rest}
 use Rattle.std.proofs.lemmas.List.Elements.{All-drop}
 use Rattle.tq_base.specs.declared.sides.Key.{Key}
 use Rattle.tq_base.specs.Keys.{key_row, key_values, AreMarked, IsKey}
 use Rattle.tq_base.specs.KeyLaws.{marks_rest}
 use Rattle.tq_base.specs.KeySides.{state_of}
-use Rattle.tq_check.specs.EqualRows.{count_rows, is_meeting, is_overlapping, meeting, overlapping}
+use Rattle.tq_check.specs.EqualRows.{count_rows, meeting, overlapping}
 use Rattle.tq_check.specs.Runs.{starting_behind, starting_inside}
 use Rattle.tq_check.proofs.KeyLemmas.{end_key, first_meeting, first_overlapping, order_rest}
 use Rattle.tq_check.proofs.equal_rows.tally_keys.Goals as goal

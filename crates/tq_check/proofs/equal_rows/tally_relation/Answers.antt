@@ -1,4 +1,4 @@
-use Rattle.std.proofs.Common.{◌≡◌, ◌∙◌, List, map, subst, sym}
+use Rattle.std.proofs.Common.{◌∙◌, List, map, subst, sym}
 use Rattle.std.specs.Prelude.{IsPermutation}
 use Rattle.tq_base.specs.declared.sides.Key.{Key}
 use Rattle.tq_base.specs.Keys.{key_row, SidesState}

@@ -1,5 +1,5 @@
-use Rattle.std.proofs.Common.{◌≡◌, ◌∙◌, List, ℕ, ◌<◌, ◌≤◌, ◌+◌, ◌∷◌, [], ◌++◌, ap, sym, refl, arith, append_assoc, drop, get_or, length}
-use Rattle.std.proofs.lemmas.List.{append-nil, drop_all, drop_more, get_or_default}
+use Rattle.std.proofs.Common.{◌≡◌, ◌∙◌, List, ℕ, ◌<◌, ◌+◌, [], ◌++◌, ap, sym, refl, arith, append_assoc, drop, get_or, length}
+use Rattle.std.proofs.lemmas.List.{append-nil, drop_all, drop_more}
 use Rattle.tq_base.specs.declared.catalogue.Schema.{Schema}
 use Rattle.tq_base.specs.declared.form.Form.{Form}
 use Rattle.tq_base.specs.RowLists.{RowList}
