@@ -381,6 +381,79 @@ def pictures():
         yield Case(f"a picture of width {width!r}", [*emp, "--width", width, ALL_NAMES], err=b"tq: BadCommandLine\n", status=2)
 
 
+def told(table, columns, rows, opened, first, last, overlapping, meeting):
+    """What is told of a table."""
+    lines = [("columns", columns), ("rows", rows), ("open", opened), ("first start", first), ("last change", last), ("overlapping", overlapping), ("meeting", meeting)]
+    return f"table {table}\n".encode() + b"".join(f"  {label:<11}  {value}\n".encode() for label, value in lines)
+
+
+def check(name, tables, more=(), **wanted):
+    """A check of tables of these names and bytes."""
+    files = {f"{place}.csv": content for place, (_, content) in enumerate(tables)}
+    options = [word for place, (table, _) in enumerate(tables) for word in ("--table", f"{table}=ROOM/{place}.csv")]
+    return Case(name, ["check", *options, *more], files=files, **wanted)
+
+
+# Rows in the order of a file, how many of them overlap and how many meet an equal one that comes before them.
+EQUAL_ROWS = (
+    ([], 0, 0),
+    (["1,x,0,5"], 0, 0),
+    (["1,x,0,5", "1,x,5,9"], 0, 1),
+    (["1,x,5,9", "1,x,0,5"], 0, 1),
+    (["1,x,0,5", "1,x,6,9"], 0, 0),
+    (["1,x,0,5", "1,x,4,9"], 1, 0),
+    (["1,x,4,9", "1,x,0,5"], 1, 0),
+    (["1,x,0,5", "1,x,0,5"], 1, 0),
+    (["1,x,0,5", "1,x,0,9", "1,x,0,7"], 2, 0),
+    (["1,x,0,5", "1,x,0,5", "1,x,5,9", "1,x,5,9"], 2, 1),
+    (["1,x,0,9", "1,x,2,4", "1,x,4,6"], 2, 0),
+    (["1,x,0,9", "1,x,2,4", "1,x,9,12"], 1, 1),
+    (["1,x,0,forever", "1,x,3,9", "1,x,9,forever"], 2, 0),
+    (["1,x,0,5", "1,y,4,9", "2,x,4,9", "1,y,9,12"], 0, 1),
+    (["1,x,0,5", "1,X,5,9", "1,,5,9"], 0, 0),
+    (["1,x,0,2", "1,x,4,6", "1,x,2,4"], 0, 2),
+)
+
+
+def checks():
+    """What is told of tables."""
+    emp = ["check", "--table", "emp=examples/emp.csv"]
+    said = told("emp", "emp:int name:text dept:text", 4, 1, 5, 30, 0, 1)
+    jobs = [("e", EMP), ("t", SMALL)]
+    both = told("e", "emp:int name:text dept:text", 4, 1, 5, 30, 0, 1) + told("t", "k:int v:text", 0, 0, "none", "none", 0, 0)
+    yield Case("a check", emp, out=said)
+    yield Case("a check of standard input", ["check", "--table", "emp=-"], taken=EMP, out=said)
+    for workers in (1, 2, 7, 16):
+        yield check(f"a check by {workers} workers", jobs, ["--workers", str(workers)], out=both)
+    for rows, overlapping, meeting in EQUAL_ROWS:
+        content = SMALL + "".join(f"{row}\n" for row in rows).encode()
+        periods = [row.split(",")[2:] for row in rows]
+        bounds = [int(bound) for period in periods for bound in period if bound != "forever"]
+        opened = sum(end == "forever" for _, end in periods)
+        first, last = (min(bounds), max(bounds)) if rows else ("none", "none")
+        out = told("t", "k:int v:text", len(rows), opened, first, last, overlapping, meeting)
+        yield check(f"a check of {rows}", [("t", content)], out=out)
+    long = "x" * 900
+    alike = "".join(f"1,{long}{letter},{start},{start + 2}\n" for start in range(0, 40, 2) for letter in "ab").encode()
+    yield check("a check of long texts that begin alike", [("t", SMALL + alike)], out=told("t", "k:int v:text", 40, 0, 0, 40, 0, 38))
+    many = b"".join(b"%d,x,%d,%d\n" % (n % 1000, n, n + 1500) for n in range(20000, 0, -1))
+    for workers in (1, 4):
+        out = told("t", "k:int v:text", 20000, 0, 1, 21500, 19000, 0)
+        yield check(f"a check of many rows by {workers} workers", [("t", SMALL + many)], ["--workers", str(workers)], out=out)
+    out = told("d", "k:int v:text", 2, 1, "2024-02-28", "2024-03-01", 0, 0)
+    yield check("a check in dates", [("d", DATED)], ["--dates"], out=out)
+    yield Case("a check of a file at fault", ["check", "--table", "emp=examples/broken.csv"], err=b"tq: load BadPeriod table 0 record 3\n", status=1)
+    yield check("a check of a second file at fault", [("e", EMP), ("d", DATED)], err=b"tq: load BadPeriod table 1 record 2\n", status=1)
+    yield check("a check of tables of one name", [("e", EMP), ("E", EMP)], err=b"tq: load DuplicateName table 1 record 0\n", status=1)
+    yield Case("a check of a file that is missing", ["check", "--table", "e=ROOM/none.csv"], err=b"tq: cannot read ROOM/none.csv\n", status=1)
+    for words in (["check"], [*emp, ALL_NAMES], [*emp, "--workers", "0"], [*emp, "--workers", "17"], ["check", "--table", "emp"], [*emp, "--width", "80"]):
+        yield Case(f"no check: {words[1:]}", words, err=b"tq: BadCommandLine\n", status=2)
+    for to in (FULL, UNREAD, CLOSED):
+        yield Case(f"a check whose output is {to}", emp, err=b"tq: write failed\n", status=1, to=to)
+    for words in (["check", "--help"], ["help", "check"]):
+        yield Case(f"help: {words}", words, out=None, holds=[b"--table <NAME=PATH>", b"--workers <N>", b"--dates", b"emp:int,name:text,dept:text,from,to"])
+
+
 def dates():
     """Instants that are written as dates: in files, windows, lines of a session and answers."""
     tables = [("d", DATED)]
@@ -442,5 +515,5 @@ def outputs_that_fail():
 
 def table():
     """All cases."""
-    makers = (files_at_fault, statements_at_fault, command_lines, words_of_all_lengths, paths, large, among_threads, sessions, pictures, dates, explanations, outputs_that_fail)
+    makers = (files_at_fault, statements_at_fault, command_lines, words_of_all_lengths, paths, large, among_threads, sessions, pictures, checks, dates, explanations, outputs_that_fail)
     return [case for maker in makers for case in maker()]

@@ -197,7 +197,7 @@ def recipes(program):
 def made_pages(program):
     """Each page that is made of the program's helps, with what is wrong with it: each option stands in it."""
     options = {"--help"}
-    for command in ("ask", "draw", "session"):
+    for command in ("ask", "draw", "check", "session"):
         said = subprocess.run([program, command, "--help"], stdout=subprocess.PIPE, timeout=SECONDS).stdout.decode()
         options |= set(re.findall(r"^ +(?:-\w, )?(--[\w-]+)", said, re.MULTILINE))
     with tempfile.TemporaryDirectory(prefix="tq-") as room:

@@ -39,6 +39,18 @@ Table file:
   1,ann,toys,10,20
   2,bob,food,15,forever";
 
+// What the help of a check ends with.
+const FILES: &str = "\
+Table file, with --dates (the first column is a key; an open end is `forever`):
+  emp:int,name:text,dept:text,from,to
+  1,ann,toys,2024-02-29,2024-07-01
+  2,bob,food,2024-03-01,forever
+
+Table file:
+  emp:int,name:text,dept:text,from,to
+  1,ann,toys,10,20
+  2,bob,food,15,forever";
+
 // What the helps of the program and of a question end with.
 const FORMS: &str = "\
 Statement, with --dates:
@@ -109,6 +121,16 @@ pub struct DrawRequest {
     pub svg: bool,
 }
 
+/// What `tq check` was asked: the tables in the order of their options, 1 to 16 workers, and how instants are written.
+#[derive(Drop)]
+pub struct CheckRequest {
+    pub tables: Vec<TableOption>,
+    pub workers: u32,
+    pub form: Form,
+    ghost some_workers: { 1 ≤ workers },
+    ghost few_workers: { workers ≤ 16 },
+}
+
 /// What `tq session` is about: the tables in the order of their options, and how instants are written.
 #[derive(Drop)]
 pub struct SessionRequest {
@@ -116,12 +138,14 @@ pub struct SessionRequest {
     pub form: Form,
 }
 
-/// What the program was asked: to print this text, to answer a statement, to draw its answer, or to hold a session.
+/// What the program was asked: to print this text, to answer a statement, to draw its answer, to check tables, or to
+/// hold a session.
 #[derive(Drop)]
 pub enum Request {
     Print(String),
     Ask(AskRequest),
     Draw(DrawRequest),
+    Check(CheckRequest),
     Session(SessionRequest),
 }
 
@@ -177,6 +201,9 @@ fn read_request(alloc: Global, matches: &ArgMatches<'_>) -> Result<Request, Misr
     if let Some(draw) = matches.subcommand_matches("draw") {
         return Ok(Request::Draw(read_draw(alloc, draw)?));
     }
+    if let Some(check) = matches.subcommand_matches("check") {
+        return Ok(Request::Check(read_check(alloc, check)?));
+    }
     if let Some(session) = matches.subcommand_matches("session") {
         let tables = read_tables(alloc, session, 0)?;
         let form = read_form(session);
@@ -206,6 +233,7 @@ fn tq_command<'a>(alloc: Global) -> Result<Command<'a>, AllocError> {
         .subcommand_required(true)
         .subcommand(ask_command(alloc)?)?
         .subcommand(draw_command(alloc)?)?
+        .subcommand(check_command(alloc)?)?
         .subcommand(session_command(alloc)?)
 }
 
@@ -235,14 +263,18 @@ fn explain_argument<'a>(alloc: Global) -> Arg<'a> {
         .action(ArgAction::SetTrue)
 }
 
-// What a command asks, and of which tables, with how many workers, and how instants are written.
-fn question_arguments<'a>(alloc: Global, command: Command<'a>) -> Result<Command<'a>, AllocError> {
-    let workers = Arg::new(alloc, "workers")
+// How many workers a command has.
+fn workers_argument<'a>(alloc: Global) -> Arg<'a> {
+    Arg::new(alloc, "workers")
         .long("workers")
         .value_name("N")
         .help("How many workers may share the work, 1 to 16")
         .value_parser(value_parser!(u32))
-        .default_value("1");
+        .default_value("1")
+}
+
+// What a command asks, and of which tables, with how many workers, and how instants are written.
+fn question_arguments<'a>(alloc: Global, command: Command<'a>) -> Result<Command<'a>, AllocError> {
     let statement = Arg::new(alloc, "statement")
         .value_name("STATEMENT")
         .help("What to ask")
@@ -251,7 +283,7 @@ fn question_arguments<'a>(alloc: Global, command: Command<'a>) -> Result<Command
         .arg(table_argument(alloc))?
         .arg(dates_argument(alloc))?
         .arg(explain_argument(alloc))?
-        .arg(workers)?
+        .arg(workers_argument(alloc))?
         .arg(statement)
 }
 
@@ -281,6 +313,16 @@ fn draw_command<'a>(alloc: Global) -> Result<Command<'a>, AllocError> {
         .arg(width)?
         .arg(svg)?;
     question_arguments(alloc, command)
+}
+
+// The command that checks tables.
+fn check_command<'a>(alloc: Global) -> Result<Command<'a>, AllocError> {
+    Command::new(alloc, "check")
+        .about("Tells what each table has: columns, rows, times, equal rows that overlap or meet")
+        .after_help(FILES)
+        .arg(table_argument(alloc))?
+        .arg(dates_argument(alloc))?
+        .arg(workers_argument(alloc))
 }
 
 // The command that holds a session.
@@ -342,15 +384,24 @@ fn read_form(command: &ArgMatches<'_>) -> Form {
     }
 }
 
-// What `tq ask` was asked.
-fn read_ask(alloc: Global, ask: &ArgMatches<'_>) -> Result<AskRequest, Misread> {
-    let tables = read_tables(alloc, ask, 1)?;
-    let workers = ask.get_one::<u32>("workers").unwrap_or(0);
+// How many workers a command has.
+fn read_workers(alloc: Global, command: &ArgMatches<'_>) -> Result<u32, Misread>
+    ensures some { IfOk result (λ workers. 1 ≤ workers) }
+    ensures few { IfOk result (λ workers. workers ≤ 16) }
+{
+    let workers = command.get_one::<u32>("workers").unwrap_or(0);
     if workers < 1 || workers > WORKER_LIMIT {
         return Err(Misread::because(format!(in alloc;
             "error: --workers takes 1 to 16\n\nFor more information, try '--help'.\n"
         )));
     }
+    Ok(workers)
+}
+
+// What `tq ask` was asked.
+fn read_ask(alloc: Global, ask: &ArgMatches<'_>) -> Result<AskRequest, Misread> {
+    let tables = read_tables(alloc, ask, 1)?;
+    let workers = read_workers(alloc, ask)?;
     let statement = bytes_of(alloc, ask.get_str("statement").unwrap_or(""))?;
     Ok(AskRequest {
         tables,
@@ -367,6 +418,17 @@ fn read_draw(alloc: Global, draw: &ArgMatches<'_>) -> Result<DrawRequest, Misrea
     let ask = read_ask(alloc, draw)?;
     let svg = draw.get_flag("svg");
     Ok(DrawRequest { ask, width, svg })
+}
+
+// What `tq check` was asked.
+fn read_check(alloc: Global, check: &ArgMatches<'_>) -> Result<CheckRequest, Misread> {
+    let tables = read_tables(alloc, check, 1)?;
+    let workers = read_workers(alloc, check)?;
+    Ok(CheckRequest {
+        tables,
+        workers,
+        form: read_form(check),
+    })
 }
 
 // A table's name and path: what stands before and after the first `=`. Without one the word is refused.

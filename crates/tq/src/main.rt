@@ -1,6 +1,7 @@
 //! The program `tq`: `tq ask --table NAME=PATH [--workers N] STATEMENT` answers a sequenced query over
 //! valid-time tables in CSV files, and `tq session --table NAME=PATH` answers the lines of standard input over them.
-//! `tq draw` draws the answer of a statement. With `--dates` instants are dates.
+//! `tq draw` draws the answer of a statement, and `tq check` tells what the tables are. With `--dates` instants are
+//! dates.
 //!
 //! The words of the command line (`words`) are read as a request (`command_line`), the files that it names
 //! are read to their bytes, and the engine (`tq_engine`) answers the statement over them on standard
@@ -18,7 +19,7 @@ mod report;
 mod words;
 
 use command_line::{
-    AskRequest, DrawRequest, Request, SessionRequest, TableOption, read_command_line,
+    AskRequest, CheckRequest, DrawRequest, Request, SessionRequest, TableOption, read_command_line,
 };
 use prompt::Prompted;
 use report::{Refusal, Told};
@@ -31,8 +32,9 @@ use std::sync::Wait;
 use std::thread::Threads;
 use std::{fs, io, str};
 use tq_base::Items;
+use tq_check::check;
 use tq_draw::{draw, draw_svg};
-use tq_engine::{FileFault, Source, answer, answer_bytes, read_file};
+use tq_engine::{AnswerFault, FileFault, Source, answer, answer_bytes, read_file};
 use tq_event::TableFile;
 use tq_session::session;
 use tq_table::Sink;
@@ -138,6 +140,23 @@ fn draw_answer<R: Files + AllocGlobal + Input + Print + Threads + Sync>(
     }
 }
 
+// Tells on standard output what the tables are, once all files are read.
+fn check_tables<R: Files + AllocGlobal + Input + Print + Threads + Sync>(
+    rt: &R,
+    request: CheckRequest,
+) -> Result<(), Refusal> {
+    let CheckRequest {
+        tables: options,
+        workers,
+        form,
+    } = request;
+    let tables = read_tables(rt, options)?;
+    match check(rt, rt.alloc(), tables, workers, form) {
+        Ok(text) => print_bytes(rt, &text),
+        Err(fault) => Err(Refusal::from(AnswerFault::from(fault))),
+    }
+}
+
 // Answers the lines of standard input on standard output, once all files are read, each after a prompt where there is
 // somewhere to print it.
 fn converse<R: Files + AllocGlobal + Input + Print + Threads + Wait + Sync, W: Write + Drop>(
@@ -176,6 +195,7 @@ fn run<R: Files + AllocGlobal + Env + Input + Print + Threads + Wait + Sync, W: 
         Ok(Request::Ask(request)) => ask(rt, request, seen),
         Ok(Request::Session(request)) => Ok(converse(rt, request, prompts)?),
         Ok(Request::Draw(request)) => draw_answer(rt, request, seen),
+        Ok(Request::Check(request)) => Ok(check_tables(rt, request)?),
         Ok(Request::Print(text)) => Ok(print_bytes(rt, text.as_bytes())?),
         Err(misread) => Err(Told::of_command_line(misread, seen)),
     }

@@ -123,23 +123,29 @@ fn form_of(alloc: Global, line: &str) -> Result<Option<Form>, AllocError> {
     match read_line(alloc, line)? {
         Ok(Request::Ask(request)) => Ok(Some(request.form)),
         Ok(Request::Draw(request)) => Ok(Some(request.ask.form)),
+        Ok(Request::Check(request)) => Ok(Some(request.form)),
         Ok(Request::Session(request)) => Ok(Some(request.form)),
         Ok(Request::Print(_)) | Err(_) => Ok(None),
     }
 }
 
 #[test]
-fn both_commands_take_dates(rt: HostRuntime) -> Result<(), Fail> {
+fn commands_take_dates(rt: HostRuntime) -> Result<(), Fail> {
     for line in [
         "ask --dates --table emp=e S",
         "ask --table emp=e --dates S",
         "ask --table emp=e S --dates",
         "session --dates --table emp=e",
         "session --table emp=e --dates",
+        "check --dates --table emp=e --workers 2",
     ] {
         assert_eq!(rt; form_of(rt.alloc(), line)?, Some(Form::Dates), "{line}");
     }
-    for line in ["ask --table emp=e S", "session --table emp=e"] {
+    for line in [
+        "ask --table emp=e S",
+        "session --table emp=e",
+        "check --table emp=e",
+    ] {
         assert_eq!(rt; form_of(rt.alloc(), line)?, Some(Form::Numbers), "{line}");
     }
     for line in [
@@ -169,6 +175,10 @@ fn other_command_lines_are_refused(rt: HostRuntime) -> Result<(), Fail> {
         "ask --table emp=e --workers x S",
         "ask --table emp=e S S",
         "ask --table emp=e --unknown S",
+        "check",
+        "check --table emp",
+        "check --table emp=e S",
+        "check --table emp=e --workers 17",
     ] {
         match read_line(rt.alloc(), line)? {
             Err(fault) => assert_eq!(rt; fault, CommandLineFault::BadCommandLine, "{line}"),
@@ -184,6 +194,7 @@ fn help_of(alloc: Global, line: &str) -> Result<Option<String>, AllocError> {
         Ok(Request::Print(text)) => Ok(Some(text)),
         Ok(Request::Ask(_request)) => Ok(None),
         Ok(Request::Draw(_request)) => Ok(None),
+        Ok(Request::Check(_request)) => Ok(None),
         Ok(Request::Session(_request)) => Ok(None),
         Err(_fault) => Ok(None),
     }

@@ -1,0 +1,5 @@
+pub mod Checks
+pub mod EqualRows
+pub mod Numbers
+pub mod Runs
+pub mod Telling
