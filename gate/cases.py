@@ -403,7 +403,19 @@ def explanations():
     yield Case("a fault of a statement in a terminal", [*emp, statement], err=line + detail, status=1, terminal=True)
     picture = ["draw", "--explain", "--table", "emp=examples/emp.csv", statement]
     yield Case("a fault of a picture's statement, explained", picture, err=line + detail, status=1)
-    yield Case("a fault of a plan, explained", [*emp, "--explain", "VALIDTIME SELECT age FROM emp"], err=b"tq: plan UnknownColumn\n", status=1)
+    yield Case("a fault of a plan in a pipe", [*emp, "VALIDTIME SELECT age FROM emp"], err=b"tq: plan UnknownColumn\n", status=1)
+    for asked, kind, shown in (
+        ("VALIDTIME SELECT age FROM emp", "UnknownColumn", (" " * 17 + "^", "columns of emp:  emp  name  dept")),
+        ("VALIDTIME SELECT x.name FROM emp x, emp y WHERE x.name = 'y' AND name = 'z'", "AmbiguousColumn", (" " * 65 + "^", "sources that have it:  x  y")),
+        ("VALIDTIME SELECT name FROM emp, boss", "UnknownTable", (" " * 32 + "^", "tables:  emp")),
+        ("VALIDTIME SELECT COUNT(*) FROM emp x, emp x", "DuplicateAlias", (" " * 38 + "^", "sources:  x  x")),
+    ):
+        detail = "".join(f"  {line}\n" for line in (asked, *shown)).encode()
+        line = b"tq: plan " + kind.encode() + b"\n"
+        for terminal, words in ((False, [*emp, "--explain", asked]), (True, [*emp, asked])):
+            yield Case(f"a {kind} explained, terminal: {terminal}", words, err=line + detail, status=1, terminal=terminal)
+    piped = ["ask", "--explain", "--table", "emp=-", "VALIDTIME SELECT emp.age FROM emp"]
+    yield Case("a fault of a plan over standard input", piped, taken=b"\n\nemp:int,name:text,from,to\r\n1,ann,1,2\r\n", err=b"tq: plan UnknownColumn\n  VALIDTIME SELECT emp.age FROM emp\n                   ^\n  columns of emp:  emp  name\n", status=1)
     yield Case("an answer in a terminal", [*emp, "--explain", ALL_NAMES], out=NAMES, terminal=True)
     for words, reason in (
         ([*emp, "--workers", "17", ALL_NAMES], b"--workers takes 1 to 16"),

@@ -9,10 +9,12 @@
 #![tactic(auto)]
 
 ghost use Rattle.std.specs.Prelude.{◌≡◌, ◌≢◌, IfErr, IfOk, map};
+ghost use Rattle.tq.specs.Report.{refused_answer};
 ghost use Rattle.tq.specs.declared.command_line.TableOption.{TableOption as AnyOption};
 ghost use Rattle.tq_event.specs.declared.file.TableFile.{TableFile as AnyFile};
 
 mod command_line;
+mod heads;
 mod prompt;
 mod report;
 mod words;
@@ -20,9 +22,10 @@ mod words;
 use command_line::{
     AskRequest, DrawRequest, Request, SessionRequest, TableOption, read_command_line,
 };
+use heads::{catalogue_of, heads_of};
 use prompt::Prompted;
 use report::{Refusal, Told};
-use std::alloc::AllocError;
+use std::alloc::{AllocError, Global};
 use std::env::Env;
 use std::io::{ErrorKind, Input, IsTerminal, Write};
 use std::process::ExitCode;
@@ -30,9 +33,9 @@ use std::rt::Files;
 use std::sync::Wait;
 use std::thread::Threads;
 use std::{fs, io, str};
-use tq_base::Items;
+use tq_base::{Form, Items};
 use tq_draw::draw;
-use tq_engine::{FileFault, Source, answer, answer_bytes, read_file};
+use tq_engine::{AnswerFault, FileFault, Source, answer, answer_bytes, read_file};
 use tq_event::TableFile;
 use tq_session::session;
 use tq_table::Sink;
@@ -88,6 +91,34 @@ fn read_tables<R: Files + AllocGlobal + Input>(
     Ok(tables)
 }
 
+// The heads of the files, where a fault of the plan is to be explained; none where there is no memory for them.
+fn heads_where(alloc: Global, tables: &[TableFile], explain: bool) -> Option<Vec<TableFile>> {
+    if !explain {
+        return None;
+    }
+    heads_of(alloc, tables).ok()
+}
+
+// The refusal of a question over tables whose files have these heads.
+fn refused(
+    alloc: Global,
+    fault: AnswerFault,
+    heads: Option<Vec<TableFile>>,
+    statement: &[u8],
+    form: Form,
+    explain: bool,
+) -> Told
+    ensures { result.refusal ≡ refused_answer fault }
+{
+    let (AnswerFault::Plan(plan_fault), Some(heads)) = (fault, heads) else {
+        return Told::of_answer(alloc, fault, statement, explain);
+    };
+    match catalogue_of(alloc, heads, form) {
+        Some(catalogue) => Told::of_plan(alloc, plan_fault, statement, &catalogue, form),
+        None => Told::of_answer(alloc, fault, statement, explain),
+    }
+}
+
 // Answers a request on standard output, once all files are read. What a refusal is about is explained where a person
 // sees it, or where that was asked for.
 fn ask<R: Files + AllocGlobal + Input + Print + Threads + Sync>(
@@ -102,11 +133,13 @@ fn ask<R: Files + AllocGlobal + Input + Print + Threads + Sync>(
         statement,
         explain,
     } = request;
+    let explain = explain || seen;
     let tables = read_tables(rt, options)?;
+    let heads = heads_where(rt.alloc(), &tables, explain);
     let mut sink = Sink::over(io::writer(rt));
     match answer_bytes(rt, rt.alloc(), tables, &statement, workers, &mut sink, form) {
         Ok(()) => Ok(()),
-        Err(fault) => Err(Told::of_answer(rt.alloc(), fault, &statement, explain || seen)),
+        Err(fault) => Err(refused(rt.alloc(), fault, heads, &statement, form, explain)),
     }
 }
 
@@ -124,13 +157,15 @@ fn draw_answer<R: Files + AllocGlobal + Input + Print + Threads + Sync>(
         statement,
         explain,
     } = ask;
+    let explain = explain || seen;
     let tables = read_tables(rt, options)?;
+    let heads = heads_where(rt.alloc(), &tables, explain);
     match answer(rt, rt.alloc(), tables, &statement, workers, form) {
         Ok(table) => {
             let picture = draw(rt.alloc(), &table, form, width as usize)?;
             Ok(print_bytes(rt, &picture)?)
         }
-        Err(fault) => Err(Told::of_answer(rt.alloc(), fault, &statement, explain || seen)),
+        Err(fault) => Err(refused(rt.alloc(), fault, heads, &statement, form, explain)),
     }
 }
 

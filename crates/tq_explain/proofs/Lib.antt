@@ -1,1 +1,3 @@
+pub mod MadeOnce
 pub mod Tellings
+pub mod Terms
