@@ -37,6 +37,7 @@ use tq_base::{Form, Items};
 use tq_draw::draw;
 use tq_engine::{AnswerFault, FileFault, Source, answer, answer_bytes, read_file};
 use tq_event::TableFile;
+use tq_plan::PlanFault;
 use tq_session::session;
 use tq_table::Sink;
 use words::read_words;
@@ -99,6 +100,25 @@ fn heads_where(alloc: Global, tables: &[TableFile], explain: bool) -> Option<Vec
     heads_of(alloc, tables).ok()
 }
 
+// The refusal of a question whose plan has this fault, explained where the tables can be told from these heads.
+fn refused_plan(
+    alloc: Global,
+    fault: PlanFault,
+    heads: Option<Vec<TableFile>>,
+    statement: &[u8],
+    form: Form,
+) -> Told
+    ensures { result.refusal ≡ Refusal.Plan fault }
+{
+    let Some(heads) = heads else {
+        return Told::of_answer(alloc, AnswerFault::Plan(fault), statement, false);
+    };
+    let Some(catalogue) = catalogue_of(alloc, heads, form) else {
+        return Told::of_answer(alloc, AnswerFault::Plan(fault), statement, false);
+    };
+    Told::of_plan(alloc, fault, statement, &catalogue, form)
+}
+
 // The refusal of a question over tables whose files have these heads.
 fn refused(
     alloc: Global,
@@ -110,12 +130,9 @@ fn refused(
 ) -> Told
     ensures { result.refusal ≡ refused_answer fault }
 {
-    let (AnswerFault::Plan(plan_fault), Some(heads)) = (fault, heads) else {
-        return Told::of_answer(alloc, fault, statement, explain);
-    };
-    match catalogue_of(alloc, heads, form) {
-        Some(catalogue) => Told::of_plan(alloc, plan_fault, statement, &catalogue, form),
-        None => Told::of_answer(alloc, fault, statement, explain),
+    match fault {
+        AnswerFault::Plan(plan_fault) => refused_plan(alloc, plan_fault, heads, statement, form),
+        _ => Told::of_answer(alloc, fault, statement, explain),
     }
 }
 

@@ -1,3 +1,3 @@
+pub mod Compared
 pub mod MadeOnce
 pub mod Tellings
-pub mod Terms

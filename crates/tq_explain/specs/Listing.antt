@@ -1,5 +1,5 @@
 -- Lines of what there is: of tables, sources and columns. This project's own.
-use Rattle.std.specs.Prelude.{ℕ, if◌then◌else◌, List, [], ◌∷◌, ◌++◌, codes, map, Option, None, Some, slice_get}
+use Rattle.std.specs.Prelude.{ℕ, if◌then◌else◌, List, [], ◌∷◌, ◌++◌, codes, map, Option, None, Some, slice_get, pos, Bool, false}
 use Rattle.std.specs.List.{flat_map}
 use Rattle.std.specs.Str.{bytes_eq}
 use Rattle.tq_base.specs.Catalogues.{table_number}
@@ -7,10 +7,12 @@ use Rattle.tq_base.specs.declared.catalogue.Catalogue.{Catalogue}
 use Rattle.tq_base.specs.declared.catalogue.Column.{Column}
 use Rattle.tq_base.specs.declared.catalogue.Schema.{Schema}
 use Rattle.tq_plan.specs.Scope.{alias_of}
-use Rattle.tq_plan.specs.declared.fault.PlanFault.TheVariants.{UnknownColumn}
-use Rattle.tq_sql.specs.declared.statement.ColumnRef.{ColumnRef}
+use Rattle.tq_plan.specs.declared.fault.PlanFault.TheVariants.{TypeMismatch, UnknownColumn}
 use Rattle.tq_sql.specs.declared.statement.SourceRef.{SourceRef}
-use Rattle.tq_explain.specs.Asking.{is_refused}
+use Rattle.tq_sql.specs.declared.statement.Term.{Term}
+use Rattle.tq_sql.specs.declared.statement.Term.TheVariants as term
+use Rattle.tq_explain.specs.Asking.{Asked, is_refused}
+use Rattle.tq_explain.specs.Asking as ask
 
 -- a name behind two spaces
 abbrev pub listed_name : List ℕ → List ℕ
@@ -63,12 +65,28 @@ abbrev pub unknown_lines : Catalogue → List SourceRef → Option (List ℕ) �
 unknown_lines catalogue sources None = column_lines catalogue sources
 unknown_lines catalogue sources (Some alias) = line_of_source catalogue sources (source_called alias sources)
 
--- the aliases of the sources over which the column, asked of each alone, is not unknown
-abbrev pub sources_with : Catalogue → Option ColumnRef → List SourceRef → List (List ℕ)
-sources_with catalogue column [] = []
-sources_with catalogue column (source ∷ sources) =
-    (if is_refused catalogue UnknownColumn (source ∷ []) column then [] else alias_of source ∷ []) ++ sources_with catalogue column sources
+-- the aliases of the sources over which this, asked of each alone, has no unknown column
+abbrev pub sources_with : Catalogue → Asked → List SourceRef → List (List ℕ)
+sources_with catalogue asked [] = []
+sources_with catalogue asked (source ∷ sources) =
+    (if is_refused catalogue UnknownColumn (source ∷ []) asked then [] else alias_of source ∷ []) ++ sources_with catalogue asked sources
 
 -- the sources that have the column
-abbrev pub having_line : Catalogue → List SourceRef → Option ColumnRef → List ℕ
-having_line catalogue sources column = listed (codes "sources that have it") (sources_with catalogue column sources)
+abbrev pub having_line : Catalogue → List SourceRef → Asked → List ℕ
+having_line catalogue sources asked = listed (codes "sources that have it") (sources_with catalogue asked sources)
+
+-- the first side of what is compared
+abbrev pub left_of : Asked → Option Term
+left_of ask.Count = None
+left_of (ask.Column column) = None
+left_of (ask.Sum column group) = None
+left_of (ask.Equality left right) = Some left
+
+-- whether the term is a text: it may not be compared with a number
+abbrev pub is_text : Catalogue → List SourceRef → Option Term → Bool
+is_text catalogue sources None = false
+is_text catalogue sources (Some t) = is_refused catalogue TypeMismatch sources (ask.Equality t (term.Int (pos 0)))
+
+-- which is compared with which
+abbrev pub mismatch_line : Bool → List ℕ
+mismatch_line text = if text then codes "  a text is compared with a number\n" else codes "  a number is compared with a text\n"

@@ -12,7 +12,7 @@ use Rattle.tq_sql.specs.declared.statement.Term.{Term}
 use Rattle.tq_sql.specs.declared.statement.Term.TheVariants as term
 use Rattle.tq_sql.specs.declared.statement.What.{What}
 use Rattle.tq_sql.specs.declared.statement.What.TheVariants as what
-use Rattle.tq_explain.specs.Asking.{QueryPart}
+use Rattle.tq_explain.specs.Asking.{QueryPart, Column, Count, Equality, Sum}
 
 -- ---- how many names are written
 
@@ -50,28 +50,52 @@ first_name column (Some source) = source
 
 abbrev pub column_part : List SourceRef → ℕ → ColumnRef → QueryPart
 column_part sources at column =
-    record { at = at; name = first_name column.column column.source; sources = sources; column = Some column }
+    record { at = at; name = first_name column.column column.source; sources = sources; asked = Column column }
+
+abbrev pub sum_part : List SourceRef → List ColumnRef → ℕ → ColumnRef → QueryPart
+sum_part sources group at column =
+    record { at = at; name = first_name column.column column.source; sources = sources; asked = Sum column group }
 
 -- each source, with those before it
 abbrev pub source_parts : List SourceRef → ℕ → ℕ → List SourceRef → List QueryPart
 source_parts all number at [] = []
 source_parts all number at (source ∷ sources) =
-    record { at = at; name = source.table; sources = take (number + 1) all; column = None }
+    record { at = at; name = source.table; sources = take (number + 1) all; asked = Count }
     ∷ source_parts all (number + 1) (at + source_size source) sources
 
 abbrev pub behind_sources : ℕ → List SourceRef → ℕ
 behind_sources at [] = at
 behind_sources at (source ∷ sources) = behind_sources (at + source_size source) sources
 
-abbrev pub term_parts : List SourceRef → ℕ → List Term → List QueryPart
-term_parts all at [] = []
-term_parts all at (term.Column column ∷ terms) = column_part all at column ∷ term_parts all (at + column_size column) terms
-term_parts all at (term.Int number ∷ terms) = term_parts all at terms
-term_parts all at (term.Text text ∷ terms) = term_parts all at terms
+abbrev pub term_parts : List SourceRef → ℕ → Term → List QueryPart
+term_parts all at (term.Column column) = column_part all at column ∷ []
+term_parts all at (term.Int number) = []
+term_parts all at (term.Text text) = []
 
-abbrev pub behind_terms : ℕ → List Term → ℕ
-behind_terms at [] = at
-behind_terms at (t ∷ terms) = behind_terms (at + term_size t) terms
+-- the first name of two terms: none where both are a number or a text
+abbrev pub term_name : Term → List ℕ → List ℕ
+term_name (term.Column column) other = first_name column.column column.source
+term_name (term.Int number) other = other
+term_name (term.Text text) other = other
+
+-- two terms that are compared
+abbrev pub equality_part : List SourceRef → ℕ → Term → Term → QueryPart
+equality_part all at left right = record { at = at; name = term_name left (term_name right []); sources = all; asked = Equality left right }
+
+-- two terms that are compared: the left one, the right one, both
+abbrev pub pair_part : List SourceRef → ℕ → Term × Term → List QueryPart
+pair_part all at pair = term_parts all at pair.0 ++ term_parts all (at + term_size pair.0) pair.1 ++ equality_part all at pair.0 pair.1 ∷ []
+
+abbrev pub behind_pair : ℕ → Term × Term → ℕ
+behind_pair at pair = (at + term_size pair.0) + term_size pair.1
+
+abbrev pub pair_parts : List SourceRef → ℕ → List (Term × Term) → List QueryPart
+pair_parts all at [] = []
+pair_parts all at (pair ∷ pairs) = pair_part all at pair ++ pair_parts all (behind_pair at pair) pairs
+
+abbrev pub behind_pairs : ℕ → List (Term × Term) → ℕ
+behind_pairs at [] = at
+behind_pairs at (pair ∷ pairs) = behind_pairs (behind_pair at pair) pairs
 
 abbrev pub group_parts : List SourceRef → ℕ → List ColumnRef → List QueryPart
 group_parts all at [] = []
@@ -81,35 +105,36 @@ abbrev pub behind_group : ℕ → List ColumnRef → ℕ
 behind_group at [] = at
 behind_group at (column ∷ columns) = behind_group (at + column_size column) columns
 
-abbrev pub what_parts : List SourceRef → ℕ → What → List QueryPart
-what_parts all at (what.Column column) = column_part all at column ∷ []
-what_parts all at what.Count = []
-what_parts all at (what.Sum column) = column_part all at column ∷ []
+-- a column; of a sum the column and then the sum, grouped as the query is
+abbrev pub what_parts : List SourceRef → List ColumnRef → ℕ → What → List QueryPart
+what_parts all group at (what.Column column) = column_part all at column ∷ []
+what_parts all group at what.Count = []
+what_parts all group at (what.Sum column) = column_part all at column ∷ sum_part all group at column ∷ []
 
-abbrev pub item_parts : List SourceRef → ℕ → List Item → List QueryPart
-item_parts all at [] = []
-item_parts all at (item ∷ items) = what_parts all at item.what ++ item_parts all (at + item_size item) items
+abbrev pub item_parts : List SourceRef → List ColumnRef → ℕ → List Item → List QueryPart
+item_parts all group at [] = []
+item_parts all group at (item ∷ items) = what_parts all group at item.what ++ item_parts all group (at + item_size item) items
 
 abbrev pub behind_items : ℕ → List Item → ℕ
 behind_items at [] = at
 behind_items at (item ∷ items) = behind_items (at + item_size item) items
 
--- ---- the terms of a condition
+-- ---- what a condition compares
 
-abbrev pub terms_step : Cond-F (List Term) → List Term
-terms_step (Cond-F.Is left sign right) = left ∷ right ∷ []
-terms_step (Cond-F.And a b) = a ++ b
-terms_step (Cond-F.Or a b) = a ++ b
-terms_step (Cond-F.Not a) = a
+abbrev pub pairs_step : Cond-F (List (Term × Term)) → List (Term × Term)
+pairs_step (Cond-F.Is left sign right) = (left, right) ∷ []
+pairs_step (Cond-F.And a b) = a ++ b
+pairs_step (Cond-F.Or a b) = a ++ b
+pairs_step (Cond-F.Not a) = a
 
--- the terms of a condition from the left
-unfoldable pub terms_of : Cond → List Term
-terms_of cond = fold-Cond (List Term) terms_step cond
+-- the terms that a condition compares, from the left
+unfoldable pub pairs_of : Cond → List (Term × Term)
+pairs_of cond = fold-Cond (List (Term × Term)) pairs_step cond
 
--- the terms after WHERE
-abbrev pub where_terms : Option Cond → List Term
-where_terms None = []
-where_terms (Some cond) = terms_of cond
+-- those after WHERE
+abbrev pub where_pairs : Option Cond → List (Term × Term)
+where_pairs None = []
+where_pairs (Some cond) = pairs_of cond
 
 -- ---- queries and statements
 
@@ -118,16 +143,16 @@ abbrev pub where_at : ℕ → Query → ℕ
 where_at at query = behind_sources (behind_items at query.items) query.sources
 
 abbrev pub group_at : ℕ → Query → ℕ
-group_at at query = behind_terms (where_at at query) (where_terms query.cond)
+group_at at query = behind_pairs (where_at at query) (where_pairs query.cond)
 
 abbrev pub behind_query : ℕ → Query → ℕ
 behind_query at query = behind_group (group_at at query) query.group
 
--- the parts of a query: its sources, the terms after WHERE, the columns after GROUP BY, the items
+-- the parts of a query: its sources, what is compared after WHERE, the columns after GROUP BY, the items
 abbrev pub query_parts : ℕ → Query → List QueryPart
 query_parts at query =
-    source_parts query.sources 0 (behind_items at query.items) query.sources ++ term_parts query.sources (where_at at query) (where_terms query.cond)
-    ++ group_parts query.sources (group_at at query) query.group ++ item_parts query.sources at query.items
+    source_parts query.sources 0 (behind_items at query.items) query.sources ++ pair_parts query.sources (where_at at query) (where_pairs query.cond)
+    ++ group_parts query.sources (group_at at query) query.group ++ item_parts query.sources query.group at query.items
 
 abbrev pub right_parts : ℕ → Option Query → List QueryPart
 right_parts at None = []

@@ -6,36 +6,51 @@ use Rattle.tq_base.specs.declared.form.Form.TheVariants.{Dates, Numbers}
 use Rattle.tq_plan.specs.declared.fault.PlanFault.{PlanFault}
 use Rattle.tq_plan.specs.declared.fault.PlanFault.TheVariants.{AmbiguousColumn, BadWindow, DuplicateAlias, NotGrouped, OutOfMemory, SumNeedsGroup, SumOfText, TypeMismatch, UnequalColumns, UnknownColumn, UnknownTable}
 use Rattle.tq_sql.specs.Reading.{Makes}
-use Rattle.tq_sql.specs.declared.statement.ColumnRef.{ColumnRef}
 use Rattle.tq_sql.specs.declared.statement.Statement.{Statement}
-use Rattle.tq_explain.specs.Asking.{QueryPart, first_refused}
-use Rattle.tq_explain.specs.Listing.{having_line, source_line, table_line, unknown_lines}
+use Rattle.tq_explain.specs.Asking.{Asked, Column, Count, Equality, QueryPart, Sum, first_refused}
+use Rattle.tq_explain.specs.Listing.{having_line, is_text, left_of, mismatch_line, source_line, table_line, unknown_lines}
 use Rattle.tq_explain.specs.NamePlaces.{pointed_name}
 use Rattle.tq_explain.specs.Parts.{statement_parts}
 use Rattle.tq_explain.specs.Pointing.{pointed}
 
 -- the source that a column names
-abbrev pub source_named : Option ColumnRef → Option (List ℕ)
-source_named None = None
-source_named (Some column) = column.source
+abbrev pub source_named : Asked → Option (List ℕ)
+source_named Count = None
+source_named (Column column) = column.source
+source_named (Sum column group) = None
+source_named (Equality left right) = None
 
--- what there is where this part has this fault
+-- what there is, or what is wrong, where this part has this fault
 abbrev pub there_is : Catalogue → PlanFault → QueryPart → List ℕ
 there_is catalogue UnknownTable part = table_line catalogue
-there_is catalogue UnknownColumn part = unknown_lines catalogue part.sources (source_named part.column)
-there_is catalogue AmbiguousColumn part = having_line catalogue part.sources part.column
+there_is catalogue UnknownColumn part = unknown_lines catalogue part.sources (source_named part.asked)
+there_is catalogue AmbiguousColumn part = having_line catalogue part.sources part.asked
 there_is catalogue DuplicateAlias part = source_line part.sources
-there_is catalogue TypeMismatch part = []
+there_is catalogue TypeMismatch part = mismatch_line (is_text catalogue part.sources (left_of part.asked))
 there_is catalogue NotGrouped part = []
-there_is catalogue SumNeedsGroup part = []
-there_is catalogue SumOfText part = []
+there_is catalogue SumNeedsGroup part = codes "  a sum needs GROUP BY\n"
+there_is catalogue SumOfText part = codes "  a sum takes numbers, and this column holds texts\n"
 there_is catalogue UnequalColumns part = []
 there_is catalogue BadWindow part = []
 there_is catalogue OutOfMemory part = []
 
+-- what would be right, where no part has this fault by itself
+abbrev pub rule_line : PlanFault → List ℕ
+rule_line UnknownTable = []
+rule_line UnknownColumn = []
+rule_line AmbiguousColumn = []
+rule_line DuplicateAlias = []
+rule_line TypeMismatch = []
+rule_line NotGrouped = codes "  beside GROUP BY, a count or a sum stand only columns of GROUP BY\n"
+rule_line SumNeedsGroup = []
+rule_line SumOfText = []
+rule_line UnequalColumns = codes "  both sides of EXCEPT ALL have as many columns, numbers and texts in the same order\n"
+rule_line BadWindow = []
+rule_line OutOfMemory = []
+
 -- the line of the part at fault, with a caret below its first name, and what there is
 abbrev pub part_detail : Catalogue → List ℕ → PlanFault → Option QueryPart → List ℕ
-part_detail catalogue bytes fault None = []
+part_detail catalogue bytes fault None = rule_line fault
 part_detail catalogue bytes fault (Some part) = pointed_name bytes part.at part.name ++ there_is catalogue fault part
 
 -- whether the window is at fault

@@ -5,14 +5,14 @@ ghost use Rattle.std.specs.List.{flat_map};
 ghost use Rattle.tq_base.specs.declared.catalogue.Column.{Column as AnyColumn};
 ghost use Rattle.tq_base.specs.declared.catalogue.Schema.{Schema as AnySchema};
 ghost use Rattle.tq_plan.specs.Scope.{alias_of};
-ghost use Rattle.tq_explain.specs.Listing.{column_line, column_lines, having_line, listed, listed_name, source_called, source_line, sources_with, table_columns, table_line, unknown_lines};
-ghost use Rattle.tq_explain.specs.Seen.{names_seen};
+ghost use Rattle.tq_explain.specs.Listing.{column_line, column_lines, having_line, is_text, left_of, listed, listed_name, mismatch_line, source_called, source_line, sources_with, table_columns, table_line, unknown_lines};
+ghost use Rattle.tq_explain.specs.Seen.{asked_seen, names_seen};
 
-use crate::asking::is_refused;
+use crate::asking::{Asked, is_refused};
 use std::alloc::{AllocError, Global};
 use tq_base::{Catalogue, Column, Name, Schema};
 use tq_plan::PlanFault;
-use tq_sql::{ColumnRef, SourceRef};
+use tq_sql::{SourceRef, Term};
 
 fn push_names(text: &mut Vec<u8>, names: &[&[u8]]) -> Result<(), AllocError>
     ensures { OnOk result (text.new.items ≡ text.old.items ++ flat_map listed_name (names_seen names.now)) }
@@ -184,14 +184,14 @@ pub(crate) fn push_unknown(
     push_columns(alloc, text, catalogue, source)
 }
 
-// The aliases of the sources over which the column, asked of each alone, is not unknown.
+// The aliases of the sources over which this, asked of each alone, has no unknown column.
 fn sources_with<'a>(
     alloc: Global,
     catalogue: &Catalogue,
-    column: Option<&ColumnRef>,
+    asked: &Asked<'_>,
     sources: &'a [SourceRef],
 ) -> Result<Vec<&'a [u8]>, AllocError>
-    ensures { IfOk result (λ names. names_seen names.items ≡ sources_with catalogue.now (option_copied column.entry) sources.entry.now) }
+    ensures { IfOk result (λ names. names_seen names.items ≡ sources_with catalogue.now (asked_seen asked.now) sources.entry.now) }
 {
     let mut names = Vec::new(alloc);
     let mut left = sources;
@@ -201,7 +201,7 @@ fn sources_with<'a>(
             catalogue,
             PlanFault::UnknownColumn,
             &left[..1],
-            column,
+            asked,
         )? {
             push_name(&mut names, alias_of(source))?;
         }
@@ -216,10 +216,60 @@ pub(crate) fn push_having(
     text: &mut Vec<u8>,
     catalogue: &Catalogue,
     sources: &[SourceRef],
-    column: Option<&ColumnRef>,
+    asked: &Asked<'_>,
 ) -> Result<(), AllocError>
-    ensures { OnOk result (text.new.items ≡ text.old.items ++ having_line catalogue.now sources.now (option_copied column.entry)) }
+    ensures { OnOk result (text.new.items ≡ text.old.items ++ having_line catalogue.now sources.now (asked_seen asked.now)) }
 {
-    let names = sources_with(alloc, catalogue, column, sources)?;
+    let names = sources_with(alloc, catalogue, asked, sources)?;
     push_listed(text, b"sources that have it", &names)
+}
+
+// The first side of what is compared.
+fn left_of<'a>(asked: &Asked<'a>) -> Option<&'a Term>
+    ensures { option_copied result ≡ left_of (asked_seen asked.now) }
+{
+    match asked {
+        Asked::Count => None,
+        Asked::Column(_) => None,
+        Asked::Sum(_, _) => None,
+        Asked::Equality(left, _) => Some(*left),
+    }
+}
+
+// Whether the term is a text.
+fn is_text(
+    alloc: Global,
+    catalogue: &Catalogue,
+    sources: &[SourceRef],
+    term: Option<&Term>,
+) -> Result<bool, AllocError>
+    ensures { IfOk result (λ text. text ≡ is_text catalogue.now sources.now (option_copied term.entry)) }
+{
+    let Some(term) = term else {
+        return Ok(false);
+    };
+    let zero = Term::Int(0);
+    is_refused(
+        alloc,
+        catalogue,
+        PlanFault::TypeMismatch,
+        sources,
+        &Asked::Equality(term, &zero),
+    )
+}
+
+/// Which is compared with which.
+pub(crate) fn push_mismatch(
+    alloc: Global,
+    text: &mut Vec<u8>,
+    catalogue: &Catalogue,
+    sources: &[SourceRef],
+    asked: &Asked<'_>,
+) -> Result<(), AllocError>
+    ensures { OnOk result (text.new.items ≡ text.old.items ++ mismatch_line (is_text catalogue.now sources.now (left_of (asked_seen asked.now)))) }
+{
+    if is_text(alloc, catalogue, sources, left_of(asked))? {
+        return text.extend_from_slice(b"  a text is compared with a number\n");
+    }
+    text.extend_from_slice(b"  a number is compared with a text\n")
 }

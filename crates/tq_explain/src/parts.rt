@@ -1,10 +1,10 @@
 // The parts of a statement that are looked up by themselves.
 
 ghost use Rattle.std.specs.Prelude.{◌≡◌, ◌+◌, ◌++◌, ◌∷◌, [], IfOk, OnOk, map, option_copied, reverse};
-ghost use Rattle.tq_explain.specs.Parts.{alias_size, behind_group, behind_items, behind_query, behind_sources, behind_terms, column_part, column_size, first_name, group_parts, item_parts, item_size, query_parts, right_parts, source_parts, source_size, statement_parts, term_parts, terms_of, what_parts, what_size, where_terms};
-ghost use Rattle.tq_explain.specs.Seen.{parts_seen, seen, terms_seen};
+ghost use Rattle.tq_explain.specs.Parts.{alias_size, behind_group, behind_items, behind_pair, behind_pairs, behind_query, behind_sources, column_part, column_size, first_name, group_parts, item_parts, item_size, pair_part, pair_parts, pairs_of, query_parts, right_parts, source_parts, source_size, statement_parts, sum_part, term_name, term_parts, term_size, what_parts, what_size, where_pairs};
+ghost use Rattle.tq_explain.specs.Seen.{pairs_seen, parts_seen, seen};
 
-use crate::asking::Part;
+use crate::asking::{Asked, Part};
 use std::alloc::{AllocError, Global};
 use tq_base::Name;
 use tq_sql::{ColumnRef, Cond, Item, Query, SourceRef, Statement, Term, What};
@@ -85,7 +85,7 @@ fn push_column<'a>(
             at,
             name: first_name(column),
             sources,
-            column: Some(column),
+            asked: Asked::Column(column),
         },
     )
 }
@@ -107,7 +107,7 @@ fn push_sources<'a>(
                 at: next,
                 name: source.table.bytes(),
                 sources: &sources[..place + 1],
-                column: None,
+                asked: Asked::Count,
             },
         )?;
         next = behind(next, source_size(source))?;
@@ -115,37 +115,87 @@ fn push_sources<'a>(
     Ok(next)
 }
 
+fn term_size(term: &Term) -> usize
+    ensures { result ≡ term_size term.now }
+{
+    match term {
+        Term::Column(column) => column_size(column),
+        Term::Int(_) => 0,
+        Term::Text(_) => 0,
+    }
+}
+
+// The first name of a term, or the other where it has none.
+fn term_name<'a>(term: &'a Term, other: &'a [u8]) -> &'a [u8]
+    ensures { result.now ≡ term_name term.entry.now other.entry.now }
+{
+    match term {
+        Term::Column(column) => first_name(column),
+        Term::Int(_) => other,
+        Term::Text(_) => other,
+    }
+}
+
 fn push_term<'a>(
     parts: &mut Vec<Part<'a>>,
     sources: &'a [SourceRef],
     at: usize,
     term: &'a Term,
-) -> Result<usize, AllocError>
-    ensures parts { OnOk result (parts_seen parts.new.items ≡ parts_seen parts.old.items ++ term_parts sources.entry.now at (term.entry.now ∷ [])) }
-    ensures behind { IfOk result (λ behind. behind ≡ behind_terms at (term.entry.now ∷ [])) }
+) -> Result<(), AllocError>
+    ensures { OnOk result (parts_seen parts.new.items ≡ parts_seen parts.old.items ++ term_parts sources.entry.now at term.entry.now) }
 {
     match term {
-        Term::Column(column) => {
-            push_column(parts, sources, at, column)?;
-            behind(at, column_size(column))
-        }
-        Term::Int(_) => Ok(at),
-        Term::Text(_) => Ok(at),
+        Term::Column(column) => push_column(parts, sources, at, column),
+        Term::Int(_) => Ok(()),
+        Term::Text(_) => Ok(()),
     }
 }
 
-fn push_terms<'a>(
+fn behind_pair(at: usize, left: &Term, right: &Term) -> Result<usize, AllocError>
+    ensures { IfOk result (λ behind. behind ≡ behind_pair at (left.now, right.now)) }
+{
+    let right_at = behind(at, term_size(left))?;
+    behind(right_at, term_size(right))
+}
+
+// Two terms that are compared: the left one, the right one, both.
+fn push_pair<'a>(
     parts: &mut Vec<Part<'a>>,
     sources: &'a [SourceRef],
     at: usize,
-    terms: &[&'a Term],
+    left: &'a Term,
+    right: &'a Term,
+) -> Result<(), AllocError>
+    ensures { OnOk result (parts_seen parts.new.items ≡ parts_seen parts.old.items ++ pair_part sources.entry.now at (left.entry.now, right.entry.now)) }
+{
+    push_term(parts, sources, at, left)?;
+    push_term(parts, sources, behind(at, term_size(left))?, right)?;
+    push_part(
+        parts,
+        Part {
+            at,
+            name: term_name(left, term_name(right, b"")),
+            sources,
+            asked: Asked::Equality(left, right),
+        },
+    )?;
+    Ok(())
+}
+
+// Each two terms that are compared; how many names stand before what follows.
+fn push_pairs<'a>(
+    parts: &mut Vec<Part<'a>>,
+    sources: &'a [SourceRef],
+    at: usize,
+    pairs: &[(&'a Term, &'a Term)],
 ) -> Result<usize, AllocError>
-    ensures parts { OnOk result (parts_seen parts.new.items ≡ parts_seen parts.old.items ++ term_parts sources.entry.now at (terms_seen terms.entry.now)) }
-    ensures behind { IfOk result (λ behind. behind ≡ behind_terms at (terms_seen terms.entry.now)) }
+    ensures parts { OnOk result (parts_seen parts.new.items ≡ parts_seen parts.old.items ++ pair_parts sources.entry.now at (pairs_seen pairs.entry.now)) }
+    ensures behind { IfOk result (λ behind. behind ≡ behind_pairs at (pairs_seen pairs.entry.now)) }
 {
     let mut next = at;
-    'terms: for term in terms {
-        next = push_term(parts, sources, next, *term)?;
+    'pairs: for pair in pairs {
+        push_pair(parts, sources, next, pair.0, pair.1)?;
+        next = behind_pair(next, pair.0, pair.1)?;
     }
     Ok(next)
 }
@@ -167,18 +217,42 @@ fn push_group<'a>(
     Ok(next)
 }
 
+// The column of a sum, and then the sum, grouped as the query is.
+fn push_sum<'a>(
+    parts: &mut Vec<Part<'a>>,
+    sources: &'a [SourceRef],
+    group: &'a [ColumnRef],
+    at: usize,
+    column: &'a ColumnRef,
+) -> Result<(), AllocError>
+    ensures { OnOk result (parts_seen parts.new.items ≡ parts_seen parts.old.items ++ column_part sources.entry.now at column.entry.now ∷ sum_part sources.entry.now group.entry.now at column.entry.now ∷ []) }
+{
+    push_column(parts, sources, at, column)?;
+    push_part(
+        parts,
+        Part {
+            at,
+            name: first_name(column),
+            sources,
+            asked: Asked::Sum(column, group),
+        },
+    )?;
+    Ok(())
+}
+
 fn push_what<'a>(
     parts: &mut Vec<Part<'a>>,
     sources: &'a [SourceRef],
+    group: &'a [ColumnRef],
     at: usize,
     what: &'a What,
 ) -> Result<(), AllocError>
-    ensures { OnOk result (parts_seen parts.new.items ≡ parts_seen parts.old.items ++ what_parts sources.entry.now at what.entry.now) }
+    ensures { OnOk result (parts_seen parts.new.items ≡ parts_seen parts.old.items ++ what_parts sources.entry.now group.entry.now at what.entry.now) }
 {
     match what {
         What::Column(column) => push_column(parts, sources, at, column),
         What::Count => Ok(()),
-        What::Sum(column) => push_column(parts, sources, at, column),
+        What::Sum(column) => push_sum(parts, sources, group, at, column),
     }
 }
 
@@ -192,14 +266,15 @@ fn behind_item(at: usize, item: &Item) -> Result<usize, AllocError>
 fn push_items<'a>(
     parts: &mut Vec<Part<'a>>,
     sources: &'a [SourceRef],
+    group: &'a [ColumnRef],
     at: usize,
     items: &'a [Item],
 ) -> Result<(), AllocError>
-    ensures { OnOk result (parts_seen parts.new.items ≡ parts_seen parts.old.items ++ item_parts sources.entry.now at items.entry.now) }
+    ensures { OnOk result (parts_seen parts.new.items ≡ parts_seen parts.old.items ++ item_parts sources.entry.now group.entry.now at items.entry.now) }
 {
     let mut next = at;
     'items: for item in items {
-        push_what(parts, sources, next, &item.what)?;
+        push_what(parts, sources, group, next, &item.what)?;
         next = behind_item(next, item)?;
     }
     Ok(())
@@ -216,21 +291,23 @@ fn behind_items(at: usize, items: &[Item]) -> Result<usize, AllocError>
 }
 
 fn push_sides<'a>(
-    terms: &mut Vec<&'a Term>,
+    pairs: &mut Vec<(&'a Term, &'a Term)>,
     left: &'a Term,
     right: &'a Term,
 ) -> Result<(), AllocError>
-    ensures { OnOk result (terms_seen terms.new.items ≡ terms_seen terms.old.items ++ right.entry.now ∷ left.entry.now ∷ []) }
+    ensures { OnOk result (pairs_seen pairs.new.items ≡ pairs_seen pairs.old.items ++ (left.entry.now, right.entry.now) ∷ []) }
 {
-    terms.push(right)?;
-    terms.push(left)?;
+    pairs.push((left, right))?;
     Ok(())
 }
 
-// The terms of a condition from the right. A chain of AND or OR is as deep as it is long, so its first parts go by a
+// What a condition compares, from the right. A chain of AND or OR is as deep as it is long, so its first parts go by a
 // loop.
-fn push_backwards<'a>(terms: &mut Vec<&'a Term>, cond: &'a Cond) -> Result<(), AllocError>
-    ensures { OnOk result (terms_seen terms.new.items ≡ terms_seen terms.old.items ++ reverse (terms_of cond.entry.now)) }
+fn push_backwards<'a>(
+    pairs: &mut Vec<(&'a Term, &'a Term)>,
+    cond: &'a Cond,
+) -> Result<(), AllocError>
+    ensures { OnOk result (pairs_seen pairs.new.items ≡ pairs_seen pairs.old.items ++ reverse (pairs_of cond.entry.now)) }
 {
     let mut part = cond;
     'parts: loop {
@@ -240,15 +317,15 @@ fn push_backwards<'a>(terms: &mut Vec<&'a Term>, cond: &'a Cond) -> Result<(), A
                 sign: _,
                 right,
             } => {
-                push_sides(terms, left, right)?;
+                push_sides(pairs, left, right)?;
                 return Ok(());
             }
             Cond::And(first, last) => {
-                push_backwards(terms, last.get())?;
+                push_backwards(pairs, last.get())?;
                 part = first.get();
             }
             Cond::Or(first, last) => {
-                push_backwards(terms, last.get())?;
+                push_backwards(pairs, last.get())?;
                 part = first.get();
             }
             Cond::Not(inner) => part = inner.get(),
@@ -256,17 +333,20 @@ fn push_backwards<'a>(terms: &mut Vec<&'a Term>, cond: &'a Cond) -> Result<(), A
     }
 }
 
-// The terms of a condition from the left.
-fn where_terms<'a>(alloc: Global, cond: Option<&'a Cond>) -> Result<Vec<&'a Term>, AllocError>
-    ensures { IfOk result (λ terms. terms_seen terms.items ≡ where_terms (option_copied cond.entry)) }
+// What a condition compares, from the left.
+fn where_pairs<'a>(
+    alloc: Global,
+    cond: Option<&'a Cond>,
+) -> Result<Vec<(&'a Term, &'a Term)>, AllocError>
+    ensures { IfOk result (λ pairs. pairs_seen pairs.items ≡ where_pairs (option_copied cond.entry)) }
 {
-    let mut terms = Vec::new(alloc);
+    let mut pairs = Vec::new(alloc);
     let Some(cond) = cond else {
-        return Ok(terms);
+        return Ok(pairs);
     };
-    push_backwards(&mut terms, cond)?;
-    terms.reverse();
-    Ok(terms)
+    push_backwards(&mut pairs, cond)?;
+    pairs.reverse();
+    Ok(pairs)
 }
 
 // The parts of a query in the order in which they are looked up; how many names stand before what follows.
@@ -281,12 +361,13 @@ fn push_query<'a>(
 {
     let sources = query.sources.get();
     let items = query.items.get();
-    let terms = where_terms(alloc, query.cond.as_ref())?;
+    let pairs = where_pairs(alloc, query.cond.as_ref())?;
     let sources_at = behind_items(at, items)?;
     let where_at = push_sources(parts, sources_at, sources)?;
-    let group_at = push_terms(parts, sources, where_at, &terms)?;
-    let behind = push_group(parts, sources, group_at, query.group.get())?;
-    push_items(parts, sources, at, items)?;
+    let group_at = push_pairs(parts, sources, where_at, &pairs)?;
+    let group = query.group.get();
+    let behind = push_group(parts, sources, group_at, group)?;
+    push_items(parts, sources, group, at, items)?;
     Ok(behind)
 }
 

@@ -1,11 +1,11 @@
 // What is told of a statement that means nothing over the tables.
 
 ghost use Rattle.std.specs.Prelude.{◌≡◌, ◌<◌, ◌==◌, ◌++◌, IfOk, IfSome, OnOk, length, option_copied, position};
-ghost use Rattle.tq_explain.specs.PlanDetails.{IsPlanDetail, IsRead, is_bad_window, part_detail, plan_detail, pointed_quote, source_named, there_is, window_detail, window_line};
-ghost use Rattle.tq_explain.specs.Seen.{part_seen, seen};
+ghost use Rattle.tq_explain.specs.PlanDetails.{IsPlanDetail, IsRead, is_bad_window, part_detail, plan_detail, pointed_quote, rule_line, source_named, there_is, window_detail, window_line};
+ghost use Rattle.tq_explain.specs.Seen.{asked_seen, part_seen, seen};
 
-use crate::asking::{Part, first_refused};
-use crate::listing::{push_having, push_sources, push_tables, push_unknown};
+use crate::asking::{Asked, Part, first_refused};
+use crate::listing::{push_having, push_mismatch, push_sources, push_tables, push_unknown};
 use crate::parts::statement_parts;
 use crate::places::push_pointed_name;
 use crate::pointing::push_pointed;
@@ -13,19 +13,21 @@ use std::alloc::{AllocError, Global};
 use tq_base::{Catalogue, Form, Name};
 use tq_plan::PlanFault;
 use tq_sql::laws::{faults_are_refusals, statements_are_unique};
-use tq_sql::{ColumnRef, SqlFaultKind, Statement, read};
+use tq_sql::{SqlFaultKind, Statement, read};
 
 // The source that a column names.
-fn source_named<'a>(column: Option<&'a ColumnRef>) -> Option<&'a Name>
-    ensures { option_copied result ≡ source_named (option_copied column.entry) }
+fn source_named<'a>(asked: &Asked<'a>) -> Option<&'a Name>
+    ensures { option_copied result ≡ source_named (asked_seen asked.now) }
 {
-    match column {
-        Some(column) => column.source.as_ref(),
-        None => None,
+    match asked {
+        Asked::Count => None,
+        Asked::Column(column) => column.source.as_ref(),
+        Asked::Sum(_, _) => None,
+        Asked::Equality(_, _) => None,
     }
 }
 
-// What there is where this part has this fault.
+// What there is, or what is wrong, where this part has this fault.
 fn push_there_is(
     alloc: Global,
     text: &mut Vec<u8>,
@@ -42,19 +44,46 @@ fn push_there_is(
             text,
             catalogue,
             part.sources,
-            source_named(part.column),
+            source_named(&part.asked),
         ),
         PlanFault::AmbiguousColumn => {
-            push_having(alloc, text, catalogue, part.sources, part.column)
+            push_having(alloc, text, catalogue, part.sources, &part.asked)
         }
         PlanFault::DuplicateAlias => push_sources(alloc, text, part.sources),
-        PlanFault::TypeMismatch => Ok(()),
+        PlanFault::TypeMismatch => {
+            push_mismatch(alloc, text, catalogue, part.sources, &part.asked)
+        }
         PlanFault::NotGrouped => Ok(()),
-        PlanFault::SumNeedsGroup => Ok(()),
-        PlanFault::SumOfText => Ok(()),
+        PlanFault::SumNeedsGroup => text.extend_from_slice(b"  a sum needs GROUP BY\n"),
+        PlanFault::SumOfText => {
+            text.extend_from_slice(b"  a sum takes numbers, and this column holds texts\n")
+        }
         PlanFault::UnequalColumns => Ok(()),
         PlanFault::BadWindow => Ok(()),
         PlanFault::OutOfMemory => Ok(()),
+    }
+}
+
+// What would be right, where no part has this fault by itself.
+fn rule_line(fault: PlanFault) -> &'static [u8]
+    ensures { result.now ≡ rule_line fault }
+{
+    match fault {
+        PlanFault::UnknownTable => b"",
+        PlanFault::UnknownColumn => b"",
+        PlanFault::AmbiguousColumn => b"",
+        PlanFault::DuplicateAlias => b"",
+        PlanFault::TypeMismatch => b"",
+        PlanFault::NotGrouped => {
+            b"  beside GROUP BY, a count or a sum stand only columns of GROUP BY\n"
+        }
+        PlanFault::SumNeedsGroup => b"",
+        PlanFault::SumOfText => b"",
+        PlanFault::UnequalColumns => {
+            b"  both sides of EXCEPT ALL have as many columns, numbers and texts in the same order\n"
+        }
+        PlanFault::BadWindow => b"",
+        PlanFault::OutOfMemory => b"",
     }
 }
 
@@ -70,7 +99,7 @@ fn push_part_detail(
     ensures { OnOk result (text.new.items ≡ text.old.items ++ part_detail catalogue.now bytes.now fault (part_seen part.entry)) }
 {
     let Some(part) = part else {
-        return Ok(());
+        return text.extend_from_slice(rule_line(fault));
     };
     push_pointed_name(alloc, text, bytes, part.at, part.name)?;
     push_there_is(alloc, text, catalogue, fault, &part)

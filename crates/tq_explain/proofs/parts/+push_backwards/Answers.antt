@@ -1,14 +1,14 @@
 use Rattle.std.proofs.Common.{◌∙◌, List, ◌++◌, ap, sym, arith, reverse}
 use Rattle.tq_sql.specs.declared.statement.Term.{Term}
-use Rattle.tq_explain.specs.Parts.{terms_of}
-use Rattle.tq_explain.specs.Seen.{terms_seen}
-use Rattle.tq_explain.proofs.Terms.{first_next, terms_of-Is, terms_of-And, terms_of-Or, terms_of-Not, weight, weight-And, weight-Or, weight-Not}
+use Rattle.tq_explain.specs.Parts.{pairs_of}
+use Rattle.tq_explain.specs.Seen.{pairs_seen}
+use Rattle.tq_explain.proofs.Compared.{first_next, pairs_of-Is, pairs_of-And, pairs_of-Or, pairs_of-Not, weight, weight-And, weight-Or, weight-Not}
 use Rattle.tq_explain.proofs.parts.+push_backwards.Goals as goal
 
 pub returns-in-Is : goal.returns-in-Is
 returns-in-Is t c =
     c.in_ok-push_sides-in-Is.ensures
-    ∙ ap (λ (p : List Term). terms_seen c.parts.terms.items ++ reverse p) (sym (ap terms_of c.in-Is.is ∙ terms_of-Is c.in-Is.left c.in-Is.sign c.in-Is.right))
+    ∙ ap (λ (p : List (Term × Term)). pairs_seen c.parts.pairs.items ++ reverse p) (sym (ap pairs_of c.in-Is.is ∙ pairs_of-Is c.in-Is.left c.in-Is.sign c.in-Is.right))
     ∙ c.parts.invariant.leads_back
 
 pub push_backwards-requires : goal.push_backwards-requires
@@ -21,12 +21,12 @@ parts-smaller-in-And t c = omega (arith, ap weight c.in-And.is, weight-And c.in-
 pub parts-preserved-in-And : goal.parts-preserved-in-And
 parts-preserved-in-And t c = record {
   no_deeper = omega (arith, c.parts.invariant.no_deeper, ap weight c.in-And.is, weight-And c.in-And.first c.in-And.last, ap weight c.get-part.ensures);
-  leads_back = first_next (terms_seen c.parts.terms.items) (terms_seen c.push_backwards.new.terms.items) _
-      (terms_of c.get-part.result.now) (terms_of c.get.result.now) (terms_of c.parts.part.now)
+  leads_back = first_next (pairs_seen c.parts.pairs.items) (pairs_seen c.push_backwards.new.pairs.items) _
+      (pairs_of c.get-part.result.now) (pairs_of c.get.result.now) (pairs_of c.parts.part.now)
       c.in_ok-push_backwards-in-And.ensures
-      (ap terms_of c.in-And.is ∙ terms_of-And c.in-And.first c.in-And.last
-      ∙ ap (λ a. terms_of a ++ terms_of c.in-And.last) (sym c.get-part.ensures)
-      ∙ ap (λ b. terms_of c.get-part.result.now ++ terms_of b) (sym c.get.ensures))
+      (ap pairs_of c.in-And.is ∙ pairs_of-And c.in-And.first c.in-And.last
+      ∙ ap (λ a. pairs_of a ++ pairs_of c.in-And.last) (sym c.get-part.ensures)
+      ∙ ap (λ b. pairs_of c.get-part.result.now ++ pairs_of b) (sym c.get.ensures))
       c.parts.invariant.leads_back;
 }
 
@@ -40,12 +40,12 @@ parts-smaller-in-Or t c = omega (arith, ap weight c.in-Or.is, weight-Or c.in-Or.
 pub parts-preserved-in-Or : goal.parts-preserved-in-Or
 parts-preserved-in-Or t c = record {
   no_deeper = omega (arith, c.parts.invariant.no_deeper, ap weight c.in-Or.is, weight-Or c.in-Or.first c.in-Or.last, ap weight c.get-part-in-Or.ensures);
-  leads_back = first_next (terms_seen c.parts.terms.items) (terms_seen c.push_backwards-in-Or.new.terms.items) _
-      (terms_of c.get-part-in-Or.result.now) (terms_of c.get-in-Or.result.now) (terms_of c.parts.part.now)
+  leads_back = first_next (pairs_seen c.parts.pairs.items) (pairs_seen c.push_backwards-in-Or.new.pairs.items) _
+      (pairs_of c.get-part-in-Or.result.now) (pairs_of c.get-in-Or.result.now) (pairs_of c.parts.part.now)
       c.in_ok-push_backwards-in-Or.ensures
-      (ap terms_of c.in-Or.is ∙ terms_of-Or c.in-Or.first c.in-Or.last
-      ∙ ap (λ a. terms_of a ++ terms_of c.in-Or.last) (sym c.get-part-in-Or.ensures)
-      ∙ ap (λ b. terms_of c.get-part-in-Or.result.now ++ terms_of b) (sym c.get-in-Or.ensures))
+      (ap pairs_of c.in-Or.is ∙ pairs_of-Or c.in-Or.first c.in-Or.last
+      ∙ ap (λ a. pairs_of a ++ pairs_of c.in-Or.last) (sym c.get-part-in-Or.ensures)
+      ∙ ap (λ b. pairs_of c.get-part-in-Or.result.now ++ pairs_of b) (sym c.get-in-Or.ensures))
       c.parts.invariant.leads_back;
 }
 
@@ -55,7 +55,7 @@ parts-smaller t c = omega (arith, ap weight c.in-Not.is, weight-Not c.in-Not.inn
 pub parts-preserved : goal.parts-preserved
 parts-preserved t c = record {
   no_deeper = omega (arith, c.parts.invariant.no_deeper, ap weight c.in-Not.is, weight-Not c.in-Not.inner, ap weight c.get-part-in-Not.ensures);
-  leads_back = ap (λ (p : List Term). terms_seen c.parts.terms.items ++ reverse p)
-      (ap terms_of c.get-part-in-Not.ensures ∙ sym (ap terms_of c.in-Not.is ∙ terms_of-Not c.in-Not.inner))
+  leads_back = ap (λ (p : List (Term × Term)). pairs_seen c.parts.pairs.items ++ reverse p)
+      (ap pairs_of c.get-part-in-Not.ensures ∙ sym (ap pairs_of c.in-Not.is ∙ pairs_of-Not c.in-Not.inner))
       ∙ c.parts.invariant.leads_back;
 }

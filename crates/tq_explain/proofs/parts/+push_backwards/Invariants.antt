@@ -1,7 +1,7 @@
 use Rattle.std.proofs.Common.{◌≡◌, ◌≤◌, ◌++◌, reverse}
-use Rattle.tq_explain.specs.Parts.{terms_of}
-use Rattle.tq_explain.specs.Seen.{terms_seen}
-use Rattle.tq_explain.proofs.Terms.{weight}
+use Rattle.tq_explain.specs.Parts.{pairs_of}
+use Rattle.tq_explain.specs.Seen.{pairs_seen}
+use Rattle.tq_explain.proofs.Compared.{weight}
 use Rattle.tq_explain.proofs.parts.+push_backwards.Given as goal
 
 abbrev pub decreases-push_backwards : goal.decreases-push_backwards
@@ -13,5 +13,5 @@ decreases-parts l = weight l.part
 abbrev pub invariant-parts : goal.invariant-parts
 invariant-parts l = record {
   no_deeper : weight l.part ≤ weight l.fn.cond;
-  leads_back : terms_seen l.terms.items ++ reverse (terms_of l.part) ≡ terms_seen l.initial.terms.items ++ reverse (terms_of l.fn.cond);
+  leads_back : pairs_seen l.pairs.items ++ reverse (pairs_of l.part) ≡ pairs_seen l.initial.pairs.items ++ reverse (pairs_of l.fn.cond);
 }

@@ -1,4 +1,4 @@
--- The terms of a condition, part by part.
+-- What a condition compares, part by part.
 use Rattle.std.proofs.Common.{◌≡◌, ◌∙◌, ℕ, ◌+◌, List, [], ◌∷◌, ◌++◌, ap, sym, refl, map, reverse, append_assoc}
 use Rattle.std.proofs.lemmas.List.{map-append, reverse-append, reverse-reverse}
 use Rattle.tq_sql.specs.declared.statement.Cond.{Cond, fold-Cond}
@@ -7,24 +7,24 @@ use Rattle.tq_sql.specs.declared.statement.Cond.TheOpen.{Cond-F}
 use Rattle.tq_sql.specs.declared.statement.Cond.TheVariants.{Is, And, Or, Not, rolls-Is, rolls-And, rolls-Or, rolls-Not}
 use Rattle.tq_sql.specs.declared.statement.Sign.{Sign}
 use Rattle.tq_sql.specs.declared.statement.Term.{Term}
-use Rattle.tq_explain.specs.Parts.{terms_of, terms_step}
+use Rattle.tq_explain.specs.Parts.{pairs_of, pairs_step}
 
-pub terms_of-Is : (left : Term) (sign : Sign) (right : Term) → terms_of (Is left sign right) ≡ left ∷ right ∷ []
-unfolding terms_of
-terms_of-Is left sign right =
-    ap (λ c. fold-Cond (List Term) terms_step c) (sym (rolls-Is left sign right)) ∙ fold-roll-Cond (List Term) terms_step (Cond-F.Is left sign right)
+pub pairs_of-Is : (left : Term) (sign : Sign) (right : Term) → pairs_of (Is left sign right) ≡ (left, right) ∷ []
+unfolding pairs_of
+pairs_of-Is left sign right =
+    ap (λ c. fold-Cond (List (Term × Term)) pairs_step c) (sym (rolls-Is left sign right)) ∙ fold-roll-Cond (List (Term × Term)) pairs_step (Cond-F.Is left sign right)
 
-pub terms_of-And : (a b : Cond) → terms_of (And a b) ≡ terms_of a ++ terms_of b
-unfolding terms_of
-terms_of-And a b = ap (λ c. fold-Cond (List Term) terms_step c) (sym (rolls-And a b)) ∙ fold-roll-Cond (List Term) terms_step (Cond-F.And a b)
+pub pairs_of-And : (a b : Cond) → pairs_of (And a b) ≡ pairs_of a ++ pairs_of b
+unfolding pairs_of
+pairs_of-And a b = ap (λ c. fold-Cond (List (Term × Term)) pairs_step c) (sym (rolls-And a b)) ∙ fold-roll-Cond (List (Term × Term)) pairs_step (Cond-F.And a b)
 
-pub terms_of-Or : (a b : Cond) → terms_of (Or a b) ≡ terms_of a ++ terms_of b
-unfolding terms_of
-terms_of-Or a b = ap (λ c. fold-Cond (List Term) terms_step c) (sym (rolls-Or a b)) ∙ fold-roll-Cond (List Term) terms_step (Cond-F.Or a b)
+pub pairs_of-Or : (a b : Cond) → pairs_of (Or a b) ≡ pairs_of a ++ pairs_of b
+unfolding pairs_of
+pairs_of-Or a b = ap (λ c. fold-Cond (List (Term × Term)) pairs_step c) (sym (rolls-Or a b)) ∙ fold-roll-Cond (List (Term × Term)) pairs_step (Cond-F.Or a b)
 
-pub terms_of-Not : (a : Cond) → terms_of (Not a) ≡ terms_of a
-unfolding terms_of
-terms_of-Not a = ap (λ c. fold-Cond (List Term) terms_step c) (sym (rolls-Not a)) ∙ fold-roll-Cond (List Term) terms_step (Cond-F.Not a)
+pub pairs_of-Not : (a : Cond) → pairs_of (Not a) ≡ pairs_of a
+unfolding pairs_of
+pairs_of-Not a = ap (λ c. fold-Cond (List (Term × Term)) pairs_step c) (sym (rolls-Not a)) ∙ fold-roll-Cond (List (Term × Term)) pairs_step (Cond-F.Not a)
 
 abbrev pub weight_step : Cond-F ℕ → ℕ
 weight_step (Cond-F.Is left sign right) = 0
@@ -48,16 +48,16 @@ pub weight-Not : (a : Cond) → weight (Not a) ≡ weight a + 1
 unfolding weight
 weight-Not a = ap (λ c. fold-Cond ℕ weight_step c) (sym (rolls-Not a)) ∙ fold-roll-Cond ℕ weight_step (Cond-F.Not a)
 
--- ---- the terms from the right
+-- ---- the pairs from the right
 
--- behind the terms of the last part, from the right, stand those of the first
-pub first_next : (before after all first last whole : List Term) → after ≡ before ++ reverse last → whole ≡ first ++ last
+-- behind the pairs of the last part, from the right, stand those of the first
+pub first_next : (before after all first last whole : List (Term × Term)) → after ≡ before ++ reverse last → whole ≡ first ++ last
     → before ++ reverse whole ≡ all → after ++ reverse first ≡ all
 first_next before after all first last whole pushed is leads =
-    ap (λ (l : List Term). l ++ reverse first) pushed
+    ap (λ (l : List (Term × Term)). l ++ reverse first) pushed
     ∙ append_assoc before (reverse last) (reverse first)
-    ∙ ap (λ (l : List Term). before ++ l) (sym (reverse-append first last))
-    ∙ ap (λ (l : List Term). before ++ reverse l) (sym is)
+    ∙ ap (λ (l : List (Term × Term)). before ++ l) (sym (reverse-append first last))
+    ∙ ap (λ (l : List (Term × Term)). before ++ reverse l) (sym is)
     ∙ leads
 
 map_reverse : {X Y : Type 0} (f : X → Y) (l : List X) → map f (reverse l) ≡ reverse (map f l)
@@ -68,11 +68,11 @@ map_reverse f (x ∷ l) =
     ∙ ap (λ m. m ++ f x ∷ []) (map_reverse f l)
     ∙ sym (reverse-append (f x ∷ []) (map f l))
 
--- terms that were pushed from the right, turned round
-pub turned : {X : Type 0} (f : X → Term) (new pushed old : List X) (terms : List Term) → new ≡ reverse pushed
-    → map f pushed ≡ map f old ++ reverse terms → old ≡ [] → map f new ≡ terms
-turned f new pushed old terms is all none =
+-- pairs that were pushed from the right, turned round
+pub turned : {X : Type 0} (f : X → Term × Term) (new pushed old : List X) (pairs : List (Term × Term)) → new ≡ reverse pushed
+    → map f pushed ≡ map f old ++ reverse pairs → old ≡ [] → map f new ≡ pairs
+turned f new pushed old pairs is all none =
     ap (map f) is
     ∙ map_reverse f pushed
-    ∙ ap reverse (all ∙ ap (λ o. map f o ++ reverse terms) none)
-    ∙ reverse-reverse terms
+    ∙ ap reverse (all ∙ ap (λ o. map f o ++ reverse pairs) none)
+    ∙ reverse-reverse pairs
