@@ -495,7 +495,28 @@ def explanations():
     yield Case("a fault of a statement in a terminal", [*emp, statement], err=line + detail, status=1, terminal=True)
     picture = ["draw", "--explain", "--table", "emp=examples/emp.csv", statement]
     yield Case("a fault of a picture's statement, explained", picture, err=line + detail, status=1)
-    yield Case("a fault of a plan, explained", [*emp, "--explain", "VALIDTIME SELECT age FROM emp"], err=b"tq: plan UnknownColumn\n", status=1)
+    yield Case("a fault of a plan in a pipe", [*emp, "VALIDTIME SELECT age FROM emp"], err=b"tq: plan UnknownColumn\n", status=1)
+    for asked, kind, shown in (
+        ("VALIDTIME SELECT age FROM emp", "UnknownColumn", (" " * 17 + "^", "columns of emp:  emp  name  dept")),
+        ("VALIDTIME SELECT x.name FROM emp x, emp y WHERE x.name = 'y' AND name = 'z'", "AmbiguousColumn", (" " * 65 + "^", "sources that have it:  x  y")),
+        ("VALIDTIME SELECT name FROM emp, boss", "UnknownTable", (" " * 32 + "^", "tables:  emp")),
+        ("VALIDTIME SELECT COUNT(*) FROM emp x, emp x", "DuplicateAlias", (" " * 38 + "^", "sources:  x  x")),
+        ("VALIDTIME SELECT name FROM emp WHERE name = 3", "TypeMismatch", (" " * 37 + "^", "a text is compared with a number")),
+        ("VALIDTIME SELECT SUM(emp) FROM emp", "SumNeedsGroup", (" " * 21 + "^", "a sum needs GROUP BY")),
+        ("VALIDTIME SELECT SUM(name) FROM emp GROUP BY dept", "SumOfText", (" " * 21 + "^", "a sum takes numbers, and this column holds texts")),
+        ("VALIDTIME PERIOD '[2 - 1)' SELECT name FROM emp", "BadWindow", (" " * 17 + "^", "a window is written '[10 - 20)' or '[10 - forever)', with its start before its end")),
+    ):
+        detail = "".join(f"  {line}\n" for line in (asked, *shown)).encode()
+        line = b"tq: plan " + kind.encode() + b"\n"
+        for terminal, words in ((False, [*emp, "--explain", asked]), (True, [*emp, asked])):
+            yield Case(f"a {kind} explained, terminal: {terminal}", words, err=line + detail, status=1, terminal=terminal)
+    for asked, kind, rule in (
+        ("VALIDTIME SELECT name, COUNT(*) FROM emp", b"NotGrouped", b"beside GROUP BY, a count or a sum stand only columns of GROUP BY"),
+        ("VALIDTIME SELECT name FROM emp EXCEPT ALL SELECT emp FROM emp", b"UnequalColumns", b"both sides of EXCEPT ALL have as many columns, numbers and texts in the same order"),
+    ):
+        yield Case(f"{asked} explained", [*emp, "--explain", asked], err=b"tq: plan " + kind + b"\n  " + rule + b"\n", status=1)
+    piped = ["ask", "--explain", "--table", "emp=-", "VALIDTIME SELECT emp.age FROM emp"]
+    yield Case("a fault of a plan over standard input", piped, taken=b"\n\nemp:int,name:text,from,to\r\n1,ann,1,2\r\n", err=b"tq: plan UnknownColumn\n  VALIDTIME SELECT emp.age FROM emp\n                   ^\n  columns of emp:  emp  name\n", status=1)
     yield Case("an answer in a terminal", [*emp, "--explain", ALL_NAMES], out=NAMES, terminal=True)
     for words, reason in (
         ([*emp, "--workers", "17", ALL_NAMES], b"--workers takes 1 to 16"),

@@ -1,3 +1,4 @@
 pub mod CommandLine
+pub mod Heads
 pub mod Report
 pub mod Words

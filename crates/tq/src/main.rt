@@ -10,10 +10,12 @@
 #![tactic(auto)]
 
 ghost use Rattle.std.specs.Prelude.{◌≡◌, ◌≢◌, IfErr, IfOk, map};
+ghost use Rattle.tq.specs.Report.{refused_answer};
 ghost use Rattle.tq.specs.declared.command_line.TableOption.{TableOption as AnyOption};
 ghost use Rattle.tq_event.specs.declared.file.TableFile.{TableFile as AnyFile};
 
 mod command_line;
+mod heads;
 mod prompt;
 mod report;
 mod words;
@@ -21,9 +23,10 @@ mod words;
 use command_line::{
     AskRequest, CheckRequest, DrawRequest, Request, SessionRequest, TableOption, read_command_line,
 };
+use heads::{catalogue_of, heads_of};
 use prompt::Prompted;
 use report::{Refusal, Told};
-use std::alloc::AllocError;
+use std::alloc::{AllocError, Global};
 use std::env::Env;
 use std::io::{ErrorKind, Input, IsTerminal, Write};
 use std::process::ExitCode;
@@ -31,11 +34,12 @@ use std::rt::Files;
 use std::sync::Wait;
 use std::thread::Threads;
 use std::{fs, io, str};
-use tq_base::Items;
+use tq_base::{Form, Items};
 use tq_check::check;
 use tq_draw::{draw, draw_svg};
 use tq_engine::{AnswerFault, FileFault, Source, answer, answer_bytes, read_file};
 use tq_event::TableFile;
+use tq_plan::PlanFault;
 use tq_session::session;
 use tq_table::Sink;
 use words::read_words;
@@ -90,6 +94,50 @@ fn read_tables<R: Files + AllocGlobal + Input>(
     Ok(tables)
 }
 
+// The heads of the files, where a fault of the plan is to be explained; none where there is no memory for them.
+fn heads_where(alloc: Global, tables: &[TableFile], explain: bool) -> Option<Vec<TableFile>> {
+    if !explain {
+        return None;
+    }
+    heads_of(alloc, tables).ok()
+}
+
+// The refusal of a question whose plan has this fault, explained where the tables can be told from these heads.
+fn refused_plan(
+    alloc: Global,
+    fault: PlanFault,
+    heads: Option<Vec<TableFile>>,
+    statement: &[u8],
+    form: Form,
+) -> Told
+    ensures { result.refusal ≡ Refusal.Plan fault }
+{
+    let Some(heads) = heads else {
+        return Told::of_answer(alloc, AnswerFault::Plan(fault), statement, false);
+    };
+    let Some(catalogue) = catalogue_of(alloc, heads, form) else {
+        return Told::of_answer(alloc, AnswerFault::Plan(fault), statement, false);
+    };
+    Told::of_plan(alloc, fault, statement, &catalogue, form)
+}
+
+// The refusal of a question over tables whose files have these heads.
+fn refused(
+    alloc: Global,
+    fault: AnswerFault,
+    heads: Option<Vec<TableFile>>,
+    statement: &[u8],
+    form: Form,
+    explain: bool,
+) -> Told
+    ensures { result.refusal ≡ refused_answer fault }
+{
+    match fault {
+        AnswerFault::Plan(plan_fault) => refused_plan(alloc, plan_fault, heads, statement, form),
+        _ => Told::of_answer(alloc, fault, statement, explain),
+    }
+}
+
 // Answers a request on standard output, once all files are read. What a refusal is about is explained where a person
 // sees it, or where that was asked for.
 fn ask<R: Files + AllocGlobal + Input + Print + Threads + Sync>(
@@ -104,11 +152,13 @@ fn ask<R: Files + AllocGlobal + Input + Print + Threads + Sync>(
         statement,
         explain,
     } = request;
+    let explain = explain || seen;
     let tables = read_tables(rt, options)?;
+    let heads = heads_where(rt.alloc(), &tables, explain);
     let mut sink = Sink::over(io::writer(rt));
     match answer_bytes(rt, rt.alloc(), tables, &statement, workers, &mut sink, form) {
         Ok(()) => Ok(()),
-        Err(fault) => Err(Told::of_answer(rt.alloc(), fault, &statement, explain || seen)),
+        Err(fault) => Err(refused(rt.alloc(), fault, heads, &statement, form, explain)),
     }
 }
 
@@ -126,7 +176,9 @@ fn draw_answer<R: Files + AllocGlobal + Input + Print + Threads + Sync>(
         statement,
         explain,
     } = ask;
+    let explain = explain || seen;
     let tables = read_tables(rt, options)?;
+    let heads = heads_where(rt.alloc(), &tables, explain);
     match answer(rt, rt.alloc(), tables, &statement, workers, form) {
         Ok(table) => {
             let picture = if svg {
@@ -136,7 +188,7 @@ fn draw_answer<R: Files + AllocGlobal + Input + Print + Threads + Sync>(
             };
             Ok(print_bytes(rt, &picture)?)
         }
-        Err(fault) => Err(Told::of_answer(rt.alloc(), fault, &statement, explain || seen)),
+        Err(fault) => Err(refused(rt.alloc(), fault, heads, &statement, form, explain)),
     }
 }
 

@@ -3,15 +3,17 @@
 ghost use Rattle.std.specs.Prelude.{◌≡◌, false, IfSome, None, OnOk};
 ghost use Rattle.std.specs.Io.KnownBytes.{Appends};
 ghost use Rattle.std.specs.Process.{exit_status};
+ghost use Rattle.tq_explain.specs.PlanDetails.{IsPlanDetail};
 ghost use Rattle.tq.specs.Report.{IsAnswerDetail, line_of, refused_answer, refused_command_line, refused_file, refused_session, status_of};
 
 use crate::command_line::{CommandLineFault, Misread};
 use std::alloc::{AllocError, Global};
 use std::io::{self, Write};
 use std::process::ExitCode;
+use tq_base::{Catalogue, Form};
 use tq_engine::{AnswerFault, FileFault, load_name, plan_name, sql_name};
 use tq_event::LoadFault;
-use tq_explain::explain_statement;
+use tq_explain::{explain_plan, explain_statement};
 use tq_plan::PlanFault;
 use tq_session::SessionFault;
 use tq_sql::SqlFault;
@@ -188,6 +190,18 @@ impl Told {
         Told {
             refusal: Refusal::from(fault),
             detail,
+        }
+    }
+
+    /// The refusal of a question whose plan has this fault, explained over the tables, instants
+    /// written in the form.
+    pub fn of_plan(alloc: Global, fault: PlanFault, statement: &[u8], catalogue: &Catalogue) -> Told
+        ensures refusal { result.refusal ≡ Refusal.Plan fault }
+        ensures detail { IfSome result.detail (λ text. IsPlanDetail form catalogue.now statement.now fault text.items) }
+    {
+        Told {
+            refusal: Refusal::Plan(fault),
+            detail: explain_plan(alloc, statement, catalogue, fault, form).ok(),
         }
     }
 

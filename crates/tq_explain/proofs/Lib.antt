@@ -1,1 +1,3 @@
+pub mod Compared
+pub mod MadeOnce
 pub mod Tellings

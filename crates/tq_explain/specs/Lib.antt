@@ -1,4 +1,10 @@
+pub mod Asking
 pub mod Details
 pub mod Expected
 pub mod Hints
+pub mod Listing
+pub mod NamePlaces
+pub mod Parts
+pub mod PlanDetails
 pub mod Pointing
+pub mod Seen

@@ -76,14 +76,14 @@ const SIGNS: [(&[u8], &[u8]); 10] = [
     (b"||", b"texts are compared, and not put together"),
 ];
 
-fn is_word_byte(byte: u8) -> bool
+pub(crate) fn is_word_byte(byte: u8) -> bool
     ensures { result ≡ is_name_byte byte }
 {
     byte.is_ascii_alphanumeric() || byte == b'_'
 }
 
 // How many bytes from the front on belong to a word.
-fn word_length(bytes: &[u8]) -> usize
+pub(crate) fn word_length(bytes: &[u8]) -> usize
     ensures value { result ≡ prefix_len is_name_byte bytes.now }
     ensures within { result ≤ length bytes.now }
 {

@@ -4,11 +4,21 @@
 //! wrong there: the language's own spelling where another language's was written, and what a statement may go on with.
 //! The latter is no second grammar: each word and sign of the language is tried at the place by reading what stands
 //! before it and then the sample (`read` in `tq_sql`), and is told just where that reading does not stop at the sample.
+//!
+//! `explain_plan` shows the line of a statement that means nothing over the tables, with a caret below the name at fault,
+//! and says what there is. It is no second planner: the parts of the statement are planned by themselves (`plan` in
+//! `tq_plan`), and the first that has the very fault is at fault.
 #![tactic(auto)]
 
+mod asking;
 mod expected;
 mod hints;
+mod listing;
+mod parts;
+mod places;
+mod plans;
 mod pointing;
 mod statements;
 
+pub use plans::explain_plan;
 pub use statements::explain_statement;

@@ -5,7 +5,7 @@ use std::alloc::{AllocError, Global};
 use std::fmt::Write;
 use std::str;
 use tq_base::{Catalogue, Form};
-use tq_explain::explain_statement;
+use tq_explain::{explain_plan, explain_statement};
 use tq_ops::Test;
 use tq_plan::{Plan, PlanFault, plan};
 use tq_sql::read;
@@ -100,6 +100,14 @@ pub(crate) fn ask(
     }
 }
 
+// The lines of a detail.
+fn tell_detail(detail: &[u8], out: &mut String) -> Result<(), AllocError> {
+    for line in str::from_utf8(detail).unwrap_or("no text").lines() {
+        writeln!(out, "    {line}")?;
+    }
+    Ok(())
+}
+
 /// What is told of the statement's text, if it is none.
 pub(crate) fn ask_detail(
     alloc: Global,
@@ -110,11 +118,27 @@ pub(crate) fn ask_detail(
     let Err(fault) = read(alloc, text.as_bytes()) else {
         return tell_nothing(out);
     };
-    let detail = explain_statement(alloc, text.as_bytes(), fault)?;
-    for line in str::from_utf8(&detail).unwrap_or("no text").lines() {
-        writeln!(out, "    {line}")?;
+    tell_detail(&explain_statement(alloc, text.as_bytes(), fault)?, out)
+}
+
+/// What is told of the fault of the statement over the tables, if it is a statement and has one.
+pub(crate) fn ask_plan_detail(
+    alloc: Global,
+    catalogue: &Catalogue,
+    statement: &str,
+    form: Form,
+    out: &mut String,
+) -> Result<(), AllocError> {
+    match planned(alloc, catalogue, statement, form)? {
+        Some(Err(fault)) => {
+            let text = text_of(alloc, statement)?;
+            tell_detail(
+                &explain_plan(alloc, text.as_bytes(), catalogue, fault, form)?,
+                out,
+            )
+        }
+        _ => tell_nothing(out),
     }
-    Ok(())
 }
 
 /// From when until when a statement asks in which the text stands after PERIOD, or one without PERIOD.

@@ -14,6 +14,7 @@
 //!     copy STATEMENT               whether the copy of its plan is the plan
 //!     faults                       the numbers and names of the faults
 //!     explain STATEMENT            what is told of its text, if it is no statement
+//!     why STATEMENT                what is told of its fault over the tables, if it has one
 //!
 //! In a statement \n and \t are the control characters. Tables, sources, columns and sides are numbered from 0. Other
 //! lines are copied.

@@ -1,6 +1,6 @@
 //! The tables of a script, over which statements are planned.
 
-use crate::asking::{Asked, ask, ask_chain, ask_detail, ask_window};
+use crate::asking::{Asked, ask, ask_chain, ask_detail, ask_plan_detail, ask_window};
 use crate::telling::{tell_faults, tell_nothing};
 use std::alloc::{AllocError, Global};
 use std::fmt::Write;
@@ -131,6 +131,7 @@ impl Session {
             "load" => self.load(alloc, out),
             "faults" => tell_faults(out),
             "explain" => ask_detail(alloc, rest, out),
+            "why" => ask_plan_detail(alloc, &self.catalogue, rest, Form::Numbers, out),
             _ => self.answer(alloc, word, rest, out),
         }
     }
