@@ -1,4 +1,7 @@
 pub mod Details
 pub mod Expected
+pub mod Fields
+pub mod Files
 pub mod Hints
 pub mod Pointing
+pub mod Records

@@ -4,11 +4,18 @@
 //! wrong there: the language's own spelling where another language's was written, and what a statement may go on with.
 //! The latter is no second grammar: each word and sign of the language is tried at the place by reading what stands
 //! before it and then the sample (`read` in `tq_sql`), and is told just where that reading does not stop at the sample.
+//!
+//! `explain_file` finds the record of a file that is at fault once more, tells its line, and the first field that is no
+//! value of its column, or the period, as the file's reader (`tq_event`) finds them.
 #![tactic(auto)]
 
 mod expected;
+mod fields;
+mod files;
 mod hints;
 mod pointing;
+mod records;
 mod statements;
 
+pub use files::explain_file;
 pub use statements::explain_statement;
