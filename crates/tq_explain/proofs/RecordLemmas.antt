@@ -1,7 +1,8 @@
 -- The records of a text, one after another.
-use Rattle.std.proofs.Common.{◌≡◌, ◌∙◌, ℕ, ◌+◌, ◌≤◌, Bool, true, false, if◌then◌else◌, List, [], ◌∷◌, Some, None, ap, sym, inl, inr, arith, drop, get_or, length, slice_get}
+use Rattle.std.proofs.Common.{◌≡◌, ◌∙◌, ℕ, ◌+◌, ◌<◌, ◌≤◌, suc, Bool, true, false, if◌then◌else◌, List, [], ◌∷◌, ◌++◌, take, Some, None, ap, sym, inl, inr, arith, drop, get_or, length, slice_get}
 use Rattle.std.proofs.lemmas.List.{drop_all, drop_more, length-drop}
-use Rattle.std.proofs.lemmas.Option.{slice_get_cases, slice_get_past}
+use Rattle.std.proofs.Math.Seq.{take-suc}
+use Rattle.std.proofs.lemmas.Option.{get_or_from_slice_get, slice_get_cases, slice_get_past}
 use Rattle.csv.specs.declared.reader.Reader.{Reader}
 use Rattle.std.specs.Borrow.{Bor}
 use Rattle.tq_event.specs.Reading.{TakesFirst}
@@ -28,3 +29,9 @@ pub last_of : (k : ℕ) (all : List (List (List ℕ))) (found : Bool) (fields : 
     → left ≡ drop k all → TakesFirst found fields left reader → slice_get all k ≡ (if found then Some fields else None)
 last_of k all true fields left reader behind takes = (next_of k all fields takes.0 (sym behind ∙ takes.1)).0
 last_of k all false fields left reader behind takes = ended_of k k all (sym behind ∙ takes) (omega arith)
+
+-- one field more
+pub take_next : (fields : List (List ℕ)) (place : ℕ) (field : List ℕ) → slice_get fields place ≡ Some field → place < length fields → take (place + 1) fields ≡ take place fields ++ field ∷ []
+take_next fields place field is within =
+    let next : place + 1 ≡ suc place = omega arith in
+    ap (λ n. take n fields) next ∙ take-suc fields place [] within ∙ ap (λ f. take place fields ++ f ∷ []) (get_or_from_slice_get fields place field [] is)

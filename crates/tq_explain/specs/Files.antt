@@ -1,5 +1,5 @@
 -- What is told of the fault of a file. This project's own.
-use Rattle.std.specs.Prelude.{◌≡◌, ℕ, ◌==◌, Bool, true, false, if◌then◌else◌, List, [], ◌++◌, codes, map, Option, None, Some, IfSome, Result, Ok, Err}
+use Rattle.std.specs.Prelude.{◌≡◌, ℕ, ◌==◌, ◌&&◌, not, nat_lt, Bool, true, false, if◌then◌else◌, List, [], ◌++◌, codes, map, Option, None, Some, IfSome, Result, Ok, Err}
 use Rattle.tq_base.specs.declared.catalogue.Column.{Column}
 use Rattle.tq_base.specs.declared.form.Form.{Form}
 use Rattle.tq_event.specs.Loading.{header_of, is_marked_twice}
@@ -7,6 +7,7 @@ use Rattle.tq_event.specs.declared.fault.LoadFault.{LoadFault}
 use Rattle.tq_event.specs.declared.fault.LoadFaultKind.{LoadFaultKind}
 use Rattle.tq_event.specs.declared.fault.LoadFaultKind.TheVariants.{BadHeader, BadInt, BadPeriod, DuplicateName, FieldCount, NotUtf8, OutOfMemory, TextTooLong, TooManyColumns, TooManyEvents, TooManyTables}
 use Rattle.tq_explain.specs.Fields.{record_detail}
+use Rattle.tq_explain.specs.Headers.{IsColumn}
 use Rattle.tq_explain.specs.Pointing.{shown_byte}
 use Rattle.tq_explain.specs.Records.{IsLine, line_text, record_of}
 
@@ -64,14 +65,43 @@ file_meaning named marked TooManyColumns = codes "there are more than 16 columns
 file_meaning named marked TooManyEvents = codes "with this row there are more than 16,777,216 starts and ends"
 file_meaning named marked OutOfMemory = codes "there is no memory"
 
+-- whether a fault of this kind may be one of a header
+abbrev pub is_of_header : LoadFaultKind → Bool
+is_of_header BadHeader = true
+is_of_header DuplicateName = true
+is_of_header FieldCount = false
+is_of_header BadInt = false
+is_of_header TextTooLong = false
+is_of_header BadPeriod = false
+is_of_header NotUtf8 = false
+is_of_header TooManyTables = false
+is_of_header TooManyColumns = false
+is_of_header TooManyEvents = false
+is_of_header OutOfMemory = false
+
+-- whether it is the header's, and not that of two byte order marks before it
+abbrev pub is_header_at_fault : LoadFaultKind → List ℕ → ℕ → Bool
+is_header_at_fault kind bytes number = is_of_header kind && nat_lt 0 number && not (is_marked_twice bytes)
+
+-- what is told of the first field of a header that makes no column, where there is a header
+abbrev pub IsColumnOf : Option (List (List ℕ)) → List ℕ → Type 0
+IsColumnOf None text = text ≡ []
+IsColumnOf (Some fields) text = IsColumn fields text
+
+-- the same, where a header is at fault
+abbrev pub IsColumnWhere : Bool → List ℕ → List ℕ → Type 0
+IsColumnWhere false bytes text = text ≡ []
+IsColumnWhere true bytes text = IsColumnOf (record_of bytes 1) text
+
 -- what is told of a fault of this kind in the record of this number of a file of these bytes
 abbrev pub meaning_of : LoadFaultKind → Form → List ℕ → ℕ → List ℕ
 meaning_of kind form bytes number =
     if is_of_fields kind then record_meaning form bytes number else file_meaning (number == 0) (is_marked_twice bytes) kind
 
--- What is told of a file at a path with a fault: the path, the line on which the fault's record begins, where one is told, and
--- what is wrong.
+-- What is told of a file at a path with a fault: the path, the line on which the fault's record begins, where one is told, the
+-- first field of a header that makes no column, and what is wrong.
 abbrev pub IsFileDetail : Form → List ℕ → List ℕ → LoadFault → List ℕ → Type 0
 IsFileDetail form path bytes fault text =
     (line : Option ℕ) × IfSome line (IsLine bytes fault.number)
-    × (text ≡ codes "  " ++ map shown_byte path ++ line_text line ++ codes ": " ++ meaning_of fault.kind form bytes fault.number ++ codes "\n")
+    × ((column : List ℕ) × IsColumnWhere (is_header_at_fault fault.kind bytes fault.number) bytes column
+    × (text ≡ codes "  " ++ map shown_byte path ++ line_text line ++ codes ": " ++ column ++ meaning_of fault.kind form bytes fault.number ++ codes "\n"))

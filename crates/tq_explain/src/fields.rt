@@ -15,8 +15,8 @@ use tq_event::LoadFaultKind;
 // How much of a value is shown, in bytes.
 const SHOWN: usize = 60;
 
-// A value, or the front of one that is long.
-fn push_value(text: &mut Vec<u8>, value: &[u8]) -> Result<(), AllocError>
+/// A value, or the front of one that is long.
+pub(crate) fn push_value(text: &mut Vec<u8>, value: &[u8]) -> Result<(), AllocError>
     ensures { OnOk result (text.new.items ≡ text.old.items ++ spec.shown value.now) }
 {
     push_shown(text, &value[..value.len().min(SHOWN)])?;
@@ -121,8 +121,8 @@ fn value_wanted(kind: LoadFaultKind) -> &'static [u8]
     }
 }
 
-// The field at a place.
-fn field_at(record: &ByteRecord, place: usize) -> &[u8]
+/// The field at a place.
+pub(crate) fn field_at(record: &ByteRecord, place: usize) -> &[u8]
     requires { place < length (fields_of record.now) }
     ensures { slice_get (fields_of record.entry.now) place ≡ Some result.now }
 {

@@ -7,6 +7,7 @@ ghost use Rattle.tq_explain.specs.Files as spec;
 ghost use Rattle.tq_explain.specs.Records.{line_text, record_of};
 
 use crate::fields::{push_number, push_record_detail};
+use crate::headers::column_of;
 use crate::pointing::push_shown;
 use crate::records::{line_of, read_record};
 use csv::ByteRecord;
@@ -116,6 +117,52 @@ fn file_meaning(named: bool, marked: bool, kind: LoadFaultKind) -> &'static [u8]
     }
 }
 
+fn is_of_header(kind: LoadFaultKind) -> bool
+    ensures { result ≡ spec.is_of_header kind }
+{
+    match kind {
+        LoadFaultKind::BadHeader => true,
+        LoadFaultKind::DuplicateName => true,
+        LoadFaultKind::FieldCount => false,
+        LoadFaultKind::BadInt => false,
+        LoadFaultKind::TextTooLong => false,
+        LoadFaultKind::BadPeriod => false,
+        LoadFaultKind::NotUtf8 => false,
+        LoadFaultKind::TooManyTables => false,
+        LoadFaultKind::TooManyColumns => false,
+        LoadFaultKind::TooManyEvents => false,
+        LoadFaultKind::OutOfMemory => false,
+    }
+}
+
+// What is told of the first field of the file's header that makes no column.
+fn column_in(alloc: Global, bytes: &[u8]) -> Result<Vec<u8>, AllocError>
+    ensures { IfOk result (λ text. spec.IsColumnOf (record_of bytes.now 1) text.items) }
+{
+    let mut header = ByteRecord::new(alloc);
+    if !read_record(alloc, bytes, 1, &mut header)? {
+        return Ok(Vec::new(alloc));
+    }
+    column_of(alloc, &header)
+}
+
+// The same, where a header is at fault.
+fn column_where(alloc: Global, at_fault: bool, bytes: &[u8]) -> Result<Vec<u8>, AllocError>
+    ensures { IfOk result (λ text. spec.IsColumnWhere at_fault bytes.now text.items) }
+{
+    if at_fault {
+        return column_in(alloc, bytes);
+    }
+    Ok(Vec::new(alloc))
+}
+
+// Whether a header is at fault that the file has but one byte order mark before.
+fn is_header_at_fault(kind: LoadFaultKind, bytes: &[u8], number: u32) -> bool
+    ensures { result ≡ spec.is_header_at_fault kind bytes.now number }
+{
+    is_of_header(kind) && number > 0 && !is_marked_twice(bytes)
+}
+
 // What is told of a fault of this kind in the record of this number.
 fn push_meaning(
     alloc: Global,
@@ -160,11 +207,13 @@ pub fn explain_file(
 {
     let LoadFault { kind, number, .. } = fault;
     let line = line_of(alloc, bytes, number)?;
+    let column = column_where(alloc, is_header_at_fault(kind, bytes, number), bytes)?;
     let mut text = Vec::new(alloc);
     text.extend_from_slice(b"  ")?;
     push_shown(&mut text, path)?;
     push_line(&mut text, line)?;
     text.extend_from_slice(b": ")?;
+    text.extend_from_slice(&column)?;
     push_meaning(alloc, &mut text, kind, form, bytes, number)?;
     text.push(b'\n')?;
     Ok(text)

@@ -12,6 +12,7 @@
 mod expected;
 mod fields;
 mod files;
+mod headers;
 mod hints;
 mod pointing;
 mod records;
