@@ -1,3 +1,4 @@
 pub mod Compared
 pub mod MadeOnce
+pub mod RecordLemmas
 pub mod Tellings

@@ -1,10 +1,14 @@
 pub mod Asking
 pub mod Details
 pub mod Expected
+pub mod Fields
+pub mod Files
+pub mod Headers
 pub mod Hints
 pub mod Listing
 pub mod NamePlaces
 pub mod Parts
 pub mod PlanDetails
 pub mod Pointing
+pub mod Records
 pub mod Seen

@@ -8,17 +8,25 @@
 //! `explain_plan` shows the line of a statement that means nothing over the tables, with a caret below the name at fault,
 //! and says what there is. It is no second planner: the parts of the statement are planned by themselves (`plan` in
 //! `tq_plan`), and the first that has the very fault is at fault.
+//!
+//! `explain_file` finds the record of a file that is at fault once more, tells its line, and the first field that is no
+//! value of its column, or the period, as the file's reader (`tq_event`) finds them.
 #![tactic(auto)]
 
 mod asking;
 mod expected;
+mod fields;
+mod files;
+mod headers;
 mod hints;
 mod listing;
 mod parts;
 mod places;
 mod plans;
 mod pointing;
+mod records;
 mod statements;
 
+pub use files::explain_file;
 pub use plans::explain_plan;
 pub use statements::explain_statement;

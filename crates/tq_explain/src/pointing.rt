@@ -44,8 +44,8 @@ fn shown_byte(byte: u8) -> u8
     }
 }
 
-// The bytes of a line, each control byte but the tab as a question mark.
-fn push_shown(text: &mut Vec<u8>, bytes: &[u8]) -> Result<(), AllocError>
+/// The bytes of a line, each control byte but the tab as a question mark.
+pub(crate) fn push_shown(text: &mut Vec<u8>, bytes: &[u8]) -> Result<(), AllocError>
     ensures { OnOk result (text.new.items ≡ text.old.items ++ map shown_byte bytes.now) }
 {
     'bytes: for byte in bytes {

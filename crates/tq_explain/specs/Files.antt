@@ -1,0 +1,107 @@
+-- What is told of the fault of a file. This project's own.
+use Rattle.std.specs.Prelude.{◌≡◌, ℕ, ◌==◌, ◌&&◌, not, nat_lt, Bool, true, false, if◌then◌else◌, List, [], ◌++◌, codes, map, Option, None, Some, IfSome, Result, Ok, Err}
+use Rattle.tq_base.specs.declared.catalogue.Column.{Column}
+use Rattle.tq_base.specs.declared.form.Form.{Form}
+use Rattle.tq_event.specs.Loading.{header_of, is_marked_twice}
+use Rattle.tq_event.specs.declared.fault.LoadFault.{LoadFault}
+use Rattle.tq_event.specs.declared.fault.LoadFaultKind.{LoadFaultKind}
+use Rattle.tq_event.specs.declared.fault.LoadFaultKind.TheVariants.{BadHeader, BadInt, BadPeriod, DuplicateName, FieldCount, NotUtf8, OutOfMemory, TextTooLong, TooManyColumns, TooManyEvents, TooManyTables}
+use Rattle.tq_explain.specs.Fields.{record_detail}
+use Rattle.tq_explain.specs.Headers.{IsColumn}
+use Rattle.tq_explain.specs.Pointing.{shown_byte}
+use Rattle.tq_explain.specs.Records.{IsLine, line_text, record_of}
+
+-- what is wrong with a record by the columns of a header, where it names some
+abbrev pub detail_under : Form → Result (List Column) LoadFaultKind → List (List ℕ) → List ℕ
+detail_under form (Err kind) fields = []
+detail_under form (Ok columns) fields = record_detail form columns fields
+
+-- the same, where there are a header and the record
+abbrev pub detail_of : Form → Option (List (List ℕ)) → Option (List (List ℕ)) → List ℕ
+detail_of form None fields = []
+detail_of form (Some header) None = []
+detail_of form (Some header) (Some fields) = detail_under form (header_of header) fields
+
+-- what is wrong with the record of this number of a file; record 0 stands for the file as such
+abbrev pub record_meaning : Form → List ℕ → ℕ → List ℕ
+record_meaning form bytes number = if number == 0 then [] else detail_of form (record_of bytes 1) (record_of bytes number)
+
+-- whether a fault of this kind is one of a record's fields
+abbrev pub is_of_fields : LoadFaultKind → Bool
+is_of_fields BadHeader = false
+is_of_fields DuplicateName = false
+is_of_fields FieldCount = true
+is_of_fields BadInt = true
+is_of_fields TextTooLong = true
+is_of_fields BadPeriod = true
+is_of_fields NotUtf8 = true
+is_of_fields TooManyTables = false
+is_of_fields TooManyColumns = false
+is_of_fields TooManyEvents = false
+is_of_fields OutOfMemory = false
+
+-- what a bad header means: of the table's name; of a file that begins with two byte order marks; of any other
+abbrev pub header_meaning : Bool → Bool → List ℕ
+header_meaning true marked = codes "a table's name is a letter or _, then letters, digits or _, and no word of the language"
+header_meaning false true = codes "two byte order marks begin the file, and one may"
+header_meaning false false = codes "a header is NAME:int or NAME:text for each column, an int first, and then from,to"
+
+-- what two equal names mean: of tables, or of columns
+abbrev pub names_meaning : Bool → List ℕ
+names_meaning true = codes "two tables have this name"
+names_meaning false = codes "two columns have one name"
+
+-- what every other fault means; of names, whether it is the table's
+abbrev pub file_meaning : Bool → Bool → LoadFaultKind → List ℕ
+file_meaning named marked BadHeader = header_meaning named marked
+file_meaning named marked DuplicateName = names_meaning named
+file_meaning named marked FieldCount = []
+file_meaning named marked BadInt = []
+file_meaning named marked TextTooLong = []
+file_meaning named marked BadPeriod = []
+file_meaning named marked NotUtf8 = []
+file_meaning named marked TooManyTables = codes "there are more than 16 tables"
+file_meaning named marked TooManyColumns = codes "there are more than 16 columns before from,to"
+file_meaning named marked TooManyEvents = codes "with this row there are more than 16,777,216 starts and ends"
+file_meaning named marked OutOfMemory = codes "there is no memory"
+
+-- whether a fault of this kind may be one of a header
+abbrev pub is_of_header : LoadFaultKind → Bool
+is_of_header BadHeader = true
+is_of_header DuplicateName = true
+is_of_header FieldCount = false
+is_of_header BadInt = false
+is_of_header TextTooLong = false
+is_of_header BadPeriod = false
+is_of_header NotUtf8 = false
+is_of_header TooManyTables = false
+is_of_header TooManyColumns = false
+is_of_header TooManyEvents = false
+is_of_header OutOfMemory = false
+
+-- whether it is the header's, and not that of two byte order marks before it
+abbrev pub is_header_at_fault : LoadFaultKind → List ℕ → ℕ → Bool
+is_header_at_fault kind bytes number = is_of_header kind && nat_lt 0 number && not (is_marked_twice bytes)
+
+-- what is told of the first field of a header that makes no column, where there is a header
+abbrev pub IsColumnOf : Option (List (List ℕ)) → List ℕ → Type 0
+IsColumnOf None text = text ≡ []
+IsColumnOf (Some fields) text = IsColumn fields text
+
+-- the same, where a header is at fault
+abbrev pub IsColumnWhere : Bool → List ℕ → List ℕ → Type 0
+IsColumnWhere false bytes text = text ≡ []
+IsColumnWhere true bytes text = IsColumnOf (record_of bytes 1) text
+
+-- what is told of a fault of this kind in the record of this number of a file of these bytes
+abbrev pub meaning_of : LoadFaultKind → Form → List ℕ → ℕ → List ℕ
+meaning_of kind form bytes number =
+    if is_of_fields kind then record_meaning form bytes number else file_meaning (number == 0) (is_marked_twice bytes) kind
+
+-- What is told of a file at a path with a fault: the path, the line on which the fault's record begins, where one is told, the
+-- first field of a header that makes no column, and what is wrong.
+abbrev pub IsFileDetail : Form → List ℕ → List ℕ → LoadFault → List ℕ → Type 0
+IsFileDetail form path bytes fault text =
+    (line : Option ℕ) × IfSome line (IsLine bytes fault.number)
+    × ((column : List ℕ) × IsColumnWhere (is_header_at_fault fault.kind bytes fault.number) bytes column
+    × (text ≡ codes "  " ++ map shown_byte path ++ line_text line ++ codes ": " ++ column ++ meaning_of fault.kind form bytes fault.number ++ codes "\n"))

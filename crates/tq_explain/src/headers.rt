@@ -1,0 +1,96 @@
+// The field of a header that makes no column.
+
+ghost use Rattle.std.specs.Prelude.{◌≡◌, ◌<◌, ◌≤◌, ◌++◌, IfOk, OnOk, codes, length};
+ghost use Rattle.csv.specs.Records.{fields_of};
+ghost use Rattle.tq_explain.specs.Fields.{shown};
+ghost use Rattle.tq_explain.specs.Headers.{IsColumn, IsFirstBad, column_text, front_header, looked_at, reads_to};
+
+use crate::fields::{field_at, push_value};
+use csv::ByteRecord;
+use std::alloc::{AllocError, Global};
+use tq_event::LoadFaultKind;
+use tq_event::steps::read_header;
+
+// The most columns of values that a table may have.
+const MOST_COLUMNS: usize = 16;
+
+// The header of the first so many fields.
+fn front_header(alloc: Global, header: &ByteRecord, count: usize) -> Result<ByteRecord, AllocError>
+    requires { count ≤ length (fields_of header.now) }
+    ensures { IfOk result (λ front. fields_of front ≡ front_header (fields_of header.now) count) }
+{
+    let mut front = ByteRecord::new(alloc);
+    'fields: for place in 0..count {
+        front.push_field(field_at(header, place))?;
+    }
+    front.push_field(b"from")?;
+    front.push_field(b"to")?;
+    Ok(front)
+}
+
+// Whether that is one.
+fn reads_to(alloc: Global, header: &ByteRecord, count: usize) -> Result<bool, AllocError>
+    requires { count ≤ length (fields_of header.now) }
+    ensures { IfOk result (λ reads. reads ≡ reads_to (fields_of header.now) count) }
+{
+    let front = front_header(alloc, header, count)?;
+    match read_header(alloc, &front) {
+        Ok(_) => Ok(true),
+        Err(LoadFaultKind::OutOfMemory) => Err(AllocError),
+        Err(_) => Ok(false),
+    }
+}
+
+// How many fields are looked at.
+fn looked_at(header: &ByteRecord) -> usize
+    ensures value { result ≡ looked_at (fields_of header.now) }
+    ensures within { result ≤ length (fields_of header.now) }
+{
+    header.len().saturating_sub(2).min(MOST_COLUMNS)
+}
+
+// The first field up to which there is no header.
+fn first_bad(alloc: Global, header: &ByteRecord) -> Result<Option<usize>, AllocError>
+    ensures { IfOk result (λ place. IsFirstBad (fields_of header.now) place) }
+{
+    let count = looked_at(header);
+    'fields: for place in 0..count {
+        if !reads_to(alloc, header, place + 1)? {
+            return Ok(Some(place));
+        }
+    }
+    Ok(None)
+}
+
+fn push_bad(text: &mut Vec<u8>, field: &[u8]) -> Result<(), AllocError>
+    ensures { OnOk result (text.new.items ≡ text.old.items ++ codes "`" ++ shown field.now ++ codes "` is no column: ") }
+{
+    text.extend_from_slice(b"`")?;
+    push_value(text, field)?;
+    text.extend_from_slice(b"` is no column: ")
+}
+
+// A field as it is told.
+fn push_column(
+    text: &mut Vec<u8>,
+    header: &ByteRecord,
+    place: Option<usize>,
+) -> Result<(), AllocError>
+    requires { IsFirstBad (fields_of header.now) place }
+    ensures { OnOk result (text.new.items ≡ text.old.items ++ column_text (fields_of header.now) place) }
+{
+    let Some(place) = place else {
+        return Ok(());
+    };
+    push_bad(text, field_at(header, place))
+}
+
+/// What is told of the first field of a header that makes no column with those before it.
+pub(crate) fn column_of(alloc: Global, header: &ByteRecord) -> Result<Vec<u8>, AllocError>
+    ensures { IfOk result (λ text. IsColumn (fields_of header.now) text.items) }
+{
+    let place = first_bad(alloc, header)?;
+    let mut text = Vec::new(alloc);
+    push_column(&mut text, header, place)?;
+    Ok(text)
+}
