@@ -271,6 +271,3 @@ impl Input {
         Ok(self.line.at_feed())
     }
 }
-
-#[cfg(test)]
-mod tests;
