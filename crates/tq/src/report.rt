@@ -195,7 +195,13 @@ impl Told {
 
     /// The refusal of a question whose plan has this fault, explained over the tables, instants
     /// written in the form.
-    pub fn of_plan(alloc: Global, fault: PlanFault, statement: &[u8], catalogue: &Catalogue) -> Told
+    pub fn of_plan(
+        alloc: Global,
+        fault: PlanFault,
+        statement: &[u8],
+        catalogue: &Catalogue,
+        form: Form,
+    ) -> Told
         ensures refusal { result.refusal ≡ Refusal.Plan fault }
         ensures detail { IfSome result.detail (λ text. IsPlanDetail form catalogue.now statement.now fault text.items) }
     {
