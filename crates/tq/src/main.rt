@@ -8,13 +8,15 @@
 //! (`report`), and where that is a terminal, or with `--explain`, more stands below it (`tq_explain`).
 #![tactic(auto)]
 
-ghost use Rattle.std.specs.Prelude.{◌≡◌, ◌≢◌, IfErr, IfOk, map};
+ghost use Rattle.std.specs.Prelude.{◌≡◌, ◌≢◌, false, IfErr, IfOk, IfSome, None, map};
+ghost use Rattle.tq.specs.Report.{IsLoadDetail, IsQuestionDetail, refused_answer};
 ghost use Rattle.tq.specs.declared.command_line.TableOption.{TableOption as AnyOption};
 ghost use Rattle.tq_event.specs.declared.file.TableFile.{TableFile as AnyFile};
 
 mod command_line;
 mod prompt;
 mod report;
+mod unread;
 mod words;
 
 use command_line::{
@@ -22,7 +24,7 @@ use command_line::{
 };
 use prompt::Prompted;
 use report::{Refusal, Told};
-use std::alloc::AllocError;
+use std::alloc::{AllocError, Global};
 use std::env::Env;
 use std::io::{ErrorKind, Input, IsTerminal, Write};
 use std::process::ExitCode;
@@ -30,12 +32,13 @@ use std::rt::Files;
 use std::sync::Wait;
 use std::thread::Threads;
 use std::{fs, io, str};
-use tq_base::Items;
+use tq_base::{Form, Items};
 use tq_draw::draw;
-use tq_engine::{FileFault, Source, answer, answer_bytes, read_file};
-use tq_event::TableFile;
-use tq_session::session;
+use tq_engine::{AnswerFault, FileFault, Source, answer, answer_bytes, read_file};
+use tq_event::{LoadFault, TableFile};
+use tq_session::{SessionFault, session};
 use tq_table::Sink;
+use unread::{is_file, reason};
 use words::read_words;
 
 // The bytes of the file at a path, or of standard input where the path is `-`. The standard library opens no path that
@@ -88,6 +91,82 @@ fn read_tables<R: Files + AllocGlobal + Input>(
     Ok(tables)
 }
 
+// The same, for a refusal that is explained where that is asked for.
+fn read_explained<R: Files + AllocGlobal + Input>(
+    rt: &R,
+    options: Vec<TableOption>,
+    explain: bool,
+) -> Result<Vec<TableFile>, Told>
+    ensures tables { IfOk result (λ tables. map (λ (t : AnyFile). t.name) tables.items ≡ map (λ (o : AnyOption). o.name.items) options.items) }
+    ensures silent { explain ≡ false → IfErr result (λ told. told.detail ≡ None) }
+{
+    match read_tables(rt, options) {
+        Ok(tables) => Ok(tables),
+        Err(Refusal::CannotRead(path)) if explain => {
+            let reason = reason(rt, &path);
+            Err(Told::of_unread(rt.alloc(), path, reason))
+        }
+        Err(refusal) => Err(Told::from(refusal)),
+    }
+}
+
+// The paths of the tables, in their order.
+fn paths_of(alloc: Global, options: &[TableOption]) -> Result<Vec<Vec<u8>>, AllocError>
+    ensures { IfOk result (λ paths. map (λ p. p.items) paths.items ≡ map (λ (o : AnyOption). o.path.items) options.now) }
+{
+    let mut paths = Vec::new(alloc);
+    'options: for option in options {
+        paths
+            .push(option.path.to_vec(alloc)?)
+            .map_err(AllocError::from)?;
+    }
+    Ok(paths)
+}
+
+// The refusal of a file that was not loaded. It is read once more, to explain it; of standard input or a pipe nothing is there
+// any more.
+fn refused_load<R: Files + AllocGlobal + Input>(
+    rt: &R,
+    fault: LoadFault,
+    paths: &[Vec<u8>],
+    form: Form,
+) -> Told
+    ensures refusal { result.refusal ≡ Refusal.Load fault }
+    ensures detail { IfSome result.detail (λ text. IsLoadDetail form paths.now fault text.items) }
+{
+    let Some(path) = paths.get(fault.table as usize) else {
+        return Told::from(Refusal::Load(fault));
+    };
+    if path.as_slice() == b"-".as_slice() || !is_file(rt, path) {
+        return Told::from(Refusal::Load(fault));
+    }
+    match read_path(rt, path) {
+        Ok(bytes) => Told::of_load(rt.alloc(), fault, path, &bytes, form),
+        Err(_) => Told::from(Refusal::Load(fault)),
+    }
+}
+
+// The refusal of a question over the files at these paths; where it is to be explained, a fault of a file is, or one of the
+// statement's text.
+fn refused<R: Files + AllocGlobal + Input>(
+    rt: &R,
+    fault: AnswerFault,
+    statement: &[u8],
+    paths: &[Vec<u8>],
+    form: Form,
+    explain: bool,
+) -> Told
+    ensures refusal { result.refusal ≡ refused_answer fault }
+    ensures detail { IfSome result.detail (λ text. IsQuestionDetail form paths.now fault statement.now text.items) }
+    ensures silent { explain ≡ false → result.detail ≡ None }
+{
+    match fault {
+        AnswerFault::Load(load) if explain => refused_load(rt, load, paths, form),
+        AnswerFault::Load(load) => Told::from(Refusal::Load(load)),
+        _ => Told::of_answer(rt.alloc(), fault, statement, explain),
+    }
+}
+
 // Answers a request on standard output, once all files are read. What a refusal is about is explained where a person
 // sees it, or where that was asked for.
 fn ask<R: Files + AllocGlobal + Input + Print + Threads + Sync>(
@@ -102,11 +181,12 @@ fn ask<R: Files + AllocGlobal + Input + Print + Threads + Sync>(
         statement,
         explain,
     } = request;
-    let tables = read_tables(rt, options)?;
+    let paths = paths_of(rt.alloc(), &options)?;
+    let tables = read_explained(rt, options, explain || seen)?;
     let mut sink = Sink::over(io::writer(rt));
     match answer_bytes(rt, rt.alloc(), tables, &statement, workers, &mut sink, form) {
         Ok(()) => Ok(()),
-        Err(fault) => Err(Told::of_answer(rt.alloc(), fault, &statement, explain || seen)),
+        Err(fault) => Err(refused(rt, fault, &statement, &paths, form, explain || seen)),
     }
 }
 
@@ -124,13 +204,14 @@ fn draw_answer<R: Files + AllocGlobal + Input + Print + Threads + Sync>(
         statement,
         explain,
     } = ask;
-    let tables = read_tables(rt, options)?;
+    let paths = paths_of(rt.alloc(), &options)?;
+    let tables = read_explained(rt, options, explain || seen)?;
     match answer(rt, rt.alloc(), tables, &statement, workers, form) {
         Ok(table) => {
             let picture = draw(rt.alloc(), &table, form, width as usize)?;
             Ok(print_bytes(rt, &picture)?)
         }
-        Err(fault) => Err(Told::of_answer(rt.alloc(), fault, &statement, explain || seen)),
+        Err(fault) => Err(refused(rt, fault, &statement, &paths, form, explain || seen)),
     }
 }
 
@@ -139,18 +220,23 @@ fn draw_answer<R: Files + AllocGlobal + Input + Print + Threads + Sync>(
 fn converse<R: Files + AllocGlobal + Input + Print + Threads + Wait + Sync, W: Write + Drop>(
     rt: &R,
     request: SessionRequest,
+    seen: bool,
     prompts: Option<W>,
-) -> Result<(), Refusal> {
+) -> Result<(), Told> {
     let SessionRequest {
         tables: options,
         form,
     } = request;
-    let tables = read_tables(rt, options)?;
+    let paths = paths_of(rt.alloc(), &options)?;
+    let tables = read_explained(rt, options, seen)?;
     let reader = rt.reader();
     let mut source = Source::over(Prompted { reader, prompts });
     let mut sink = Sink::over(io::writer(rt));
-    session(rt, rt.alloc(), tables, &mut source, &mut sink, form)?;
-    Ok(())
+    match session(rt, rt.alloc(), tables, &mut source, &mut sink, form) {
+        Ok(()) => Ok(()),
+        Err(SessionFault::Load(load)) if seen => Err(refused_load(rt, load, &paths, form)),
+        Err(fault) => Err(Told::from(Refusal::from(fault))),
+    }
 }
 
 // Prints the bytes on standard output.
@@ -170,7 +256,7 @@ fn run<R: Files + AllocGlobal + Env + Input + Print + Threads + Wait + Sync, W: 
     let words = read_words(rt)?;
     match read_command_line(rt.alloc(), &words) {
         Ok(Request::Ask(request)) => ask(rt, request, seen),
-        Ok(Request::Session(request)) => Ok(converse(rt, request, prompts)?),
+        Ok(Request::Session(request)) => converse(rt, request, seen, prompts),
         Ok(Request::Draw(request)) => draw_answer(rt, request, seen),
         Ok(Request::Print(text)) => Ok(print_bytes(rt, text.as_bytes())?),
         Err(misread) => Err(Told::of_command_line(misread, seen)),
