@@ -526,6 +526,93 @@ def explanations():
         yield Case(f"a command line in a terminal: {words}", words, err=said, status=2, terminal=True)
 
 
+# Of a file at fault: its bytes, the fault's line, and what stands below it behind the file's path.
+AN_INT = b"digits, or - and digits, from -9223372036854775808 to 9223372036854775807"
+A_HEADER = b"a header is NAME:int or NAME:text for each column, an int first, and then from,to"
+EXPLAINED_FILES = [
+    (SMALL + b"1,x,0\n", b"FieldCount table 0 record 2", b", line 2: fields here: 3, in the header: 4"),
+    (SMALL + b"1,x,0,1\n1,x,y,0,1\n", b"FieldCount table 0 record 3", b", line 3: fields here: 5, in the header: 4"),
+    (SMALL + b"12.50,x,0,1\n", b"BadInt table 0 record 2", b", line 2: k `12.50` is no int: " + AN_INT),
+    (SMALL + b",x,0,1\n", b"BadInt table 0 record 2", b", line 2: k is empty: " + AN_INT),
+    (SMALL + b"1\x1b[7m,x,0,1\n", b"BadInt table 0 record 2", b", line 2: k `1?[7m` is no int: " + AN_INT),
+    (b"k:int,pay:int,from,to\n1,1e3,9,9\n", b"BadInt table 0 record 2", b", line 2: pay `1e3` is no int: " + AN_INT),
+    (SMALL + b"1,\xff,0,1\n", b"NotUtf8 table 0 record 2", b", line 2: v `\xff` is no UTF-8: a text is in UTF-8"),
+    (SMALL + b"1," + 1001 * b"x" + b",0,1\n", b"TextTooLong table 0 record 2", b", line 2: v `" + 60 * b"x" + b"..` is too long: a text has at most 1,000 bytes"),
+    (SMALL + b"1,x,2020-01-31,forever\n", b"BadPeriod table 0 record 2", b", line 2: from `2020-01-31` is a date: with --dates instants are dates"),
+    (SMALL + b"1,x,0,2020-01-31\n", b"BadPeriod table 0 record 2", b", line 2: to `2020-01-31` is a date: with --dates instants are dates"),
+    (SMALL + b"1,x,,9\n", b"BadPeriod table 0 record 2", b", line 2: from is empty: digits, at most 999,999,999,999"),
+    (SMALL + b"1,x,forever,forever\n", b"BadPeriod table 0 record 2", b", line 2: from `forever` is no instant: digits, at most 999,999,999,999"),
+    (SMALL + b"1,x,9,\n", b"BadPeriod table 0 record 2", b", line 2: to is empty: an open end is written forever"),
+    (SMALL + b"1,x,9,never\n", b"BadPeriod table 0 record 2", b", line 2: to `never` is no instant: digits, at most 999,999,999,999, or forever"),
+    (SMALL + b"1,x,9,5\n", b"BadPeriod table 0 record 2", b", line 2: from `9` is not before to `5`"),
+    (SMALL + b'1,"a\nb",0,1\n\n2,x,9,9\n', b"BadPeriod table 0 record 3", b", line 5: from `9` is not before to `9`"),
+    (SMALL + b'1,x,0,1\n"\n2",x,0,1\n', b"BadInt table 0 record 3", b", line 3: k `?2` is no int: " + AN_INT),
+    (b"\xef\xbb\xbf" + SMALL + b"x,x,0,1\n", b"BadInt table 0 record 2", b", line 2: k `x` is no int: " + AN_INT),
+    (b"\r\n" + SMALL.replace(b"\n", b"\r\n") + b"1,x,0,1\r\n\r\n1,x,0,0\r\n", b"BadPeriod table 0 record 3", b", line 5: from `0` is not before to `0`"),
+    (b"", b"BadHeader table 0 record 1", b": " + A_HEADER),
+    (b"\nid,v,start,end\n", b"BadHeader table 0 record 1", b", line 2: `id` is no column: " + A_HEADER),
+    (b"k:int,v:float,from,to\n", b"BadHeader table 0 record 1", b", line 1: `v:float` is no column: " + A_HEADER),
+    (b"v:text,k:int,from,to\n", b"BadHeader table 0 record 1", b", line 1: `v:text` is no column: " + A_HEADER),
+    (b"k:int,v:text,start,end\n", b"BadHeader table 0 record 1", b", line 1: " + A_HEADER),
+    (2 * b"\xef\xbb\xbf" + SMALL, b"BadHeader table 0 record 1", b", line 1: two byte order marks begin the file, and one may"),
+    (b"k:int,K:text,from,to\n", b"DuplicateName table 0 record 1", b", line 1: `K:text` is no column: two columns have one name"),
+    (17 * b"k:int," + b"from,to\n", b"TooManyColumns table 0 record 1", b", line 1: there are more than 16 columns before from,to"),
+]
+EXPLAINED_DATES = [
+    (SMALL + b"1,x,2023-02-29,forever\n", b"BadPeriod table 0 record 2", b", line 2: from `2023-02-29` is no date: a day of the calendar, YYYY-MM-DD"),
+    (SMALL + b"1,x,2023-02-28,20\n", b"BadPeriod table 0 record 2", b", line 2: to `20` is no date: a day of the calendar, YYYY-MM-DD, or forever"),
+    (SMALL + b"1,x,2023-02-28,\n", b"BadPeriod table 0 record 2", b", line 2: to is empty: an open end is written forever"),
+    (SMALL + b"1,x,2023-02-28,2023-02-28\n", b"BadPeriod table 0 record 2", b", line 2: from `2023-02-28` is not before to `2023-02-28`"),
+]
+
+
+def explained_files():
+    asked = "VALIDTIME SELECT v FROM d"
+    for more, cases in (([], EXPLAINED_FILES), (["--dates"], EXPLAINED_DATES)):
+        for content, fault, detail in cases:
+            line = b"tq: load " + fault + b"\n"
+            below = b"  ROOM/0.csv" + detail + b"\n"
+            tables = [("d", content)]
+            title = f"{content[-40:]!r}"
+            yield ask(f"{title} explained", tables, asked, [*more, "--explain"], err=line + below, status=1)
+            yield ask(f"{title} in a terminal", tables, asked, more, err=line + below, status=1, terminal=True)
+            yield ask(f"{title} in a pipe", tables, asked, more, err=line, status=1)
+    line, below = b"tq: load BadPeriod table 0 record 3\n", b"  examples/broken.csv, line 3: from `25` is not before to `15`\n"
+    broken = ["--table", "emp=examples/broken.csv"]
+    yield Case("a picture of a file at fault, explained", ["draw", "--explain", *broken, ALL_NAMES], err=line + below, status=1)
+    yield Case("a picture of a file at fault in a pipe", ["draw", *broken, ALL_NAMES], err=line, status=1)
+    yield Case("a session over a file at fault in a terminal", ["session", *broken], err=line + below, status=1, taken=b"publish\n", terminal=True)
+    second = [("a", SMALL + b"1,x,0,1\n"), ("b", SMALL + b"1,x,0,1\n1,x,1,1\n"), ("c", b"")]
+    told = b"tq: load BadPeriod table 1 record 3\n  ROOM/1.csv, line 3: from `1` is not before to `1`\n"
+    yield ask("the second of three files, explained", second, asked, ["--explain"], err=told, status=1)
+    named = [("a", SMALL), ("A", SMALL)]
+    told = b"tq: load DuplicateName table 1 record 0\n  ROOM/1.csv: two tables have this name\n"
+    yield ask("two tables of one name, explained", named, asked, ["--explain"], err=told, status=1)
+    told = b"tq: load BadHeader table 0 record 0\n  ROOM/0.csv: a table's name is a letter or _, then letters, digits or _, and no word of the language\n"
+    yield ask("a word of the language as a table, explained", [("select", SMALL)], asked, ["--explain"], err=told, status=1)
+    told = b"tq: load TooManyTables table 16 record 0\n  ROOM/16.csv: there are more than 16 tables\n"
+    yield ask("seventeen tables, explained", numbered(17), asked, ["--explain"], err=told, status=1)
+    read = ["ask", "--explain", "--table", "d=-", asked]
+    yield Case("standard input at fault, explained", read, err=b"tq: load FieldCount table 0 record 2\n", status=1, taken=SMALL + b"1\n")
+
+
+def unread_files():
+    """Why a file cannot be read, where that is asked for, and in a pipe the line alone."""
+    for path, reason in (
+        ("ROOM/none.csv", b"there is no such file or directory"),
+        ("ROOM/emp.csv/none", b"there is no such file or directory"),
+        ("ROOM", b"it is a directory"),
+        (b"no\xff.csv", b"its path is no UTF-8"),
+    ):
+        shown = path if isinstance(path, bytes) else path.encode()
+        word = b"emp=" + shown if isinstance(path, bytes) else f"emp={path}"
+        line, below = b"tq: cannot read " + shown + b"\n", b"  " + reason + b"\n"
+        files = {"emp.csv": EMP}
+        yield Case(f"why not: {path!r}", ["ask", "--explain", "--table", word, "#"], err=line + below, status=1, files=files)
+        yield Case(f"why not, in a pipe: {path!r}", ["ask", "--table", word, "#"], err=line, status=1, files=files)
+        yield Case(f"why not, in a terminal: {path!r}", ["session", "--table", word], err=line + below, status=1, files=files, terminal=True)
+
+
 def outputs_that_fail():
     emp = ["ask", "--table", "emp=examples/emp.csv", ALL_NAMES]
     for to in (FULL, UNREAD, CLOSED):
@@ -536,5 +623,5 @@ def outputs_that_fail():
 
 def table():
     """All cases."""
-    makers = (files_at_fault, statements_at_fault, command_lines, words_of_all_lengths, paths, large, among_threads, sessions, pictures, checks, dates, explanations, outputs_that_fail)
+    makers = (files_at_fault, statements_at_fault, command_lines, words_of_all_lengths, paths, large, among_threads, sessions, pictures, checks, dates, explanations, explained_files, unread_files, outputs_that_fail)
     return [case for maker in makers for case in maker()]

@@ -1,5 +1,5 @@
 -- Which refusal each fault is, the lines that tell them, and the statuses that the program ends with.
-use Rattle.std.specs.Prelude.{ℕ, Vec, List, ◌++◌, codes, decimal, length, min}
+use Rattle.std.specs.Prelude.{◌≡◌, ℕ, Vec, List, ◌++◌, codes, decimal, length, min, slice_get, Some}
 use Rattle.std.specs.declared.alloc.Global.{Global}
 use Rattle.tq_engine.specs.declared.answering.AnswerFault.{AnswerFault}
 use Rattle.tq_engine.specs.declared.answering.AnswerFault.TheVariants as answer
@@ -8,7 +8,13 @@ use Rattle.tq.specs.declared.command_line.CommandLineFault.TheVariants as comman
 use Rattle.tq_engine.specs.declared.source.FileFault.{FileFault}
 use Rattle.tq_engine.specs.declared.source.FileFault.TheVariants as source
 use Rattle.tq_engine.specs.FaultNames.{load_name, plan_name, sql_name}
+use Rattle.tq_base.specs.declared.form.Form.{Form}
+use Rattle.tq_event.specs.declared.fault.LoadFault.{LoadFault}
 use Rattle.tq_explain.specs.Details.{IsDetail}
+use Rattle.tq_explain.specs.Files.{IsFileDetail}
+use Rattle.tq_explain.specs.PlanDetails.{IsPlanDetail}
+use Rattle.tq_base.specs.declared.catalogue.Catalogue.{Catalogue}
+use Rattle.tq_plan.specs.declared.fault.PlanFault.{PlanFault}
 use Rattle.tq_session.specs.declared.transcript.SessionFault.{SessionFault}
 use Rattle.tq_session.specs.declared.transcript.SessionFault.TheVariants as session
 use Rattle.tq.specs.declared.report.Refusal.{Refusal}
@@ -41,6 +47,26 @@ IsAnswerDetail (answer.Load fault) statement text = ⊥
 IsAnswerDetail (answer.Plan fault) statement text = ⊥
 IsAnswerDetail answer.Write statement text = ⊥
 IsAnswerDetail answer.OutOfMemory statement text = ⊥
+
+-- What is told of a file that was not loaded below its line: the detail of the file at the path of the fault's table, of
+-- some bytes, which are those that it had when it was read once more. (This project's own.)
+abbrev pub IsLoadDetail : Form → List (Vec ℕ Global) → LoadFault → List ℕ → Type 0
+IsLoadDetail form paths fault text =
+    (path : Vec ℕ Global) × (bytes : List ℕ) × (slice_get paths fault.table ≡ Some path) × IsFileDetail form path.items bytes fault text
+
+-- What is told of a statement that means nothing over the tables below its line: the detail over some catalogue, which is
+-- that of the files' heads. (This project's own.)
+abbrev pub IsPlanDetailOver : Form → PlanFault → List ℕ → List ℕ → Type 0
+IsPlanDetailOver form fault statement text = (catalogue : Catalogue) × IsPlanDetail form catalogue statement fault text
+
+-- What is told of a question over the files at these paths below its line: of a fault of a file or of a plan its detail, and of
+-- every other what is told of an answer's fault. (This project's own.)
+abbrev pub IsQuestionDetail : Form → List (Vec ℕ Global) → AnswerFault → List ℕ → List ℕ → Type 0
+IsQuestionDetail form paths (answer.Load fault) statement text = IsLoadDetail form paths fault text
+IsQuestionDetail form paths (answer.Sql fault) statement text = IsAnswerDetail (answer.Sql fault) statement text
+IsQuestionDetail form paths (answer.Plan fault) statement text = IsPlanDetailOver form fault statement text
+IsQuestionDetail form paths answer.Write statement text = IsAnswerDetail answer.Write statement text
+IsQuestionDetail form paths answer.OutOfMemory statement text = IsAnswerDetail answer.OutOfMemory statement text
 
 -- The refusal of a session that ended with this fault. (This project's own.)
 abbrev pub refused_session : SessionFault → Refusal

@@ -259,7 +259,7 @@ fn dates_argument<'a>(alloc: Global) -> Arg<'a> {
 fn explain_argument<'a>(alloc: Global) -> Arg<'a> {
     Arg::new(alloc, "explain")
         .long("explain")
-        .help("Explains a refusal below its line, as is done where standard error is a terminal")
+        .help("Says below its line why a file or a statement is refused, as at a terminal")
         .action(ArgAction::SetTrue)
 }
 

@@ -9,8 +9,8 @@
 //! (`report`), and where that is a terminal, or with `--explain`, more stands below it (`tq_explain`).
 #![tactic(auto)]
 
-ghost use Rattle.std.specs.Prelude.{◌≡◌, ◌≢◌, IfErr, IfOk, map};
-ghost use Rattle.tq.specs.Report.{refused_answer};
+ghost use Rattle.std.specs.Prelude.{◌≡◌, ◌≢◌, false, IfErr, IfOk, IfSome, None, map};
+ghost use Rattle.tq.specs.Report.{IsLoadDetail, IsPlanDetailOver, IsQuestionDetail, refused_answer};
 ghost use Rattle.tq.specs.declared.command_line.TableOption.{TableOption as AnyOption};
 ghost use Rattle.tq_event.specs.declared.file.TableFile.{TableFile as AnyFile};
 
@@ -18,6 +18,7 @@ mod command_line;
 mod heads;
 mod prompt;
 mod report;
+mod unread;
 mod words;
 
 use command_line::{
@@ -38,10 +39,11 @@ use tq_base::{Form, Items};
 use tq_check::check;
 use tq_draw::{draw, draw_svg};
 use tq_engine::{AnswerFault, FileFault, Source, answer, answer_bytes, read_file};
-use tq_event::TableFile;
+use tq_event::{LoadFault, TableFile};
 use tq_plan::PlanFault;
-use tq_session::session;
+use tq_session::{SessionFault, session};
 use tq_table::Sink;
+use unread::{is_file, reason};
 use words::read_words;
 
 // The bytes of the file at a path, or of standard input where the path is `-`. The standard library opens no path that
@@ -94,6 +96,61 @@ fn read_tables<R: Files + AllocGlobal + Input>(
     Ok(tables)
 }
 
+// The same, for a refusal that is explained where that is asked for.
+fn read_explained<R: Files + AllocGlobal + Input>(
+    rt: &R,
+    options: Vec<TableOption>,
+    explain: bool,
+) -> Result<Vec<TableFile>, Told>
+    ensures tables { IfOk result (λ tables. map (λ (t : AnyFile). t.name) tables.items ≡ map (λ (o : AnyOption). o.name.items) options.items) }
+    ensures silent { explain ≡ false → IfErr result (λ told. told.detail ≡ None) }
+{
+    match read_tables(rt, options) {
+        Ok(tables) => Ok(tables),
+        Err(Refusal::CannotRead(path)) if explain => {
+            let reason = reason(rt, &path);
+            Err(Told::of_unread(rt.alloc(), path, reason))
+        }
+        Err(refusal) => Err(Told::from(refusal)),
+    }
+}
+
+// The paths of the tables, in their order.
+fn paths_of(alloc: Global, options: &[TableOption]) -> Result<Vec<Vec<u8>>, AllocError>
+    ensures { IfOk result (λ paths. map (λ p. p.items) paths.items ≡ map (λ (o : AnyOption). o.path.items) options.now) }
+{
+    let mut paths = Vec::new(alloc);
+    'options: for option in options {
+        paths
+            .push(option.path.to_vec(alloc)?)
+            .map_err(AllocError::from)?;
+    }
+    Ok(paths)
+}
+
+// The refusal of a file that was not loaded. It is read once more, to explain it; of standard input or a pipe nothing is there
+// any more.
+fn refused_load<R: Files + AllocGlobal + Input>(
+    rt: &R,
+    fault: LoadFault,
+    paths: &[Vec<u8>],
+    form: Form,
+) -> Told
+    ensures refusal { result.refusal ≡ Refusal.Load fault }
+    ensures detail { IfSome result.detail (λ text. IsLoadDetail form paths.now fault text.items) }
+{
+    let Some(path) = paths.get(fault.table as usize) else {
+        return Told::from(Refusal::Load(fault));
+    };
+    if path.as_slice() == b"-".as_slice() || !is_file(rt, path) {
+        return Told::from(Refusal::Load(fault));
+    }
+    match read_path(rt, path) {
+        Ok(bytes) => Told::of_load(rt.alloc(), fault, path, &bytes, form),
+        Err(_) => Told::from(Refusal::Load(fault)),
+    }
+}
+
 // The heads of the files, where a fault of the plan is to be explained; none where there is no memory for them.
 fn heads_where(alloc: Global, tables: &[TableFile], explain: bool) -> Option<Vec<TableFile>> {
     if !explain {
@@ -110,31 +167,41 @@ fn refused_plan(
     statement: &[u8],
     form: Form,
 ) -> Told
-    ensures { result.refusal ≡ Refusal.Plan fault }
+    ensures refusal { result.refusal ≡ Refusal.Plan fault }
+    ensures detail { IfSome result.detail (λ text. IsPlanDetailOver form fault statement.now text.items) }
 {
     let Some(heads) = heads else {
-        return Told::of_answer(alloc, AnswerFault::Plan(fault), statement, false);
+        return Told::from(Refusal::Plan(fault));
     };
     let Some(catalogue) = catalogue_of(alloc, heads, form) else {
-        return Told::of_answer(alloc, AnswerFault::Plan(fault), statement, false);
+        return Told::from(Refusal::Plan(fault));
     };
     Told::of_plan(alloc, fault, statement, &catalogue, form)
 }
 
-// The refusal of a question over tables whose files have these heads.
-fn refused(
-    alloc: Global,
+// The refusal of a question over the files at these paths, which have these heads; where it is to be explained, a fault of a
+// file is, or one of the statement's text or of its plan.
+fn refused<R: Files + AllocGlobal + Input>(
+    rt: &R,
     fault: AnswerFault,
-    heads: Option<Vec<TableFile>>,
     statement: &[u8],
+    paths: &[Vec<u8>],
+    heads: Option<Vec<TableFile>>,
     form: Form,
     explain: bool,
 ) -> Told
-    ensures { result.refusal ≡ refused_answer fault }
+    ensures refusal { result.refusal ≡ refused_answer fault }
+    ensures detail { IfSome result.detail (λ text. IsQuestionDetail form paths.now fault statement.now text.items) }
+    ensures silent { explain ≡ false → result.detail ≡ None }
 {
     match fault {
-        AnswerFault::Plan(plan_fault) => refused_plan(alloc, plan_fault, heads, statement, form),
-        _ => Told::of_answer(alloc, fault, statement, explain),
+        AnswerFault::Load(load) if explain => refused_load(rt, load, paths, form),
+        AnswerFault::Load(load) => Told::from(Refusal::Load(load)),
+        AnswerFault::Plan(plan) if explain => {
+            refused_plan(rt.alloc(), plan, heads, statement, form)
+        }
+        AnswerFault::Plan(plan) => Told::from(Refusal::Plan(plan)),
+        _ => Told::of_answer(rt.alloc(), fault, statement, explain),
     }
 }
 
@@ -153,12 +220,13 @@ fn ask<R: Files + AllocGlobal + Input + Print + Threads + Sync>(
         explain,
     } = request;
     let explain = explain || seen;
-    let tables = read_tables(rt, options)?;
+    let paths = paths_of(rt.alloc(), &options)?;
+    let tables = read_explained(rt, options, explain)?;
     let heads = heads_where(rt.alloc(), &tables, explain);
     let mut sink = Sink::over(io::writer(rt));
     match answer_bytes(rt, rt.alloc(), tables, &statement, workers, &mut sink, form) {
         Ok(()) => Ok(()),
-        Err(fault) => Err(refused(rt.alloc(), fault, heads, &statement, form, explain)),
+        Err(fault) => Err(refused(rt, fault, &statement, &paths, heads, form, explain)),
     }
 }
 
@@ -177,7 +245,8 @@ fn draw_answer<R: Files + AllocGlobal + Input + Print + Threads + Sync>(
         explain,
     } = ask;
     let explain = explain || seen;
-    let tables = read_tables(rt, options)?;
+    let paths = paths_of(rt.alloc(), &options)?;
+    let tables = read_explained(rt, options, explain)?;
     let heads = heads_where(rt.alloc(), &tables, explain);
     match answer(rt, rt.alloc(), tables, &statement, workers, form) {
         Ok(table) => {
@@ -188,24 +257,30 @@ fn draw_answer<R: Files + AllocGlobal + Input + Print + Threads + Sync>(
             };
             Ok(print_bytes(rt, &picture)?)
         }
-        Err(fault) => Err(refused(rt.alloc(), fault, heads, &statement, form, explain)),
+        Err(fault) => Err(refused(rt, fault, &statement, &paths, heads, form, explain)),
     }
 }
 
-// Tells on standard output what the tables are, once all files are read.
+// Tells on standard output what the tables are, once all files are read. A file that is refused is explained where a person
+// sees it.
 fn check_tables<R: Files + AllocGlobal + Input + Print + Threads + Sync>(
     rt: &R,
     request: CheckRequest,
-) -> Result<(), Refusal> {
+    seen: bool,
+) -> Result<(), Told> {
     let CheckRequest {
         tables: options,
         workers,
         form,
     } = request;
-    let tables = read_tables(rt, options)?;
+    let paths = paths_of(rt.alloc(), &options)?;
+    let tables = read_explained(rt, options, seen)?;
     match check(rt, rt.alloc(), tables, workers, form) {
-        Ok(text) => print_bytes(rt, &text),
-        Err(fault) => Err(Refusal::from(AnswerFault::from(fault))),
+        Ok(text) => Ok(print_bytes(rt, &text)?),
+        Err(fault) => {
+            let fault = AnswerFault::from(fault);
+            Err(refused(rt, fault, b"", &paths, None, form, seen))
+        }
     }
 }
 
@@ -214,18 +289,23 @@ fn check_tables<R: Files + AllocGlobal + Input + Print + Threads + Sync>(
 fn converse<R: Files + AllocGlobal + Input + Print + Threads + Wait + Sync, W: Write + Drop>(
     rt: &R,
     request: SessionRequest,
+    seen: bool,
     prompts: Option<W>,
-) -> Result<(), Refusal> {
+) -> Result<(), Told> {
     let SessionRequest {
         tables: options,
         form,
     } = request;
-    let tables = read_tables(rt, options)?;
+    let paths = paths_of(rt.alloc(), &options)?;
+    let tables = read_explained(rt, options, seen)?;
     let reader = rt.reader();
     let mut source = Source::over(Prompted { reader, prompts });
     let mut sink = Sink::over(io::writer(rt));
-    session(rt, rt.alloc(), tables, &mut source, &mut sink, form)?;
-    Ok(())
+    match session(rt, rt.alloc(), tables, &mut source, &mut sink, form) {
+        Ok(()) => Ok(()),
+        Err(SessionFault::Load(load)) if seen => Err(refused_load(rt, load, &paths, form)),
+        Err(fault) => Err(Told::from(Refusal::from(fault))),
+    }
 }
 
 // Prints the bytes on standard output.
@@ -245,9 +325,9 @@ fn run<R: Files + AllocGlobal + Env + Input + Print + Threads + Wait + Sync, W: 
     let words = read_words(rt)?;
     match read_command_line(rt.alloc(), &words) {
         Ok(Request::Ask(request)) => ask(rt, request, seen),
-        Ok(Request::Session(request)) => Ok(converse(rt, request, prompts)?),
+        Ok(Request::Session(request)) => converse(rt, request, seen, prompts),
         Ok(Request::Draw(request)) => draw_answer(rt, request, seen),
-        Ok(Request::Check(request)) => Ok(check_tables(rt, request)?),
+        Ok(Request::Check(request)) => check_tables(rt, request, seen),
         Ok(Request::Print(text)) => Ok(print_bytes(rt, text.as_bytes())?),
         Err(misread) => Err(Told::of_command_line(misread, seen)),
     }

@@ -1,8 +1,9 @@
 // What the program prints where it gives no answer, and its status then.
 
-ghost use Rattle.std.specs.Prelude.{◌≡◌, false, IfSome, None, OnOk};
+ghost use Rattle.std.specs.Prelude.{◌≡◌, ◌++◌, false, IfOk, IfSome, None, OnOk, codes};
 ghost use Rattle.std.specs.Io.KnownBytes.{Appends};
 ghost use Rattle.std.specs.Process.{exit_status};
+ghost use Rattle.tq_explain.specs.Files.{IsFileDetail};
 ghost use Rattle.tq_explain.specs.PlanDetails.{IsPlanDetail};
 ghost use Rattle.tq.specs.Report.{IsAnswerDetail, line_of, refused_answer, refused_command_line, refused_file, refused_session, status_of};
 
@@ -13,7 +14,7 @@ use std::process::ExitCode;
 use tq_base::{Catalogue, Form};
 use tq_engine::{AnswerFault, FileFault, load_name, plan_name, sql_name};
 use tq_event::LoadFault;
-use tq_explain::{explain_plan, explain_statement};
+use tq_explain::{explain_file, explain_plan, explain_statement};
 use tq_plan::PlanFault;
 use tq_session::SessionFault;
 use tq_sql::SqlFault;
@@ -136,14 +137,27 @@ impl Refusal {
     }
 }
 
+// A reason on a line of its own.
+fn reason_line(alloc: Global, reason: &[u8]) -> Result<Vec<u8>, AllocError>
+    ensures { IfOk result (λ text. text.items ≡ codes "  " ++ reason.now ++ codes "\n") }
+{
+    let mut text = Vec::new(alloc);
+    text.extend_from_slice(b"  ")?;
+    text.extend_from_slice(reason)?;
+    text.push(b'\n')?;
+    Ok(text)
+}
+
 /// A refusal, and what a person is told of it below its line, if anything.
 #[derive(Drop)]
 pub struct Told {
     pub refusal: Refusal,
-    detail: Option<Vec<u8>>,
+    pub detail: Option<Vec<u8>>,
 }
 
 impl From<Refusal> for Told {
+    ghost from_gives = { λ refusal told. (told.refusal ≡ refusal) × (told.detail ≡ None) };
+
     fn from(refusal: Refusal) -> Told {
         Told {
             refusal,
@@ -190,6 +204,33 @@ impl Told {
         Told {
             refusal: Refusal::from(fault),
             detail,
+        }
+    }
+
+    /// The refusal of a file that was not read, and why, where there is a reason.
+    pub fn of_unread(alloc: Global, path: Vec<u8>, reason: &[u8]) -> Told
+        ensures refusal { result.refusal ≡ Refusal.CannotRead path }
+        ensures detail { IfSome result.detail (λ text. text.items ≡ codes "  " ++ reason.now ++ codes "\n") }
+    {
+        let detail = if reason.len() > 0 {
+            reason_line(alloc, reason).ok()
+        } else {
+            None
+        };
+        Told {
+            refusal: Refusal::CannotRead(path),
+            detail,
+        }
+    }
+
+    /// The refusal of a file that was not loaded, and what is told of it; the file at the path has these bytes.
+    pub fn of_load(alloc: Global, fault: LoadFault, path: &[u8], bytes: &[u8], form: Form) -> Told
+        ensures refusal { result.refusal ≡ Refusal.Load fault }
+        ensures detail { IfSome result.detail (λ text. IsFileDetail form path.now bytes.now fault text.items) }
+    {
+        Told {
+            refusal: Refusal::Load(fault),
+            detail: explain_file(alloc, path, bytes, fault, form).ok(),
         }
     }
 
