@@ -223,11 +223,18 @@ def session_at_a_terminal(program):
     yield "a session at a terminal", [] if (status, said) == (0, wanted) else [f"status {status}, {said!r}, not {wanted!r}"]
 
 
+def image_of_the_front_page():
+    """The image that README.md shows is the one that the program draws."""
+    words = ["draw", "--svg", "--table", "emp=examples/emp.csv", cases.ALL_NAMES]
+    return Case("examples/emp.svg", words, out=(ROOT / "examples/emp.svg").read_bytes())
+
+
 def main():
     program = str(Path(sys.argv[1]).resolve())
     pages = ["README.md", "examples/payroll.md", "examples/dates.md", "examples/session.md"]
     shown = {page: list(cases_of_page(ROOT / page)) for page in pages}
     shown["the help"] = list(cases_of_help(program))
+    shown["examples/emp.svg"] = [image_of_the_front_page()]
     table = [*(case for part in shown.values() for case in part), *cases.table()]
     tried = [(case.name, faults_of(program, case)) for case in table]
     shown["docs/recipes.md"] = list(recipes(program))
