@@ -154,13 +154,24 @@ def command_lines():
         ["ask", *emp, "--workers", ALL_NAMES],
         *(["ask", *emp, f"--workers={number}", ALL_NAMES] for number in ("0", "17", "-1", "x", "", "4294967297")),
         ["ask", *emp, "--workers", "1", "--workers", "2", ALL_NAMES],
+        ["ask", *emp, "--dates=1", ALL_NAMES],
+        ["ask", *emp, "--date", ALL_NAMES],
+        ["--dates", "ask", *emp, ALL_NAMES],
+        ["session", "emp=examples/emp.csv"],
+        ["session", "--table", "emp"],
+        ["session", *emp, ALL_NAMES],
+        ["session", *emp, "--workers", "2"],
     ):
         yield Case(f"refused: {words}", words, err=b"tq: BadCommandLine\n", status=2)
     for workers in ("1", "5", "16"):
         yield Case(f"{workers} workers", ["ask", *emp, "--workers", workers, ALL_NAMES], out=NAMES)
     yield Case("options after the statement", ["ask", ALL_NAMES, *emp], out=NAMES)
+    yield Case("a statement that is no UTF-8", ["ask", *emp, b"VALIDTIME \xc3\xff"], err=b"tq: statement BadByte at 10\n", status=1)
+    yield Case("a statement that begins with a sign", ["ask", *emp, "--", "-S"], err=b"tq: statement BadByte at 0\n", status=1)
+    yield Case("a name that is no UTF-8", ["ask", "--table", b"\x80\xc3\xa9=examples/emp.csv", "#"], err=b"tq: load BadHeader table 0 record 0\n", status=1)
+    yield Case("neither name nor path", ["ask", "--table==", "#"], err=b"tq: cannot read \n", status=1)
     yield Case("the version", ["--version"], out=b"tq 0.1.0\n")
-    for words in (["--help"], ["-h"], ["help"], ["ask", "--help"], ["help", "ask"]):
+    for words in (["--help"], ["-h"], ["help"], ["ask", "--help"], ["ask", "-h"], ["help", "ask"]):
         yield Case(f"help: {words}", words, out=None, holds=[b"VALIDTIME SELECT", b"emp:int,name:text,dept:text,from,to"])
 
 

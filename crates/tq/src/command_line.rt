@@ -444,6 +444,3 @@ fn split_table(alloc: Global, word: &[u8]) -> Result<TableOption, CommandLineFau
     let path = word[place + 1..].to_vec(alloc)?;
     Ok(TableOption { name, path })
 }
-
-#[cfg(test)]
-mod tests;

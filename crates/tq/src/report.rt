@@ -260,6 +260,3 @@ impl Told {
         }
     }
 }
-
-#[cfg(test)]
-mod tests;
