@@ -1,6 +1,8 @@
 // What is answered to a plan over the events of a file.
 
-ghost use Rattle.std.specs.Prelude.{IfOk};
+ghost use Rattle.std.specs.Prelude.{◌≤◌, IfOk, length};
+ghost use Rattle.tq_base.specs.Catalogues.{IsCatalogue};
+ghost use Rattle.tq_event.specs.History.{IsHistory};
 ghost use Rattle.tq_plan.specs.Standing.{IsPlanOver};
 
 use crate::plain::Plain;
@@ -8,7 +10,7 @@ use std::alloc::Global;
 use std::test::Fail;
 use tq_base::{Catalogue, Form, Items};
 use tq_core::Oracle;
-use tq_event::{MAX_EVENTS, TableFile, laws, load};
+use tq_event::{Event, MAX_EVENTS, TableFile, laws, load};
 use tq_plan::{Plan, plan};
 use tq_sql::read;
 use tq_table::table_text;
@@ -33,6 +35,24 @@ fn question(alloc: Global, catalogue: &Catalogue) -> Result<Plan, Fail>
     Ok(plan(alloc, catalogue, &statement, Form::Numbers)?)
 }
 
+// The text of the answer as of the first events.
+fn answered(
+    alloc: Global,
+    catalogue: &Catalogue,
+    events: &[Event],
+    n: u32,
+    plan: &Plan,
+) -> Result<Vec<u8>, Fail>
+    requires catalogue { IsCatalogue catalogue.now }
+    requires plan { IsPlanOver catalogue.now plan.now }
+    requires history { IsHistory catalogue.now events.now }
+    requires few { length events.now ≤ 16777216 }
+    requires within { n ≤ length events.now }
+{
+    let table = Plain::new().answer(alloc, catalogue, events, n, plan)?;
+    Ok(table_text(alloc, &table, Form::Numbers)?)
+}
+
 // As of three events cat, ann and bob have come, and nobody has left.
 #[test]
 fn a_plan_is_answered_as_of_the_first_events(rt: HostRuntime) -> Result<(), Fail> {
@@ -44,8 +64,7 @@ fn a_plan_is_answered_as_of_the_first_events(rt: HostRuntime) -> Result<(), Fail
     let events = loaded.events.get();
     let plan = question(alloc, &loaded.catalogue)?;
     let n = events.len().min(3) as u32;
-    let table = Plain::new().answer(alloc, &loaded.catalogue, events, n, &plan)?;
-    let text = table_text(alloc, &table, Form::Numbers)?;
+    let text = answered(alloc, &loaded.catalogue, events, n, &plan)?;
     let wanted = b"name,from,to\nann,10,forever\nbob,15,forever\ncat,5,forever\n";
     assert_eq!(rt; text.as_slice(), wanted.as_slice());
     Ok(())
