@@ -54,8 +54,8 @@ abbrev pub IsLoadDetail : Form → List (Vec ℕ Global) → LoadFault → List 
 IsLoadDetail form paths fault text =
     (path : Vec ℕ Global) × (bytes : List ℕ) × (slice_get paths fault.table ≡ Some path) × IsFileDetail form path.items bytes fault text
 
--- What is told of a statement that means nothing over the tables below its line: the detail over some catalogue, which is
--- that of the files' heads. (This project's own.)
+-- What is told of a statement that means nothing over the tables below its line: the detail over some catalogue. (This
+-- project's own.)
 abbrev pub IsPlanDetailOver : Form → PlanFault → List ℕ → List ℕ → Type 0
 IsPlanDetailOver form fault statement text = (catalogue : Catalogue) × IsPlanDetail form catalogue statement fault text
 
