@@ -2,7 +2,7 @@
 # `make bench` measures the program beside what one would write without it.
 SHELL := /bin/bash
 .SHELLFLAGS := -eu -o pipefail -c
-.PHONY: answer first build test bench install tools
+.PHONY: answer first build test wrong-bodies bench install tools
 
 PREFIX := /usr/local
 SHARE := $(DESTDIR)$(PREFIX)/share
@@ -31,6 +31,10 @@ tools:
 # puts the cases of gate/ to the program.
 test:
 	gate/run.sh
+
+# The wrong bodies that the gate leaves out: of the crates of CRATES, or of all.
+wrong-bodies:
+	gate/wrong_bodies.py $(CRATES)
 
 bench: build
 	bench/run.sh
