@@ -25,6 +25,7 @@ class Case:
     taken: bytes = b""  # what standard input gives
     terminal: bool = False  # whether standard error is a terminal
     holds: list = field(default_factory=list)
+    timed: bool = False  # whether standard error tells seconds, for each of which SECONDS stands in `err`
 
 
 EMP = b"""emp:int,name:text,dept:text,from,to
@@ -453,8 +454,8 @@ def checks():
         yield check(f"a check of many rows by {workers} workers", [("t", SMALL + many)], ["--workers", str(workers)], out=out)
     out = told("d", "k:int v:text", 2, 1, "2024-02-28", "2024-03-01", 0, 0)
     yield check("a check in dates", [("d", DATED)], ["--dates"], out=out)
-    yield Case("a check of a file at fault", ["check", "--table", "emp=examples/broken.csv"], err=b"tq: load BadPeriod table 0 record 3\n", status=1)
-    yield check("a check of a second file at fault", [("e", EMP), ("d", DATED)], err=b"tq: load BadPeriod table 1 record 2\n", status=1)
+    dated = b"".join(b"d record %d, line %d: from `%s` is a date: with --dates instants are dates\n" % it for it in ((2, 2, b"2024-02-28"), (3, 3, b"2024-03-01")))
+    yield check("a check of a second file at fault", [("e", EMP), ("d", DATED)], out=dated, err=b"tq: load BadPeriod table 1 record 2\n", status=1)
     yield check("a check of tables of one name", [("e", EMP), ("E", EMP)], err=b"tq: load DuplicateName table 1 record 0\n", status=1)
     yield Case("a check of a file that is missing", ["check", "--table", "e=ROOM/none.csv"], err=b"tq: cannot read ROOM/none.csv\n", status=1)
     for words in (["check"], [*emp, ALL_NAMES], [*emp, "--workers", "0"], [*emp, "--workers", "17"], ["check", "--table", "emp"], [*emp, "--width", "80"]):
@@ -492,6 +493,42 @@ def dates():
     yield Case("dates that are told apart", ["ask", "--dates=yes", "--table", "d=ROOM/d.csv", asked], files={"d.csv": DATED}, err=b"tq: BadCommandLine\n", status=2)
 
 
+def pointed(line, at):
+    """A line of a statement with a caret below one of its characters: of more than 72 those round the place."""
+    front, rest = line[:at], line[at:]
+    before, behind = min(len(front), 72 - min(len(rest), 36)), min(len(rest), 72 - min(len(front), 36))
+    left, right = (".." if shown < len(part) else "" for shown, part in ((before, front), (behind, rest)))
+    shown = front[len(front) - before :]
+    below = " " * len(left) + "".join(it if it == "\t" else " " for it in shown)
+    return f"  {left}{shown}{rest[:behind]}{right}\n  {below}^\n".encode()
+
+
+def long_statements():
+    """Statements of long lines, with the place at the beginning, on the way and at the end."""
+    emp = ["ask", "--explain", "--table", "emp=examples/emp.csv"]
+    said = b"  no word, number, text or sign begins here\n"
+    for part in ("AND name <> 'bob' ", "AND name <> 'b\u00f6b' ", "AND name <> '\u20ac\U0001f600' ", "AND\tname <> 'bob'\t"):
+        for before, behind in ((0, 8), (1, 8), (2, 8), (4, 4), (8, 2), (8, 1), (8, 0)):
+            begin = "VALIDTIME SELECT name FROM emp WHERE emp = 1 " + before * part
+            line = begin + "#" + behind * part
+            at = len(begin.encode())
+            for asked, place in ((line, at), ("\n" + 90 * " " + "\n" + line + "\n" + 90 * " ", at + 92)):
+                err = b"tq: statement BadByte at %d\n" % place + pointed(line, len(begin)) + said
+                yield Case(f"{before} and {behind} times {part!r}", [*emp, asked], err=err, status=1)
+    for length in range(69, 77):
+        for at in (0, 30, 36, 37, length - 37, length - 36, length - 1):
+            line = " " * at + "#" + " " * (length - at - 1)
+            err = b"tq: statement BadByte at %d\n" % at + pointed(line, at) + said
+            yield Case(f"{length} characters, at {at}", [*emp, line], err=err, status=1)
+    whole = b"  " + 71 * b" " + b"#\n  " + 71 * b" " + b"^\n"
+    yield Case("72 characters are shown whole", [*emp, 71 * " " + "#"], err=b"tq: statement BadByte at 71\n" + whole + said, status=1)
+    cut = b"  #" + 71 * b" " + b"..\n  ^\n"
+    yield Case("of 73 characters 72", [*emp, "#" + 72 * " "], err=b"tq: statement BadByte at 0\n" + cut + said, status=1)
+    asked = "VALIDTIME SELECT " + "name, " * 20 + "pay FROM emp"
+    told = b"tq: plan UnknownColumn\n" + pointed(asked, 137) + b"  columns of emp:  emp  name  dept\n"
+    yield Case("a name at fault in a long statement", [*emp, asked], err=told, status=1)
+
+
 def explanations():
     emp = ["ask", "--table", "emp=examples/emp.csv"]
     statement = "VALIDTIME SELECT name FROM emp ORDER BY name"
@@ -517,7 +554,7 @@ def explanations():
         ("VALIDTIME SELECT SUM(name) FROM emp GROUP BY dept", "SumOfText", (" " * 21 + "^", "a sum takes numbers, and this column holds texts")),
         ("VALIDTIME PERIOD '[2 - 1)' SELECT name FROM emp", "BadWindow", (" " * 17 + "^", "a window is written '[10 - 20)' or '[10 - forever)', with its start before its end")),
     ):
-        detail = "".join(f"  {line}\n" for line in (asked, *shown)).encode()
+        detail = pointed(asked, shown[0].index("^")) + f"  {shown[1]}\n".encode()
         line = b"tq: plan " + kind.encode() + b"\n"
         for terminal, words in ((False, [*emp, "--explain", asked]), (True, [*emp, asked])):
             yield Case(f"a {kind} explained, terminal: {terminal}", words, err=line + detail, status=1, terminal=terminal)
@@ -528,13 +565,58 @@ def explanations():
         yield Case(f"{asked} explained", [*emp, "--explain", asked], err=b"tq: plan " + kind + b"\n  " + rule + b"\n", status=1)
     piped = ["ask", "--explain", "--table", "emp=-", "VALIDTIME SELECT emp.age FROM emp"]
     yield Case("a fault of a plan over standard input", piped, taken=b"\n\nemp:int,name:text,from,to\r\n1,ann,1,2\r\n", err=b"tq: plan UnknownColumn\n  VALIDTIME SELECT emp.age FROM emp\n                   ^\n  columns of emp:  emp  name\n", status=1)
-    yield Case("an answer in a terminal", [*emp, "--explain", ALL_NAMES], out=NAMES, terminal=True)
+    yield Case("an answer in a terminal", [*emp, ALL_NAMES], out=NAMES, terminal=True)
     for words, reason in (
         ([*emp, "--workers", "17", ALL_NAMES], b"--workers takes 1 to 16"),
         (["ask", "--table", "emp", ALL_NAMES], b"--table takes NAME=PATH"),
     ):
         said = b"tq: BadCommandLine\nerror: " + reason + b"\n\nFor more information, try '--help'.\n"
         yield Case(f"a command line in a terminal: {words}", words, err=said, status=2, terminal=True)
+
+
+def how_answered(window, sources, rows, workers=1, pieces=0):
+    """What is told of an answer: its window, its sources behind their labels, how many rows it has, and what the run tells."""
+    lines = [("window", window), *sources, ("rows", rows), ("workers", workers), ("pieces", pieces)]
+    lines += [(step, "SECONDS") for step in ("loading", "answering", "printing")]
+    return "".join(f"  {label:<15}{text}\n" for label, text in lines).encode()
+
+
+# Statements over EMP, which are answered, with what is told: the window, each source, and how many rows there are.
+EXPLAINED_ANSWERS = [
+    ("SELECT name FROM emp", "[0 - forever)", [("from", "emp: 4 read, 4 kept")], 3),
+    ("PERIOD '[10 - 15)' SELECT name FROM emp", "[10 - 15)", [("from", "emp: 4 read, 2 kept")], 2),
+    ("PERIOD '[30 - Forever)' SELECT name FROM emp WHERE emp > 3", "[30 - forever)", [("from", "emp: 4 read, 0 kept, keys from 4")], 0),
+    ("SELECT name FROM emp WHERE emp >= 2", "[0 - forever)", [("from", "emp: 4 read, 2 kept, keys from 2")], 2),
+    ("PERIOD '[10 - 16)' SELECT name FROM emp WHERE emp < 3", "[10 - 16)", [("from", "emp: 4 read, 2 kept, keys to 2")], 2),
+    ("SELECT name FROM emp WHERE emp > -3 AND emp <= 1", "[0 - forever)", [("from", "emp: 4 read, 2 kept, keys from -2 to 1")], 1),
+    ("SELECT name FROM emp WHERE emp = 1 AND emp = 2", "[0 - forever)", [("from", "emp: 4 read, 0 kept, no key passes")], 0),
+    ("SELECT dept FROM emp EXCEPT ALL SELECT dept FROM emp WHERE emp = 2", "[0 - forever)", [("from", "emp: 4 read, 4 kept"), ("except from", "emp: 4 read, 1 kept, keys from 2 to 2")], 2),
+    ("SELECT dept, COUNT(*) FROM emp GROUP BY dept", "[0 - forever)", [("from", "emp: 4 read, 4 kept")], 4),
+]
+
+
+def explained_answers():
+    """What is told of an answer where that is asked for; standard output has the answer and nothing else."""
+    emp = [("emp", EMP)]
+    for statement, window, sources, rows in EXPLAINED_ANSWERS:
+        asked = f"VALIDTIME {statement}"
+        yield ask(f"{statement}, told", emp, asked, ["--explain"], out=None, holds=[b",from,to\n"], err=how_answered(window, sources, rows), timed=True)
+    names = how_answered("[0 - forever)", [("from", "emp: 4 read, 4 kept")], 3)
+    yield ask("an answer that is told in a terminal", emp, ALL_NAMES, ["--explain"], out=NAMES, err=names, timed=True, terminal=True)
+    yield ask("an answer in a pipe", emp, ALL_NAMES, out=NAMES)
+    two = how_answered("[0 - forever)", [("from", "emp: 4 read, 4 kept")], 3, workers=2, pieces=1)
+    yield ask("an answer of two workers, told", emp, ALL_NAMES, ["--explain", "--workers", "2"], out=NAMES, err=two, timed=True)
+    dated = b"k:int,v:text,from,to\n1,x,2024-02-28,2024-03-01\n2,y,2024-03-01,forever\n"
+    asked = "VALIDTIME PERIOD '[2024-02-29 - 2024-03-01)' SELECT v FROM d"
+    said = how_answered("[2024-02-29 - 2024-03-01)", [("from", "d: 2 read, 1 kept")], 1)
+    yield ask("an answer in dates, told", [("d", dated)], asked, ["--dates", "--explain"], out=b"v,from,to\nx,2024-02-29,2024-03-01\n", err=said, timed=True)
+    many = [("c", SMALL + 12345 * b"7,x,0,1\n")]
+    said = how_answered("[0 - forever)", [("from", "c: 12345 read, 12345 kept, keys from 7 to 7")], 12345)
+    yield ask("many rows, told", many, "VALIDTIME SELECT v FROM c WHERE k = 7", ["--explain"], out=b"v,from,to\n" + 12345 * b"x,0,1\n", err=said, timed=True)
+    full = ["ask", "--explain", "--table", "emp=examples/emp.csv", ALL_NAMES]
+    yield Case("an answer that does not go out is not told", full, err=b"tq: write failed\n", status=1, to=FULL)
+    picture = ["draw", "--explain", "--table", "emp=examples/emp.csv", ALL_NAMES]
+    yield Case("of a picture nothing is told", picture, out=None, holds=[b"ann"])
 
 
 # Of a file at fault: its bytes, the fault's line, and what stands below it behind the file's path.
@@ -607,6 +689,78 @@ def explained_files():
     yield Case("standard input at fault, explained", read, err=b"tq: load FieldCount table 0 record 2\n", status=1, taken=SMALL + b"1\n")
 
 
+def further_faults():
+    """Files with several records at fault: how many there are behind the first one."""
+    asked = "VALIDTIME SELECT v FROM d"
+    good, told = b"1,x,0,1\n", b", line 3: from `9` is not before to `9`"
+    for behind, more in (
+        (b"", b""),
+        (3 * good, b""),
+        (good + b"2,x,y,0,1\n" + good, b", and 1 more record is at fault"),
+        (b"a,x,0,1\n" + good + b"1,\xff,0,1\n1," + 1001 * b"x" + b",0,1\n2,x,1,0\n\n1\n", b", and 5 more records are at fault"),
+        (b'"\n",x,0,1\n' * 150 + good, b", and 150 more records are at fault"),
+        (b'1,"x,9,9\n1,x,9,9\n', b", and 1 more record is at fault"),
+    ):
+        tables = [("d", SMALL + good + b"1,x,9,9\n" + behind)]
+        line = b"tq: load BadPeriod table 0 record 3\n"
+        yield ask(f"{behind[-40:]!r} behind a fault, explained", tables, asked, ["--explain"], err=line + b"  ROOM/0.csv" + told + more + b"\n", status=1)
+        yield ask(f"{behind[-40:]!r} behind a fault, in a terminal", tables, asked, err=line + b"  ROOM/0.csv" + told + more + b"\n", status=1, terminal=True)
+        yield ask(f"{behind[-40:]!r} behind a fault, in a pipe", tables, asked, err=line, status=1)
+    dated = [("d", SMALL + b"1,x,5,9\n1,x,2024-02-29,forever\n1,x,5,2024-03-01\n")]
+    below = b"tq: load BadPeriod table 0 record 2\n  ROOM/0.csv, line 2: from `5` is no date: a day of the calendar, YYYY-MM-DD, and 1 more record is at fault\n"
+    yield ask("dates behind a fault", dated, asked, ["--dates", "--explain"], err=below, status=1)
+    second = [("a", SMALL + b"1,x,0,1\n"), ("d", SMALL + b"1,x,1,1\n1,x,2,2\n"), ("c", SMALL + b"1,x,3,3\n")]
+    below = b"tq: load BadPeriod table 1 record 2\n  ROOM/1.csv, line 2: from `1` is not before to `1`, and 1 more record is at fault\n"
+    yield ask("faults of the second of three files", second, asked, ["--explain"], err=below, status=1)
+
+
+def each_fault():
+    """What a check lists of records at fault, in a pipe as at a terminal."""
+    good = b"1,x,0,1\n"
+    several = SMALL + good + b'2,"a\nb",9,9\n\nx,y,0,1\n' + good + b"1,\xff,0,1\n1\n1,x,2020-01-31,forever\n"
+    listed = (
+        b"emp record 3, line 3: from `9` is not before to `9`\n"
+        b"emp record 4, line 6: k `x` is no int: " + AN_INT + b"\n"
+        b"emp record 6, line 8: v `\xff` is no UTF-8: a text is in UTF-8\n"
+        b"emp record 7, line 9: fields here: 1, in the header: 4\n"
+        b"emp record 8, line 10: from `2020-01-31` is a date: with --dates instants are dates\n"
+    )
+    line = b"tq: load BadPeriod table 0 record 3\n"
+    yield check("records at fault", [("emp", several)], out=listed, err=line, status=1)
+    more = b"  ROOM/0.csv, line 3: from `9` is not before to `9`, and 4 more records are at fault\n"
+    yield check("records at fault at a terminal", [("emp", several)], out=listed, err=line + more, status=1, terminal=True)
+    for workers in ("2", "16"):
+        yield check(f"records at fault by {workers} workers", [("emp", several)], ["--workers", workers], out=listed, err=line, status=1)
+    yield Case("records at fault of standard input", ["check", "--table", "emp=-"], taken=several, out=listed, err=line, status=1)
+    yield Case("records at fault of a pipe", ["check", "--table", "emp=/dev/stdin"], taken=several, out=listed, err=line, status=1)
+    yield check("a name is listed as it was given", [("Emp", several)], out=listed.replace(b"emp record", b"Emp record"), err=line, status=1)
+    broken = b"emp record 3, line 3: from `25` is not before to `15`\n"
+    yield Case("a record at fault of a file", ["check", "--table", "emp=examples/broken.csv"], out=broken, err=line, status=1)
+    for count, rest in ((100, b""), (101, b"t: 1 more record is at fault\n"), (350, b"t: 250 more records are at fault\n")):
+        content = SMALL + good + count * b"1,x,7,7\r\n\r\n" + good
+        out = b"".join(b"t record %d, line %d: from `7` is not before to `7`\n" % (3 + n, 3 + 2 * n) for n in range(100)) + rest
+        yield check(f"{count} records at fault", [("t", content)], out=out, err=b"tq: load BadPeriod table 0 record 3\n", status=1)
+    tables = [("a", SMALL + good), ("b", SMALL + b"1,x,1,1\n" + good), ("c", b"\nk:int,v:float,from,to\n"), ("d", SMALL + b"1,x,0,1\n,,,\n")]
+    out = (
+        b"b record 2, line 2: from `1` is not before to `1`\n"
+        b"c record 1, line 2: `v:float` is no column: " + A_HEADER + b"\n"
+        b"d record 3, line 3: k is empty: " + AN_INT + b"\n"
+    )
+    yield check("records at fault of several tables", tables, out=out, err=b"tq: load BadPeriod table 1 record 2\n", status=1)
+    out = b"c record 1, line 1: two columns have one name\n".replace(b"two", b"`K:text` is no column: two", 1)
+    yield check("a header at fault", [("c", b"k:int,K:text,from,to\nx\n")], out=out, err=b"tq: load DuplicateName table 0 record 1\n", status=1)
+    yield check("no header", [("c", b"")], out=b"c record 1: " + A_HEADER + b"\n", err=b"tq: load BadHeader table 0 record 1\n", status=1)
+    out = b"c record 1, line 1: two byte order marks begin the file, and one may\n"
+    yield check("two byte order marks", [("c", 2 * b"\xef\xbb\xbf" + SMALL)], out=out, err=b"tq: load BadHeader table 0 record 1\n", status=1)
+    out = b"c record 2, line 2: k `x` is no int: " + AN_INT + b"\n"
+    yield check("a byte order mark", [("c", b"\xef\xbb\xbf" + SMALL + b"x,x,0,1\n")], out=out, err=b"tq: load BadInt table 0 record 2\n", status=1)
+    yield check("a name at fault, and a record", [("select", SMALL + b"1\n")], err=b"tq: load BadHeader table 0 record 0\n", status=1)
+    out = b"d record 2, line 2: from `0` is no date: a day of the calendar, YYYY-MM-DD\n"
+    yield check("records at fault in dates", [("d", SMALL + good)], ["--dates"], out=out, err=b"tq: load BadPeriod table 0 record 2\n", status=1)
+    for to in (FULL, UNREAD, CLOSED):
+        yield Case(f"records at fault where the output is {to}", ["check", "--table", "emp=examples/broken.csv"], err=line, status=1, to=to)
+
+
 def unread_files():
     """Why a file cannot be read, where that is asked for, and in a pipe the line alone."""
     for path, reason in (
@@ -634,5 +788,5 @@ def outputs_that_fail():
 
 def table():
     """All cases."""
-    makers = (files_at_fault, statements_at_fault, command_lines, words_of_all_lengths, paths, large, among_threads, sessions, pictures, checks, dates, explanations, explained_files, unread_files, outputs_that_fail)
+    makers = (files_at_fault, statements_at_fault, command_lines, words_of_all_lengths, paths, large, among_threads, sessions, pictures, checks, dates, explanations, long_statements, explained_answers, explained_files, further_faults, each_fault, unread_files, outputs_that_fail)
     return [case for maker in makers for case in maker()]

@@ -16,6 +16,7 @@ import subprocess
 import sys
 import tempfile
 import termios
+import time
 from pathlib import Path
 
 import cases
@@ -26,6 +27,8 @@ SECONDS = 120
 COMMAND = re.compile(r"    \$ bin/tq (.*)")
 SHELL_COMMAND = re.compile(r"    \$ (.*)")
 FORM = re.compile(r"    bin/tq (.*) STATEMENT")
+# The seconds that a run took, which no case names.
+TOOK = re.compile(rb"(?<= )\d+\.\d{3} s$", re.MULTILINE)
 
 
 def blocks_of(text):
@@ -155,6 +158,8 @@ def faults_of(program, case):
         faults.append(f"status {status}, not {case.status}")
     if case.out is not None and out != case.out:
         faults.append(f"output {out[:200]!r}, not {case.out[:200]!r}")
+    if case.timed:
+        err = TOOK.sub(b"SECONDS", err)
     if err != wanted:
         faults.append(f"standard error {err[:200]!r}, not {wanted[:200]!r}")
     return faults
@@ -223,6 +228,35 @@ def session_at_a_terminal(program):
     yield "a session at a terminal", [] if (status, said) == (0, wanted) else [f"status {status}, {said!r}, not {wanted!r}"]
 
 
+def question_that_takes_long(program):
+    """A question whose file comes through a pipe, in two parts with more than a second between, with what is wrong with it:
+    a terminal shows how far it is and has nothing left of that, and what is no terminal gets nothing."""
+    text = (ROOT / "examples/emp.csv").read_bytes()
+    words = [program, "ask", "--table", "emp=examples/emp.csv", cases.ALL_NAMES]
+    answer = subprocess.run(words, cwd=ROOT, stdin=subprocess.DEVNULL, stdout=subprocess.PIPE, timeout=SECONDS).stdout
+    for name, on_terminal in (("a terminal", True), ("a file", False)):
+        with tempfile.TemporaryDirectory() as room:
+            pipe = f"{room}/emp.csv"
+            os.mkfifo(pipe)
+            terminal, errors = pty.openpty() if on_terminal else (None, subprocess.PIPE)
+            words = [program, "ask", "--table", f"emp={pipe}", cases.ALL_NAMES]
+            ran = subprocess.Popen(words, stdin=subprocess.DEVNULL, stdout=subprocess.PIPE, stderr=errors)
+            with open(pipe, "wb", buffering=0) as into:
+                into.write(text[:40])
+                time.sleep(1.6)
+                into.write(text[40:])
+            out, said = ran.communicate(timeout=SECONDS)
+            if on_terminal:
+                os.close(errors)
+                said = read_terminal(terminal)
+        line = b"\r\x1b[Ktq: reading, 0 MB"
+        is_well = said.startswith(line) and said.replace(line, b"") == b"\r\x1b[K" if on_terminal else said == b""
+        faults = [] if is_well else [f"standard error {said!r}"]
+        if (ran.returncode, out) != (0, answer):
+            faults.append(f"status {ran.returncode}, {out!r}")
+        yield f"how far a question is, on {name}", faults
+
+
 def image_of_the_front_page():
     """The image that README.md shows is the one that the program draws."""
     words = ["draw", "--svg", "--table", "emp=examples/emp.csv", cases.ALL_NAMES]
@@ -238,7 +272,8 @@ def main():
     table = [*(case for part in shown.values() for case in part), *cases.table()]
     tried = [(case.name, faults_of(program, case)) for case in table]
     shown["docs/recipes.md"] = list(recipes(program))
-    tried += [*shown["docs/recipes.md"], *made_pages(program), *session_at_a_terminal(program)]
+    tried += [*shown["docs/recipes.md"], *made_pages(program), *session_at_a_terminal(program),
+              *question_that_takes_long(program)]
     passed = failed = 0
     for place, part in shown.items():
         if not part:

@@ -1,5 +1,5 @@
 -- Which refusal each fault is, the lines that tell them, and the statuses that the program ends with.
-use Rattle.std.specs.Prelude.{◌≡◌, ℕ, Vec, List, ◌++◌, codes, decimal, length, min, slice_get, Some}
+use Rattle.std.specs.Prelude.{◌≡◌, ℕ, Vec, List, ◌++◌, codes, decimal, length, min, slice_get, Option, None, Some}
 use Rattle.std.specs.declared.alloc.Global.{Global}
 use Rattle.tq_engine.specs.declared.answering.AnswerFault.{AnswerFault}
 use Rattle.tq_engine.specs.declared.answering.AnswerFault.TheVariants as answer
@@ -13,7 +13,9 @@ use Rattle.tq_event.specs.declared.fault.LoadFault.{LoadFault}
 use Rattle.tq_explain.specs.Details.{IsDetail}
 use Rattle.tq_explain.specs.Files.{IsFileDetail}
 use Rattle.tq_explain.specs.PlanDetails.{IsPlanDetail}
-use Rattle.tq_base.specs.declared.catalogue.Catalogue.{Catalogue}
+use Rattle.tq_event.specs.Tables.{AreTables}
+use Rattle.tq_event.specs.declared.file.TableFile.{TableFile}
+use Rattle.tq_event.specs.declared.file.Tables.{Tables}
 use Rattle.tq_plan.specs.declared.fault.PlanFault.{PlanFault}
 use Rattle.tq_session.specs.declared.transcript.SessionFault.{SessionFault}
 use Rattle.tq_session.specs.declared.transcript.SessionFault.TheVariants as session
@@ -54,19 +56,21 @@ abbrev pub IsLoadDetail : Form → List (Vec ℕ Global) → LoadFault → List 
 IsLoadDetail form paths fault text =
     (path : Vec ℕ Global) × (bytes : List ℕ) × (slice_get paths fault.table ≡ Some path) × IsFileDetail form path.items bytes fault text
 
--- What is told of a statement that means nothing over the tables below its line: the detail over some catalogue. (This
--- project's own.)
-abbrev pub IsPlanDetailOver : Form → PlanFault → List ℕ → List ℕ → Type 0
-IsPlanDetailOver form fault statement text = (catalogue : Catalogue) × IsPlanDetail form catalogue statement fault text
+-- What is told of a statement that means nothing over the tables below its line: the detail over the tables that files of
+-- these heads have, where there are heads. (This project's own.)
+abbrev pub IsPlanDetailOver : Form → Option (Vec TableFile Global) → PlanFault → List ℕ → List ℕ → Type 0
+IsPlanDetailOver form None fault statement text = ⊥
+IsPlanDetailOver form (Some heads) fault statement text =
+    (tables : Tables) × AreTables form heads.items 16777216 tables × IsPlanDetail form tables.catalogue statement fault text
 
--- What is told of a question over the files at these paths below its line: of a fault of a file or of a plan its detail, and of
--- every other what is told of an answer's fault. (This project's own.)
-abbrev pub IsQuestionDetail : Form → List (Vec ℕ Global) → AnswerFault → List ℕ → List ℕ → Type 0
-IsQuestionDetail form paths (answer.Load fault) statement text = IsLoadDetail form paths fault text
-IsQuestionDetail form paths (answer.Sql fault) statement text = IsAnswerDetail (answer.Sql fault) statement text
-IsQuestionDetail form paths (answer.Plan fault) statement text = IsPlanDetailOver form fault statement text
-IsQuestionDetail form paths answer.Write statement text = IsAnswerDetail answer.Write statement text
-IsQuestionDetail form paths answer.OutOfMemory statement text = IsAnswerDetail answer.OutOfMemory statement text
+-- What is told of a question over the files at these paths, which have these heads, below its line: of a fault of a file or of a
+-- plan its detail, and of every other what is told of an answer's fault. (This project's own.)
+abbrev pub IsQuestionDetail : Form → List (Vec ℕ Global) → Option (Vec TableFile Global) → AnswerFault → List ℕ → List ℕ → Type 0
+IsQuestionDetail form paths heads (answer.Load fault) statement text = IsLoadDetail form paths fault text
+IsQuestionDetail form paths heads (answer.Sql fault) statement text = IsAnswerDetail (answer.Sql fault) statement text
+IsQuestionDetail form paths heads (answer.Plan fault) statement text = IsPlanDetailOver form heads fault statement text
+IsQuestionDetail form paths heads answer.Write statement text = IsAnswerDetail answer.Write statement text
+IsQuestionDetail form paths heads answer.OutOfMemory statement text = IsAnswerDetail answer.OutOfMemory statement text
 
 -- The refusal of a session that ended with this fault. (This project's own.)
 abbrev pub refused_session : SessionFault → Refusal

@@ -100,7 +100,7 @@ pub struct TableOption {
 }
 
 /// What `tq ask` was asked: the tables in the order of their options, 1 to 16 workers, how instants are written, a
-/// statement, and whether a refusal is explained wherever it goes.
+/// statement, and whether a refusal is explained wherever it goes, and an answer.
 #[derive(Drop)]
 pub struct AskRequest {
     pub tables: Vec<TableOption>,
@@ -255,11 +255,13 @@ fn dates_argument<'a>(alloc: Global) -> Arg<'a> {
         .action(ArgAction::SetTrue)
 }
 
-// Whether refusals are explained.
+// Whether refusals are explained, and answers.
 fn explain_argument<'a>(alloc: Global) -> Arg<'a> {
     Arg::new(alloc, "explain")
         .long("explain")
-        .help("Says below its line why a file or a statement is refused, as at a terminal")
+        .help(
+            "Says why a file or a statement is refused, as at a terminal; `tq ask` also says how it was answered",
+        )
         .action(ArgAction::SetTrue)
 }
 
@@ -318,7 +320,9 @@ fn draw_command<'a>(alloc: Global) -> Result<Command<'a>, AllocError> {
 // The command that checks tables.
 fn check_command<'a>(alloc: Global) -> Result<Command<'a>, AllocError> {
     Command::new(alloc, "check")
-        .about("Tells what each table has: columns, rows, times, equal rows that overlap or meet")
+        .about(
+            "Tells what each table has: columns, rows, times, equal rows that overlap or meet; or which records are at fault",
+        )
         .after_help(FILES)
         .arg(table_argument(alloc))?
         .arg(dates_argument(alloc))?

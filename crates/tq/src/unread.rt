@@ -18,6 +18,17 @@ pub fn is_file<R: Files>(rt: &R, path: &[u8]) -> bool {
     }
 }
 
+/// How many bytes the file at the path has; 0 where that is not known.
+pub fn file_len<R: Files>(rt: &R, path: &[u8]) -> u64 {
+    let Ok(path) = str::from_utf8(path) else {
+        return 0;
+    };
+    match fs::metadata(rt, path) {
+        Ok(metadata) => metadata.len(),
+        Err(_) => 0,
+    }
+}
+
 fn meaning(kind: ErrorKind) -> &'static [u8] {
     match kind {
         ErrorKind::NotFound => b"there is no such file or directory",

@@ -1,5 +1,5 @@
 -- The answer of a statement over the tables of files, and the first fault where there is none.
-use Rattle.std.specs.Prelude.{◌≡◌, ℕ, List, length, All, Err}
+use Rattle.std.specs.Prelude.{◌≡◌, ℕ, List, length, All, Err, Ok}
 use Rattle.tq_base.specs.declared.form.Form.{Form}
 use Rattle.tq_base.specs.declared.form.Form.TheVariants.{Dates}
 use Rattle.tq_base.specs.declared.fragment.Fragment.{Fragment}
@@ -12,6 +12,7 @@ use Rattle.tq_event.specs.Loading.{IsLoaded, contents_of}
 use Rattle.tq_event.specs.Tables.{AreLoaded}
 use Rattle.tq_eval.specs.Answers.{IsAnswer}
 use Rattle.tq_plan.specs.Plans.{plan_of}
+use Rattle.tq_plan.specs.declared.plans.Plan.{Plan}
 use Rattle.tq_sql.specs.declared.fault.SqlFault.{SqlFault}
 use Rattle.tq_sql.specs.declared.statement.Statement.{Statement}
 use Rattle.tq_sql.specs.Reading.{IsSqlFault, Makes}
@@ -32,6 +33,13 @@ pub record HasAnswer (form : Form) (files : List TableFile) (bytes : List ℕ) (
 pub record IsAsked (form : Form) (files : List TableFile) (bytes : List ℕ) (tables : Tables) (statement : Statement) : Type 0 where
   pub loaded : AreLoaded form files 16777216 tables
   pub makes : Makes bytes statement
+
+-- the tables are those of the files, and the plan is that of the statement that the bytes make
+pub record IsPlanned (form : Form) (files : List TableFile) (bytes : List ℕ) (tables : Tables) (plan : Plan) : Type 0 where
+  pub loaded : AreLoaded form files 16777216 tables
+  pub statement : Statement
+  pub makes : Makes bytes statement
+  pub planned : plan_of form tables.catalogue statement ≡ Ok plan
 
 -- files and a statement have one answer at most
 abbrev pub AnswersAreUnique : Type 0

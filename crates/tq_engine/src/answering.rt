@@ -23,7 +23,7 @@ use tq_event::laws::{loaded_is_history, tables_are_loaded};
 use tq_event::{LoadFault, LoadFaultKind, MAX_EVENTS, TableFile, Tables};
 use tq_loading::load_tables_among;
 use tq_plan::{PlanFault, plan};
-use tq_run::Open;
+use tq_run::{Gate, Open};
 use tq_sql::{SqlFault, SqlFaultKind, Statement, read};
 use tq_table::{Sink, Table};
 use tq_workers::{AnswerText, answer_among, text_among};
@@ -101,18 +101,20 @@ impl From<AllocError> for AnswerFault {
 
 // What is asked: the tables of the files, and the statement that the bytes make.
 #[derive(Drop)]
-struct Question {
-    tables: Tables,
-    statement: Statement,
+pub(crate) struct Question {
+    pub(crate) tables: Tables,
+    pub(crate) statement: Statement,
 }
 
-// What the files, which these workers load, and the bytes ask. The files' bytes are let go once they are loaded.
-fn asked<R: Threads + Sync>(
+// What the files, which these workers load, and the bytes ask. The files' bytes are let go once they are loaded. The gate
+// is told of each part of the files.
+pub(crate) fn asked<R: Threads + Sync, G: Gate + Sync>(
     rt: &R,
     alloc: Global,
     files: Vec<TableFile>,
     bytes: &[u8],
     workers: u32,
+    gate: &G,
     form: Form,
 ) -> Result<Question, AnswerFault>
     requires some { 1 ≤ workers }
@@ -121,7 +123,7 @@ fn asked<R: Threads + Sync>(
     ensures fit { IfOk result (λ question. AreAllFitting question.tables.catalogue (lists_of question.tables.rows)) }
     ensures fault { IfErr result (IsFault form files.items bytes.now) }
 {
-    let tables = load_tables_among(rt, alloc, files, MAX_EVENTS, workers, &Open, form)?;
+    let tables = load_tables_among(rt, alloc, files, MAX_EVENTS, workers, gate, form)?;
     tables_are_loaded();
     loaded_is_history();
     held_rows_fit();
@@ -153,13 +155,14 @@ fn answer_statement<'a, R: Threads + Sync>(
     Ok(table)
 }
 
-// The text of the answer of a statement over tables, worked out by these workers.
-fn statement_text<R: Threads + Sync>(
+// The text of the answer of a statement over tables, worked out by these workers. The gate is told of each piece of it.
+fn statement_text<R: Threads + Sync, G: Gate + Sync>(
     rt: &R,
     alloc: Global,
     tables: &Tables,
     statement: &Statement,
     workers: u32,
+    gate: &G,
     form: Form,
 ) -> Result<AnswerText, AnswerFault>
     requires fit { AreAllFitting tables.now.catalogue (lists_of tables.now.rows) }
@@ -171,7 +174,7 @@ fn statement_text<R: Threads + Sync>(
 {
     let plan = plan(alloc, &tables.catalogue, statement, form)?;
     let (catalogue, rows) = (&tables.catalogue, tables.rows.get());
-    let text = text_among(rt, alloc, catalogue, rows, &plan, workers, &Open, form)?;
+    let text = text_among(rt, alloc, catalogue, rows, &plan, workers, gate, form)?;
     tables_answer();
     Ok(text)
 }
@@ -200,12 +203,13 @@ fn answered<'a, R: Threads + Sync>(
     )
 }
 
-// The text of the answer to what files and bytes ask, worked out by these workers.
-fn answered_text<R: Threads + Sync>(
+// The text of the answer to what files and bytes ask, worked out by these workers. The gate is told of each piece of it.
+pub(crate) fn answered_text<R: Threads + Sync, G: Gate + Sync>(
     rt: &R,
     alloc: Global,
     question: &Question,
     workers: u32,
+    gate: &G,
     form: Form,
 ) -> Result<AnswerText, AnswerFault>
     requires fit { AreAllFitting question.now.tables.catalogue (lists_of question.now.tables.rows) }
@@ -220,6 +224,7 @@ fn answered_text<R: Threads + Sync>(
         &question.tables,
         &question.statement,
         workers,
+        gate,
         form,
     )
 }
@@ -240,7 +245,7 @@ pub fn answer<'b, R: Threads + Sync>(
     ensures answer { IfOk result (HasAnswer form files.items bytes.now) }
     ensures fault { IfErr result (IsFault form files.items bytes.now) }
 {
-    let question = asked(rt, alloc, files, bytes, workers, form)?;
+    let question = asked(rt, alloc, files, bytes, workers, &Open, form)?;
     let table = answered(rt, alloc, &question, workers, form)?;
     Ok(detached(alloc, table)?)
 }
@@ -267,8 +272,8 @@ pub fn answer_bytes<R: Threads + Sync, W: Write>(
     ensures failed { result ≡ Err AnswerFault.Write → sink.new.failed ≡ one_more sink.old.failed }
     ensures fault { IfErr result (λ fault. fault ≢ AnswerFault.Write → IsFault form files.items bytes.now fault × (sink.new ≡ sink.old)) }
 {
-    let question = asked(rt, alloc, files, bytes, workers, form)?;
-    let text = answered_text(rt, alloc, &question, workers, form)?;
+    let question = asked(rt, alloc, files, bytes, workers, &Open, form)?;
+    let text = answered_text(rt, alloc, &question, workers, &Open, form)?;
     match sink.send_all(text.parts()) {
         Ok(()) => Ok(()),
         Err(_) => Err(AnswerFault::Write),

@@ -5,16 +5,19 @@
 //! `read_file` reads to its end. `answer` loads the tables of all files (`tq_event`), reads the statement
 //! (`tq_sql`), plans it (`tq_plan`) and evaluates its plan (`tq_eval`); `answer_bytes` has the text of that answer
 //! sent through a `Sink` (`tq_table`). Its contract is the first promise: what `Ok` appends is the text of
-//! an answer, as `HasAnswer` says, and files and a statement have one at most (`laws`).
+//! an answer, as `HasAnswer` says, and files and a statement have one at most (`laws`). `answer_explained` does the same
+//! while somebody watches, and hands out the tables and the plan.
 #![tactic(auto)]
 
 mod answering;
+mod explaining;
 mod fault_names;
 mod file;
 pub mod laws;
 mod source;
 
 pub use answering::{AnswerFault, answer, answer_bytes};
+pub use explaining::{Explained, Watch, answer_explained};
 pub use fault_names::{load_name, plan_name, sql_name};
 pub use file::read_file;
 pub use source::{FileFault, Source};

@@ -1,4 +1,5 @@
 pub mod Compared
+pub mod FaultLemmas
 pub mod MadeOnce
 pub mod RecordLemmas
 pub mod Tellings

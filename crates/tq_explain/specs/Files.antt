@@ -6,6 +6,7 @@ use Rattle.tq_event.specs.Loading.{header_of, is_marked_twice}
 use Rattle.tq_event.specs.declared.fault.LoadFault.{LoadFault}
 use Rattle.tq_event.specs.declared.fault.LoadFaultKind.{LoadFaultKind}
 use Rattle.tq_event.specs.declared.fault.LoadFaultKind.TheVariants.{BadHeader, BadInt, BadPeriod, DuplicateName, FieldCount, NotUtf8, OutOfMemory, TextTooLong, TooManyColumns, TooManyEvents, TooManyTables}
+use Rattle.tq_explain.specs.Faults.{further_where}
 use Rattle.tq_explain.specs.Fields.{record_detail}
 use Rattle.tq_explain.specs.Headers.{IsColumn}
 use Rattle.tq_explain.specs.Pointing.{shown_byte}
@@ -99,9 +100,11 @@ meaning_of kind form bytes number =
     if is_of_fields kind then record_meaning form bytes number else file_meaning (number == 0) (is_marked_twice bytes) kind
 
 -- What is told of a file at a path with a fault: the path, the line on which the fault's record begins, where one is told, the
--- first field of a header that makes no column, and what is wrong.
+-- first field of a header that makes no column, what is wrong, and how many more records are at fault where the fault is one
+-- of a record's fields.
 abbrev pub IsFileDetail : Form → List ℕ → List ℕ → LoadFault → List ℕ → Type 0
 IsFileDetail form path bytes fault text =
     (line : Option ℕ) × IfSome line (IsLine bytes fault.number)
     × ((column : List ℕ) × IsColumnWhere (is_header_at_fault fault.kind bytes fault.number) bytes column
-    × (text ≡ codes "  " ++ map shown_byte path ++ line_text line ++ codes ": " ++ column ++ meaning_of fault.kind form bytes fault.number ++ codes "\n"))
+    × (text ≡ codes "  " ++ map shown_byte path ++ line_text line ++ codes ": " ++ column ++ meaning_of fault.kind form bytes fault.number
+    ++ further_where (is_of_fields fault.kind) form bytes fault.number ++ codes "\n"))

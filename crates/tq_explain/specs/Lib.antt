@@ -1,10 +1,13 @@
 pub mod Asking
 pub mod Details
+pub mod EachFault
 pub mod Expected
+pub mod Faults
 pub mod Fields
 pub mod Files
 pub mod Headers
 pub mod Hints
+pub mod Lines
 pub mod Listing
 pub mod NamePlaces
 pub mod Parts

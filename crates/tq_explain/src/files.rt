@@ -3,9 +3,11 @@
 ghost use Rattle.std.specs.Prelude.{◌≡◌, ◌≤◌, ◌++◌, IfOk, OnOk};
 ghost use Rattle.csv.specs.Records.{fields_of};
 ghost use Rattle.tq_event.specs.Loading.{header_of};
+ghost use Rattle.tq_explain.specs.Faults.{further_where};
 ghost use Rattle.tq_explain.specs.Files as spec;
 ghost use Rattle.tq_explain.specs.Records.{line_text, record_of};
 
+use crate::faults::push_further;
 use crate::fields::{push_number, push_record_detail};
 use crate::headers::column_of;
 use crate::pointing::push_shown;
@@ -96,8 +98,8 @@ fn names_meaning(named: bool) -> &'static [u8]
     b"two columns have one name"
 }
 
-// What every fault but those of fields means; of names, whether it is the table's.
-fn file_meaning(named: bool, marked: bool, kind: LoadFaultKind) -> &'static [u8]
+/// What every fault but those of fields means; of names, whether it is the table's.
+pub(crate) fn file_meaning(named: bool, marked: bool, kind: LoadFaultKind) -> &'static [u8]
     ensures { result.now ≡ spec.file_meaning named marked kind }
 {
     match kind {
@@ -146,8 +148,12 @@ fn column_in(alloc: Global, bytes: &[u8]) -> Result<Vec<u8>, AllocError>
     column_of(alloc, &header)
 }
 
-// The same, where a header is at fault.
-fn column_where(alloc: Global, at_fault: bool, bytes: &[u8]) -> Result<Vec<u8>, AllocError>
+/// The same, where a header is at fault.
+pub(crate) fn column_where(
+    alloc: Global,
+    at_fault: bool,
+    bytes: &[u8],
+) -> Result<Vec<u8>, AllocError>
     ensures { IfOk result (λ text. spec.IsColumnWhere at_fault bytes.now text.items) }
 {
     if at_fault {
@@ -156,8 +162,8 @@ fn column_where(alloc: Global, at_fault: bool, bytes: &[u8]) -> Result<Vec<u8>, 
     Ok(Vec::new(alloc))
 }
 
-// Whether a header is at fault that the file has but one byte order mark before.
-fn is_header_at_fault(kind: LoadFaultKind, bytes: &[u8], number: u32) -> bool
+/// Whether a header is at fault that the file has but one byte order mark before.
+pub(crate) fn is_header_at_fault(kind: LoadFaultKind, bytes: &[u8], number: u32) -> bool
     ensures { result ≡ spec.is_header_at_fault kind bytes.now number }
 {
     is_of_header(kind) && number > 0 && !is_marked_twice(bytes)
@@ -183,8 +189,25 @@ fn push_meaning(
     push_detail(alloc, text, form, bytes, number)
 }
 
-// A line, where there is one.
-fn push_line(text: &mut Vec<u8>, line: Option<usize>) -> Result<(), AllocError>
+// How many more records are at fault, where it is the record's own fault.
+fn push_further_where(
+    alloc: Global,
+    text: &mut Vec<u8>,
+    of_fields: bool,
+    form: Form,
+    bytes: &[u8],
+    number: u32,
+) -> Result<(), AllocError>
+    ensures { OnOk result (text.new.items ≡ text.old.items ++ further_where of_fields form bytes.now number) }
+{
+    if of_fields && number > 0 {
+        return push_further(alloc, text, form, bytes, number as usize);
+    }
+    Ok(())
+}
+
+/// A line, where there is one.
+pub(crate) fn push_line(text: &mut Vec<u8>, line: Option<usize>) -> Result<(), AllocError>
     ensures { OnOk result (text.new.items ≡ text.old.items ++ line_text line) }
 {
     let Some(line) = line else {
@@ -195,7 +218,8 @@ fn push_line(text: &mut Vec<u8>, line: Option<usize>) -> Result<(), AllocError>
 }
 
 /// What a person is told of the fault of the file at a path, its bytes being these and its instants in the form: the
-/// path, the line on which the fault's record begins, and what is wrong there. `AllocError` where a growth was refused.
+/// path, the line on which the fault's record begins, what is wrong there, and how many more records are at fault where
+/// the fault is one of a record's fields. `AllocError` where a growth was refused.
 pub fn explain_file(
     alloc: Global,
     path: &[u8],
@@ -215,6 +239,7 @@ pub fn explain_file(
     text.extend_from_slice(b": ")?;
     text.extend_from_slice(&column)?;
     push_meaning(alloc, &mut text, kind, form, bytes, number)?;
+    push_further_where(alloc, &mut text, is_of_fields(kind), form, bytes, number)?;
     text.push(b'\n')?;
     Ok(text)
 }

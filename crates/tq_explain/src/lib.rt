@@ -10,15 +10,20 @@
 //! `tq_plan`), and the first that has the very fault is at fault.
 //!
 //! `explain_file` finds the record of a file that is at fault once more, tells its line, and the first field that is no
-//! value of its column, or the period, as the file's reader (`tq_event`) finds them.
+//! value of its column, or the period, as the file's reader (`tq_event`) finds them. Where it is a record that is at fault,
+//! the records behind it are read too, and those at fault are counted. `explain_records` tells each record of a file that is
+//! at fault, up to a hundred.
 #![tactic(auto)]
 
 mod asking;
+mod each_fault;
 mod expected;
+mod faults;
 mod fields;
 mod files;
 mod headers;
 mod hints;
+mod lines;
 mod listing;
 mod parts;
 mod places;
@@ -27,6 +32,7 @@ mod pointing;
 mod records;
 mod statements;
 
+pub use each_fault::explain_records;
 pub use files::explain_file;
 pub use plans::explain_plan;
 pub use statements::explain_statement;

@@ -1,10 +1,14 @@
 // The line of a text in which a byte stands, and a caret below that byte.
 
 ghost use Rattle.std.specs.Prelude.{◌≡◌, ◌≤◌, ◌++◌, IfOk, OnOk, length, map};
+ghost use Rattle.std.specs.Fmt.{is_char_start};
 ghost use Rattle.std.specs.List.{flat_map, prefix_len};
-ghost use Rattle.tq_explain.specs.Pointing.{blank_byte, is_in_line, last_line, pointed, shown_byte};
+ghost use Rattle.tq_explain.specs.Pointing.{blank_byte, caret, char_count, chars_len, first_chars, is_in_line, last_chars, last_line, pointed, pointed_between, shown_byte, shown_count, where_cut, window};
 
 use std::alloc::{AllocError, Global};
+
+// The most characters of a line that are shown.
+const SHOWN: usize = 72;
 
 // How many bytes stand before the first line feed.
 fn line_length(bytes: &[u8]) -> usize
@@ -54,13 +58,20 @@ pub(crate) fn push_shown(text: &mut Vec<u8>, bytes: &[u8]) -> Result<(), AllocEr
     Ok(())
 }
 
+// Whether a character begins with the byte.
+fn is_char_start(byte: u8) -> bool
+    ensures { result ≡ is_char_start byte }
+{
+    byte < 0x80 || byte >= 0xC0
+}
+
 // What stands below a byte on the way to the caret.
 fn push_blank(text: &mut Vec<u8>, byte: u8) -> Result<(), AllocError>
     ensures { OnOk result (text.new.items ≡ text.old.items ++ blank_byte byte) }
 {
     if byte == b'\t' {
         text.push(b'\t')?;
-    } else if byte < 0x80 || byte >= 0xC0 {
+    } else if is_char_start(byte) {
         text.push(b' ')?;
     }
     Ok(())
@@ -76,7 +87,113 @@ fn push_blanks(text: &mut Vec<u8>, line: &[u8]) -> Result<(), AllocError>
     Ok(())
 }
 
-/// The line of the byte at the place, or of the end, and below it a caret under that byte.
+// How many characters there are.
+fn char_count(bytes: &[u8]) -> usize
+    ensures value { result ≡ char_count bytes.now }
+    ensures within { result ≤ length bytes.now }
+{
+    bytes.iter().filter(|byte| is_char_start(**byte)).count()
+}
+
+// How many bytes the first so many characters take.
+fn chars_len(bytes: &[u8], count: usize) -> usize
+    ensures value { result ≡ chars_len count bytes.now }
+    ensures within { result ≤ length bytes.now }
+{
+    let mut left = count;
+    'bytes: for (place, byte) in bytes.iter().enumerate() {
+        if is_char_start(*byte) {
+            if left == 0 {
+                return place;
+            }
+            left -= 1;
+        }
+    }
+    bytes.len()
+}
+
+// The bytes of the first so many characters.
+fn first_chars(bytes: &[u8], count: usize) -> &[u8]
+    ensures { result.now ≡ first_chars count bytes.entry.now }
+{
+    &bytes[..chars_len(bytes, count)]
+}
+
+// The bytes of the last so many characters, where there are more.
+fn last_chars(bytes: &[u8], count: usize) -> &[u8]
+    ensures { result.now ≡ last_chars count bytes.entry.now }
+{
+    let all = char_count(bytes);
+    if count < all {
+        return &bytes[chars_len(bytes, all - count)..];
+    }
+    bytes
+}
+
+// How many characters of one side are shown, where so many stand on the other.
+fn shown_count(here: usize, there: usize) -> usize
+    ensures { result ≡ shown_count here there }
+{
+    here.min(SHOWN - there.min(SHOWN / 2))
+}
+
+// What stands for characters that are not shown.
+fn push_where_cut(
+    text: &mut Vec<u8>,
+    count: usize,
+    bytes: &[u8],
+    mark: &[u8],
+) -> Result<(), AllocError>
+    ensures { OnOk result (text.new.items ≡ text.old.items ++ where_cut count bytes.now mark.now) }
+{
+    if count < char_count(bytes) {
+        return text.extend_from_slice(mark);
+    }
+    Ok(())
+}
+
+// So many characters before a place, and so many from it on.
+fn push_window(
+    text: &mut Vec<u8>,
+    before: usize,
+    behind: usize,
+    front: &[u8],
+    rest: &[u8],
+) -> Result<(), AllocError>
+    ensures { OnOk result (text.new.items ≡ text.old.items ++ window before behind front.now rest.now) }
+{
+    text.extend_from_slice(b"  ")?;
+    push_where_cut(text, before, front, b"..")?;
+    push_shown(text, last_chars(front, before))?;
+    push_shown(text, first_chars(rest, behind))?;
+    push_where_cut(text, behind, rest, b"..")?;
+    text.extend_from_slice(b"\n")
+}
+
+// A caret behind so many characters that are shown.
+fn push_caret(text: &mut Vec<u8>, before: usize, front: &[u8]) -> Result<(), AllocError>
+    ensures { OnOk result (text.new.items ≡ text.old.items ++ caret before front.now) }
+{
+    text.extend_from_slice(b"  ")?;
+    push_where_cut(text, before, front, b"  ")?;
+    push_blanks(text, last_chars(front, before))?;
+    text.extend_from_slice(b"^\n")
+}
+
+// What stands before a place of a line and from it on, with a caret below the place.
+fn push_between(text: &mut Vec<u8>, front: &[u8], rest: &[u8]) -> Result<(), AllocError>
+    ensures { OnOk result (text.new.items ≡ text.old.items ++ pointed_between front.now rest.now) }
+{
+    let before = char_count(front);
+    let behind = char_count(rest);
+    let shown = shown_count(before, behind);
+    push_window(text, shown, shown_count(behind, before), front, rest)?;
+    push_caret(text, shown, front)
+}
+
+/// The line of the byte at the place, or of the end, and below it a caret under that byte; of a long line what stands round
+/// the place.
+#[tactic(auto, unfolding(crate::specs::Pointing::pointed))]
 pub(crate) fn push_pointed(
     alloc: Global,
     text: &mut Vec<u8>,
@@ -87,11 +204,6 @@ pub(crate) fn push_pointed(
     ensures { OnOk result (text.new.items ≡ text.old.items ++ pointed bytes.now at) }
 {
     let front = last_line(alloc, &bytes[..at])?;
-    let behind = &bytes[at..];
-    text.extend_from_slice(b"  ")?;
-    push_shown(text, &front)?;
-    push_shown(text, &behind[..line_length(behind)])?;
-    text.extend_from_slice(b"\n  ")?;
-    push_blanks(text, &front)?;
-    text.extend_from_slice(b"^\n")
+    let rest = &bytes[at..];
+    push_between(text, &front, &rest[..line_length(rest)])
 }

@@ -5,8 +5,6 @@
 #[cfg(test)]
 mod arena;
 #[cfg(test)]
-mod memory;
-#[cfg(test)]
 mod mvbt;
 #[cfg(test)]
 mod scan;

@@ -1,10 +1,10 @@
 //! 33 keys come one after the other, and then 29 of them go.
 
-use super::grower::Grower;
 use std::process::Abort;
 use std::test::Fail;
 use tq_arena::{Meter, NodeNo};
 use tq_mvbt::{Link, Node};
+use tq_tests_help::Grower;
 
 const FRONT: u64 = 9223372036854775815;
 

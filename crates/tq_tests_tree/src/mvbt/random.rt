@@ -2,11 +2,11 @@
 
 ghost use Rattle.std.specs.Prelude.{◌<◌, length, All};
 
-use super::grower::Grower;
 use std::process::Abort;
 use std::test::Fail;
 use tq_arena::Meter;
 use tq_mvbt::{Node, Region, Tree};
+use tq_tests_help::Grower;
 
 /// The life of the key with the number of its place.
 #[derive(Drop, Debug)]

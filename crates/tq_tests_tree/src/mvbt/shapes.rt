@@ -1,9 +1,9 @@
 //! Trees of three leaves, of one late version, and of five levels.
 
-use super::grower::Grower;
 use std::process::Abort;
 use std::test::Fail;
 use tq_arena::{Meter, NodeNo};
+use tq_tests_help::Grower;
 
 const TOP: u128 = 79228162514264337593543950336;
 

@@ -1,12 +1,12 @@
 //! 33 keys come at the versions 1 to 33, and 29 of them go at the versions 34 to 62.
 
-use crate::mvbt::grower::Grower;
 use std::alloc::Global;
 use std::process::Abort;
 use std::test::Fail;
 use tq_arena::{Meter, NodeNo};
 use tq_mvbt::Tree;
 use tq_scan::{Part, Window, cut, scan};
+use tq_tests_help::Grower;
 
 const FRONT: u64 = 9223372036854775815;
 

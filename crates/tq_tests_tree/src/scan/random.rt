@@ -2,13 +2,13 @@
 
 ghost use Rattle.std.specs.Prelude.{◌<◌, max};
 
-use crate::mvbt::grower::Grower;
 use std::alloc::Global;
 use std::process::Abort;
 use std::test::Fail;
 use tq_arena::Meter;
 use tq_mvbt::Tree;
 use tq_scan::{Part, Window, cut, scan};
+use tq_tests_help::Grower;
 
 const TOP: u128 = 79228162514264337593543950336;
 

@@ -1,0 +1,130 @@
+// Questions that are answered while somebody watches, and what is told of them then.
+
+ghost use Rattle.std.specs.Prelude.{◌≡◌, ◌≤◌};
+
+use crate::progress::Progress;
+use std::io;
+use std::sync::Wait;
+use std::sync::atomic::{AtomicU64, Ordering};
+use std::thread::Threads;
+use std::time::{Clock, Instant};
+use tq_base::Form;
+use tq_engine::{AnswerFault, Watch, answer_explained};
+use tq_event::TableFile;
+use tq_figures::{RunFigures, explain_answer};
+use tq_run::Gate;
+use tq_table::Sink;
+
+// Who counts the pieces of a question's work, times its steps, and says how far it is. A time is told in milliseconds from the
+// beginning, and one more; 0 is none.
+#[derive(Drop)]
+struct Watching<'w, R> {
+    rt: &'w R,
+    progress: &'w Progress,
+    begun: Option<Instant>,
+    pieces: AtomicU64,
+    loaded: AtomicU64,
+    answered: AtomicU64,
+}
+
+impl<R: Clock> Watching<'_, R> {
+    // How long it is since the beginning, where the clock tells.
+    fn since(&self) -> u64 {
+        let Some(begun) = self.begun else {
+            return 0;
+        };
+        let Ok(elapsed) = begun.elapsed(self.rt) else {
+            return 0;
+        };
+        match u64::try_from(elapsed.as_millis()) {
+            Ok(milliseconds) => milliseconds.saturating_add(1),
+            Err(_) => 0,
+        }
+    }
+}
+
+impl<R: Clock> Gate for Watching<'_, R> {
+    fn arrive(&self, _: u32) {
+        self.pieces.fetch_add(1, Ordering::SeqCst);
+        self.progress.add_piece();
+    }
+}
+
+impl<R: Clock + Wait> Watch for Watching<'_, R> {
+    fn loaded(&self) {
+        self.loaded.store(self.since(), Ordering::SeqCst);
+        self.progress.answer();
+    }
+
+    fn answered(&self) {
+        self.answered.store(self.since(), Ordering::SeqCst);
+        self.progress.end(self.rt);
+    }
+}
+
+// The milliseconds between two times, where both are told.
+fn between(from: u64, to: u64) -> Option<u64> {
+    if from == 0 {
+        None
+    } else {
+        to.checked_sub(from)
+    }
+}
+
+// What the run of so many workers tells of itself.
+fn run_of<R: Clock>(watching: &Watching<'_, R>, workers: u32) -> RunFigures
+    ensures { result.workers ≡ workers }
+{
+    let loaded = watching.loaded.load(Ordering::SeqCst);
+    let answered = watching.answered.load(Ordering::SeqCst);
+    RunFigures {
+        workers,
+        pieces: watching.pieces.load(Ordering::SeqCst),
+        loading: between(1, loaded),
+        answering: between(loaded, answered),
+        printing: between(answered, watching.since()),
+    }
+}
+
+/// Answers a statement over the tables of files on standard output, says meanwhile how far it is, and then tells how it was
+/// answered where that is asked for.
+pub fn ask_watched<R: AllocGlobal + Clock + Print + Threads + Wait + Sync>(
+    rt: &R,
+    tables: Vec<TableFile>,
+    statement: &[u8],
+    workers: u32,
+    form: Form,
+    progress: &Progress,
+    is_told: bool,
+) -> Result<(), AnswerFault>
+    requires some { 1 ≤ workers }
+    requires few { workers ≤ 16 }
+{
+    let watching = Watching {
+        rt,
+        progress,
+        begun: Instant::now(rt).ok(),
+        pieces: AtomicU64::new(0),
+        loaded: AtomicU64::new(0),
+        answered: AtomicU64::new(0),
+    };
+    let mut sink = Sink::over(io::writer(rt));
+    let explained = answer_explained(
+        rt,
+        rt.alloc(),
+        tables,
+        statement,
+        workers,
+        &mut sink,
+        form,
+        &watching,
+    )?;
+    if !is_told {
+        return Ok(());
+    }
+    let run = run_of(&watching, workers);
+    if let Ok(text) = explain_answer(rt.alloc(), &explained.tables, &explained.plan, &run, form) {
+        progress.print(rt, &text);
+    }
+    Ok(())
+}

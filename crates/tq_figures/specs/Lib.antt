@@ -1,0 +1,3 @@
+pub mod Explaining
+pub mod Figures
+pub mod Telling

@@ -1,0 +1,89 @@
+//! Histories in which events happen.
+
+use crate::answering::{answered, tell_answer};
+use crate::loading::loaded;
+use std::alloc::{AllocError, Global};
+use std::fmt::Write;
+use std::thread::Threads;
+use tq_event::{Event, Loaded, MAX_EVENTS};
+use tq_store::Db;
+use tq_tests_help::{Call, Files, Refusal, Tried, attempt};
+
+// The event happens, if it may: whether it does.
+fn take(db: &mut Db, event: &Event) -> Result<bool, AllocError> {
+    if db.count() >= MAX_EVENTS {
+        return Ok(false);
+    }
+    db.apply(event)
+}
+
+// The first events happen: the next one, if there is one.
+fn take_first(db: &mut Db, events: &[Event], n: u32) -> Result<Option<Event>, AllocError> {
+    for event in events {
+        if db.count() >= n {
+            return Ok(Some(event.try_copy()?));
+        }
+        take(db, event)?;
+    }
+    Ok(None)
+}
+
+/// A history in which the first events that the files make have happened, with the next one, if there is one. Files
+/// that are refused end the script.
+pub(crate) fn history_of(
+    alloc: Global,
+    files: &Files,
+    n: u32,
+) -> Result<(Db, Option<Event>), AllocError> {
+    let Ok(loaded) = loaded(alloc, files.copies(alloc)?) else {
+        return Err(AllocError);
+    };
+    let Loaded { catalogue, events } = loaded;
+    let mut db = Db::new(alloc, catalogue)?;
+    let next = take_first(&mut db, events.get(), n)?;
+    Ok((db, next))
+}
+
+// An event that happens; whether it was taken.
+#[derive(Drop)]
+struct Applying<'a> {
+    db: Db,
+    event: Event,
+    text: &'a str,
+    taken: bool,
+}
+
+impl Call for Applying<'_> {
+    fn make<R: Threads + Sync>(&mut self, _rt: &R, _alloc: Global) -> Result<(), AllocError> {
+        self.taken = take(&mut self.db, &self.event)?;
+        Ok(())
+    }
+
+    fn tell(&self, alloc: Global, out: &mut String) -> Result<(), AllocError> {
+        let (taken, count) = (self.taken, self.db.count());
+        writeln!(out, "    {taken}, {count} events")?;
+        tell_answer(&answered(alloc, &self.db, count, self.text)?, out)
+    }
+}
+
+/// The event after so many happens; then the statement's answer as of all so far.
+pub(crate) fn try_apply<R: Threads + Sync>(
+    rt: &R,
+    alloc: Global,
+    files: &Files,
+    n: u32,
+    text: &str,
+    refusal: Refusal,
+) -> Result<Tried, AllocError> {
+    let (db, next) = history_of(alloc, files, n)?;
+    let Some(event) = next else {
+        return Err(AllocError);
+    };
+    let mut applying = Applying {
+        db,
+        event,
+        text,
+        taken: false,
+    };
+    attempt(rt, alloc, &mut applying, refusal)
+}

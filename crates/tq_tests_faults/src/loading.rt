@@ -1,0 +1,178 @@
+//! Files that are loaded.
+
+use std::alloc::{AllocError, Global};
+use std::fmt::Write;
+use std::thread::Threads;
+use tq_base::{Form, Rows, Seen, Value};
+use tq_event::{Event, LoadFault, LoadFaultKind, Loaded, MAX_EVENTS, TableFile, Tables, load};
+use tq_loading::load_tables_by_parts;
+use tq_run::Open;
+use tq_tests_help::{Call, Files, Refusal, Tried, attempt};
+
+/// The events of the files, or the first fault.
+pub(crate) fn loaded(alloc: Global, files: Vec<TableFile>) -> Result<Loaded, LoadFault> {
+    load(alloc, files, MAX_EVENTS, Form::Numbers)
+}
+
+// Whether it is that of refused memory.
+fn is_no_memory(fault: &LoadFault) -> bool {
+    matches!(fault.kind, LoadFaultKind::OutOfMemory)
+}
+
+// The values, a comma behind each.
+fn tell_values(values: &[Value], out: &mut String) -> Result<(), AllocError> {
+    for value in values {
+        match value.seen() {
+            Seen::Int(number) => write!(out, "{number},")?,
+            Seen::Text(text) => write!(out, "{text},")?,
+        }
+    }
+    Ok(())
+}
+
+fn tell_event(event: &Event, out: &mut String) -> Result<(), AllocError> {
+    match event {
+        Event::Start { table, values, at } => {
+            write!(out, "    start {table} ")?;
+            tell_values(values.get(), out)?;
+            writeln!(out, "{}", at.number())
+        }
+        Event::End { table, row, at } => { writeln!(out, "    end {table} {row} {}", at.number()) }
+    }
+}
+
+fn tell_events(events: &[Event], out: &mut String) -> Result<(), AllocError> {
+    for event in events {
+        tell_event(event, out)?;
+    }
+    Ok(())
+}
+
+fn tell_rows(rows: &Rows, out: &mut String) -> Result<(), AllocError> {
+    writeln!(out, "    {} columns, {} rows", rows.width(), rows.len())?;
+    for row in 0..rows.len() {
+        out.push_str("    ")?;
+        tell_values(rows.values(row), out)?;
+        let period = rows.periods()[row];
+        writeln!(out, "{},{}", period.start.number(), period.end.number())?;
+    }
+    Ok(())
+}
+
+fn tell_tables(tables: &Tables, out: &mut String) -> Result<(), AllocError> {
+    for rows in tables.rows.get() {
+        tell_rows(rows, out)?;
+    }
+    Ok(())
+}
+
+fn tell_fault(fault: Option<LoadFault>, out: &mut String) -> Result<(), AllocError> {
+    match fault {
+        Some(fault) => writeln!(out, "    {fault}"),
+        None => Ok(()),
+    }
+}
+
+// The files' events, or the first fault.
+#[derive(Drop)]
+struct Loading<'a> {
+    files: &'a Files,
+    loaded: Option<Loaded>,
+    fault: Option<LoadFault>,
+}
+
+impl Call for Loading<'_> {
+    fn make<R: Threads + Sync>(&mut self, _rt: &R, alloc: Global) -> Result<(), AllocError> {
+        match loaded(alloc, self.files.copies(alloc)?) {
+            Ok(loaded) => self.loaded = Some(loaded),
+            Err(fault) if is_no_memory(&fault) => return Err(AllocError),
+            Err(fault) => self.fault = Some(fault),
+        }
+        Ok(())
+    }
+
+    fn tell(&self, _alloc: Global, out: &mut String) -> Result<(), AllocError> {
+        if let Some(loaded) = &self.loaded {
+            tell_events(loaded.events.get(), out)?;
+        }
+        tell_fault(self.fault, out)
+    }
+}
+
+/// The files' events.
+pub(crate) fn try_load<R: Threads + Sync>(
+    rt: &R,
+    alloc: Global,
+    files: &Files,
+    refusal: Refusal,
+) -> Result<Tried, AllocError> {
+    let mut loading = Loading {
+        files,
+        loaded: None,
+        fault: None,
+    };
+    attempt(rt, alloc, &mut loading, refusal)
+}
+
+// The files' tables, loaded in parts of a few lines by so many workers, or the first fault.
+#[derive(Drop)]
+struct LoadingAmong<'a> {
+    files: &'a Files,
+    workers: u32,
+    tables: Option<Tables>,
+    fault: Option<LoadFault>,
+}
+
+fn loaded_among<R: Threads + Sync>(
+    rt: &R,
+    alloc: Global,
+    files: Vec<TableFile>,
+    workers: u32,
+) -> Result<Tables, LoadFault> {
+    let workers = workers.clamp(1, 16);
+    load_tables_by_parts(
+        rt,
+        alloc,
+        files,
+        MAX_EVENTS,
+        workers,
+        20,
+        &Open,
+        Form::Numbers,
+    )
+}
+
+impl Call for LoadingAmong<'_> {
+    fn make<R: Threads + Sync>(&mut self, rt: &R, alloc: Global) -> Result<(), AllocError> {
+        match loaded_among(rt, alloc, self.files.copies(alloc)?, self.workers) {
+            Ok(tables) => self.tables = Some(tables),
+            Err(fault) if is_no_memory(&fault) => return Err(AllocError),
+            Err(fault) => self.fault = Some(fault),
+        }
+        Ok(())
+    }
+
+    fn tell(&self, _alloc: Global, out: &mut String) -> Result<(), AllocError> {
+        if let Some(tables) = &self.tables {
+            tell_tables(tables, out)?;
+        }
+        tell_fault(self.fault, out)
+    }
+}
+
+/// The files' tables, by so many workers.
+pub(crate) fn try_load_among<R: Threads + Sync>(
+    rt: &R,
+    alloc: Global,
+    files: &Files,
+    workers: u32,
+    refusal: Refusal,
+) -> Result<Tried, AllocError> {
+    let mut loading = LoadingAmong {
+        files,
+        workers,
+        tables: None,
+        fault: None,
+    };
+    attempt(rt, alloc, &mut loading, refusal)
+}

@@ -1,0 +1,124 @@
+//! A script of calls, each of which is made with each of its growths refused in turn.
+
+ghost use Rattle.std.specs.Thread.{IsSync};
+
+use crate::call::Tried;
+use crate::files::Files;
+use crate::refusal::Refusal;
+use crate::tally::Tally;
+use std::alloc::{AllocError, Global};
+use std::thread::Threads;
+
+// No call has so many growths.
+const MOST: u16 = 5000;
+
+/// The calls that the lines of a script name, each a word and a text.
+pub trait Calls {
+    /// The call of the line, if it is one, with this growth refused.
+    fn attempt<R: Threads + Sync>(
+        &self,
+        rt: &R,
+        alloc: Global,
+        files: &Files,
+        word: &str,
+        text: &str,
+        refusal: Refusal,
+    ) -> Result<Option<Tried>, AllocError>
+        requires { IsSync R.row };
+}
+
+/// The files so far, the calls that lines name, and how often growths were refused in them.
+#[derive(Drop)]
+pub struct Script<C> {
+    calls: C,
+    files: Files,
+    tally: Tally,
+}
+
+impl<C> Script<C> {
+    /// No files.
+    pub fn new(alloc: Global, calls: C) -> Script<C> {
+        Script {
+            calls,
+            files: Files::new(alloc),
+            tally: Tally::new(),
+        }
+    }
+
+    /// How often growths were refused.
+    pub fn tally(&self) -> &Tally {
+        &self.tally
+    }
+
+    // The call of the line with the first growth refused, then with the second, and so on.
+    fn refuse_each<R: Threads + Sync>(
+        &mut self,
+        rt: &R,
+        alloc: Global,
+        word: &str,
+        text: &str,
+        lasts: bool,
+        answer: &str,
+        out: &mut String,
+    ) -> Result<(), AllocError>
+    where
+        C: Calls,
+    {
+        for number in 1..MOST {
+            let refusal = Refusal { number, lasts };
+            let attempt = self
+                .calls
+                .attempt(rt, alloc, &self.files, word, text, refusal)?;
+            let Some(tried) = attempt else {
+                return Ok(());
+            };
+            if !self.tally.count(refusal, &tried, answer, out)? {
+                return Ok(());
+            }
+        }
+        out.push_str("    it has no end\n")
+    }
+
+    // Makes the call of the line, if it is one, with ample memory and then with each growth refused in turn.
+    fn call<R: Threads + Sync>(
+        &mut self,
+        rt: &R,
+        alloc: Global,
+        word: &str,
+        text: &str,
+        out: &mut String,
+    ) -> Result<(), AllocError>
+    where
+        C: Calls,
+    {
+        let ample = Refusal::none();
+        let attempt = self
+            .calls
+            .attempt(rt, alloc, &self.files, word, text, ample)?;
+        let Some(tried) = attempt else {
+            return Ok(());
+        };
+        let answer = tried.text.as_str();
+        out.push_str(answer)?;
+        self.refuse_each(rt, alloc, word, text, false, answer, out)?;
+        self.refuse_each(rt, alloc, word, text, true, answer, out)
+    }
+
+    /// Does what the line says, and writes what it comes to: it makes files, or a call, or nothing.
+    pub fn run<R: Threads + Sync>(
+        &mut self,
+        rt: &R,
+        alloc: Global,
+        line: &str,
+        out: &mut String,
+    ) -> Result<(), AllocError>
+    where
+        C: Calls,
+    {
+        let (word, text) = line.split_once(' ').unwrap_or((line, ""));
+        if !self.files.make(alloc, word, text)? {
+            self.call(rt, alloc, word, text, out)?;
+        }
+        Ok(())
+    }
+}

@@ -1,0 +1,42 @@
+//! How often growths were refused.
+
+use crate::call::Tried;
+use crate::refusal::Refusal;
+use std::alloc::AllocError;
+use std::fmt::Write;
+
+/// How many growths were refused, and how many calls answered that there was no memory.
+#[derive(Drop)]
+pub struct Tally {
+    pub refusals: u64,
+    pub answers: u64,
+}
+
+impl Tally {
+    /// None so far.
+    pub fn new() -> Tally {
+        Tally {
+            refusals: 0,
+            answers: 0,
+        }
+    }
+
+    /// Counts a call, and tells what it came to where that is not the answer; whether a growth was refused.
+    pub fn count(
+        &mut self,
+        refusal: Refusal,
+        tried: &Tried,
+        answer: &str,
+        out: &mut String,
+    ) -> Result<bool, AllocError> {
+        if tried.text.as_str() != answer {
+            let Refusal { number, lasts } = refusal;
+            let later = if lasts { " and all later ones" } else { "" };
+            writeln!(out, "    with growth {number} refused{later}:")?;
+            out.push_str(tried.text.as_str())?;
+        }
+        self.refusals = self.refusals.saturating_add(u64::from(tried.was_refused));
+        self.answers = self.answers.saturating_add(u64::from(tried.ran_out));
+        Ok(tried.was_refused)
+    }
+}
