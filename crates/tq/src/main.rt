@@ -6,7 +6,9 @@
 //! The words of the command line (`words`) are read as a request (`command_line`), the files that it names
 //! are read to their bytes, and the engine (`tq_engine`) answers the statement over them on standard
 //! output, or a session (`tq_session`) the lines. Where there is no answer, one line on standard error says why
-//! (`report`), and where that is a terminal, or with `--explain`, more stands below it (`tq_explain`).
+//! (`report`), and where that is a terminal, or with `--explain`, more stands below it (`tq_explain`). What takes longer
+//! than a second shows at a terminal how far it is (`progress`), and of an answer `tq ask --explain` tells how it came
+//! about (`explained`, `tq_figures`). Of files that are checked and refused, `kept` has what is wanted to list their faults.
 #![tactic(auto)]
 
 ghost use Rattle.std.specs.Prelude.{◌≡◌, ◌≢◌, false, IfErr, IfOk, IfSome, None, map};
