@@ -1,0 +1,133 @@
+#!/usr/bin/env python3
+"""Puts questions and a session to the program in ever more memory, and on a small stack.
+
+    gate/limits.py PROGRAM
+
+The address space of a run is limited, from the least in which the program starts upwards in steps, until it answers in
+several steps one after another; the stack of all of them has 256 KiB. Each run ends with its answer or with the line
+that tells of no memory, and no signal ends it. Each failed run has one line; the last line is 'N passed, M failed'.
+"""
+
+import resource
+import subprocess
+import sys
+import tempfile
+from pathlib import Path
+
+import cases
+from refusals import has_no_memory
+
+SECONDS = 120
+STACK = 256 * 1024
+STEP = 64 * 1024
+# The most memory that a run is given, and how many runs in a row have to answer.
+MOST = 512 * 1024 * 1024
+IN_A_ROW = 3
+# Of each question at most so many faults are shown.
+SHOWN = 10
+
+
+def run(program, words, taken, memory, room):
+    """Status, standard output and standard error where there is so much memory (None: any)."""
+
+    def prepare():
+        resource.setrlimit(resource.RLIMIT_STACK, (STACK, STACK))
+        if memory:
+            resource.setrlimit(resource.RLIMIT_AS, (memory, memory))
+
+    ran = subprocess.run(
+        [program, *words],
+        cwd=room,
+        input=taken,
+        stdout=subprocess.PIPE,
+        stderr=subprocess.PIPE,
+        preexec_fn=prepare,
+        timeout=SECONDS,
+    )
+    return ran.returncode, ran.stdout, ran.stderr
+
+
+def least(program, room):
+    """The least memory in which the program starts."""
+    for memory in range(STEP, MOST, STEP):
+        try:
+            status, _, err = run(program, ["nothing"], b"", memory, room)
+        except (OSError, subprocess.SubprocessError):
+            continue
+        if status in (1, 2) and err.startswith(b"tq: "):
+            return memory
+    raise SystemExit("the program does not start")
+
+
+def staff(count):
+    """A table of so many rows, each as long as all before it and one more."""
+    return b"emp:int,name:text,dept:text,from,to\n" + b"".join(
+        b"%d,a name of many letters %d,dept %d,%d,%d\n" % (row, row, row % 7, row, row + count) for row in range(count)
+    )
+
+
+def questions():
+    """Name, table, words after it, input."""
+    small, large = "emp=emp.csv", "emp=large.csv"
+    ask = "VALIDTIME SELECT name FROM emp"
+    deep = f"{ask} WHERE {31 * '('}NOT name = 'a'{31 * ')'}"
+    nots = f"{ask} WHERE {32 * 'NOT '}name = 'a'"
+    ands = f"{ask} WHERE {' AND '.join(5000 * ['emp>0'])}"
+    ors = f"{ask} WHERE {' OR '.join(5000 * ['emp=1'])}"
+    count = "VALIDTIME SELECT dept, COUNT(*) FROM emp GROUP BY dept"
+    pairs = "VALIDTIME SELECT x.name, y.dept FROM emp x, emp y WHERE x.emp = y.emp"
+    for name, statement in (("names", ask), ("deep brackets", deep), ("deep NOTs", nots), ("ANDs", ands), ("ORs", ors)):
+        yield name, small, ["ask"], [statement], b""
+    for workers in ("1", "4"):
+        for name, statement in (("counts", count), ("pairs", pairs)):
+            yield f"{name} by {workers} workers", large, ["ask", "--workers", workers], [statement], b""
+    lines = [f"ask 7 1 {ask}", "end emp 40 3,cat,food", "publish", f"ask 8 4 {ask}", f"ask 8 1 {ands}", f"ask 8 1 {deep}"]
+    yield "a session", small, ["session"], [], "".join(line + "\n" for line in lines).encode()
+
+
+def is_right(said, whole, is_session):
+    """Whether a run answered, or said that there is no memory; a session may refuse lines for that, and answer others."""
+    status, out, err = said
+    if (status, err) == (0, b""):
+        return out == whole or (is_session and b"refused OutOfMemory\n" in out)
+    return has_no_memory(said)
+
+
+def faults_of(program, name, words, taken, first, room):
+    """What is wrong with the runs of a question, in ever more memory."""
+    status, whole, err = run(program, words, taken, None, room)
+    if status != 0:
+        yield f"{name}: status {status} with all memory, {err[:80]!r}"
+        return
+    answered, runs, memory = 0, 0, first
+    while answered < IN_A_ROW and memory < MOST:
+        status, out, err = run(program, words, taken, memory, room)
+        runs += 1
+        answered = answered + 1 if status == 0 and out == whole else 0
+        if not is_right((status, out, err), whole, words[0] == "session"):
+            yield f"{name} in {memory} bytes: status {status}, {out[:80]!r}, {err[:80]!r}"
+        memory += STEP * (1 + runs // 8)
+    if answered < IN_A_ROW:
+        yield f"{name}: no answer in {MOST} bytes"
+    print(f"{name}: {runs} runs, from {first >> 10} KiB to {memory >> 10} KiB")
+
+
+def main():
+    program = str(Path(sys.argv[1]).resolve())
+    with tempfile.TemporaryDirectory(prefix="tq-") as room:
+        (Path(room) / "emp.csv").write_bytes(cases.EMP)
+        (Path(room) / "large.csv").write_bytes(staff(2000))
+        first = least(program, room)
+        passed = failed = 0
+        for name, table, words, more, taken in questions():
+            faults = list(faults_of(program, name, [words[0], "--table", table, *words[1:], *more], taken, first, room))
+            for fault in faults[:SHOWN]:
+                print(f"FAILED: {fault}", flush=True)
+            passed += not faults
+            failed += len(faults)
+    print(f"{passed} passed, {failed} failed")
+    return 1 if failed else 0
+
+
+if __name__ == "__main__":
+    sys.exit(main())
