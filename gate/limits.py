@@ -15,7 +15,7 @@ import tempfile
 from pathlib import Path
 
 import cases
-from refusals import has_no_memory
+from refusals import has_no_memory, report
 
 SECONDS = 120
 STACK = 256 * 1024
@@ -23,8 +23,6 @@ STEP = 64 * 1024
 # The most memory that a run is given, and how many runs in a row have to answer.
 MOST = 512 * 1024 * 1024
 IN_A_ROW = 3
-# Of each question at most so many faults are shown.
-SHOWN = 10
 
 
 def run(program, words, taken, memory, room):
@@ -118,15 +116,10 @@ def main():
         (Path(room) / "emp.csv").write_bytes(cases.EMP)
         (Path(room) / "large.csv").write_bytes(staff(2000))
         first = least(program, room)
-        passed = failed = 0
-        for name, table, words, more, taken in questions():
-            faults = list(faults_of(program, name, [words[0], "--table", table, *words[1:], *more], taken, first, room))
-            for fault in faults[:SHOWN]:
-                print(f"FAILED: {fault}", flush=True)
-            passed += not faults
-            failed += len(faults)
-    print(f"{passed} passed, {failed} failed")
-    return 1 if failed else 0
+        return report(
+            faults_of(program, name, [words[0], "--table", table, *words[1:], *more], taken, first, room)
+            for name, table, words, more, taken in questions()
+        )
 
 
 if __name__ == "__main__":

@@ -191,22 +191,27 @@ def commands(malloc, program):
                     yield Command(malloc, [program, "ask", "--workers", "3", *case.words[1:]], case)
 
 
+def report(parts):
+    """Shows the faults of parts, a list each, and how many parts have none and how many faults there are; the status."""
+    passed = failed = 0
+    for faults in parts:
+        found = list(faults)
+        for fault in found[:SHOWN]:
+            print(f"FAILED: {fault}", flush=True)
+        passed += not found
+        failed += len(found)
+    print(f"{passed} passed, {failed} failed")
+    return 1 if failed else 0
+
+
 def main():
     program, tests = (str(Path(word).resolve()) for word in sys.argv[1:3])
     every = "--all" in sys.argv[3:]
-    passed = failed = 0
     with tempfile.TemporaryDirectory(prefix="tq-") as room:
         malloc = build(room)
         parts = [faults_of_tests(malloc, tests)]
         parts += [faults_of_runs(command, every) for command in commands(malloc, program)]
-        for faults in parts:
-            found = list(faults)
-            for fault in found[:SHOWN]:
-                print(f"FAILED: {fault}", flush=True)
-            passed += not found
-            failed += len(found)
-    print(f"{passed} passed, {failed} failed")
-    return 1 if failed else 0
+        return report(parts)
 
 
 if __name__ == "__main__":
