@@ -243,7 +243,7 @@ def question_that_takes_long(program):
             ran = subprocess.Popen(words, stdin=subprocess.DEVNULL, stdout=subprocess.PIPE, stderr=errors)
             with open(pipe, "wb", buffering=0) as into:
                 into.write(text[:40])
-                time.sleep(1.6)
+                time.sleep(2.5)
                 into.write(text[40:])
             out, said = ran.communicate(timeout=SECONDS)
             if on_terminal:
