@@ -3,9 +3,7 @@
 use std::io::ErrorKind;
 use std::rt::Files;
 use std::{fs, str};
-
-// The most bytes of a file that is read (`read_file` in `tq_engine`).
-const MOST_BYTES: u64 = 1_073_741_824;
+use tq_engine::FILE_LIMIT;
 
 /// Whether the path is that of a file whose bytes stay, as those of a pipe do not.
 pub fn is_file<R: Files>(rt: &R, path: &[u8]) -> bool {
@@ -53,7 +51,7 @@ pub fn reason<R: Files>(rt: &R, path: &[u8]) -> &'static [u8] {
     if !metadata.is_file() {
         return b"";
     }
-    if metadata.len() > MOST_BYTES {
+    if metadata.len() > FILE_LIMIT as u64 {
         return b"it is larger than 1,073,741,824 bytes";
     }
     match fs::open(rt, path) {

@@ -9,8 +9,8 @@ use crate::source::{FileFault, Source};
 use std::alloc::Global;
 use std::io::Read;
 
-// The most bytes that a file may have.
-const FILE_LIMIT: usize = 1_073_741_824;
+/// The most bytes that a file may have.
+pub const FILE_LIMIT: usize = 1_073_741_824;
 
 // The most reads of one file.
 const READ_LIMIT: u32 = 2_147_483_648;

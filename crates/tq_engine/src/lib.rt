@@ -19,5 +19,5 @@ mod source;
 pub use answering::{AnswerFault, answer, answer_bytes};
 pub use explaining::{Explained, Watch, answer_explained};
 pub use fault_names::{load_name, plan_name, sql_name};
-pub use file::read_file;
+pub use file::{FILE_LIMIT, read_file};
 pub use source::{FileFault, Source};

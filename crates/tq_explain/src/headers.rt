@@ -9,10 +9,7 @@ use crate::fields::{field_at, push_value};
 use csv::ByteRecord;
 use std::alloc::{AllocError, Global};
 use tq_event::LoadFaultKind;
-use tq_event::steps::read_header;
-
-// The most columns of values that a table may have.
-const MOST_COLUMNS: usize = 16;
+use tq_event::steps::{MAX_COLUMNS, read_header};
 
 // The header of the first so many fields.
 fn front_header(alloc: Global, header: &ByteRecord, count: usize) -> Result<ByteRecord, AllocError>
@@ -46,7 +43,7 @@ fn looked_at(header: &ByteRecord) -> usize
     ensures value { result ≡ looked_at (fields_of header.now) }
     ensures within { result ≤ length (fields_of header.now) }
 {
-    header.len().saturating_sub(2).min(MOST_COLUMNS)
+    header.len().saturating_sub(2).min(MAX_COLUMNS)
 }
 
 // The first field up to which there is no header.

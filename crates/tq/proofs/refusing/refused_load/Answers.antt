@@ -1,7 +1,7 @@
 use Rattle.std.proofs.Common.{ℕ, List, length, refl, subst}
 use Rattle.std.proofs.lemmas.Option.{IfSome_then, slice_get_read}
 use Rattle.tq_explain.specs.Files.{IsFileDetail}
-use Rattle.tq.proofs.refused_load.Goals as goal
+use Rattle.tq.proofs.refusing.refused_load.Goals as goal
 
 pub returns-in-Ok-clause-detail : goal.returns-in-Ok-clause-detail
 returns-in-Ok-clause-detail g c =

@@ -6,7 +6,7 @@ use Rattle.tq_base.specs.declared.catalogue.Catalogue.{Catalogue}
 use Rattle.tq_event.specs.declared.file.TableFile.{TableFile}
 use Rattle.tq_explain.specs.PlanDetails.{IsPlanDetail}
 use Rattle.tq.specs.Report.{IsPlanDetailOver}
-use Rattle.tq.proofs.refused_plan.Goals as goal
+use Rattle.tq.proofs.refusing.refused_plan.Goals as goal
 
 pub returns-clause-detail : goal.returns-clause-detail
 returns-clause-detail c =

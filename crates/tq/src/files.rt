@@ -1,0 +1,115 @@
+// The files that a command line names, read to their bytes.
+
+ghost use Rattle.std.specs.Prelude.{◌≡◌, ◌≢◌, false, IfErr, IfOk, None, map};
+ghost use Rattle.tq.specs.declared.command_line.TableOption.{TableOption as AnyOption};
+ghost use Rattle.tq_event.specs.declared.file.TableFile.{TableFile as AnyFile};
+
+use crate::command_line::TableOption;
+use crate::progress::{Counted, Progress};
+use crate::report::{Refusal, Told};
+use crate::unread::{file_len, reason};
+use std::alloc::{AllocError, Global};
+use std::io::{ErrorKind, Input};
+use std::rt::Files;
+use std::{fs, str};
+use tq_base::Items;
+use tq_engine::{FileFault, Source, read_file};
+use tq_event::TableFile;
+
+/// The bytes of the file at a path, or of standard input where the path is `-`. The standard library opens no path that
+/// is no UTF-8.
+pub fn read_path<R: Files + AllocGlobal + Input>(
+    rt: &R,
+    path: &[u8],
+    progress: &Progress,
+) -> Result<Vec<u8>, FileFault> {
+    if path == b"-".as_slice() {
+        let reader = rt.reader();
+        return read_file(rt.alloc(), &mut Source::over(Counted { reader, progress }));
+    }
+    let Ok(path) = str::from_utf8(path) else {
+        return Err(FileFault::Read);
+    };
+    match fs::open(rt, path) {
+        Ok(reader) => read_file(rt.alloc(), &mut Source::over(Counted { reader, progress })),
+        Err(error) if error.kind() == ErrorKind::OutOfMemory => Err(FileFault::OutOfMemory),
+        Err(_) => Err(FileFault::Read),
+    }
+}
+
+// A table's name, and the bytes of its file.
+fn read_table<R: Files + AllocGlobal + Input>(
+    rt: &R,
+    option: TableOption,
+    progress: &Progress,
+) -> Result<TableFile, Refusal>
+    ensures name { IfOk result (λ file. file.name ≡ option.name.items) }
+    ensures refused { IfErr result (λ refusal. refusal ≢ Refusal.OutOfMemory → refusal ≡ Refusal.CannotRead option.path) }
+{
+    let TableOption { name, path } = option;
+    match read_path(rt, &path, progress) {
+        Ok(bytes) => Ok(TableFile {
+            name: Items::of(name),
+            bytes: Items::of(bytes),
+        }),
+        Err(fault) => Err(Refusal::of_file(fault, path)),
+    }
+}
+
+// So many bytes are to be read as the files have.
+fn expect_files<R: Files>(rt: &R, options: &[TableOption], progress: &Progress) {
+    for option in options {
+        progress.expect(file_len(rt, &option.path));
+    }
+}
+
+// The tables in the order of their options.
+fn read_tables<R: Files + AllocGlobal + Input>(
+    rt: &R,
+    options: Vec<TableOption>,
+    progress: &Progress,
+) -> Result<Vec<TableFile>, Refusal>
+    ensures { IfOk result (λ tables. map (λ (t : AnyFile). t.name) tables.items ≡ map (λ (o : AnyOption). o.name.items) options.items) }
+{
+    let mut tables = Vec::new(rt.alloc());
+    expect_files(rt, &options, progress);
+    'options: for option in options {
+        tables
+            .push(read_table(rt, option, progress)?)
+            .map_err(AllocError::from)?;
+    }
+    Ok(tables)
+}
+
+/// The same, for a refusal that is explained where that is asked for.
+pub fn read_explained<R: Files + AllocGlobal + Input>(
+    rt: &R,
+    options: Vec<TableOption>,
+    explain: bool,
+    progress: &Progress,
+) -> Result<Vec<TableFile>, Told>
+    ensures tables { IfOk result (λ tables. map (λ (t : AnyFile). t.name) tables.items ≡ map (λ (o : AnyOption). o.name.items) options.items) }
+    ensures silent { explain ≡ false → IfErr result (λ told. told.detail ≡ None) }
+{
+    match read_tables(rt, options, progress) {
+        Ok(tables) => Ok(tables),
+        Err(Refusal::CannotRead(path)) if explain => {
+            let reason = reason(rt, &path);
+            Err(Told::of_unread(rt.alloc(), path, reason))
+        }
+        Err(refusal) => Err(Told::from(refusal)),
+    }
+}
+
+/// The paths of the tables, in their order.
+pub fn paths_of(alloc: Global, options: &[TableOption]) -> Result<Vec<Vec<u8>>, AllocError>
+    ensures { IfOk result (λ paths. map (λ p. p.items) paths.items ≡ map (λ (o : AnyOption). o.path.items) options.now) }
+{
+    let mut paths = Vec::new(alloc);
+    'options: for option in options {
+        paths
+            .push(option.path.to_vec(alloc)?)
+            .map_err(AllocError::from)?;
+    }
+    Ok(paths)
+}
