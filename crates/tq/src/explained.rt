@@ -44,6 +44,10 @@ impl<R: Clock> Watching<'_, R> {
 }
 
 impl<R: Clock> Gate for Watching<'_, R> {
+    fn expect(&self, pieces: u32) {
+        self.progress.expect_pieces(pieces);
+    }
+
     fn arrive(&self, _: u32) {
         self.pieces.fetch_add(1, Ordering::SeqCst);
         self.progress.add_piece();

@@ -51,6 +51,7 @@ pub struct Progress {
     bytes: AtomicU64,
     bytes_read: AtomicU64,
     pieces: AtomicU64,
+    pieces_begun: AtomicU64,
     line: Mutex<Line>,
     ended: Condvar,
 }
@@ -72,6 +73,7 @@ impl Progress {
             bytes: AtomicU64::new(0),
             bytes_read: AtomicU64::new(0),
             pieces: AtomicU64::new(0),
+            pieces_begun: AtomicU64::new(0),
             line: Mutex::new(Line {
                 errors,
                 is_shown: false,
@@ -91,9 +93,14 @@ impl Progress {
         self.bytes_read.fetch_add(bytes, Ordering::SeqCst);
     }
 
+    /// So many more pieces of work are to be done.
+    pub fn expect_pieces(&self, pieces: u32) {
+        self.pieces.fetch_add(u64::from(pieces), Ordering::SeqCst);
+    }
+
     /// A further piece of work is begun.
     pub fn add_piece(&self) {
-        self.pieces.fetch_add(1, Ordering::SeqCst);
+        self.pieces_begun.fetch_add(1, Ordering::SeqCst);
     }
 
     /// The files are read, and are loaded next.
@@ -104,6 +111,7 @@ impl Progress {
     /// The files are loaded, and the statement is answered next.
     pub fn answer(&self) {
         self.pieces.store(0, Ordering::SeqCst);
+        self.pieces_begun.store(0, Ordering::SeqCst);
         self.stage.store(ANSWERING, Ordering::SeqCst);
     }
 
@@ -120,14 +128,16 @@ impl Progress {
         text.push_str(" MB")
     }
 
-    // How many pieces of work were begun.
+    // How many pieces of work were begun, of how many.
     fn push_pieces(&self, text: &mut String) -> Result<(), AllocError> {
-        let pieces = self.pieces.load(Ordering::SeqCst);
-        if pieces == 0 {
+        let begun = self.pieces_begun.load(Ordering::SeqCst);
+        if begun == 0 {
             return Ok(());
         }
         text.push_str(", piece ")?;
-        push_number(text, pieces)
+        push_number(text, begun)?;
+        text.push_str(" of ")?;
+        push_number(text, self.pieces.load(Ordering::SeqCst))
     }
 
     // The line as it is now.

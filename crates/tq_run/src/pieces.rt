@@ -27,6 +27,9 @@ pub trait Work {
 
 /// Is told of each piece, by the worker that took it, before that worker runs it.
 pub trait Gate {
+    /// So many pieces are to be run next. Told before the first of them; whoever does not ask for that is told nothing.
+    fn expect(&self, _pieces: u32) {}
+
     /// Piece `i` was taken and is to be run next. It may hold the worker up.
     fn arrive(&self, i: u32);
 }

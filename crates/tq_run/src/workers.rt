@@ -137,6 +137,7 @@ where
     ensures { IfOk result (λ v. IsResultList (W.relates work.now) (W.count work.now) v.items) }
 {
     let pieces = work.pieces();
+    gate.expect(pieces);
     let (claims, mut first) = Claims::new(alloc, pieces)?;
     let workers = workers.min(pieces.max(1));
     let others = other_claimants(alloc, &claims, &mut first, workers)?;

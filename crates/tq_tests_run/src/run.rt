@@ -115,14 +115,21 @@ impl Work for SeesArrivals<'_> {
     }
 }
 
-// Counts the arrivals, and each piece's.
+// Counts the arrivals, and each piece's, and the pieces that were expected before the first of them.
 #[derive(Drop)]
 struct Counts {
+    expected: AtomicU64,
     all: AtomicU64,
     of_each: Vec<AtomicU64>,
 }
 
 impl Gate for Counts {
+    fn expect(&self, pieces: u32) {
+        if self.all.load(Ordering::SeqCst) == 0 {
+            self.expected.fetch_add(u64::from(pieces), Ordering::SeqCst);
+        }
+    }
+
     fn arrive(&self, i: u32) {
         self.all.fetch_add(1, Ordering::SeqCst);
         if let Some(count) = self.of_each.get(i as usize) {
@@ -200,6 +207,7 @@ fn each_piece_arrives_once_before_it_is_run(rt: HostRuntime) -> Result<(), Fail>
             of_each.push(AtomicU64::new(0))?;
         }
         let gate = Counts {
+            expected: AtomicU64::new(0),
             all: AtomicU64::new(0),
             of_each,
         };
@@ -211,6 +219,7 @@ fn each_piece_arrives_once_before_it_is_run(rt: HostRuntime) -> Result<(), Fail>
         let results = run_with(&rt, rt.alloc(), workers, &work, &gate)?;
         assert_eq!(rt; results.len(), 5000);
         assert!(rt; results.iter().all(|seen| *seen), "{workers} workers");
+        assert_eq!(rt; gate.expected.load(Ordering::SeqCst), 5000);
         assert_eq!(rt; gate.all.load(Ordering::SeqCst), 5000);
         assert_eq!(rt; work.runs.load(Ordering::SeqCst), 5000, "{workers} workers");
     }
@@ -220,6 +229,7 @@ fn each_piece_arrives_once_before_it_is_run(rt: HostRuntime) -> Result<(), Fail>
 #[test]
 fn each_piece_is_run_once_here(rt: HostRuntime) -> Result<(), Fail> {
     let gate = Counts {
+        expected: AtomicU64::new(0),
         all: AtomicU64::new(0),
         of_each: Vec::new(rt.alloc()),
     };
