@@ -1,6 +1,6 @@
 -- What is left to be compared of keys' values, and lists of keys that are sorted run by run.
 use Rattle.std.proofs.Common.{inl, inr, subst, ◌≡◌, ◌≢◌, ℕ, zero, suc, ◌+◌, ◌-◌, ◌<◌, ◌≤◌, Bool, true, false, List, [], ◌∷◌, ◌++◌, length, take, drop, map, get_or, refl, set, sym, ap, ◌∙◌, arith}
-use Rattle.std.specs.Prelude.{All, IsPermutation, IsSorted}
+use Rattle.std.specs.Prelude.{◌*◌, All, IsPermutation, IsSorted, min, negsuc, pos}
 use Rattle.std.specs.Cmp.{IsTotalOrder, nat_cmp_total, on_total, ranked as ranked_by, then_total, tied_itself}
 use Rattle.std.specs.Cmp.Lexicographic.{slice_cmp}
 use Rattle.std.specs.Ordering.{is_lt, is_ne, nat_cmp, ordering_reverse, ordering_then}
@@ -22,6 +22,7 @@ use Rattle.tq_base.specs.Contents.{Int, Text}
 use Rattle.tq_base.specs.Keys.{columns_on, first_rank, key_cmp, key_row, held, key_values, rank_tells, told_cmp, value_at, AreMarked, BeginsWithBytes, IsKey, SidesState, TellsRight}
 use Rattle.tq_base.specs.KeyLaws.{as_values, less_from_rank, tells_same, told_firsts}
 use Rattle.tq_base.specs.Untold.{first_text, from_cmp, goes_on, rank_cmp, ranked, unmarked, value_after, values_after, values_from, with_rank, AreUnmarked, IsRanked, IsSameOrder, RunsDone, SameKeys, SameOrder}
+use Rattle.tq_base.specs.Ranks.{prefix, prefix-lt}
 use Rattle.tq_base.specs.ValueOrder.{value_cmp, values_cmp, values_same, values_total}
 use Rattle.tq_base.proofs.KeyLemmas.{compared_at}
 
@@ -61,6 +62,51 @@ left_same n (Int x ∷ u) (Int y ∷ v) same = refl
 left_same n (Int x ∷ u) (Text y ∷ v) same = refl
 left_same n (Text x ∷ u) (Int y ∷ v) same = refl
 left_same n (Text x ∷ u) (Text y ∷ v) same = ap (λ r. ordering_then r (values_cmp u v)) (same_front n x y same)
+
+-- ---- what ranks tell of the bytes with which texts begin
+
+-- texts of the same digits and of the same length, as far as it is told, begin with the same bytes
+prefix_takes : (places d : ℕ) (s t : List ℕ) → All (λ byte. byte < 256) s → All (λ byte. byte < 256) t
+    → min (length s) (places + 1) ≡ min (length t) (places + 1) → prefix places d s ≡ prefix places d t → take places s ≡ take places t
+prefix_takes zero d s t s_bytes t_bytes alike same = refl
+prefix_takes (suc places) d [] [] s_bytes t_bytes alike same = refl
+prefix_takes (suc places) d [] (y ∷ t) s_bytes t_bytes alike same = absurd (omega (arith, alike))
+prefix_takes (suc places) d (x ∷ s) [] s_bytes t_bytes alike same = absurd (omega (arith, alike))
+prefix_takes (suc places) d (x ∷ s) (y ∷ t) s_bytes t_bytes alike same =
+    split (nat_cmp x y) refl
+    (λ z both. prefix_takes places (d * 256 + z) s t s_rest t_rest (omega (arith, alike)) both)
+  where
+    s_rest : All (λ byte. byte < 256) s
+    s_rest = All-tail (λ byte. byte < 256) x s s_bytes
+
+    t_rest : All (λ byte. byte < 256) t
+    t_rest = All-tail (λ byte. byte < 256) y t t_bytes
+
+    split : (r : Ordering) → nat_cmp x y ≡ r → ((z : ℕ) → prefix places (d * 256 + z) s ≡ prefix places (d * 256 + z) t → take places s ≡ take places t) → x ∷ take places s ≡ y ∷ take places t
+    split Less is rest =
+        let lt : x < y = ranked_by x y Less (sym is) in
+        let less = prefix-lt places (d * 256 + x) (d * 256 + y) s t s_rest (omega arith) in absurd (omega (arith, less, same))
+    split Equal is rest =
+        let first : x ≡ y = ranked_by x y Equal (sym is) in
+        ap (λ z. z ∷ take places s) first ∙ ap (λ l. y ∷ l) (rest x (same ∙ ap (λ z. prefix places (d * 256 + z) t) (sym first)))
+    split Greater is rest =
+        let lt : y < x = ranked_by x y Greater (sym is) in
+        let less = prefix-lt places (d * 256 + y) (d * 256 + x) t s t_rest (omega arith) in absurd (omega (arith, less, same))
+
+-- values of the same first rank begin with the same 14 bytes of text, if they begin with any
+pub ranks_share : (u v : List Value) → BeginsWithBytes u → BeginsWithBytes v → first_rank u ≡ first_rank v → take 14 (first_text u) ≡ take 14 (first_text v)
+ranks_share [] [] u_bytes v_bytes same = refl
+ranks_share [] (Int n ∷ v) u_bytes v_bytes same = refl
+ranks_share [] (Text t ∷ v) u_bytes v_bytes same = absurd (omega (arith, same))
+ranks_share (Int m ∷ u) [] u_bytes v_bytes same = refl
+ranks_share (Text s ∷ u) [] u_bytes v_bytes same = absurd (omega (arith, same))
+ranks_share (Int m ∷ u) (Int n ∷ v) u_bytes v_bytes same = refl
+ranks_share (Int (pos m) ∷ u) (Text t ∷ v) u_bytes v_bytes same = absurd (omega (arith, same))
+ranks_share (Int (negsuc m) ∷ u) (Text t ∷ v) u_bytes v_bytes same = absurd (omega (arith, same))
+ranks_share (Text s ∷ u) (Int (pos n) ∷ v) u_bytes v_bytes same = absurd (omega (arith, same))
+ranks_share (Text s ∷ u) (Int (negsuc n) ∷ v) u_bytes v_bytes same = absurd (omega (arith, same))
+ranks_share (Text s ∷ u) (Text t ∷ v) u_bytes v_bytes same =
+    prefix_takes 14 0 s t u_bytes v_bytes (omega (arith, same)) (omega (arith, same))
 
 -- ---- what is left of keys' values
 

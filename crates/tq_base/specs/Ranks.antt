@@ -36,7 +36,7 @@ HasBytes (Text t) = All (λ byte. byte < 256) t
 -- ---- ranks rise with values
 
 -- digits before decide
-prefix-lt : (places d e : ℕ) (s t : List ℕ) → All (λ byte. byte < 256) s → d < e → prefix places d s < prefix places e t
+pub prefix-lt : (places d e : ℕ) (s t : List ℕ) → All (λ byte. byte < 256) s → d < e → prefix places d s < prefix places e t
 prefix-lt zero d e s t bytes lt = lt
 prefix-lt (suc places) d e [] [] bytes lt = prefix-lt places (d * 256) (e * 256) [] [] bytes (omega (arith, lt))
 prefix-lt (suc places) d e [] (y ∷ t) bytes lt = prefix-lt places (d * 256) (e * 256 + y) [] t bytes (omega (arith, lt))

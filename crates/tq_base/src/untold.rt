@@ -22,6 +22,19 @@ use std::cmp::Ordering;
 // How often the ranks of one key are taken anew: what they do not tell then is read.
 const LEVELS: u32 = 256;
 
+// How many bytes of a text its rank begins with.
+const HEAD: usize = 14;
+
+// Of so many keys the texts that come next are looked at before the keys are sorted.
+const AHEAD: usize = 256;
+
+// The place up to which keys were looked at, and how long the texts are at most that come next for these.
+#[derive(Clone, Copy)]
+struct Ahead {
+    until: usize,
+    longest: usize,
+}
+
 // The rank of the value in the column, or of its text from the offset on.
 fn rank_there(row: &Row<'_>, column: u32, offset: usize) -> u128
     ensures rank { result ≡ value_rank (value_after offset (value_at row.now column)) }
@@ -80,6 +93,19 @@ fn rank_run_len(keys: &[Key], rank: u128) -> usize
         }
     }
     keys.len()
+}
+
+// Whether the key at the place has the rank of the one before it or behind it.
+fn has_like(keys: &[Key], place: usize, rank: u128) -> bool {
+    if let Some(before) = keys.get(place.wrapping_sub(1))
+        && before.rank == rank
+    {
+        return true;
+    }
+    match keys.get(place.saturating_add(1)) {
+        Some(behind) => behind.rank == rank,
+        None => false,
+    }
 }
 
 // Sorts by the ranks. Where these are in order already, all stay as they are.
@@ -195,8 +221,56 @@ impl<'a> Sides<'a> {
         len
     }
 
-    // From where on keys of one rank are to be compared.
-    fn next_place(&self, rank: u128, run: &[Key], place: usize, offset: usize) -> (usize, usize)
+    // How long the text is that comes next for a key whose rank is not its alone.
+    fn next_len(&self, key: &Key, place: usize, offset: usize) -> usize {
+        if rank_tells(key.rank) {
+            self.text_from(key, place.saturating_add(1), 0).len()
+        } else {
+            self.text_from(key, place, offset).len()
+        }
+    }
+
+    // How long the texts are at most that come next for the keys of the ranks that are not theirs alone. These texts lie
+    // anywhere: in a loop that does no more than this, the processor waits for many of them at once.
+    fn longest_next(&self, keys: &[Key], place: usize, offset: usize) -> usize {
+        let mut longest = 0;
+        'keys: for (number, key) in keys.iter().enumerate() {
+            if has_like(keys, number, key.rank) {
+                longest = longest.max(self.next_len(key, place, offset));
+            }
+        }
+        longest
+    }
+
+    // Looks at the next keys, from the start on, once those that were looked at are sorted.
+    fn look_ahead(
+        &self,
+        ahead: Ahead,
+        keys: &[Key],
+        start: usize,
+        place: usize,
+        offset: usize,
+    ) -> Ahead {
+        if start < ahead.until || start >= keys.len() {
+            return ahead;
+        }
+        let until = start.saturating_add(AHEAD).min(keys.len());
+        Ahead {
+            until,
+            longest: self.longest_next(&keys[start..until], place, offset),
+        }
+    }
+
+    // From where on keys of one rank are to be compared. Where their texts are so short that the next ranks tell them, these
+    // are taken of what follows the bytes that this one begins with; else of what follows all that they have in common.
+    fn next_place(
+        &self,
+        rank: u128,
+        run: &[Key],
+        place: usize,
+        offset: usize,
+        longest: usize,
+    ) -> (usize, usize)
         requires alike { All (λ k. k.rank ≡ rank) run.now }
         requires ranks { All (IsRanked (state_of self.now) place offset) run.now }
         ensures { SameOrder (state_of self.now) place offset result.0 result.1 run.now }
@@ -207,7 +281,12 @@ impl<'a> Sides<'a> {
         if rank_tells(rank) {
             return (place + 1, 0);
         }
-        match offset.checked_add(self.shared_len(run, place, offset)) {
+        let len = if longest <= 2 * HEAD {
+            HEAD
+        } else {
+            self.shared_len(run, place, offset)
+        };
+        match offset.checked_add(len) {
             Some(next) => (place, next),
             None => (place, offset),
         }
@@ -250,7 +329,15 @@ impl<'a> Sides<'a> {
     // Sorts keys of one rank by what they have from there on, and marks those that are seen to begin a run or to go
     // on with it. The levels bound how often ranks are taken anew.
     #[cycle(untold)]
-    fn sort_run(&self, levels: u32, rank: u128, run: &mut [Key], place: usize, offset: usize)
+    fn sort_run(
+        &self,
+        levels: u32,
+        rank: u128,
+        run: &mut [Key],
+        place: usize,
+        offset: usize,
+        longest: usize,
+    )
         requires alike { All (λ k. k.rank ≡ rank) run.old }
         requires ranks { All (IsRanked (state_of self.now) place offset) run.old }
         requires unmarked { AreUnmarked run.old }
@@ -262,7 +349,7 @@ impl<'a> Sides<'a> {
         if run.len() < 2 {
             return;
         }
-        let (next, next_offset) = self.next_place(rank, run, place, offset);
+        let (next, next_offset) = self.next_place(rank, run, place, offset, longest);
         let is_further = next > place || next_offset > offset;
         if self.are_ranked_anew(levels, next, is_further) {
             self.rank_keys(run, next, next_offset);
@@ -282,6 +369,7 @@ impl<'a> Sides<'a> {
         start: usize,
         place: usize,
         offset: usize,
+        longest: usize,
     ) -> usize
         requires ranks { All (IsRanked (state_of self.now) place offset) keys.old }
         requires done { RunsDone (state_of self.now) place offset keys.old start }
@@ -294,7 +382,7 @@ impl<'a> Sides<'a> {
         let rank = keys[start].rank;
         let end = start + rank_run_len(&keys[start..], rank);
         let run = &mut keys[start..end];
-        self.sort_run(levels, rank, run, place, offset);
+        self.sort_run(levels, rank, run, place, offset, longest);
         mark_first(run);
         end
     }
@@ -311,9 +399,14 @@ impl<'a> Sides<'a> {
         ensures marks { AreMarked (state_of self.now) keys.new }
     {
         sort_by_rank(keys);
+        let mut ahead = Ahead {
+            until: 0,
+            longest: 0,
+        };
         let mut start = 0;
         'runs: while start < keys.len() {
-            start = self.sort_next(levels, keys, start, place, offset);
+            ahead = self.look_ahead(ahead, keys, start, place, offset);
+            start = self.sort_next(levels, keys, start, place, offset, ahead.longest);
         }
     }
 

@@ -1,3 +1,5 @@
+mod LentLemmas
+mod WritingLemmas
 pub mod Apart
 pub mod KeyGroups
 pub mod MergeLemmas

@@ -1,7 +1,7 @@
 -- What a `csv` writer over a vector has written.
-use Rattle.std.specs.Prelude.{◌≡◌, ℕ, List, false, Some}
+use Rattle.std.specs.Prelude.{◌≡◌, ◌==◌, ◌&&◌, ◌||◌, ◌^◌, ◌-◌, ◌++◌, ℕ, List, false, length, min, not, Some}
 use Rattle.std.specs.Global.{Vec}
-use Rattle.csv.specs.Writing.{fields_written, has_written, text_written, writer_setup}
+use Rattle.csv.specs.Writing.{fields_written, has_written, is_blank, row_body, text_written, writer_setup}
 use Rattle.csv.specs.declared.writer.Writer.{Writer}
 use Rattle.tq_table.specs.Text.{answer_format}
 
@@ -11,3 +11,10 @@ pub record HasWritten (writer : Writer (Vec ℕ)) (text : List ℕ) : Type 0 whe
   pub setup : writer_setup writer ≡ answer_format
   pub fields : fields_written writer ≡ 0
   pub begun : has_written writer ≡ false
+
+-- the writer has written whole lines, of this text, and then these fields of a line
+pub record IsWriting (writer : Writer (Vec ℕ)) (text : List ℕ) (fields : List (List ℕ)) : Type 0 where
+  pub written : text_written (λ v. Some v.items) writer ≡ Some (text ++ row_body answer_format fields)
+  pub setup : writer_setup writer ≡ answer_format
+  pub number : fields_written writer ≡ min (length fields) (2 ^ 64 - 1)
+  pub begun : is_blank answer_format fields ≡ (not (has_written writer) && ((fields_written writer == 0) || (fields_written writer == 1)))

@@ -1,6 +1,6 @@
 // Lines: the rows of an answer, in their order.
 
-ghost use Rattle.std.specs.Prelude.{◌≡◌, ◌<◌, IfOk, length, slice_index_or};
+ghost use Rattle.std.specs.Prelude.{◌≡◌, ◌<◌, All, IfOk, length, slice_index_or};
 ghost use Rattle.tq_base.specs.declared.fragment.Fragment.{Fragment};
 ghost use Rattle.tq_base.specs.Relations.{values_at_number};
 
@@ -36,6 +36,13 @@ impl<'a> Lines<'a> {
         ensures { result ≡ length self.now }
     {
         self.rows.len()
+    }
+
+    /// How many values each line has.
+    pub(crate) fn width(&self) -> usize
+        ensures { All (λ (row : Fragment). length row.values ≡ result) self.now }
+    {
+        self.rows.width()
     }
 
     /// The values of the line, none where there is no such line.

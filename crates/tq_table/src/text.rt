@@ -1,109 +1,188 @@
 // The text of a table.
 
-ghost use Rattle.std.specs.Prelude.{◌≡◌, [], ◌++◌, ◌∷◌, IfOk, List, OnOk, ℕ};
+ghost use Rattle.std.specs.Prelude.{◌≡◌, ◌≤◌, [], ◌++◌, ◌∷◌, drop, IfOk, length, List, OnOk, map, take, ℕ};
+ghost use Rattle.std.specs.List.{flat_map};
 ghost use Rattle.std.specs.Io.KnownBytes.{Appends};
-ghost use Rattle.csv.specs.Records.{fields_of, partial_of};
 ghost use Rattle.csv.specs.Writing.{row_text};
+ghost use Rattle.tq_base.specs.declared.fragment.Fragment.{Fragment};
 ghost use Rattle.tq_base.specs.Numbers.{instant_text};
-ghost use Rattle.tq_table.specs.Text.{answer_format, bound_field, header_fields, header_text, row_fields, rows_text, text_of, value_field};
+ghost use Rattle.tq_base.specs.Values.{value_seen};
+ghost use Rattle.tq_table.specs.Text.{answer_format, bound_field, header_text, row_fields, rows_text, text_of, value_field};
 ghost use Rattle.tq_table.specs.Sink.{AppendsPrefix, one_more};
-ghost use Rattle.tq_table.specs.Writing.{HasWritten};
+ghost use Rattle.tq_table.specs.Writing.{HasWritten, IsWriting};
 
 use crate::lines::Lines;
 use crate::sink::{Sink, WriteFault};
 use crate::table::Table;
-use csv::{ByteRecord, Writer, WriterBuilder};
+use csv::{Writer, WriterBuilder};
 use itoa::Buffer;
 use std::alloc::{AllocError, Global};
 use std::io::Write;
-use tq_base::{Bound, Form, Instant, Name, Period, Row, Seen, Value, put_instant};
+use tq_base::{Bound, Form, Instant, Name, Period, Row, Seen, put_instant};
 
-fn push_value(record: &mut ByteRecord, value: &Value) -> Result<(), AllocError>
-    requires { partial_of record.old ≡ [] }
-    ensures fields { OnOk result (fields_of record.new ≡ fields_of record.old ++ value_field value.now ∷ []) }
-    ensures partial { OnOk result (partial_of record.new ≡ []) }
-{
-    match value.seen() {
-        Seen::Int(number) => record.push_field(Buffer::new().format(number).as_bytes()),
-        Seen::Text(text) => record.push_field(text.as_bytes()),
-    }
-}
+// Of so many rows the values are looked up before their lines are written.
+const BLOCK: usize = 64;
 
-fn push_instant(record: &mut ByteRecord, instant: Instant, form: Form) -> Result<(), AllocError>
-    requires { partial_of record.old ≡ [] }
-    ensures fields { OnOk result (fields_of record.new ≡ fields_of record.old ++ instant_text form instant ∷ []) }
-    ensures partial { OnOk result (partial_of record.new ≡ []) }
+// Writes a field behind those of its line. Over a vector only memory can fail.
+fn write_field(writer: &mut Writer<Vec<u8>>, field: &[u8]) -> Result<(), AllocError>
+    ensures { (text : List ℕ) (fields : List (List ℕ)) → IsWriting writer.old text fields → OnOk result (IsWriting writer.new text (fields ++ field.now ∷ [])) }
 {
-    let mut text = [0; 12];
-    let len = put_instant(instant, form, &mut text);
-    record.push_field(&text[..len])
-}
-
-fn push_bound(record: &mut ByteRecord, bound: Bound, form: Form) -> Result<(), AllocError>
-    requires { partial_of record.old ≡ [] }
-    ensures fields { OnOk result (fields_of record.new ≡ fields_of record.old ++ bound_field form bound ∷ []) }
-    ensures partial { OnOk result (partial_of record.new ≡ []) }
-{
-    match Instant::new(bound.number()) {
-        Some(instant) => push_instant(record, instant, form),
-        None => record.push_field(b"forever"),
-    }
-}
-
-// Makes the record that of the header.
-fn fill_header(record: &mut ByteRecord, columns: &[Name]) -> Result<(), AllocError>
-    ensures { OnOk result (fields_of record.new ≡ header_fields columns.now) }
-{
-    record.clear();
-    for column in columns {
-        record.push_field(column.bytes())?;
-    }
-    record.push_field(b"from")?;
-    record.push_field(b"to")
-}
-
-// Makes the record that of a row.
-fn fill_row(
-    record: &mut ByteRecord,
-    row: &Row<'_>,
-    period: Period,
-    form: Form,
-) -> Result<(), AllocError>
-    ensures { OnOk result (fields_of record.new ≡ row_fields form (record { values = row.now; period = period })) }
-{
-    record.clear();
-    'values: for place in 0..row.len() {
-        push_value(record, row.value(place))?;
-    }
-    push_instant(record, period.start, form)?;
-    push_bound(record, period.end, form)
-}
-
-// Writes the record. Over a vector only memory can fail.
-fn write_line(writer: &mut Writer<Vec<u8>>, record: &ByteRecord) -> Result<(), AllocError>
-    ensures { (text : List ℕ) → HasWritten writer.old text
-        → OnOk result (HasWritten writer.new (text ++ row_text answer_format (fields_of record.now))) }
-{
-    match writer.write_byte_record(record) {
+    match writer.write_field(field) {
         Ok(()) => Ok(()),
         Err(_) => Err(AllocError),
     }
 }
 
+// Ends the line.
+fn end_line(writer: &mut Writer<Vec<u8>>) -> Result<(), AllocError>
+    ensures { (text : List ℕ) (fields : List (List ℕ)) → IsWriting writer.old text fields → OnOk result (HasWritten writer.new (text ++ row_text answer_format fields)) }
+{
+    match writer.end_record() {
+        Ok(()) => Ok(()),
+        Err(_) => Err(AllocError),
+    }
+}
+
+// Writes the field of a value behind those of its line.
+fn write_value(writer: &mut Writer<Vec<u8>>, value: Seen<'_>) -> Result<(), AllocError>
+    ensures { (text : List ℕ) (fields : List (List ℕ)) → IsWriting writer.old text fields → OnOk result (IsWriting writer.new text (fields ++ value_field (value_seen value.entry) ∷ [])) }
+{
+    match value {
+        Seen::Int(number) => write_field(writer, Buffer::new().format(number).as_bytes()),
+        Seen::Text(text) => write_field(writer, text.as_bytes()),
+    }
+}
+
+fn write_instant(
+    writer: &mut Writer<Vec<u8>>,
+    instant: Instant,
+    form: Form,
+) -> Result<(), AllocError>
+    ensures { (text : List ℕ) (fields : List (List ℕ)) → IsWriting writer.old text fields → OnOk result (IsWriting writer.new text (fields ++ instant_text form instant ∷ [])) }
+{
+    let mut text = [0; 12];
+    let len = put_instant(instant, form, &mut text);
+    write_field(writer, &text[..len])
+}
+
+fn write_bound(writer: &mut Writer<Vec<u8>>, bound: Bound, form: Form) -> Result<(), AllocError>
+    ensures { (text : List ℕ) (fields : List (List ℕ)) → IsWriting writer.old text fields → OnOk result (IsWriting writer.new text (fields ++ bound_field form bound ∷ [])) }
+{
+    match Instant::new(bound.number()) {
+        Some(instant) => write_instant(writer, instant, form),
+        None => write_field(writer, b"forever"),
+    }
+}
+
+// Writes values behind the fields of their line.
+fn write_values(writer: &mut Writer<Vec<u8>>, values: &[Seen<'_>]) -> Result<(), AllocError>
+    ensures { (text : List ℕ) (fields : List (List ℕ)) → IsWriting writer.old text fields → OnOk result (IsWriting writer.new text (fields ++ map value_field (map value_seen values.now))) }
+{
+    'values: for value in values {
+        write_value(writer, *value)?;
+    }
+    Ok(())
+}
+
+// Writes the line of a row of these values.
+fn write_row(
+    writer: &mut Writer<Vec<u8>>,
+    values: &[Seen<'_>],
+    period: Period,
+    form: Form,
+) -> Result<(), AllocError>
+    ensures { (text : List ℕ) → HasWritten writer.old text
+        → OnOk result (HasWritten writer.new (text ++ row_text answer_format (row_fields form (record { values = map value_seen values.now; period = period })))) }
+{
+    write_values(writer, values)?;
+    write_instant(writer, period.start, form)?;
+    write_bound(writer, period.end, form)?;
+    end_line(writer)
+}
+
+// The values of a row, lent, go to the end of the list, or some of them where a growth was refused.
+fn lend_row<'r>(row: &Row<'r>, lent: &mut Vec<Seen<'r>>) -> Result<(), AllocError>
+    ensures { OnOk result (map value_seen lent.new.items ≡ map value_seen lent.old.items ++ row.now) }
+{
+    'values: for place in 0..row.len() {
+        lent.push(row.value(place).seen())?;
+    }
+    Ok(())
+}
+
+// The values of the rows from one to another, lent, row after row, in place of those in the list. They lie anywhere: in a
+// loop that does no more than this, the processor waits for many of them at once.
+fn lend<'r>(
+    rows: &'r Lines<'_>,
+    start: usize,
+    end: usize,
+    lent: &mut Vec<Seen<'r>>,
+) -> Result<(), AllocError>
+    requires ordered { start ≤ end }
+    requires within { end ≤ length rows.now }
+    ensures { OnOk result (map value_seen lent.new.items ≡ flat_map (λ (row : Fragment). row.values) (drop start (take end rows.now))) }
+{
+    lent.clear();
+    'rows: for row in start..end {
+        lend_row(&rows.row(row), lent)?;
+    }
+    Ok(())
+}
+
+// Writes a line for each row from one to another, whose values these are.
+fn write_lent(
+    writer: &mut Writer<Vec<u8>>,
+    rows: &Lines<'_>,
+    start: usize,
+    end: usize,
+    lent: &[Seen<'_>],
+    form: Form,
+) -> Result<(), AllocError>
+    requires ordered { start ≤ end }
+    requires within { end ≤ length rows.now }
+    requires lent { map value_seen lent.now ≡ flat_map (λ (row : Fragment). row.values) (drop start (take end rows.now)) }
+    ensures { (text : List ℕ) → HasWritten writer.old (text ++ rows_text form (take start rows.now)) → OnOk result (HasWritten writer.new (text ++ rows_text form (take end rows.now))) }
+{
+    let width = rows.width();
+    let mut from = 0;
+    'rows: for row in start..end {
+        let to = from + width;
+        write_row(writer, &lent[from..to], rows.period(row), form)?;
+        from = to;
+    }
+    Ok(())
+}
+
 // Writes a line for each row.
 fn write_rows(
+    alloc: Global,
     writer: &mut Writer<Vec<u8>>,
-    record: &mut ByteRecord,
     rows: &Lines<'_>,
     form: Form,
 ) -> Result<(), AllocError>
     ensures { (text : List ℕ) → HasWritten writer.old text → OnOk result (HasWritten writer.new (text ++ rows_text form rows.now)) }
 {
-    'rows: for row in 0..rows.len() {
-        fill_row(record, &rows.row(row), rows.period(row), form)?;
-        write_line(writer, record)?;
+    let mut lent = Vec::new(alloc);
+    let mut start = 0;
+    'blocks: while start < rows.len() {
+        let end = start.saturating_add(BLOCK).min(rows.len());
+        lend(rows, start, end, &mut lent)?;
+        write_lent(writer, rows, start, end, &lent, form)?;
+        start = end;
     }
     Ok(())
+}
+
+// Writes the line of the header.
+fn write_header(writer: &mut Writer<Vec<u8>>, columns: &[Name]) -> Result<(), AllocError>
+    ensures { (text : List ℕ) → HasWritten writer.old text → OnOk result (HasWritten writer.new (text ++ header_text columns.now)) }
+{
+    'columns: for column in columns {
+        write_field(writer, column.bytes())?;
+    }
+    write_field(writer, b"from")?;
+    write_field(writer, b"to")?;
+    end_line(writer)
 }
 
 // A writer of lines, which has written none.
@@ -131,9 +210,7 @@ pub fn header_text(alloc: Global, columns: &[Name]) -> Result<Vec<u8>, AllocErro
     ensures { IfOk result (λ text. text.items ≡ header_text columns.now) }
 {
     let mut writer = line_writer(alloc);
-    let mut record = ByteRecord::new(alloc);
-    fill_header(&mut record, columns)?;
-    write_line(&mut writer, &record)?;
+    write_header(&mut writer, columns)?;
     text_written(writer)
 }
 
@@ -144,8 +221,7 @@ pub fn rows_text(alloc: Global, rows: &Lines<'_>, form: Form) -> Result<Vec<u8>,
     ensures { IfOk result (λ text. text.items ≡ rows_text form rows.now) }
 {
     let mut writer = line_writer(alloc);
-    let mut record = ByteRecord::new(alloc);
-    write_rows(&mut writer, &mut record, rows, form)?;
+    write_rows(alloc, &mut writer, rows, form)?;
     text_written(writer)
 }
 
@@ -158,10 +234,8 @@ pub fn table_text(alloc: Global, table: &Table<'_>, form: Form) -> Result<Vec<u8
     ensures { IfOk result (λ text. text.items ≡ text_of form table.now) }
 {
     let mut writer = line_writer(alloc);
-    let mut record = ByteRecord::new(alloc);
-    fill_header(&mut record, table.columns.get())?;
-    write_line(&mut writer, &record)?;
-    write_rows(&mut writer, &mut record, &table.rows, form)?;
+    write_header(&mut writer, table.columns.get())?;
+    write_rows(alloc, &mut writer, &table.rows, form)?;
     text_written(writer)
 }
 

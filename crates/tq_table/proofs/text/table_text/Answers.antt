@@ -6,4 +6,4 @@ pub returns : goal.returns
 returns c =
     c.text_written.ensures (text_of c.args.form c.args.table.now)
     (c.in_ok-write_rows.ensures (header_text c.args.table.now.columns)
-    (rw (c.in_ok-fill_header.ensures, c.get.ensures) at (c.in_ok-write_line.ensures [] c.line_writer-writer.ensures)))
+    (rw c.get.ensures at (c.in_ok-write_header.ensures [] c.line_writer-writer.ensures)))
