@@ -664,8 +664,8 @@ def explained_answers():
     asked = "VALIDTIME PERIOD '[2024-02-29 - 2024-03-01)' SELECT v FROM d"
     said = how_answered("[2024-02-29 - 2024-03-01)", [("from", "d: 2 read, 1 kept")], 1)
     yield ask("an answer in dates, told", [("d", dated)], asked, ["--dates", "--explain"], out=b"v,from,to\nx,2024-02-29,2024-03-01\n", err=said, timed=True)
-    pays = [*emp, ("pay", b"who:int,sum:int,from,to\n1,50,0,18\n1,60,18,forever\n2,50,20,21\n4,70,0,1\n")]
-    asked = "VALIDTIME SELECT dept, sum, COUNT(*) FROM emp, pay WHERE who = emp GROUP BY dept, sum"
+    pays = [*emp, ("pay", b"who:int,amount:int,from,to\n1,50,0,18\n1,60,18,forever\n2,50,20,21\n4,70,0,1\n")]
+    asked = "VALIDTIME SELECT dept, amount, COUNT(*) FROM emp, pay WHERE who = emp GROUP BY dept, amount"
     told = [("from", "emp: 4 read, 4 kept"), ("from", "pay: 4 read, 4 kept"), ("join", "emp.emp = pay.who, 4 pairs"), ("groups", 2)]
     yield ask("a join of two tables, told", pays, asked, ["--explain"], out=None, holds=[b"toys,50,1,10,18\n"], err=how_answered("[0 - forever)", told, 3), timed=True)
     many = [("c", SMALL + 12345 * b"7,x,0,1\n")]
