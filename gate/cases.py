@@ -575,13 +575,16 @@ def explanations():
 
 
 def how_answered(window, sources, rows, workers=1, pieces=0):
-    """What is told of an answer: its window, its sources behind their labels, how many rows it has, and what the run tells."""
+    """What is told of an answer: its window, its sources, steps and groups behind their labels, how many rows it has, and what the run tells."""
     lines = [("window", window), *sources, ("rows", rows), ("workers", workers), ("pieces", pieces)]
     lines += [(step, "SECONDS") for step in ("loading", "answering", "printing")]
     return "".join(f"  {label:<15}{text}\n" for label, text in lines).encode()
 
 
-# Statements over EMP, which are answered, with what is told: the window, each source, and how many rows there are.
+# Of a question that reads EMP twice, each time whole.
+TWICE = 2 * [("from", "emp: 4 read, 4 kept")]
+# Statements over EMP, which are answered, with what is told: the window, each source, each step of a join, groups, and how
+# many rows there are. Pairs and groups are counted by hand.
 EXPLAINED_ANSWERS = [
     ("SELECT name FROM emp", "[0 - forever)", [("from", "emp: 4 read, 4 kept")], 3),
     ("PERIOD '[10 - 15)' SELECT name FROM emp", "[10 - 15)", [("from", "emp: 4 read, 2 kept")], 2),
@@ -591,7 +594,58 @@ EXPLAINED_ANSWERS = [
     ("SELECT name FROM emp WHERE emp > -3 AND emp <= 1", "[0 - forever)", [("from", "emp: 4 read, 2 kept, keys from -2 to 1")], 1),
     ("SELECT name FROM emp WHERE emp = 1 AND emp = 2", "[0 - forever)", [("from", "emp: 4 read, 0 kept, no key passes")], 0),
     ("SELECT dept FROM emp EXCEPT ALL SELECT dept FROM emp WHERE emp = 2", "[0 - forever)", [("from", "emp: 4 read, 4 kept"), ("except from", "emp: 4 read, 1 kept, keys from 2 to 2")], 2),
-    ("SELECT dept, COUNT(*) FROM emp GROUP BY dept", "[0 - forever)", [("from", "emp: 4 read, 4 kept")], 4),
+    ("SELECT dept, COUNT(*) FROM emp GROUP BY dept", "[0 - forever)", [("from", "emp: 4 read, 4 kept"), ("groups", 2)], 4),
+    ("PERIOD '[0 - 8)' SELECT dept, COUNT(*) FROM emp GROUP BY dept", "[0 - 8)", [("from", "emp: 4 read, 1 kept"), ("groups", 1)], 1),
+    ("SELECT COUNT(*) FROM emp GROUP BY dept, name", "[0 - forever)", [("from", "emp: 4 read, 4 kept"), ("groups", 3)], 3),
+    ("SELECT name, COUNT(*) FROM emp WHERE emp = 9 GROUP BY name", "[0 - forever)", [("from", "emp: 4 read, 0 kept, keys from 9 to 9"), ("groups", 0)], 0),
+    (
+        "SELECT a.name, b.name FROM emp a, emp b WHERE a.dept = b.dept AND a.emp < b.emp",
+        "[0 - forever)",
+        [*TWICE, ("join", "emp.dept = emp.dept, 2 pairs")],
+        1,
+    ),
+    ("PERIOD '[0 - 12)' SELECT a.name FROM emp a, emp b", "[0 - 12)", [*(2 * [("from", "emp: 4 read, 2 kept")]), ("join", "4 pairs")], 4),
+    ("SELECT a.name FROM emp a, emp b WHERE a.emp = b.emp AND b.name = a.name", "[0 - forever)", [*TWICE, ("join", "emp.name = emp.name, emp.emp = emp.emp, 4 pairs")], 3),
+    (
+        "PERIOD '[12 - 16)' SELECT a.name FROM emp a, emp b WHERE NOT (a.dept <> b.dept OR a.emp <> b.emp)",
+        "[12 - 16)",
+        [*(2 * [("from", "emp: 4 read, 3 kept")]), ("join", "emp.emp = emp.emp, emp.dept = emp.dept, 3 pairs")],
+        3,
+    ),
+    (
+        "SELECT a.name FROM emp a, emp b WHERE a.emp = b.emp AND b.emp = 1 AND b.emp = 2",
+        "[0 - forever)",
+        [("from", "emp: 4 read, 4 kept"), ("from", "emp: 4 read, 0 kept, no key passes"), ("join", "emp.emp = emp.emp, 0 pairs")],
+        0,
+    ),
+    (
+        "SELECT a.name FROM emp a, emp b, emp c WHERE a.dept = c.dept AND b.name <> 'cat'",
+        "[0 - forever)",
+        [*TWICE, ("from", "emp: 4 read, 4 kept"), ("join", "10 pairs"), ("join", "emp.dept = emp.dept, 18 pairs")],
+        10,
+    ),
+    (
+        "PERIOD '[16 - 19)' SELECT a.name FROM emp a, emp b, emp c WHERE a.emp = b.emp AND (b.emp = c.emp OR a.name = 'ann')",
+        "[16 - 19)",
+        [*(3 * [("from", "emp: 4 read, 3 kept")]), ("join", "emp.emp = emp.emp, 3 pairs"), ("join", "5 pairs")],
+        5,
+    ),
+    (
+        "SELECT a.name, COUNT(*) FROM emp a, emp b, emp c WHERE a.dept = b.dept AND a.emp < b.emp AND c.emp = b.emp AND c.name = b.name GROUP BY a.name"
+        " EXCEPT ALL SELECT x.name, COUNT(*) FROM emp x, emp y GROUP BY x.name, x.dept",
+        "[0 - forever)",
+        [
+            *TWICE,
+            ("from", "emp: 4 read, 4 kept"),
+            ("join", "emp.dept = emp.dept, 2 pairs"),
+            ("join", "emp.name = emp.name, emp.emp = emp.emp, 2 pairs"),
+            ("groups", 1),
+            *(2 * [("except from", "emp: 4 read, 4 kept")]),
+            ("except join", "14 pairs"),
+            ("except groups", 3),
+        ],
+        1,
+    ),
 ]
 
 
@@ -610,6 +664,10 @@ def explained_answers():
     asked = "VALIDTIME PERIOD '[2024-02-29 - 2024-03-01)' SELECT v FROM d"
     said = how_answered("[2024-02-29 - 2024-03-01)", [("from", "d: 2 read, 1 kept")], 1)
     yield ask("an answer in dates, told", [("d", dated)], asked, ["--dates", "--explain"], out=b"v,from,to\nx,2024-02-29,2024-03-01\n", err=said, timed=True)
+    pays = [*emp, ("pay", b"who:int,amount:int,from,to\n1,50,0,18\n1,60,18,forever\n2,50,20,21\n4,70,0,1\n")]
+    asked = "VALIDTIME SELECT dept, amount, COUNT(*) FROM emp, pay WHERE who = emp GROUP BY dept, amount"
+    told = [("from", "emp: 4 read, 4 kept"), ("from", "pay: 4 read, 4 kept"), ("join", "emp.emp = pay.who, 4 pairs"), ("groups", 2)]
+    yield ask("a join of two tables, told", pays, asked, ["--explain"], out=None, holds=[b"toys,50,1,10,18\n"], err=how_answered("[0 - forever)", told, 3), timed=True)
     many = [("c", SMALL + 12345 * b"7,x,0,1\n")]
     said = how_answered("[0 - forever)", [("from", "c: 12345 read, 12345 kept, keys from 7 to 7")], 12345)
     yield ask("many rows, told", many, "VALIDTIME SELECT v FROM c WHERE k = 7", ["--explain"], out=b"v,from,to\n" + 12345 * b"x,0,1\n", err=said, timed=True)

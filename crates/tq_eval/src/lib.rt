@@ -15,3 +15,4 @@ mod sources;
 pub use answering::{answer_over, answer_tables, detached, rows_within};
 pub use as_of::{AsOf, answer};
 pub use snapshot::{Snapshot, TablesOfRows};
+pub use sources::passing_rows;

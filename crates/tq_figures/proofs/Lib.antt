@@ -1,1 +1,3 @@
 pub mod FigureLemmas
+pub mod GroupLemmas
+pub mod PassingLemmas

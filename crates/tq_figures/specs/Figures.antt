@@ -1,19 +1,25 @@
 -- What is told of how a plan is answered over tables of rows. This project's own.
-use Rattle.std.specs.Prelude.{◌≡◌, ℕ, ℤ, Bool, false, ◌&&◌, int_le, count_by, length, List, [], ◌∷◌, Option, None, Some}
+use Rattle.std.specs.Prelude.{◌≡◌, ℕ, ◌-◌, ℤ, Bool, false, ◌&&◌, IsTrue, int_le, count_by, length, List, [], ◌∷◌, Option, None, Some, Contains}
 use Rattle.tq_base.specs.declared.fragment.Fragment.{Fragment}
 use Rattle.tq_base.specs.declared.key_range.KeyRange.{KeyRange}
 use Rattle.tq_base.specs.declared.period.Period.{Period}
 use Rattle.tq_base.specs.KeyRanges.{key_of}
 use Rattle.tq_base.specs.Keys.{is_overlap}
 use Rattle.tq_event.specs.Tables.{rows_in}
-use Rattle.tq_eval.specs.Answers.{IsTablesAnswer}
+use Rattle.tq_base.specs.Periods.{holds}
+use Rattle.tq_ops.specs.Ordinary.{product_of, projection, selection}
+use Rattle.tq_base.specs.declared.value.Value.{Value}
+use Rattle.tq_eval.specs.Answers.{in_tables, lists_at, IsTablesAnswer}
 use Rattle.tq_plan.specs.KeyRanges.{HasKeysOf}
+use Rattle.tq_plan.specs.Plans.{tables_of}
 use Rattle.tq_plan.specs.declared.plans.Plan.{Plan}
 use Rattle.tq_plan.specs.declared.plans.QueryPlan.{QueryPlan}
 use Rattle.tq_plan.specs.declared.plans.QuerySource.{QuerySource}
 use Rattle.tq_table.specs.declared.table.Table.{Table}
 use Rattle.tq_figures.specs.declared.figures.Figures.{Figures}
+use Rattle.tq_figures.specs.declared.figures.QueryFigures.{QueryFigures}
 use Rattle.tq_figures.specs.declared.figures.SourceFigures.{SourceFigures}
+use Rattle.tq_figures.specs.Groups.{CountsGroups}
 
 -- whether the key lies in the range; none does where there is no range
 abbrev pub is_in_range : Option KeyRange → ℤ → Bool
@@ -33,21 +39,37 @@ pub record IsSourceFigures (window : Period) (query : QueryPlan) (tables : List 
   pub kept : figures.kept ≡ count_by (is_kept window figures.keys) (rows_in tables source.table)
 
 -- of sources of a query, one by one
-abbrev pub AreQueryFigures : Period → QueryPlan → List (List Fragment) → List QuerySource → List SourceFigures → Type 0
-AreQueryFigures window query tables [] [] = Unit {0}
-AreQueryFigures window query tables [] (figures ∷ more) = ⊥
-AreQueryFigures window query tables (source ∷ sources) [] = ⊥
-AreQueryFigures window query tables (source ∷ sources) (figures ∷ more) =
-    IsSourceFigures window query tables source figures × AreQueryFigures window query tables sources more
+abbrev pub AreSourceFigures : Period → QueryPlan → List (List Fragment) → List QuerySource → List SourceFigures → Type 0
+AreSourceFigures window query tables [] [] = Unit {0}
+AreSourceFigures window query tables [] (figures ∷ more) = ⊥
+AreSourceFigures window query tables (source ∷ sources) [] = ⊥
+AreSourceFigures window query tables (source ∷ sources) (figures ∷ more) =
+    IsSourceFigures window query tables source figures × AreSourceFigures window query tables sources more
 
--- of the sources of the query after EXCEPT ALL, if there is one
-abbrev pub AreRightFigures : Period → Option QueryPlan → List (List Fragment) → List SourceFigures → Type 0
-AreRightFigures window None tables figures = figures ≡ []
-AreRightFigures window (Some query) tables figures = AreQueryFigures window query tables query.sources figures
+-- a group of a query: the values in the columns after GROUP BY of a row that passes the condition at some instant of the window,
+-- of which each source gives a part that is valid then
+abbrev pub IsGroup : Period → List (List Fragment) → QueryPlan → List Value → Type 0
+IsGroup window tables query values =
+    (t : ℕ) × (row : List Value) × IsTrue (holds window t) × Contains (selection query.test (product_of (lists_at (in_tables tables) t (tables_of query)))) row
+    × (projection query.group row ≡ values)
 
--- of a plan over tables of rows: its window, its sources, and how many rows its answer has
+-- of a query: its sources, one step for each source behind the first, and how many groups there are, if it has any. Of a step
+-- nothing more is said
+pub record IsQueryFigures (window : Period) (query : QueryPlan) (tables : List (List Fragment)) (figures : QueryFigures) : Type 0 where
+  pub sources : AreSourceFigures window query tables query.sources figures.sources
+  pub steps : length figures.steps ≡ length query.sources - 1
+  pub groups : CountsGroups (IsGroup window tables query) query.group figures.groups
+
+-- of the query after EXCEPT ALL, if there is one
+abbrev pub IsRightFigures : Period → Option QueryPlan → List (List Fragment) → Option QueryFigures → Type 0
+IsRightFigures window None tables None = Unit {0}
+IsRightFigures window None tables (Some figures) = ⊥
+IsRightFigures window (Some query) tables None = ⊥
+IsRightFigures window (Some query) tables (Some figures) = IsQueryFigures window query tables figures
+
+-- of a plan over tables of rows: its window, its queries, and how many rows its answer has
 pub record AreFigures (tables : List (List Fragment)) (plan : Plan) (figures : Figures) : Type 0 where
   pub window : figures.window ≡ plan.window
-  pub left : AreQueryFigures plan.window plan.left tables plan.left.sources figures.left
-  pub right : AreRightFigures plan.window plan.right tables figures.right
+  pub left : IsQueryFigures plan.window plan.left tables figures.left
+  pub right : IsRightFigures plan.window plan.right tables figures.right
   pub rows : (table : Table) × IsTablesAnswer tables plan table × (figures.rows ≡ length table.rows)

@@ -1,3 +1,4 @@
 pub mod Explaining
 pub mod Figures
+pub mod Groups
 pub mod Telling

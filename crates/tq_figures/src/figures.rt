@@ -1,20 +1,24 @@
 // The figures of a plan over tables of rows.
 
-ghost use Rattle.std.specs.Prelude.{◌≡◌, ◌<◌, ◌≤◌, IfOk, cond, count_by, length, slice_index_or};
+ghost use Rattle.std.specs.Prelude.{◌≡◌, ◌<◌, ◌≤◌, IfOk, Some, cond, count_by, length, slice_index_or};
 ghost use Rattle.tq_base.specs.declared.fragment.Fragment.{Fragment};
 ghost use Rattle.tq_base.specs.KeyRanges.{key_of};
 ghost use Rattle.tq_base.specs.Keys.{is_overlap};
 ghost use Rattle.tq_event.specs.Tables.{lists_of, rows_in};
 ghost use Rattle.tq_eval.specs.Answers.{IsTablesAnswer};
 ghost use Rattle.tq_eval.specs.Fitting.{AreAllFitting};
-ghost use Rattle.tq_figures.specs.Figures.{AreFigures, AreQueryFigures, AreRightFigures, IsSourceFigures, is_in_range, is_kept};
-ghost use Rattle.tq_plan.specs.Standing.{IsPlanOver};
+ghost use Rattle.tq_figures.specs.Figures.{AreFigures, AreSourceFigures, IsQueryFigures, IsRightFigures, IsSourceFigures, is_in_range, is_kept};
+ghost use Rattle.tq_plan.specs.declared.plans.QueryPlan.{QueryPlan as AnyQueryPlan};
+ghost use Rattle.tq_plan.specs.Standing.{IsPlanOver, IsQueryOver};
 ghost use Rattle.tq_table.specs.declared.table.Table.{Table as AnyTable};
 ghost use Rattle.std.specs.Option.{option_copied};
 
+use crate::groups::groups_of;
+use crate::steps::{StepFigures, query_steps};
 use std::alloc::{AllocError, Global};
 use tq_base::{Catalogue, Items, KeyRange, Period, Rows, Seen, Value};
-use tq_eval::answer_tables;
+use tq_eval::{Snapshot, TablesOfRows, answer_tables, passing_rows};
+use tq_plan::laws::queries_stand;
 use tq_plan::{Plan, QueryPlan, QuerySource};
 
 /// Of a source: its table's number, how many rows the table has, which of their keys the query can need, and how many of
@@ -27,12 +31,20 @@ pub(crate) struct SourceFigures {
     pub(crate) kept: usize,
 }
 
-/// Of a plan: its window, its sources, those of the query after EXCEPT ALL apart, and how many rows the answer has.
+/// Of a query: its sources, the steps by which the evaluator joins them, and how many groups there are, if it has any.
+#[derive(Drop, Debug)]
+pub(crate) struct QueryFigures {
+    pub(crate) sources: Items<SourceFigures>,
+    pub(crate) steps: Items<StepFigures>,
+    pub(crate) groups: Option<usize>,
+}
+
+/// Of a plan: its window, its query, the one after EXCEPT ALL, if there is one, and how many rows the answer has.
 #[derive(Drop, Debug)]
 pub(crate) struct Figures {
     pub(crate) window: Period,
-    pub(crate) left: Items<SourceFigures>,
-    pub(crate) right: Items<SourceFigures>,
+    pub(crate) left: QueryFigures,
+    pub(crate) right: Option<QueryFigures>,
     pub(crate) rows: usize,
 }
 
@@ -63,7 +75,7 @@ fn is_in_range(keys: Option<KeyRange>, key: i128) -> bool
 fn is_overlap(one: &Period, other: &Period) -> bool
     ensures { result ≡ is_overlap one.now other.now }
 {
-    one.start.number() < other.end.number() && other.start.number() < one.end.number()
+    one.overlap(other).is_some()
 }
 
 // Whether the row is valid at some instant of the window, and its key lies in the range.
@@ -129,13 +141,13 @@ fn source_figures(
 }
 
 // The figures of each source of the query.
-fn query_figures(
+fn sources_figures(
     alloc: Global,
     tables: &[Rows],
     query: &QueryPlan,
     window: &Period,
 ) -> Result<Items<SourceFigures>, AllocError>
-    ensures { IfOk result (λ figures. AreQueryFigures window.now query.now (lists_of tables.now) query.now.sources figures) }
+    ensures { IfOk result (λ figures. AreSourceFigures window.now query.now (lists_of tables.now) query.now.sources figures) }
 {
     let sources = query.sources.get();
     let mut figures = Vec::with_capacity(alloc, sources.len())?;
@@ -145,18 +157,41 @@ fn query_figures(
     Ok(Items::of(figures))
 }
 
-// The figures of each source of the query after EXCEPT ALL; none where there is no such query.
+// The figures of the query.
+fn query_figures(
+    alloc: Global,
+    snapshot: &TablesOfRows<'_>,
+    query: &QueryPlan,
+    window: &Period,
+) -> Result<QueryFigures, AllocError>
+    requires { IsQueryOver snapshot.now.catalogue.now query.now }
+    ensures { IfOk result (IsQueryFigures window.now query.now (lists_of snapshot.now.tables.now)) }
+{
+    snapshot.fit();
+    let sources = sources_figures(alloc, snapshot.tables, query, window)?;
+    let rows = passing_rows(alloc, snapshot, query, window)?;
+    let steps = query_steps(alloc, snapshot, query, window, rows.len())?;
+    let groups = groups_of(alloc, &rows, query.group.get())?;
+    Ok(QueryFigures {
+        sources,
+        steps: Items::of(steps),
+        groups,
+    })
+}
+
+// The figures of the query after EXCEPT ALL; none where there is no such query.
 fn right_figures(
     alloc: Global,
-    tables: &[Rows],
+    snapshot: &TablesOfRows<'_>,
     query: Option<&QueryPlan>,
     window: &Period,
-) -> Result<Items<SourceFigures>, AllocError>
-    ensures { IfOk result (AreRightFigures window.now (option_copied query.entry) (lists_of tables.now)) }
+) -> Result<Option<QueryFigures>, AllocError>
+    requires { (other : AnyQueryPlan) → option_copied query ≡ Some other → IsQueryOver snapshot.now.catalogue.now other }
+    ensures { IfOk result (IsRightFigures window.now (option_copied query.entry) (lists_of snapshot.now.tables.now)) }
 {
     match query {
-        Some(query) => query_figures(alloc, tables, query, window),
-        None => Ok(Items::of(Vec::new(alloc))),
+        Some(query) => Ok(Some(query_figures(alloc, snapshot, query, window)?)),
+        None => Ok(None),
     }
 }
 
@@ -187,9 +222,11 @@ pub(crate) fn figures_of(
     requires plan { IsPlanOver catalogue.now plan.now }
     ensures { IfOk result (AreFigures (lists_of tables.now) plan.now) }
 {
+    queries_stand();
     let rows = count_answer(alloc, catalogue, tables, plan)?;
-    let left = query_figures(alloc, tables, &plan.left, &plan.window)?;
-    let right = right_figures(alloc, tables, plan.right.as_ref(), &plan.window)?;
+    let snapshot = TablesOfRows { catalogue, tables };
+    let left = query_figures(alloc, &snapshot, &plan.left, &plan.window)?;
+    let right = right_figures(alloc, &snapshot, plan.right.as_ref(), &plan.window)?;
     Ok(Figures {
         window: plan.window,
         left,

@@ -3,12 +3,14 @@
 ghost use Rattle.std.specs.Prelude.{◌≡◌, ◌++◌, IfOk, OnOk, decimal};
 ghost use Rattle.std.specs.Fmt.{signed_decimal};
 ghost use Rattle.std.specs.List.{flat_map};
+ghost use Rattle.std.specs.Option.{option_copied};
 ghost use Rattle.tq_base.specs.Dates.{digit};
 ghost use Rattle.tq_base.specs.Numbers.{instant_text};
 ghost use Rattle.tq_table.specs.Text.{bound_field};
-ghost use Rattle.tq_figures.specs.Telling.{count_text, figures_text, from_text, is_narrow, keys_text, run_text, seconds_line, seconds_text, source_text, sources_text, table_name, to_text, window_text};
+ghost use Rattle.tq_figures.specs.Telling.{column_name, column_text, count_text, except_text, figures_text, from_text, groups_text, is_narrow, keys_text, left_text, link_text, right_text, run_text, seconds_line, seconds_text, source_text, step_text, table_name, to_text, window_text};
 
-use crate::figures::{Figures, SourceFigures};
+use crate::figures::{Figures, QueryFigures, SourceFigures};
+use crate::steps::{ColumnFigures, LinkFigures, StepFigures};
 use itoa::Buffer;
 use std::alloc::{AllocError, Global};
 use tq_base::{Bound, Catalogue, Form, Instant, KeyRange, Period, put_instant};
@@ -216,17 +218,144 @@ fn push_run(text: &mut Vec<u8>, run: &RunFigures) -> Result<(), AllocError>
     push_time(text, b"  printing       ", run.printing)
 }
 
-// The sources of both queries.
-#[tactic(auto, unfolding(crate::specs::Telling::sources_text))]
-fn push_queries(
+// The name of the column of this number in a table.
+fn column_name(catalogue: &Catalogue, column: ColumnFigures) -> &[u8]
+    ensures { result.now ≡ column_name catalogue.now column }
+{
+    match catalogue.tables.get().get(column.table as usize) {
+        Some(schema) => match schema.columns.get().get(column.column as usize) {
+            Some(column) => column.name.bytes(),
+            None => &[],
+        },
+        None => &[],
+    }
+}
+
+// A column, behind its table.
+#[tactic(auto, unfolding(crate::specs::Telling::column_text))]
+fn push_column(
     text: &mut Vec<u8>,
     catalogue: &Catalogue,
-    figures: &Figures,
+    column: ColumnFigures,
 ) -> Result<(), AllocError>
-    ensures { OnOk result (text.new.items ≡ text.old.items ++ sources_text catalogue.now figures.now) }
+    ensures { OnOk result (text.new.items ≡ text.old.items ++ column_text catalogue.now column) }
 {
-    push_sources(text, catalogue, b"  from           ", figures.left.get())?;
-    push_sources(text, catalogue, b"  except from    ", figures.right.get())
+    text.extend_from_slice(table_name(catalogue, column.table))?;
+    text.push(b'.')?;
+    text.extend_from_slice(column_name(catalogue, column))
+}
+
+// A link, with a comma and a space behind it.
+#[tactic(auto, unfolding(crate::specs::Telling::link_text))]
+fn push_link(
+    text: &mut Vec<u8>,
+    catalogue: &Catalogue,
+    link: &LinkFigures,
+) -> Result<(), AllocError>
+    ensures { OnOk result (text.new.items ≡ text.old.items ++ link_text catalogue.now link.now) }
+{
+    push_column(text, catalogue, link.left)?;
+    text.extend_from_slice(b" = ")?;
+    push_column(text, catalogue, link.right)?;
+    text.extend_from_slice(b", ")
+}
+
+// The links of a step.
+fn push_links(
+    text: &mut Vec<u8>,
+    catalogue: &Catalogue,
+    links: &[LinkFigures],
+) -> Result<(), AllocError>
+    ensures { OnOk result (text.new.items ≡ text.old.items ++ flat_map (link_text catalogue.now) links.now) }
+{
+    'links: for link in links {
+        push_link(text, catalogue, link)?;
+    }
+    Ok(())
+}
+
+// A step, behind what it is.
+#[tactic(auto, unfolding(crate::specs::Telling::step_text))]
+fn push_step(
+    text: &mut Vec<u8>,
+    catalogue: &Catalogue,
+    label: &[u8],
+    step: &StepFigures,
+) -> Result<(), AllocError>
+    ensures { OnOk result (text.new.items ≡ text.old.items ++ step_text catalogue.now label.now step.now) }
+{
+    text.extend_from_slice(label)?;
+    push_links(text, catalogue, step.links.get())?;
+    push_number(text, step.pairs as u64)?;
+    text.extend_from_slice(b" pairs\n")
+}
+
+// The steps, one in a line.
+fn push_steps(
+    text: &mut Vec<u8>,
+    catalogue: &Catalogue,
+    label: &[u8],
+    steps: &[StepFigures],
+) -> Result<(), AllocError>
+    ensures { OnOk result (text.new.items ≡ text.old.items ++ flat_map (step_text catalogue.now label.now) steps.now) }
+{
+    'steps: for step in steps {
+        push_step(text, catalogue, label, step)?;
+    }
+    Ok(())
+}
+
+// How many groups there are, behind what it is, where there are any.
+#[tactic(auto, unfolding(crate::specs::Telling::groups_text))]
+fn push_groups(text: &mut Vec<u8>, label: &[u8], groups: Option<usize>) -> Result<(), AllocError>
+    ensures { OnOk result (text.new.items ≡ text.old.items ++ groups_text label.now groups) }
+{
+    let Some(groups) = groups else {
+        return Ok(());
+    };
+    push_count(text, label, groups as u64)
+}
+
+// The query.
+#[tactic(auto, unfolding(crate::specs::Telling::left_text))]
+fn push_left(
+    text: &mut Vec<u8>,
+    catalogue: &Catalogue,
+    query: &QueryFigures,
+) -> Result<(), AllocError>
+    ensures { OnOk result (text.new.items ≡ text.old.items ++ left_text catalogue.now query.now) }
+{
+    push_sources(text, catalogue, b"  from           ", query.sources.get())?;
+    push_steps(text, catalogue, b"  join           ", query.steps.get())?;
+    push_groups(text, b"  groups         ", query.groups)
+}
+
+// The query after EXCEPT ALL.
+#[tactic(auto, unfolding(crate::specs::Telling::except_text))]
+fn push_except(
+    text: &mut Vec<u8>,
+    catalogue: &Catalogue,
+    query: &QueryFigures,
+) -> Result<(), AllocError>
+    ensures { OnOk result (text.new.items ≡ text.old.items ++ except_text catalogue.now query.now) }
+{
+    push_sources(text, catalogue, b"  except from    ", query.sources.get())?;
+    push_steps(text, catalogue, b"  except join    ", query.steps.get())?;
+    push_groups(text, b"  except groups  ", query.groups)
+}
+
+// It, if there is one.
+fn push_right(
+    text: &mut Vec<u8>,
+    catalogue: &Catalogue,
+    query: Option<&QueryFigures>,
+) -> Result<(), AllocError>
+    ensures { OnOk result (text.new.items ≡ text.old.items ++ right_text catalogue.now (option_copied query.entry)) }
+{
+    match query {
+        Some(query) => push_except(text, catalogue, query),
+        None => Ok(()),
+    }
 }
 
 /// The figures as lines, the tables by their names in the catalogue, instants in the form, with what the run tells of itself.
@@ -242,7 +371,8 @@ pub(crate) fn figures_text(
 {
     let mut text = Vec::new(alloc);
     push_window(&mut text, &figures.window, form)?;
-    push_queries(&mut text, catalogue, figures)?;
+    push_left(&mut text, catalogue, &figures.left)?;
+    push_right(&mut text, catalogue, figures.right.as_ref())?;
     push_count(&mut text, b"  rows           ", figures.rows as u64)?;
     push_run(&mut text, run)?;
     Ok(text)

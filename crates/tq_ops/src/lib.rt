@@ -21,6 +21,7 @@ mod selection;
 
 pub use condition::{Compare, Operand, Test};
 pub use difference::except_all;
-pub use folding::join_all;
+pub use folding::{decided, join_all};
 pub use joining::join;
+pub use links::{Link, Links, links_of};
 pub use selection::select;

@@ -1,4 +1,4 @@
-use Rattle.std.proofs.Common.{◌≡◌, ◌∙◌, ◌<◌, ap, arith, count_by, length}
+use Rattle.std.proofs.Common.{◌∙◌, ◌<◌, ap, arith, count_by, length}
 use Rattle.std.proofs.lemmas.List.{take_all}
 use Rattle.tq_base.specs.Keys.{no_row}
 use Rattle.tq_figures.specs.Figures.{is_kept}
