@@ -16,7 +16,7 @@ from pathlib import Path
 
 AT = Path(__file__).resolve().parent.parent / "crates" / "tq_tests_crowd"
 # Of each round: how many random events, and questions of each reader.
-EVENTS, ASKS = 2000, 100
+EVENTS, ASKS = 4000, 200
 # A round that is not done after so many seconds has failed; every so many seconds it is told how far the soak is.
 SECONDS, TOLD = 600, 60
 NUMBERS = re.compile(rb"    (\d+) asks, (\d+) publishes, (\d+) differences\n")
@@ -36,7 +36,8 @@ def files():
 def hold(made, seed):
     """The numbers of asks, publishes and differences of the round of this seed."""
     taken = made + f"soak {seed} {EVENTS} {ASKS}\n".encode()
-    ran = subprocess.run([AT / "out" / AT.name], input=taken, stdout=subprocess.PIPE, timeout=SECONDS)
+    how = {"stdout": subprocess.PIPE, "stderr": subprocess.DEVNULL, "timeout": SECONDS}
+    ran = subprocess.run([AT / "out" / AT.name], input=taken, **how)
     found = NUMBERS.search(ran.stdout)
     if ran.returncode != 0 or not found:
         sys.exit(f"the round of seed {seed} ended with status {ran.returncode}: {ran.stdout[-200:]!r}")
