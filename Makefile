@@ -2,7 +2,7 @@
 # `make bench` measures the program beside what one would write without it.
 SHELL := /bin/bash
 .SHELLFLAGS := -eu -o pipefail -c
-.PHONY: answer first build test wrong-bodies bench install tools
+.PHONY: answer first build test wrong-bodies soak bench install tools
 
 PREFIX := /usr/local
 SHARE := $(DESTDIR)$(PREFIX)/share
@@ -35,6 +35,13 @@ test:
 # The wrong bodies that the gate leaves out: of the crates of CRATES, or of all.
 wrong-bodies:
 	gate/wrong_bodies.py $(CRATES)
+
+# One writer and eight readers of a store at once, each answer compared, for so many minutes. It ends with the numbers
+# of asks, publishes and differences.
+MINUTES := 10
+soak: tools
+	cd crates/tq_tests_crowd && rt run < stdin > /dev/null
+	gate/soak.py $(MINUTES)
 
 bench: build
 	bench/run.sh

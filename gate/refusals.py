@@ -1,15 +1,15 @@
 #!/usr/bin/env python3
 """Refuses growths of memory to the programs that were built, and sees that none gives another answer for it.
 
-    gate/refusals.py PROGRAM TESTS [--all]
+    gate/refusals.py PROGRAM TESTS.. [--all]
 
 gate/refusing.c, a malloc, is built with the toolchain's own compiler and loaded before the C library's. TESTS, the
-program tq_tests_faults, tells it which growths it is to refuse: each in turn, in each call of its script. PROGRAM, tq,
-knows nothing of it: of one run after another a growth of the whole run is refused, once alone and once with all that
-follow it. A command is answered as its page says, or says that there is no memory, with nothing written before. A
-session says so before its first line, or refuses lines for it: all others are replied to as if these had not been
-there, and such a line is replied to where it comes again. Of the growths of a run at most 200 are refused, spread over
-all of them; with --all each is.
+programs tq_tests_faults and tq_tests_crowd, tell it which growths it is to refuse: each in turn, in each call that
+their scripts try so. PROGRAM, tq, knows nothing of it: of one run after another a growth of the whole run is refused,
+once alone and once with all that follow it. A command is answered as its page says, or says that there is no memory,
+with nothing written before. A session says so before its first line, or refuses lines for it: all others are replied
+to as if these had not been there, and such a line is replied to where it comes again. Of the growths of a run at most
+200 are refused, spread over all of them; with --all each is.
 
 Each failed run has one line; the last line is 'N passed, M failed'.
 """
@@ -25,8 +25,9 @@ from program import ROOT, SECONDS, cases_of_page
 
 # At most so many growths of a run are refused, spread over all of them.
 CHOICE = 200
-# So many growths are refused to the tests, and so many calls answer that there is no memory, at least.
-LEAST = 1_000
+# Of each program of tests where the part of its script begins in which growths are refused, and how many are, and how
+# many calls answer that there is no memory, at least.
+TESTS = {"tq_tests_faults": (b"", 1_000), "tq_tests_crowd": (b"# Pieces of work", 50)}
 # Of each part at most so many faults are shown.
 SHOWN = 10
 # The reply to a line of a session that finds no memory, and what a program says that ends for want of it.
@@ -64,16 +65,19 @@ def counted(malloc, words, taken, refused):
 
 def faults_of_tests(malloc, tests):
     """What is wrong with the tests, which have each growth of each of their calls refused by themselves."""
-    at = ROOT / "crates" / "tq_tests_faults"
-    status, out, err = run(malloc, [tests], (at / "stdin").read_bytes())
+    name = Path(tests).name
+    begin, least = TESTS[name]
+    texts = [(ROOT / "crates" / name / file).read_bytes() for file in ("stdin", "stdout")]
+    taken, wanted = [text[text.index(begin) :] for text in texts]
+    status, out, err = run(malloc, [tests], taken)
     told = re.search(rb"(\d+) refusals, (\d+) answers out of memory", err)
-    print(f"{Path(tests).name}: {told[0].decode() if told else 'nothing is told of refusals'}", flush=True)
+    print(f"{name}: {told[0].decode() if told else 'nothing is told of refusals'}", flush=True)
     if status != 0:
         yield f"{tests} ended with status {status}"
-    if out != (at / "stdout").read_bytes():
+    if out != wanted:
         differ = [line for line in out.split(b"\n") if line.startswith((b"    not so", b"    with growth"))]
         yield f"{tests} prints something else: {differ[:5]!r}"
-    if not told or min(int(told[1]), int(told[2])) < LEAST:
+    if not told or min(int(told[1]), int(told[2])) < least:
         yield f"{tests} was refused too little"
 
 
@@ -205,11 +209,11 @@ def report(parts):
 
 
 def main():
-    program, tests = (str(Path(word).resolve()) for word in sys.argv[1:3])
-    every = "--all" in sys.argv[3:]
+    program, *tests = [str(Path(word).resolve()) for word in sys.argv[1:] if word != "--all"]
+    every = "--all" in sys.argv[1:]
     with tempfile.TemporaryDirectory(prefix="tq-") as room:
         malloc = build(room)
-        parts = [faults_of_tests(malloc, tests)]
+        parts = [faults_of_tests(malloc, each) for each in tests]
         parts += [faults_of_runs(command, every) for command in commands(malloc, program)]
         return report(parts)
 

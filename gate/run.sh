@@ -1,7 +1,7 @@
 #!/usr/bin/env bash
 # The gate: `rt ci`, which proves every crate and its tests from nothing, tries the must-fail edits and runs
 # tests and programs; then the cases of gate/cases.py, put to the program that it built; runs of it in
-# little memory; and growths of memory that are refused to it and to a program of tests. The last line sums all.
+# little memory; and growths of memory that are refused to it and to programs of tests. The last line sums all.
 set -uo pipefail
 cd "$(dirname "$0")/.."
 
@@ -30,6 +30,6 @@ part() {
 part rt ci
 part gate/program.py crates/tq/out/tq
 part gate/limits.py crates/tq/out/tq
-part gate/refusals.py crates/tq/out/tq crates/tq_tests_faults/out/tq_tests_faults
+part gate/refusals.py crates/tq/out/tq crates/tq_tests_faults/out/tq_tests_faults crates/tq_tests_crowd/out/tq_tests_crowd
 echo "$passed passed, $failed failed"
 ((failed == 0))

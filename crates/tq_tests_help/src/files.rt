@@ -1,6 +1,7 @@
 //! Table files that the lines of a script make.
 
 use std::alloc::{AllocError, Global};
+use std::fmt::Write;
 use tq_base::Items;
 use tq_event::TableFile;
 
@@ -60,8 +61,22 @@ impl Files {
         Ok(())
     }
 
+    // Lines of a number each, 0 and those after it, and a period that starts there and has this length.
+    fn add_rising(&mut self, alloc: Global, count: u32, length: u32) -> Result<(), AllocError> {
+        let mut text = String::new(alloc);
+        for number in 0..count {
+            let end = number.saturating_add(length);
+            writeln!(text, "{number},{number},{end}")?;
+        }
+        if let Some(file) = self.files.last_mut() {
+            file.bytes.extend_from_slice(text.as_bytes())?;
+        }
+        Ok(())
+    }
+
     /// Does what the line of a script says, if it makes files: `file NAME` is the next one, `line TEXT` its next line,
-    /// `lines N TEXT` its next so many lines, and `clear` leaves none.
+    /// `lines N TEXT` its next so many lines, `rising N LENGTH` the lines of N numbers that rise and of periods that
+    /// start at them and are so long, and `clear` leaves none.
     pub fn make(&mut self, alloc: Global, word: &str, text: &str) -> Result<bool, AllocError> {
         match word {
             "file" => self.begin(alloc, text)?,
@@ -69,6 +84,10 @@ impl Files {
             "lines" => {
                 let (count, line) = number_and(text);
                 self.add_lines(count, line)?
+            }
+            "rising" => {
+                let (count, length) = number_and(text);
+                self.add_rising(alloc, count, length.parse().unwrap_or(0))?
             }
             "clear" => self.files.clear(),
             _ => return Ok(false),

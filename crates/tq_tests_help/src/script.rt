@@ -45,6 +45,11 @@ impl<C> Script<C> {
         }
     }
 
+    /// The files so far.
+    pub fn files(&self) -> &Files {
+        &self.files
+    }
+
     /// How often growths were refused.
     pub fn tally(&self) -> &Tally {
         &self.tally

@@ -1,0 +1,76 @@
+//! Pieces of work, each growth of which is refused.
+
+use std::alloc::{AllocError, Global};
+use std::fmt::Write;
+use std::thread::Threads;
+use tq_run::{Open, Work, run_with};
+use tq_tests_help::{Call, Calls, Files, Refusal, Tried, attempt};
+
+// The square of each piece's number.
+#[derive(Drop)]
+struct Squares;
+
+impl Work for Squares {
+    ghost use Rattle.std.specs.Prelude.{◌≡◌, ◌*◌};
+
+    type Out = u64;
+
+    ghost count = { λ _. 5 };
+
+    ghost relates = { λ _ i x. x ≡ i * i };
+
+    fn pieces(&self) -> u32 {
+        5
+    }
+
+    fn run(&self, i: u32) -> Result<u64, AllocError> {
+        Ok(u64::from(i) * u64::from(i))
+    }
+}
+
+// The squares, by so many workers.
+#[derive(Drop)]
+struct Sharing {
+    workers: u32,
+    squares: Vec<u64>,
+}
+
+impl Call for Sharing {
+    fn make<R: Threads + Sync>(&mut self, rt: &R, alloc: Global) -> Result<(), AllocError> {
+        self.squares = run_with(rt, alloc, self.workers.clamp(1, 16), &Squares, &Open)?;
+        Ok(())
+    }
+
+    fn tell(&self, _alloc: Global, out: &mut String) -> Result<(), AllocError> {
+        out.push_str("   ")?;
+        for square in &self.squares {
+            write!(out, " {square}")?;
+        }
+        out.push('\n')
+    }
+}
+
+/// The call that shares pieces of work.
+#[derive(Drop)]
+pub(crate) struct Pieces;
+
+impl Calls for Pieces {
+    fn attempt<R: Threads + Sync>(
+        &self,
+        rt: &R,
+        alloc: Global,
+        _files: &Files,
+        word: &str,
+        text: &str,
+        refusal: Refusal,
+    ) -> Result<Option<Tried>, AllocError> {
+        if word != "pieces" {
+            return Ok(None);
+        }
+        let mut sharing = Sharing {
+            workers: text.parse().unwrap_or(1),
+            squares: Vec::new(alloc),
+        };
+        Ok(Some(attempt(rt, alloc, &mut sharing, refusal)?))
+    }
+}

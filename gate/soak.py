@@ -1,0 +1,69 @@
+#!/usr/bin/env python3
+"""Has one writer and eight readers work on a store at once, for so many minutes.
+
+    gate/soak.py MINUTES [SEED]
+
+It has tq_tests_crowd hold rounds of bounded length one after another, each with a seed of its own, and ends with the
+numbers of asks, of publishes and of differences. Its status is 1 where there are differences, and where a round does
+not end or says nothing.
+"""
+
+import re
+import subprocess
+import sys
+import time
+from pathlib import Path
+
+AT = Path(__file__).resolve().parent.parent / "crates" / "tq_tests_crowd"
+# Of each round: how many random events, and questions of each reader.
+EVENTS, ASKS = 4000, 200
+# A round that is not done after so many seconds has failed; every so many seconds it is told how far the soak is.
+SECONDS, TOLD = 600, 60
+NUMBERS = re.compile(rb"    (\d+) asks, (\d+) publishes, (\d+) differences\n")
+
+
+def files():
+    """The lines that make the table, as the gate's rounds have it."""
+    lines = (AT / "stdin").read_bytes().splitlines(keepends=True)
+    made = []
+    for line in lines[lines.index(b"file emp\n") :]:
+        if not line.startswith((b"file ", b"line ")):
+            break
+        made.append(line)
+    return b"".join(made)
+
+
+def hold(made, seed):
+    """The numbers of asks, publishes and differences of the round of this seed."""
+    taken = made + f"soak {seed} {EVENTS} {ASKS}\n".encode()
+    how = {"stdout": subprocess.PIPE, "stderr": subprocess.DEVNULL, "timeout": SECONDS}
+    ran = subprocess.run([AT / "out" / AT.name], input=taken, **how)
+    found = NUMBERS.search(ran.stdout)
+    if ran.returncode != 0 or not found:
+        sys.exit(f"the round of seed {seed} ended with status {ran.returncode}: {ran.stdout[-200:]!r}")
+    return [int(number) for number in found.groups()]
+
+
+def main():
+    minutes = float(sys.argv[1])
+    seed = int(sys.argv[2]) if len(sys.argv) > 2 else 1
+    made = files()
+    begun = told = time.monotonic()
+    rounds, sums = 0, [0, 0, 0]
+    while rounds == 0 or time.monotonic() - begun < 60 * minutes:
+        numbers = hold(made, seed + rounds)
+        if numbers[2]:
+            print(f"the round of seed {seed + rounds} has {numbers[2]} differences", flush=True)
+        sums = [old + new for old, new in zip(sums, numbers)]
+        rounds += 1
+        if time.monotonic() - told > TOLD:
+            told = time.monotonic()
+            print(f"after {(told - begun) / 60:.0f} minutes: {sums[0]} asks, {sums[1]} publishes", flush=True)
+    asks, publishes, differences = sums
+    print(f"{rounds} rounds in {(time.monotonic() - begun) / 60:.1f} minutes")
+    print(f"{asks} asks, {publishes} publishes, {differences} differences")
+    return 1 if differences else 0
+
+
+if __name__ == "__main__":
+    sys.exit(main())
