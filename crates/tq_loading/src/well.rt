@@ -1,13 +1,14 @@
 // What is well or amiss.
 
-ghost use Rattle.std.specs.Prelude.{◌≡◌, IfOk, IfSome, Ok};
+ghost use Rattle.std.specs.Prelude.{◌≡◌, ◌≢◌, IfOk, IfSome, MatchResult, None, Ok, Some};
 
 use std::alloc::AllocError;
 use tq_event::LoadFaultKind;
 
 /// What was read, or `None` where something is amiss, whatever that is. `AllocError` where a growth was refused.
 pub fn well<T: Drop>(read: Result<T, LoadFaultKind>) -> Result<Option<T>, AllocError>
-    ensures { IfOk result (λ found. IfSome found (λ x. read ≡ Ok x)) }
+    ensures found { IfOk result (λ found. IfSome found (λ x. read ≡ Ok x)) }
+    ensures told { MatchResult read (λ x. result ≡ Ok (Some x)) (λ fault. MatchResult result (λ found. (found ≡ None) × (fault ≢ LoadFaultKind.OutOfMemory)) (λ _. fault ≡ LoadFaultKind.OutOfMemory)) }
 {
     match read {
         Ok(x) => Ok(Some(x)),

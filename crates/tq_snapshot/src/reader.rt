@@ -26,14 +26,14 @@ pub struct Reader<J: Naming> {
 }
 
 impl<J: Naming> Model for Reader<J> {
-    ghost use Rattle.std.specs.Prelude.{◌≡◌, List};
+    ghost use Rattle.std.specs.Prelude.{◌≡◌, IsSome, List};
     ghost use Rattle.tq_event.specs.declared.event.Event.{Event};
 
     ghost Value = { List Event };
 
     ghost view = { λ r. r.told.list };
 
-    ghost invariant = { λ r. r.told.book ≡ J.book };
+    ghost invariant = { λ r. (r.told.book ≡ J.book) × IsSome r.inner };
 }
 
 impl<J: Naming> Reader<J> {
