@@ -11,7 +11,7 @@ use std::thread::{Threads, yield_now};
 use tq_base::Form;
 use tq_plain::PlainFault;
 use tq_plan::Plan;
-use tq_run::Open;
+use tq_run::{Gate, Open};
 use tq_snapshot::{AskFault, Naming, Note, Reader};
 use tq_table::{Table, table_text};
 use tq_tests_help::Draws;
@@ -40,21 +40,22 @@ pub(crate) struct Asker<J: Naming> {
     pub(crate) differences: u64,
 }
 
-// The answer by so many workers, or by the call that starts no thread.
-fn asked<'b, J: Naming, R: Threads + Wait + Sync>(
+/// The answer by so many workers, whose pieces arrive at the gate, or by the call that starts no thread.
+pub(crate) fn asked<'b, J: Naming, R: Threads + Wait + Sync, G: Gate + Sync>(
     rt: &R,
     alloc: Global,
     reader: &mut Reader<J>,
     n: u32,
     plan: &Plan,
     workers: u32,
+    gate: &G,
 ) -> Result<Table<'b>, AskFault>
     requires { IsPlanOver J.catalogue plan.now }
 {
     if workers == 0 {
         reader.ask(alloc, n, plan)
     } else {
-        reader.ask_with(rt, alloc, n, plan, workers.clamp(1, 16), &Open)
+        reader.ask_with(rt, alloc, n, plan, workers.clamp(1, 16), gate)
     }
 }
 
@@ -182,7 +183,7 @@ impl<J: Naming> Asker<J> {
     {
         self.asks = self.asks.saturating_add(1);
         for _ in 0..TURNS {
-            let found = asked(rt, alloc, &mut self.reader, n, plan, workers);
+            let found = asked(rt, alloc, &mut self.reader, n, plan, workers, &Open);
             if self.ends(alloc, history, n, plan, found, may_close) {
                 return;
             }

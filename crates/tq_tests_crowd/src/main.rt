@@ -1,5 +1,5 @@
-//! A writer and readers of a store at once, on threads of their own, tried by a script: what each line of stdin comes
-//! to stands below it in stdout. So a case is a line there, and its answer here.
+//! A writer and readers of a store, one after another and at once, on threads of their own, tried by a script: what each
+//! line of stdin comes to stands below it in stdout. So a case is a line there, and its answer here.
 //!
 //!     file NAME, line TEXT, lines N TEXT, rising N LENGTH, clear   the table files so far
 //!     ask N W ASKS            two readers ask for the names as of the first N events, so many times each, by so many
@@ -10,9 +10,21 @@
 //!     close N W ASKS          the same, and the writer closes the store
 //!     soak SEED EVENTS ASKS   so many random events, each published by itself, and eight readers, who ask so many
 //!                             times each, as of old counts and of the newest ones, by 0 to 16 workers
-//!     gated N STATEMENT       two workers answer the statement as of the first N events; each arrival of piece 0 is
-//!                             held until piece 1 has arrived as often
 //!     pieces W                five squares by so many workers; the same with each growth of memory refused in turn
+//!
+//! `open` and the lines after it, up to an empty one, are steps of one store, taken one after another:
+//!
+//!     open READERS LIMIT      a store of the files' events, with so many readers, counted from 0, and room for so many
+//!                             events in all, at least those
+//!     start N TABLE AT ROW    N rows of these values start: the number of the last one, or why it was refused
+//!     end N TABLE AT ROW      the first open row of these values ends, N times: the number of the last one, or why not
+//!     publish                 how many events are published then
+//!     learn READER            the reader learns of what is published
+//!     pass                    the last reader does, where one thread makes the note and another one learns it
+//!     snapshot READER         how many events the reader finds
+//!     ask READER N W STATEMENT    its answer as of the first N events, by so many workers (0: as above)
+//!     gated READER N W STATEMENT  the same; each arrival of piece 0 is held until piece 1 has arrived as often
+//!     close                   the writer closes the store
 //!
 //! An answer differs if it is not the earlier one as of the same count, or if at some instant it has not just the rows
 //! of the definition (tq_plain). A reader that was told nothing may see few events, but never fewer than before, and
@@ -29,21 +41,44 @@ mod gates;
 mod history;
 mod pieces;
 mod rounds;
+mod steps;
 
 use pieces::Pieces;
-use rounds::tell_line;
+use rounds::{tell_line, tell_steps};
+use std::alloc::{AllocError, Global};
+use std::fmt::Write;
 use std::io;
+use std::sync::Wait;
+use std::thread::Threads;
 use tq_tests_help::Script;
+
+// Writes the line and what it comes to; but what opens a store, and the steps after it, wait for an empty line.
+fn take_line<R: Threads + Wait + Sync>(
+    rt: &R,
+    alloc: Global,
+    script: &mut Script<Pieces>,
+    steps: &mut Vec<String>,
+    line: String,
+    out: &mut String,
+) -> Result<(), AllocError> {
+    if line.as_str().starts_with("open ") || !(steps.is_empty() || line.is_empty()) {
+        steps.push(line)?;
+        return Ok(());
+    }
+    tell_steps(rt, alloc, script.files(), steps, out)?;
+    steps.clear();
+    writeln!(out, "{line}")?;
+    script.run(rt, alloc, line.as_str(), out)?;
+    tell_line(rt, alloc, script.files(), line.as_str(), out)
+}
 
 fn main(rt: HostRuntime) -> io::Result<()> {
     let alloc = rt.alloc();
     let mut script = Script::new(alloc, Pieces);
+    let mut steps = Vec::new(alloc);
     for line in rt.lines(alloc) {
-        let line = line?;
         let mut out = String::new(alloc);
-        script.run(&rt, alloc, line.as_str(), &mut out)?;
-        tell_line(&rt, alloc, script.files(), line.as_str(), &mut out)?;
-        println!(rt; "{line}")?;
+        take_line(&rt, alloc, &mut script, &mut steps, line?, &mut out)?;
         print!(rt; "{out}")?;
     }
     let tally = script.tally();

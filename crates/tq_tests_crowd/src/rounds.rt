@@ -4,8 +4,8 @@ ghost use Rattle.std.specs.Prelude.{IfSome};
 ghost use Rattle.tq_plan.specs.Standing.{IsPlanOver};
 
 use crate::crowd::{Seen, gather};
-use crate::gates::{Turns, ask_two};
 use crate::history::{History, loaded};
+use crate::steps::play;
 use std::alloc::{AllocError, Global};
 use std::fmt::Write;
 use std::marker::Brand;
@@ -88,8 +88,8 @@ fn round_of(word: &str, first: u32, second: u32, third: u32) -> Option<Round<'st
     }
 }
 
-// The plan of the statement, if it has one.
-fn planned(alloc: Global, catalogue: &Catalogue, statement: &str) -> Option<Plan>
+/// The plan of the statement, if it has one.
+pub(crate) fn planned(alloc: Global, catalogue: &Catalogue, statement: &str) -> Option<Plan>
     ensures { IfSome result (IsPlanOver catalogue.now) }
 {
     let Ok(statement) = read(alloc, statement.as_bytes()) else {
@@ -131,8 +131,8 @@ fn hold<R: Threads + Wait + Sync>(
     gather::<Brand, R>(rt, alloc, Opened::new(), loaded, &history, &plan, round)
 }
 
-// The lines of a text, four at most, and how many more there are.
-fn tell_text(text: &[u8], out: &mut String) -> Result<(), AllocError> {
+/// The lines of a text, four at most, and how many more there are.
+pub(crate) fn tell_text(text: &[u8], out: &mut String) -> Result<(), AllocError> {
     let mut more: u32 = 0;
     for (place, line) in str::from_utf8(text)
         .unwrap_or("no text")
@@ -166,44 +166,6 @@ fn tell_seen(seen: &Seen, round: &Round<'_>, out: &mut String) -> Result<(), All
     }
 }
 
-// The text of the statement's answer by two workers whose pieces arrive at the gate, if there is one.
-fn gated<R: Threads + Wait + Sync>(
-    rt: &R,
-    alloc: Global,
-    files: &Files,
-    n: u32,
-    statement: &str,
-    gate: &Turns,
-) -> Result<Option<Vec<u8>>, AllocError> {
-    let Ok(loaded) = loaded(alloc, files.copies(alloc)?) else {
-        return Ok(None);
-    };
-    let Some(plan) = planned(alloc, &loaded.catalogue, statement) else {
-        return Ok(None);
-    };
-    ask_two::<Brand, R>(rt, alloc, Opened::new(), loaded, n, &plan, gate)
-}
-
-fn tell_gated<R: Threads + Wait + Sync>(
-    rt: &R,
-    alloc: Global,
-    files: &Files,
-    n: u32,
-    statement: &str,
-    out: &mut String,
-) -> Result<(), AllocError> {
-    let gate = Turns::new();
-    let text = gated(rt, alloc, files, n, statement, &gate)?;
-    match gate.seconds() {
-        Some(seconds) => writeln!(out, "    piece 1 arrived {seconds} times")?,
-        None => out.push_str("    piece 0 waited in vain\n")?,
-    }
-    match text {
-        Some(text) => tell_text(&text, out),
-        None => out.push_str("    no answer\n"),
-    }
-}
-
 fn tell_round<R: Threads + Wait + Sync>(
     rt: &R,
     alloc: Global,
@@ -217,7 +179,36 @@ fn tell_round<R: Threads + Wait + Sync>(
     }
 }
 
-/// What the line comes to, if it names a round or a question by two workers.
+/// What the steps of a store come to: those of the lines, of which the first one opens it.
+pub(crate) fn tell_steps<R: Threads + Wait + Sync>(
+    rt: &R,
+    alloc: Global,
+    files: &Files,
+    lines: &[String],
+    out: &mut String,
+) -> Result<(), AllocError> {
+    let Some(first) = lines.first() else {
+        return Ok(());
+    };
+    let (_, rest) = first.as_str().split_once(' ').unwrap_or(("", ""));
+    let (readers, rest) = number_and(rest);
+    let limit = number_and(rest).0;
+    match loaded(alloc, files.copies(alloc)?) {
+        Ok(loaded) => play::<Brand, R>(
+            rt,
+            alloc,
+            Opened::new(),
+            loaded,
+            readers,
+            limit,
+            lines,
+            out,
+        ),
+        Err(_) => out.push_str("    no store\n"),
+    }
+}
+
+/// What the line comes to, if it names a round.
 pub(crate) fn tell_line<R: Threads + Wait + Sync>(
     rt: &R,
     alloc: Global,
@@ -227,9 +218,6 @@ pub(crate) fn tell_line<R: Threads + Wait + Sync>(
 ) -> Result<(), AllocError> {
     let (word, rest) = line.split_once(' ').unwrap_or((line, ""));
     let (first, rest) = number_and(rest);
-    if word == "gated" {
-        return tell_gated(rt, alloc, files, first, rest, out);
-    }
     let (second, rest) = number_and(rest);
     match round_of(word, first, second, number_and(rest).0) {
         Some(round) => tell_round(rt, alloc, files, &round, out),

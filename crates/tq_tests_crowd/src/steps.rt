@@ -1,0 +1,272 @@
+//! A store that the lines of a script drive, one step after another.
+
+ghost use Rattle.std.specs.Prelude.{◌≡◌, ◌≤◌, length};
+ghost use Rattle.tq_event.specs.History.{IsHistory};
+
+use crate::asker::asked;
+use crate::gates::Turns;
+use crate::rounds::{planned, tell_text};
+use std::alloc::{AllocError, Global};
+use std::fmt::Write;
+use std::sync::Wait;
+use std::thread::{Threads, join};
+use tq_base::{Catalogue, Form, Instant, Value, Values};
+use tq_event::{Loaded, MAX_EVENTS};
+use tq_snapshot::{AppendFault, AskFault, Closed, Naming, Note, Opened, Reader, Writer, open};
+use tq_table::table_text;
+use tq_tests_help::number_and;
+
+// What a step comes to.
+#[derive(Drop)]
+enum Came {
+    Nothing,
+    Row(u32),
+    Events(u32),
+    Text(Vec<u8>),
+    NotAppended(AppendFault),
+    NotAnswered(AskFault),
+}
+
+impl Came {
+    fn tell(&self, out: &mut String) -> Result<(), AllocError> {
+        match self {
+            Came::Nothing => Ok(()),
+            Came::Row(row) => writeln!(out, "    row {row}"),
+            Came::Events(count) => writeln!(out, "    {count} events"),
+            Came::Text(text) => tell_text(text, out),
+            Came::NotAppended(AppendFault::TooEarly { last }) => {
+                let last = last.number();
+                writeln!(out, "    TooEarly {last}")
+            }
+            Came::NotAppended(fault) => writeln!(out, "    {fault}"),
+            Came::NotAnswered(fault) => writeln!(out, "    {fault}"),
+        }
+    }
+}
+
+// The writer of a store, until it is closed, and its readers.
+#[derive(Drop)]
+struct Stage<J: Naming> {
+    writer: Option<Writer<J>>,
+    readers: Vec<Reader<J>>,
+}
+
+// The values of a row that are written so, with commas: integers, and texts.
+fn row(alloc: Global, text: &str) -> Result<Values, AllocError> {
+    let mut values = Vec::new(alloc);
+    for field in text.split(',') {
+        match field.parse() {
+            Ok(number) => values.push(Value::int(number))?,
+            Err(_) => values.push(Value::text(alloc, field)?)?,
+        }
+    }
+    Ok(Values::of(values))
+}
+
+// So many such rows start, or end: what came of the last one.
+fn append<J: Naming>(
+    writer: &mut Writer<J>,
+    is_start: bool,
+    times: u32,
+    table: u32,
+    values: &Values,
+    at: Instant,
+) -> Came {
+    let mut came = Came::Nothing;
+    for _ in 0..times {
+        let appended = if is_start {
+            writer.start(table, values, at)
+        } else {
+            writer.end(table, values, at)
+        };
+        came = match appended {
+            Ok(row) => Came::Row(row),
+            Err(fault) => Came::NotAppended(fault),
+        };
+    }
+    came
+}
+
+// A note of what is published.
+fn noted<J: Naming>(writer: Writer<J>) -> (Writer<J>, Note<J>) {
+    let note = writer.note();
+    (writer, note)
+}
+
+fn learnt<J: Naming>(mut reader: Reader<J>, note: Note<J>) -> Reader<J> {
+    reader.learn(note);
+    reader
+}
+
+impl<J: Naming> Stage<J> {
+    fn append(&mut self, alloc: Global, is_start: bool, text: &str) -> Came {
+        let (times, text) = number_and(text);
+        let (table, text) = number_and(text);
+        let (at, text) = number_and(text);
+        match (
+            &mut self.writer,
+            row(alloc, text),
+            Instant::new(u64::from(at)),
+        ) {
+            (Some(writer), Ok(values), Some(at)) => {
+                append(writer, is_start, times, table, &values, at)
+            }
+            _ => Came::Nothing,
+        }
+    }
+
+    fn publish<R: Wait>(&mut self, rt: &R) -> Came {
+        match &mut self.writer {
+            Some(writer) => match writer.publish(rt) {
+                Ok(count) => Came::Events(count),
+                Err(_) => Came::NotAnswered(AskFault::OutOfMemory),
+            },
+            None => Came::Nothing,
+        }
+    }
+
+    // The reader learns of what is published.
+    fn learn(&mut self, place: usize) -> Came {
+        if let (Some(writer), Some(reader)) = (&self.writer, self.readers.get_mut(place)) {
+            reader.learn(writer.note());
+        }
+        Came::Nothing
+    }
+
+    // The same of the last reader: one thread makes the note, and another one has the reader learn it.
+    fn pass<R: Threads>(&mut self, rt: &R) -> Came
+    where
+        J: Send + Sync,
+    {
+        if let (Some(writer), Some(reader)) = (self.writer.take(), self.readers.pop()) {
+            let ((writer, note), _) = join(rt, move || noted(writer), || ());
+            let (reader, _) = join(rt, move || learnt(reader, note), || ());
+            self.writer = Some(writer);
+            let _kept = self.readers.push(reader).is_ok();
+        }
+        Came::Nothing
+    }
+
+    fn snapshot(&mut self, place: usize) -> Came {
+        match self.readers.get_mut(place) {
+            Some(reader) => match reader.snapshot() {
+                Ok(count) => Came::Events(count),
+                Err(Closed) => Came::NotAnswered(AskFault::Closed),
+            },
+            None => Came::Nothing,
+        }
+    }
+
+    fn ask<R: Threads + Wait + Sync>(
+        &mut self,
+        rt: &R,
+        alloc: Global,
+        catalogue: &Catalogue,
+        gate: &Turns,
+        text: &str,
+    ) -> Came
+        requires { catalogue.now ≡ J.catalogue }
+    {
+        let (place, text) = number_and(text);
+        let (n, text) = number_and(text);
+        let (workers, statement) = number_and(text);
+        let Some(plan) = planned(alloc, catalogue, statement) else {
+            return Came::Nothing;
+        };
+        match self.readers.get_mut(place as usize) {
+            Some(reader) => match asked(rt, alloc, reader, n, &plan, workers, gate) {
+                Ok(table) => match table_text(alloc, &table, Form::Numbers) {
+                    Ok(text) => Came::Text(text),
+                    Err(_) => Came::NotAnswered(AskFault::OutOfMemory),
+                },
+                Err(fault) => Came::NotAnswered(fault),
+            },
+            None => Came::Nothing,
+        }
+    }
+
+    fn close<R: Wait>(&mut self, rt: &R) -> Came {
+        if let Some(writer) = self.writer.take() {
+            writer.close(rt);
+        }
+        Came::Nothing
+    }
+
+    fn step<R: Threads + Wait + Sync>(
+        &mut self,
+        rt: &R,
+        alloc: Global,
+        catalogue: &Catalogue,
+        gate: &Turns,
+        line: &str,
+    ) -> Came
+    where
+        J: Send + Sync,
+        requires { catalogue.now ≡ J.catalogue }
+    {
+        let (word, text) = line.split_once(' ').unwrap_or((line, ""));
+        let place = number_and(text).0 as usize;
+        match word {
+            "start" => self.append(alloc, true, text),
+            "end" => self.append(alloc, false, text),
+            "publish" => self.publish(rt),
+            "learn" => self.learn(place),
+            "pass" => self.pass(rt),
+            "snapshot" => self.snapshot(place),
+            "ask" | "gated" => self.ask(rt, alloc, catalogue, gate, text),
+            "close" => self.close(rt),
+            _ => Came::Nothing,
+        }
+    }
+
+    fn take_steps<R: Threads + Wait + Sync>(
+        &mut self,
+        rt: &R,
+        alloc: Global,
+        catalogue: &Catalogue,
+        lines: &[String],
+        out: &mut String,
+    ) -> Result<(), AllocError>
+    where
+        J: Send + Sync,
+        requires { catalogue.now ≡ J.catalogue }
+    {
+        for line in lines {
+            writeln!(out, "{line}")?;
+            let gate = Turns::new(line.as_str().starts_with("gated"));
+            let came = self.step(rt, alloc, catalogue, &gate, line.as_str());
+            gate.tell(out)?;
+            came.tell(out)?;
+        }
+        Ok(())
+    }
+}
+
+/// A store of the loaded events, with so many readers and room for so many events, and what its steps come to.
+pub(crate) fn play<J: Naming + Send + Sync, R: Threads + Wait + Sync>(
+    rt: &R,
+    alloc: Global,
+    opened: Opened,
+    loaded: Loaded,
+    readers: u32,
+    limit: u32,
+    lines: &[String],
+    out: &mut String,
+) -> Result<(), AllocError>
+    requires named { (opened ≡ J.book) × (loaded.catalogue ≡ J.catalogue) }
+    requires history { IsHistory loaded.catalogue loaded.events }
+    requires few { length loaded.events ≤ 16777216 }
+{
+    let catalogue = loaded.catalogue.try_copy(alloc)?;
+    let events = loaded.events.into_vec();
+    let readers = readers.clamp(1, 8);
+    let limit = limit.max(events.len() as u32).min(MAX_EVENTS);
+    match open::<J>(alloc, opened, loaded.catalogue, events, readers, limit) {
+        Ok((writer, readers)) => {
+            let writer = Some(writer);
+            let mut stage = Stage { writer, readers };
+            stage.take_steps(rt, alloc, &catalogue, lines, out)
+        }
+        Err(fault) => writeln!(out, "    {fault}"),
+    }
+}
