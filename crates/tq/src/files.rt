@@ -81,7 +81,7 @@ fn read_tables<R: Files + AllocGlobal + Input>(
     Ok(tables)
 }
 
-/// The same, for a refusal that is explained where that is asked for.
+/// The tables in the order of their options, or the refusal, which is explained where that is asked for.
 pub fn read_explained<R: Files + AllocGlobal + Input>(
     rt: &R,
     options: Vec<TableOption>,

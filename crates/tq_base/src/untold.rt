@@ -231,7 +231,7 @@ impl<'a> Sides<'a> {
     }
 
     // How long the texts are at most that come next for the keys of the ranks that are not theirs alone. These texts lie
-    // anywhere: in a loop that does no more than this, the processor waits for many of them at once.
+    // anywhere: in a loop that does no more than this, the processor can wait for several of them at once.
     fn longest_next(&self, keys: &[Key], place: usize, offset: usize) -> usize {
         let mut longest = 0;
         'keys: for (number, key) in keys.iter().enumerate() {

@@ -111,7 +111,7 @@ fn lend_row<'r>(row: &Row<'r>, lent: &mut Vec<Seen<'r>>) -> Result<(), AllocErro
 }
 
 // The values of the rows from one to another, lent, row after row, in place of those in the list. They lie anywhere: in a
-// loop that does no more than this, the processor waits for many of them at once.
+// loop that does no more than this, the processor can wait for several of them at once.
 fn lend<'r>(
     rows: &'r Lines<'_>,
     start: usize,
