@@ -3,11 +3,11 @@
 ghost use Rattle.std.specs.Prelude.{◌≡◌, ◌≤◌};
 
 use crate::progress::Progress;
-use std::io;
 use std::sync::Wait;
 use std::sync::atomic::{AtomicU64, Ordering};
 use std::thread::Threads;
 use std::time::{Clock, Instant};
+use std::{io, mem};
 use tq_base::Form;
 use tq_engine::{AnswerFault, Watch, answer_explained};
 use tq_event::TableFile;
@@ -123,12 +123,14 @@ pub fn ask_watched<R: AllocGlobal + Clock + Print + Threads + Wait + Sync>(
         form,
         &watching,
     )?;
-    if !is_told {
-        return Ok(());
+    if is_told {
+        let run = run_of(&watching, workers);
+        let told = explain_answer(rt.alloc(), &explained.tables, &explained.plan, &run, form);
+        if let Ok(text) = told {
+            progress.print(rt, &text);
+        }
     }
-    let run = run_of(&watching, workers);
-    if let Ok(text) = explain_answer(rt.alloc(), &explained.tables, &explained.plan, &run, form) {
-        progress.print(rt, &text);
-    }
+    // The program ends next, and all memory with it: to let go of each long text by itself would only take time.
+    mem::forget(explained);
     Ok(())
 }

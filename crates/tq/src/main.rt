@@ -44,7 +44,7 @@ use std::time::Clock;
 use tq_base::Form;
 use tq_check::check;
 use tq_draw::{draw, draw_svg};
-use tq_engine::{AnswerFault, Source, answer, answer_bytes};
+use tq_engine::{AnswerFault, Source, answer};
 use tq_explain::explain_records;
 use tq_session::{SessionFault, session};
 use tq_table::Sink;
@@ -70,13 +70,7 @@ fn ask<R: Files + AllocGlobal + Clock + Input + Print + Threads + Wait + Sync>(
     let tables = read_explained(rt, options, explain, progress)?;
     let heads = heads_where(rt.alloc(), &tables, explain);
     progress.load();
-    let answered = if explain {
-        ask_watched(rt, tables, &statement, workers, form, progress, is_told)
-    } else {
-        let mut sink = Sink::over(io::writer(rt));
-        answer_bytes(rt, rt.alloc(), tables, &statement, workers, &mut sink, form)
-    };
-    match answered {
+    match ask_watched(rt, tables, &statement, workers, form, progress, is_told) {
         Ok(()) => Ok(()),
         Err(fault) => Err(refused(
             rt, fault, &statement, &paths, heads, form, explain, progress,

@@ -1,19 +1,16 @@
-// From the bytes of files and of a statement to the bytes of the answer.
+// From the bytes of files and of a statement to the answer.
 
-ghost use Rattle.std.specs.Prelude.{◌≡◌, ◌≢◌, ◌≤◌, ℕ, Err, IfErr, IfOk, List, OnOk, length};
-ghost use Rattle.std.specs.Io.KnownBytes.{Appends};
+ghost use Rattle.std.specs.Prelude.{◌≡◌, ◌≢◌, ◌≤◌, ℕ, IfErr, IfOk, List, Ok, length};
 ghost use Rattle.tq_event.specs.declared.event.Event.{Event as AnyEvent};
 ghost use Rattle.tq_event.specs.declared.file.TableFile.{TableFile as AnyFile};
 ghost use Rattle.tq_event.specs.Tables.{HoldsRows, lists_of};
-ghost use Rattle.tq_table.specs.Sink.{AppendsPrefix, one_more};
-ghost use Rattle.tq_table.specs.Text.{text_of, IsTextOf};
-ghost use Rattle.tq_table.specs.declared.table.Table.{Table as AnyTable};
+ghost use Rattle.tq_plan.specs.Plans.{plan_of};
+ghost use Rattle.tq_table.specs.Text.{IsTextOf};
 ghost use Rattle.tq_engine.specs.Answers.{HasAnswer, IsAsked, IsFault, IsStatementFault};
 ghost use Rattle.tq_eval.specs.Answers.{IsAnswer};
 ghost use Rattle.tq_eval.specs.Fitting.{AreAllFitting};
 
 use std::alloc::{AllocError, Global};
-use std::io::Write;
 use std::thread::Threads;
 use thiserror::Error;
 use tq_base::Form;
@@ -22,10 +19,10 @@ use tq_eval::laws::{held_rows_fit, tables_answer};
 use tq_event::laws::{loaded_is_history, tables_are_loaded};
 use tq_event::{LoadFault, LoadFaultKind, MAX_EVENTS, TableFile, Tables};
 use tq_loading::load_tables_among;
-use tq_plan::{PlanFault, plan};
+use tq_plan::{Plan, PlanFault, plan};
 use tq_run::{Gate, Open};
 use tq_sql::{SqlFault, SqlFaultKind, Statement, read};
-use tq_table::{Sink, Table};
+use tq_table::Table;
 use tq_workers::{AnswerText, answer_among, text_among};
 
 /// Why there is no answer: the first fault of the files, of the statement's text, or of its plan; or
@@ -155,7 +152,8 @@ fn answer_statement<'a, R: Threads + Sync>(
     Ok(table)
 }
 
-// The text of the answer of a statement over tables, worked out by these workers. The gate is told of each piece of it.
+// The plan of a statement over tables, and the text of its answer, worked out by these workers. The gate is told of each piece of
+// it.
 fn statement_text<R: Threads + Sync, G: Gate + Sync>(
     rt: &R,
     alloc: Global,
@@ -164,19 +162,20 @@ fn statement_text<R: Threads + Sync, G: Gate + Sync>(
     workers: u32,
     gate: &G,
     form: Form,
-) -> Result<AnswerText, AnswerFault>
+) -> Result<(Plan, AnswerText), AnswerFault>
     requires fit { AreAllFitting tables.now.catalogue (lists_of tables.now.rows) }
     requires some { 1 ≤ workers }
     requires few { workers ≤ 16 }
+    ensures plan { IfOk result (λ found. plan_of form tables.now.catalogue statement.now ≡ Ok found.0) }
     ensures answer { (history : List AnyEvent) → ((table : ℕ) → HoldsRows (lists_of tables.now.rows) history (length history) table)
-        → IfOk result (IsTextOf form (IsAnswer form tables.now.catalogue statement.now history (length history))) }
+        → IfOk result (λ found. IsTextOf form (IsAnswer form tables.now.catalogue statement.now history (length history)) found.1) }
     ensures fault { IfErr result (IsStatementFault form tables.now.catalogue statement.now) }
 {
     let plan = plan(alloc, &tables.catalogue, statement, form)?;
     let (catalogue, rows) = (&tables.catalogue, tables.rows.get());
     let text = text_among(rt, alloc, catalogue, rows, &plan, workers, gate, form)?;
     tables_answer();
-    Ok(text)
+    Ok((plan, text))
 }
 
 // The answer to what files and bytes ask, worked out by these workers.
@@ -203,7 +202,8 @@ fn answered<'a, R: Threads + Sync>(
     )
 }
 
-// The text of the answer to what files and bytes ask, worked out by these workers. The gate is told of each piece of it.
+// The plan of what files and bytes ask, and the text of the answer, worked out by these workers. The gate is told of each piece of
+// it.
 pub(crate) fn answered_text<R: Threads + Sync, G: Gate + Sync>(
     rt: &R,
     alloc: Global,
@@ -211,11 +211,12 @@ pub(crate) fn answered_text<R: Threads + Sync, G: Gate + Sync>(
     workers: u32,
     gate: &G,
     form: Form,
-) -> Result<AnswerText, AnswerFault>
+) -> Result<(Plan, AnswerText), AnswerFault>
     requires fit { AreAllFitting question.now.tables.catalogue (lists_of question.now.tables.rows) }
     requires some { 1 ≤ workers }
     requires few { workers ≤ 16 }
-    ensures answer { (files : List AnyFile) (bytes : List ℕ) → IsAsked form files bytes question.now.tables question.now.statement → IfOk result (IsTextOf form (HasAnswer form files bytes)) }
+    ensures plan { IfOk result (λ found. plan_of form question.now.tables.catalogue question.now.statement ≡ Ok found.0) }
+    ensures answer { (files : List AnyFile) (bytes : List ℕ) → IsAsked form files bytes question.now.tables question.now.statement → IfOk result (λ found. IsTextOf form (HasAnswer form files bytes) found.1) }
     ensures fault { (files : List AnyFile) (bytes : List ℕ) → IsAsked form files bytes question.now.tables question.now.statement → IfErr result (IsFault form files bytes) }
 {
     statement_text(
@@ -248,34 +249,4 @@ pub fn answer<'b, R: Threads + Sync>(
     let question = asked(rt, alloc, files, bytes, workers, &Open, form)?;
     let table = answered(rt, alloc, &question, workers, form)?;
     Ok(detached(alloc, table)?)
-}
-
-/// Writes the text of the answer of the statement that the bytes make, over the tables of the files, all of which
-/// write instants in the form.
-/// The first fault is answered: of the files, of the statement, of its plan. Nothing is written before
-/// the answer is whole; after `Write` a prefix of it went out. Files are loaded and the answer is worked out by 1 to
-/// 16 workers, the calling thread among them, and all is the same for every number of them.
-pub fn answer_bytes<R: Threads + Sync, W: Write>(
-    rt: &R,
-    alloc: Global,
-    files: Vec<TableFile>,
-    bytes: &[u8],
-    workers: u32,
-    sink: &mut Sink<W>,
-    form: Form,
-) -> Result<(), AnswerFault>
-    requires some { 1 ≤ workers }
-    requires few { workers ≤ 16 }
-    ensures answer { OnOk result ((table : AnyTable) × HasAnswer form files.items bytes.now table × Appends (W.contents sink.old.writer) (W.contents sink.new.writer) (text_of form table)) }
-    ensures unfailed { OnOk result (sink.new.failed ≡ sink.old.failed) }
-    ensures write { result ≡ Err AnswerFault.Write → (table : AnyTable) × HasAnswer form files.items bytes.now table × AppendsPrefix (W.contents sink.old.writer) (W.contents sink.new.writer) (text_of form table) }
-    ensures failed { result ≡ Err AnswerFault.Write → sink.new.failed ≡ one_more sink.old.failed }
-    ensures fault { IfErr result (λ fault. fault ≢ AnswerFault.Write → IsFault form files.items bytes.now fault × (sink.new ≡ sink.old)) }
-{
-    let question = asked(rt, alloc, files, bytes, workers, &Open, form)?;
-    let text = answered_text(rt, alloc, &question, workers, &Open, form)?;
-    match sink.send_all(text.parts()) {
-        Ok(()) => Ok(()),
-        Err(_) => Err(AnswerFault::Write),
-    }
 }

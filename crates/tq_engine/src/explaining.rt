@@ -1,27 +1,24 @@
-// Answers of which is told how they came about.
+// From the bytes of files and of a statement to the bytes of the answer, and what is told of how it came about.
 
-ghost use Rattle.std.specs.Prelude.{◌≡◌, ◌≢◌, ◌≤◌, Err, IfErr, IfOk, List, OnOk, Ok, ℕ};
+ghost use Rattle.std.specs.Prelude.{◌≡◌, ◌≢◌, ◌≤◌, Err, IfErr, IfOk, OnOk};
 ghost use Rattle.std.specs.Io.KnownBytes.{Appends};
-ghost use Rattle.tq_event.specs.declared.file.TableFile.{TableFile as AnyFile};
 ghost use Rattle.tq_event.specs.Tables.{lists_of};
-ghost use Rattle.tq_engine.specs.Answers.{HasAnswer, IsAsked, IsFault, IsPlanned, IsStatementFault};
+ghost use Rattle.tq_engine.specs.Answers.{HasAnswer, IsFault, IsPlanned};
 ghost use Rattle.tq_eval.specs.Fitting.{AreAllFitting};
-ghost use Rattle.tq_plan.specs.Plans.{plan_of};
 ghost use Rattle.tq_plan.specs.Standing.{IsPlanOver};
 ghost use Rattle.tq_table.specs.Sink.{AppendsPrefix, one_more};
-ghost use Rattle.tq_table.specs.Text.{IsTextOf, text_of};
+ghost use Rattle.tq_table.specs.Text.{text_of};
 ghost use Rattle.tq_table.specs.declared.table.Table.{Table as AnyTable};
 
-use crate::answering::{AnswerFault, Question, answered_text, asked};
+use crate::answering::{AnswerFault, answered_text, asked};
 use std::alloc::Global;
 use std::io::Write;
 use std::thread::Threads;
 use tq_base::Form;
 use tq_event::{TableFile, Tables};
-use tq_plan::{Plan, plan};
-use tq_run::Gate;
+use tq_plan::Plan;
+use tq_run::{Gate, Open};
 use tq_table::Sink;
-use tq_workers::AnswerText;
 
 /// Is told of each piece of work, as a gate is, and of each step of a question that is done.
 pub trait Watch: Gate {
@@ -32,6 +29,12 @@ pub trait Watch: Gate {
     fn answered(&self);
 }
 
+impl Watch for Open {
+    fn loaded(&self) {}
+
+    fn answered(&self) {}
+}
+
 /// A question that was answered: the tables of its files, and the plan of its statement.
 #[derive(Drop)]
 pub struct Explained {
@@ -39,46 +42,13 @@ pub struct Explained {
     pub plan: Plan,
 }
 
-// The plan of what is asked.
-fn question_plan(alloc: Global, question: &Question, form: Form) -> Result<Plan, AnswerFault>
-    ensures plan { IfOk result (λ plan. plan_of form question.now.tables.catalogue question.now.statement ≡ Ok plan) }
-    ensures fault { IfErr result (IsStatementFault form question.now.tables.catalogue question.now.statement) }
-{
-    Ok(plan(alloc, &question.tables.catalogue, &question.statement, form)?)
-}
-
-// The plan of what files and bytes ask.
-fn asked_plan(alloc: Global, question: &Question, form: Form) -> Result<Plan, AnswerFault>
-    ensures plan { IfOk result (λ plan. plan_of form question.now.tables.catalogue question.now.statement ≡ Ok plan) }
-    ensures fault { (files : List AnyFile) (bytes : List ℕ) → IsAsked form files bytes question.now.tables question.now.statement → IfErr result (IsFault form files bytes) }
-{
-    question_plan(alloc, question, form)
-}
-
-// The plan of what files and bytes ask, and the text of the answer, worked out by these workers. The gate is told of each
-// piece of it.
-fn planned_text<R: Threads + Sync, G: Gate + Sync>(
-    rt: &R,
-    alloc: Global,
-    question: &Question,
-    workers: u32,
-    gate: &G,
-    form: Form,
-) -> Result<(Plan, AnswerText), AnswerFault>
-    requires fit { AreAllFitting question.now.tables.catalogue (lists_of question.now.tables.rows) }
-    requires some { 1 ≤ workers }
-    requires few { workers ≤ 16 }
-    ensures plan { IfOk result (λ found. plan_of form question.now.tables.catalogue question.now.statement ≡ Ok found.0) }
-    ensures answer { (files : List AnyFile) (bytes : List ℕ) → IsAsked form files bytes question.now.tables question.now.statement → IfOk result (λ found. IsTextOf form (HasAnswer form files bytes) found.1) }
-    ensures fault { (files : List AnyFile) (bytes : List ℕ) → IsAsked form files bytes question.now.tables question.now.statement → IfErr result (IsFault form files bytes) }
-{
-    let plan = asked_plan(alloc, question, form)?;
-    let text = answered_text(rt, alloc, question, workers, gate, form)?;
-    Ok((plan, text))
-}
-
-/// What `answer_bytes` does, while somebody watches: who is told of each piece of work before it is run, and of the files
-/// that are loaded and the answer that is found. Where it is answered, the tables and the plan are handed out.
+/// Writes the text of the answer of the statement that the bytes make, over the tables of the files, all of which
+/// write instants in the form.
+/// The first fault is answered: of the files, of the statement, of its plan. Nothing is written before
+/// the answer is whole; after `Write` a prefix of it went out. Files are loaded and the answer is worked out by 1 to
+/// 16 workers, the calling thread among them, and all is the same for every number of them. Who watches is told of each
+/// piece of work before it is run, and of the files that are loaded and the answer that is found. Where it is answered,
+/// the tables and the plan are handed out.
 pub fn answer_explained<R: Threads + Sync, W: Write, G: Watch + Sync>(
     rt: &R,
     alloc: Global,
@@ -102,7 +72,7 @@ pub fn answer_explained<R: Threads + Sync, W: Write, G: Watch + Sync>(
 {
     let question = asked(rt, alloc, files, bytes, workers, watch, form)?;
     watch.loaded();
-    let planned = planned_text(rt, alloc, &question, workers, watch, form)?;
+    let planned = answered_text(rt, alloc, &question, workers, watch, form)?;
     watch.answered();
     let (plan, text) = planned;
     match sink.send_all(text.parts()) {
@@ -111,5 +81,29 @@ pub fn answer_explained<R: Threads + Sync, W: Write, G: Watch + Sync>(
             plan,
         }),
         Err(_) => Err(AnswerFault::Write),
+    }
+}
+
+/// What `answer_explained` does, where nobody watches.
+pub fn answer_bytes<R: Threads + Sync, W: Write>(
+    rt: &R,
+    alloc: Global,
+    files: Vec<TableFile>,
+    bytes: &[u8],
+    workers: u32,
+    sink: &mut Sink<W>,
+    form: Form,
+) -> Result<(), AnswerFault>
+    requires some { 1 ≤ workers }
+    requires few { workers ≤ 16 }
+    ensures answer { OnOk result ((table : AnyTable) × HasAnswer form files.items bytes.now table × Appends (W.contents sink.old.writer) (W.contents sink.new.writer) (text_of form table)) }
+    ensures unfailed { OnOk result (sink.new.failed ≡ sink.old.failed) }
+    ensures write { result ≡ Err AnswerFault.Write → (table : AnyTable) × HasAnswer form files.items bytes.now table × AppendsPrefix (W.contents sink.old.writer) (W.contents sink.new.writer) (text_of form table) }
+    ensures failed { result ≡ Err AnswerFault.Write → sink.new.failed ≡ one_more sink.old.failed }
+    ensures fault { IfErr result (λ fault. fault ≢ AnswerFault.Write → IsFault form files.items bytes.now fault × (sink.new ≡ sink.old)) }
+{
+    match answer_explained(rt, alloc, files, bytes, workers, sink, form, &Open) {
+        Ok(_) => Ok(()),
+        Err(fault) => Err(fault),
     }
 }

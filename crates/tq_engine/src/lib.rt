@@ -3,10 +3,10 @@
 //!
 //! The bytes of a file come through a `Source`, which counts its reads and those that failed, and which
 //! `read_file` reads to its end. `answer` loads the tables of all files (`tq_event`), reads the statement
-//! (`tq_sql`), plans it (`tq_plan`) and evaluates its plan (`tq_eval`); `answer_bytes` has the text of that answer
-//! sent through a `Sink` (`tq_table`). Its contract is the first promise: what `Ok` appends is the text of
-//! an answer, as `HasAnswer` says, and files and a statement have one at most (`laws`). `answer_explained` does the same
-//! while somebody watches, and hands out the tables and the plan.
+//! (`tq_sql`), plans it (`tq_plan`) and evaluates its plan (`tq_eval`); `answer_explained` has the text of that answer
+//! sent through a `Sink` (`tq_table`), while somebody watches, and hands out the tables and the plan. Its contract is the
+//! first promise: what `Ok` appends is the text of an answer, as `HasAnswer` says, and files and a statement have one at
+//! most (`laws`). `answer_bytes` does the same where nobody watches.
 #![tactic(auto)]
 
 mod answering;
@@ -16,8 +16,8 @@ mod file;
 pub mod laws;
 mod source;
 
-pub use answering::{AnswerFault, answer, answer_bytes};
-pub use explaining::{Explained, Watch, answer_explained};
+pub use answering::{AnswerFault, answer};
+pub use explaining::{Explained, Watch, answer_bytes, answer_explained};
 pub use fault_names::{load_name, plan_name, sql_name};
 pub use file::{FILE_LIMIT, read_file};
 pub use source::{FileFault, Source};

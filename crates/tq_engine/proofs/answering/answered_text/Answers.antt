@@ -12,7 +12,7 @@ returns-clause-answer g c files bytes asked =
     let of : AreLoaded c.args.form files 16777216 c.args.question.now.tables = asked.loaded in
     let statement = c.args.question.now.statement in
     IfOk-weaker c.statement_text.result _ _
-    (λ text made.
+    (λ found made.
     let (table, is, same) = made in (
       table,
       record {
