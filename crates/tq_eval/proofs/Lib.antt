@@ -6,6 +6,7 @@ pub mod RunningLemmas
 pub mod ProductLemmas
 pub mod SourceLemmas
 pub mod TableLemmas
+pub mod GatherLemmas
 pub mod GroupBags
 pub mod GroupingLemmas
 pub mod HeldRows

@@ -142,7 +142,7 @@ fragments_have out rows same all k d less =
     let f : Fragment = get_or out k d in
     in_both (rows f.period.start) (at out f.period.start) f.values (same f.period.start f.values) (stands out k d less) (all f.period.start)
 
-number_at : (row : Row) (place : ℕ) → AreNumbers row → IsNumber (value_at row place)
+pub number_at : (row : Row) (place : ℕ) → AreNumbers row → IsNumber (value_at row place)
 number_at [] place all = zero_fits
 number_at (value ∷ row) zero all = first_of IsNumber value row all
 number_at (value ∷ row) (suc place) all = number_at row place (others_of IsNumber value row all)
@@ -151,18 +151,18 @@ summable : (places : List ℕ) (row : Row) → AreNumbers row → AreSummable pl
 summable [] row all = none_of (λ place. IsNumber (value_at row place))
 summable (place ∷ places) row all = All-cons (λ p. IsNumber (value_at row p)) place places (number_at row place all) (summable places row all)
 
-fragments_sum : (places : List ℕ) (out : List Fragment) → All (λ (f : Fragment). AreNumbers f.values) out → All (λ (f : Fragment). AreSummable places f.values) out
+pub fragments_sum : (places : List ℕ) (out : List Fragment) → All (λ (f : Fragment). AreNumbers f.values) out → All (λ (f : Fragment). AreSummable places f.values) out
 fragments_sum places out = All-weaker (λ (f : Fragment). AreNumbers f.values) (λ (f : Fragment). AreSummable places f.values) (λ f is. summable places f.values is) out
 
 passing_have : (valid : ValidRows) (t : ℕ) (numbers : List ℕ) (test : Option Test) → AreValidNumbers valid → All AreNumbers (selection test (product_of (lists_at valid t numbers)))
 passing_have valid t numbers test all = All-filter (admits test) AreNumbers (product_of (lists_at valid t numbers)) (products_have valid t numbers all)
 
--- the values of the rows that pass in a window can be summed
-pub passing_sums : (valid : ValidRows) (window : Period) (numbers : List ℕ) (test : Option Test) (places : List ℕ) (out : List Fragment)
+-- the values of the rows that pass in a window are numbers of 64 bits, or texts
+pub passing_numbers : (valid : ValidRows) (window : Period) (numbers : List ℕ) (test : Option Test) (out : List Fragment)
     → HasInside window out (λ t v. occurrences (selection test (product_of (lists_at valid t numbers))) v) → IsEmptyOutside window out
-    → AreValidNumbers valid → All (λ (f : Fragment). AreSummable places f.values) out
-passing_sums valid window numbers test places out inside outside all =
-    fragments_sum places out (fragments_have out (λ t. within (holds window t) t) (λ t v. same t v (holds window t) refl) (λ t. have t (holds window t)))
+    → AreValidNumbers valid → All (λ (f : Fragment). AreNumbers f.values) out
+passing_numbers valid window numbers test out inside outside all =
+    fragments_have out (λ t. within (holds window t) t) (λ t v. same t v (holds window t) refl) (λ t. have t (holds window t))
   where
     within : Bool → ℕ → List Row
     within b t = cond b (selection test (product_of (lists_at valid t numbers))) []
@@ -174,3 +174,10 @@ passing_sums valid window numbers test places out inside outside all =
     have : (t : ℕ) (b : Bool) → All AreNumbers (within b t)
     have t true = passing_have valid t numbers test all
     have t false = none_of AreNumbers
+
+-- and can be summed
+pub passing_sums : (valid : ValidRows) (window : Period) (numbers : List ℕ) (test : Option Test) (places : List ℕ) (out : List Fragment)
+    → HasInside window out (λ t v. occurrences (selection test (product_of (lists_at valid t numbers))) v) → IsEmptyOutside window out
+    → AreValidNumbers valid → All (λ (f : Fragment). AreSummable places f.values) out
+passing_sums valid window numbers test places out inside outside all =
+    fragments_sum places out (passing_numbers valid window numbers test out inside outside all)

@@ -25,7 +25,7 @@ use Rattle.tq_plan.specs.Standing.{AreQueriesOver, HasColumns, IsQueryOver, Stan
 use Rattle.tq_eval.specs.Answers.{lists_at, times_at, times_by, times_in, times_in_right, ValidRows}
 use Rattle.tq_eval.specs.Fitting.{AreFitting}
 use Rattle.tq_eval.specs.Ordinary.{alone_or_together, groups, ordinary, output_value}
-use Rattle.tq_eval.specs.Shares.{ArePartedBy, Columns, HasAt, IsPartedBy, SharesPartAnswers, goes_to, in_share, is_parted}
+use Rattle.tq_eval.specs.Shares.{ArePartedBy, Columns, HasAt, IsPartedBy, SharesPartAnswers, SharesPartRows, goes_to, in_share, is_parted}
 use Rattle.tq_eval.specs.Sources.{part_of, SameCounts}
 use Rattle.tq_eval.proofs.BagLemmas.{is_it, one_if}
 use Rattle.tq_eval.proofs.GroupBags.{first_of_key, of_key, positive_once}
@@ -62,7 +62,7 @@ module _ {X : Type 0} where
   left_already p q xs = turned p q (filter p xs) ∙ ap (filter q) (left_anyway p p xs (λ x none. none))
 
 -- what is made of those that are left is left of what is made
-made_of_left : {X Y : Type 0} (f : X → Y) (p : X → Bool) (q : Y → Bool) (xs : List X) → ((x : X) → q (f x) ≡ p x) → map f (filter p xs) ≡ filter q (map f xs)
+pub made_of_left : {X Y : Type 0} (f : X → Y) (p : X → Bool) (q : Y → Bool) (xs : List X) → ((x : X) → q (f x) ≡ p x) → map f (filter p xs) ≡ filter q (map f xs)
 made_of_left f p q [] same = refl
 made_of_left f p q (x ∷ xs) same = by (p x) refl (made_of_left f p q xs same)
   where
@@ -330,3 +330,8 @@ shares_part share_of columns number catalogue valid plan fit over parted v t =
     by true false = refl
     by false true = refl
     by false false = refl
+
+-- over a share those rows pass whose value goes there
+pub rows_part : SharesPartRows
+rows_part share_of columns number catalogue valid query fit over linked v t =
+    passing_in share_of columns number valid query t linked.place over.sources (valid_wide catalogue valid query.sources fit over.columns t) linked.told linked.some v

@@ -2,6 +2,7 @@ pub mod Ordinary
 pub mod Answers
 pub mod Bounds
 pub mod Fitting
+pub mod Gathering
 pub mod Running
 pub mod Shares
 pub mod Sources

@@ -4,7 +4,8 @@ use Rattle.std.specs.List.{list_any}
 use Rattle.tq_base.specs.declared.catalogue.Catalogue.{Catalogue}
 use Rattle.tq_base.specs.declared.value.Value.{Value}
 use Rattle.tq_ops.specs.Conditions.{value_at}
-use Rattle.tq_ops.specs.Ordinary.{admits}
+use Rattle.tq_base.specs.Fragments.{occurrences}
+use Rattle.tq_ops.specs.Ordinary.{admits, product_of, selection}
 use Rattle.tq_ops.specs.declared.condition.Test.{Test}
 use Rattle.tq_agg.specs.Grouping.{Row}
 use Rattle.tq_plan.specs.declared.plans.Output.{Output}
@@ -12,8 +13,9 @@ use Rattle.tq_plan.specs.declared.plans.Output.TheVariants.{Column}
 use Rattle.tq_plan.specs.declared.plans.Plan.{Plan}
 use Rattle.tq_plan.specs.declared.plans.QueryPlan.{QueryPlan}
 use Rattle.tq_plan.specs.declared.plans.QuerySource.{QuerySource}
-use Rattle.tq_plan.specs.Standing.{AreQueriesOver}
-use Rattle.tq_eval.specs.Answers.{times_at, ValidRows}
+use Rattle.tq_plan.specs.Plans.{tables_of}
+use Rattle.tq_plan.specs.Standing.{AreQueriesOver, IsQueryOver}
+use Rattle.tq_eval.specs.Answers.{lists_at, times_at, ValidRows}
 use Rattle.tq_eval.specs.Fitting.{AreFitting}
 use Rattle.tq_eval.specs.Sources.{part_of}
 
@@ -56,3 +58,15 @@ ArePartedBy columns plan = IsPartedBy columns plan.left × ((query : QueryPlan) 
 abbrev pub SharesPartAnswers : Type 0
 SharesPartAnswers = (share_of : Value → ℕ) (columns : Columns) (number : ℕ) (catalogue : Catalogue) (valid : ValidRows) (plan : Plan) → AreFitting catalogue valid → AreQueriesOver catalogue plan → ArePartedBy columns plan
     → (v : Row) (t : ℕ) → times_at (in_share share_of columns number valid) plan v t ≡ (if share_of (value_at v 0) == number then times_at valid plan v t else 0)
+
+-- each row that passes the query has at one place the values by which the rows of its sources were parted; and those of one source were
+pub record AreLinkedBy (columns : Columns) (query : QueryPlan) : Type 0 where
+  pub place : ℕ
+  pub told : All (λ (source : QuerySource). HasAt query.test place source (columns source.table)) query.sources
+  pub some : list_any (λ (source : QuerySource). is_parted (columns source.table)) query.sources ≡ true
+
+-- over a share those rows pass that pass over the whole and whose value there goes to it, and no others
+abbrev pub SharesPartRows : Type 0
+SharesPartRows = (share_of : Value → ℕ) (columns : Columns) (number : ℕ) (catalogue : Catalogue) (valid : ValidRows) (query : QueryPlan) → AreFitting catalogue valid → IsQueryOver catalogue query → (linked : AreLinkedBy columns query)
+    → (v : Row) (t : ℕ) → occurrences (selection query.test (product_of (lists_at (in_share share_of columns number valid) t (tables_of query)))) v
+    ≡ occurrences (filter (λ row. share_of (value_at row linked.place) == number) (selection query.test (product_of (lists_at valid t (tables_of query))))) v

@@ -3,7 +3,7 @@
 ghost use Rattle.tq_eval.specs.Answers.{AnswersAgree, AnswersAreUnique, AnswersExist, AnswersStay};
 ghost use Rattle.tq_eval.specs.Bounds.{BoundsAreGiven};
 ghost use Rattle.tq_eval.specs.Fitting.{HeldRowsFit};
-ghost use Rattle.tq_eval.specs.Shares.{SharesPartAnswers};
+ghost use Rattle.tq_eval.specs.Shares.{SharesPartAnswers, SharesPartRows};
 ghost use Rattle.tq_eval.specs.TableAnswers.{TablesAnswer};
 
 use tq_base::laws::{layers_are_runs, layers_are_unique, layers_exist};
@@ -64,4 +64,10 @@ pub fn held_rows_fit()
 /// that value first, the rows of its answer that have a value of the share.
 pub fn shares_part_answers()
     ensures { SharesPartAnswers }
+{}
+
+/// What is valid in tables whose rows are parted by their values in a column gives a query, of which each row that
+/// passes has that value at a place, the rows that pass and have a value of the share there.
+pub fn shares_part_rows()
+    ensures { SharesPartRows }
 {}

@@ -7,6 +7,7 @@
 
 mod answering;
 mod as_of;
+mod gathering;
 mod grouping;
 pub mod laws;
 mod snapshot;
@@ -14,5 +15,6 @@ mod sources;
 
 pub use answering::{answer_over, answer_tables, detached, rows_within};
 pub use as_of::{AsOf, answer};
+pub use gathering::{group_columns, groups_of, rows_to_group};
 pub use snapshot::{Snapshot, TablesOfRows};
 pub use sources::passing_rows;

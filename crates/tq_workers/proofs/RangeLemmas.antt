@@ -66,11 +66,11 @@ one_more : (c : Bool) (row_of : ℕ → Fragment) (i : ℕ) (numbers : List ℕ)
 one_more true row_of i numbers v t = copies-append (row_of i ∷ []) (map row_of numbers) v t
 one_more false row_of i numbers v t = omega arith
 
-sum_of_none : (bs : List ℕ) → sum_by (λ b. 0) bs ≡ 0
+pub sum_of_none : (bs : List ℕ) → sum_by (λ b. 0) bs ≡ 0
 sum_of_none [] = refl
 sum_of_none (b ∷ bs) = omega (arith, sum_by-cons (λ (c : ℕ). 0) b bs, sum_of_none bs)
 
-sum_of_both : (f g : ℕ → ℕ) (bs : List ℕ) → sum_by (λ b. f b + g b) bs ≡ sum_by f bs + sum_by g bs
+pub sum_of_both : (f g : ℕ → ℕ) (bs : List ℕ) → sum_by (λ b. f b + g b) bs ≡ sum_by f bs + sum_by g bs
 sum_of_both f g [] = refl
 sum_of_both f g (b ∷ bs) = omega (arith, sum_by-cons (λ c. f c + g c) b bs, sum_by-cons f b bs, sum_by-cons g b bs, sum_of_both f g bs)
 

@@ -31,7 +31,7 @@ use Rattle.tq_workers.specs.Shares.{AreTold, HaveAnswer, IsShareText, IsTold, co
 use Rattle.tq_workers.proofs.RangeLemmas.{counted_once, lines_at, texts_follow}
 
 -- a value goes to one of the shares
-few_left : (p : ℕ → Bool) (cuts : List ℕ) → length (filter p cuts) < length cuts + 1
+pub few_left : (p : ℕ → Bool) (cuts : List ℕ) → length (filter p cuts) < length cuts + 1
 few_left p [] = omega arith
 few_left p (cut ∷ cuts) = by (p cut) (few_left p cuts)
   where

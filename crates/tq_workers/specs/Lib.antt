@@ -2,3 +2,4 @@ pub mod Pieces
 pub mod Fetching
 pub mod Ranges
 pub mod Shares
+pub mod Passing

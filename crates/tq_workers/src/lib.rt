@@ -7,7 +7,8 @@
 //! `answer_among` and `answer_with` promise what `answer_tables` and `answer` of the evaluator do, word for word,
 //! for every number of workers and every gate. `text_among` promises the text of the answer. Where the plan falls apart
 //! by a value, it parts the tables by that into shares, over each of which the plan has the answer's rows of some values,
-//! and their text; else it parts a long answer into ranges of values, whose lines and text are pieces of work too.
+//! and their text; else it parts a long answer into ranges of values, whose lines and text are pieces of work too. Rows
+//! of joined tables that are grouped by something else are found in shares, and then grouped together.
 #![tactic(auto)]
 
 mod among;
@@ -16,6 +17,7 @@ mod columns;
 mod edges;
 mod fetched;
 mod fetching;
+mod joined;
 mod parting;
 mod pieces;
 mod pivots;

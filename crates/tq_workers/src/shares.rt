@@ -22,10 +22,10 @@ use tq_run::{Gate, Work, run_with};
 use tq_table::{coalesce, rows_text};
 
 // So many shares a worker, so that nobody waits long for the last one.
-const SHARES_EACH: u32 = 4;
+pub(crate) const SHARES_EACH: u32 = 4;
 
 // The most tables of which rows are parted.
-const MOST_TABLES: usize = 64;
+pub(crate) const MOST_TABLES: usize = 64;
 
 // A plan's answer over tables of rows, a piece for each share of them.
 #[derive(Drop)]
@@ -69,7 +69,7 @@ impl<'p> Work for Shares<'p> {
 }
 
 // Ranks by which the rows of the plan's first source fall into so many shares.
-fn first_cuts(
+pub(crate) fn first_cuts(
     alloc: Global,
     plan: &Plan,
     tables: &[Rows],
@@ -92,7 +92,7 @@ fn first_cuts(
 }
 
 // Whether not all of the ranks are alike, so that rows go to more than two shares.
-fn are_apart(cuts: &[u128]) -> bool {
+pub(crate) fn are_apart(cuts: &[u128]) -> bool {
     cuts.first() != cuts.last()
 }
 

@@ -14,6 +14,7 @@ ghost use Rattle.tq_table.specs.Sink.{bytes_of};
 
 use crate::among::pieces_of;
 use crate::edges::table_edges;
+use crate::joined::joined_groups;
 use crate::ranges::range_texts;
 use crate::shares::share_texts;
 use std::alloc::{AllocError, Global};
@@ -76,13 +77,15 @@ fn are_worth_shares(tables: &[Rows], workers: u32, few: usize) -> bool {
     workers > 1 && rows >= few
 }
 
-// The plan's rows at each instant of its window, found by these workers.
+// The plan's rows at each instant of its window, found by these workers, in shares of the tables only where these have `few` rows or
+// more.
 fn rows_among<'a, R: Threads + Sync, G: Gate + Sync>(
     rt: &R,
     alloc: Global,
     snapshot: TablesOfRows<'a>,
     plan: &Plan,
     workers: u32,
+    few: usize,
     gate: &G,
 ) -> Result<Relation<'a>, AllocError>
     requires over { AreQueriesOver snapshot.catalogue.now plan.now }
@@ -92,6 +95,11 @@ fn rows_among<'a, R: Threads + Sync, G: Gate + Sync>(
 {
     if workers == 1 || is_one_list(plan) {
         return rows_within(alloc, &snapshot, plan, &plan.window);
+    }
+    if are_worth_shares(snapshot.tables, workers, few)
+        && let Some(rows) = joined_groups(rt, alloc, snapshot, plan, workers, gate)?
+    {
+        return Ok(rows);
     }
     let edges = table_edges(alloc, snapshot.tables, plan)?;
     let cuts = plan.cuts(alloc, workers, &edges)?;
@@ -179,7 +187,7 @@ pub fn text_by_ranges<R: Threads + Sync, G: Gate + Sync>(
     {
         return joined(alloc, header, texts);
     }
-    let rows = rows_among(rt, alloc, snapshot, plan, workers, gate)?;
+    let rows = rows_among(rt, alloc, snapshot, plan, workers, few, gate)?;
     rows_answered(rt, alloc, header, rows, workers, few, gate, form)
 }
 

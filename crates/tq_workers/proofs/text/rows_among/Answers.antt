@@ -1,11 +1,11 @@
-use Rattle.std.proofs.Common.{◌∙◌, List, ap, length, subst, sym}
-use Rattle.std.specs.Prelude.{All}
+use Rattle.std.proofs.Common.{◌≡◌, ◌∙◌, List, Option, ap, length, subst, sym}
+use Rattle.std.specs.Prelude.{All, IfSome}
 use Rattle.std.proofs.lemmas.Result.{IfOk-weaker}
 use Rattle.tq_base.specs.declared.period.Period.{Period}
 use Rattle.tq_base.specs.Fragments.{copies}
 use Rattle.tq_base.specs.RowLists.{RowList}
 use Rattle.tq_event.specs.Tables.{lists_of}
-use Rattle.tq_eval.specs.Answers.{in_tables}
+use Rattle.tq_eval.specs.Answers.{in_tables, times_at}
 use Rattle.tq_plan.specs.Cuts.{Tile}
 use Rattle.tq_table.specs.Merging.{AreOfWidth}
 use Rattle.tq_workers.proofs.PieceLemmas.{pieces_counted, pieces_wide}
@@ -19,6 +19,10 @@ chained-requires g c =
 
 pub returns : goal.returns
 returns g c v t =
+    subst (λ (o : Option RowList). IfSome o (λ rows. copies rows.items v t ≡ times_at (in_tables (lists_of c.args.snapshot.tables.now)) c.args.plan.now v t)) c.in-Some.is (c.in_ok-rows.ensures v t)
+
+pub returns-2 : goal.returns-2
+returns-2 g c v t =
     let plan = c.args.plan.now in
     let valid = in_tables (lists_of c.args.snapshot.tables.now) in
     let periods = c.as_slice.result.now in
