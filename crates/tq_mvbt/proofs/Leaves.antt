@@ -1,16 +1,17 @@
 -- A leaf's entries are edited at one key; and a node that was put right leaves its parent as it was.
-use Rattle.std.proofs.Common.{◌≡◌, ◌≢◌, ℕ, ◌+◌, ◌-◌, ◌<◌, ◌≤◌, List, Bool, true, false, length, ap, refl, ◌∙◌, subst, arith, count_by, set, nat_eq, slice_get, Some}
+use Rattle.std.proofs.Common.{◌≡◌, ◌≢◌, ℕ, ◌+◌, ◌-◌, ◌<◌, ◌≤◌, List, [], ◌∷◌, ◌++◌, Bool, true, false, cond, length, map, ap, refl, sym, ◌∙◌, subst, arith, count_by, set, nat_eq, slice_get, Some}
 use Rattle.std.specs.Prelude.{All}
 use Rattle.std.proofs.lemmas.Bool.Decides.{nat_tests}
 use Rattle.std.proofs.lemmas.List.{take_all}
 use Rattle.std.proofs.Math.Seq.{drop-length}
 use Rattle.std.proofs.lemmas.List.Elements.{All-weaker, All-nil}
+use Rattle.std.proofs.lemmas.List.Sums.{sum_by-cons}
 use Rattle.tq_arena.specs.Contents.{Contents}
 use Rattle.tq_mvbt.specs.declared.entry.Entry.{Entry}
 use Rattle.tq_mvbt.specs.NodeState.{NodeState}
-use Rattle.tq_mvbt.specs.Points.{now, is_live, leads}
+use Rattle.tq_mvbt.specs.Points.{now, is_live, leads, with_end}
 use Rattle.tq_mvbt.specs.Shape.{top, tally, IsPlaced, IsNode, IsForest, IsSomeForest, IsFilled, IsFound, listed, with_life}
-use Rattle.tq_mvbt.specs.Steps.{edited, Changes}
+use Rattle.tq_mvbt.specs.Steps.{edited, with_entry, Changes}
 use Rattle.tq_mvbt.specs.Loose.{IsFromBefore, IsForestBy, IsSettling, IsReady, IsPartOf}
 use Rattle.tq_mvbt.proofs.Lists.{all_at}
 use Rattle.tq_mvbt.proofs.Descent.{one_leads}
@@ -61,6 +62,41 @@ leaf_settles version key alive s t p added small ready found change new few =
     new (omega arith) (omega (arith, grows, most))
     (λ i m e d. full i m e)
     (λ i m e l d. older_node ready.before version ready.lives nodes m later (each i m e) (full i m e)))
+
+-- an edit that ends no entry leaves them
+kept_all : (low high version : ℕ) (es : List Entry) → count_by (is_ended low high) es ≡ 0 → map (with_end low high version) es ≡ es
+kept_all low high version [] none = refl
+kept_all low high version (e ∷ es) none =
+    let parts = sum_by-cons (λ f. tally (is_ended low high f)) e es in
+    split (is_ended low high e) (kept_all low high version es (omega (arith, parts, none))) (omega (arith, parts, none))
+  where
+    split : (b : Bool) → map (with_end low high version) es ≡ es → tally b ≡ 0 → cond b (record e { dead = version }) e ∷ map (with_end low high version) es ≡ e ∷ es
+    split true rest off = absurd (omega arith)
+    split false rest off = ap (λ xs. e ∷ xs) rest
+
+-- where a key is put in that never lived, no entry of its leaf ends
+pub adds_edited : (version key : ℕ) (alive : Bool) (s t : Contents NodeState) (p : ℕ) (e : Entry) → version < now → alive ≡ true → IsReady version key alive s.nodes → IsFound s.nodes 0 key p → Changes s t p (with_entry e) → Changes s t p (edited key (key + 1) version (e ∷ []))
+adds_edited version key alive s t p e small on ready found change =
+    let nodes = s.nodes in
+    let n = found.node in
+    let later = ready.later in
+    let a = found.stands in
+    let b = change.stands in
+    let same : n ≡ change.node = cc in
+    let node = all_at (IsNode ready.before ready.lives nodes) nodes p n ready.forest.each found.stands in
+    let leaf = found.at_level in
+    let one = one_leads ready.before key ready.lives nodes n (omega arith) node found.died found.low found.high in
+    let never : tally (ready.lives key ready.before) ≡ 0 = ap tally (ready.never on ready.before) in
+    let none : count_by (leads key) n.entries ≡ 0 = (let z : nat_eq n.level 0 ≡ true = grind (arith, nat_tests) in let l : listed ready.lives n.level key ready.before ≡ tally (ready.lives key ready.before) = rw z refl in omega (arith, one, l, never)) in
+    let grows = count_grows (is_ended key (key + 1)) (leads key) n.entries (All-weaker (IsPlaced ready.before n) (λ e. is_ended key (key + 1) e ≡ true → leads key e ≡ true) (λ e q u. let w = q.wide in grind (arith, nat_tests, u)) n.entries node.placed) in
+    let kept = kept_all key (key + 1) version n.entries (omega (arith, grows, none)) in
+    let its : map (with_end key (key + 1) version) change.node.entries ≡ change.node.entries = subst (λ (m : NodeState). map (with_end key (key + 1) version) m.entries ≡ m.entries) same kept in
+    record {
+      node = change.node;
+      stands = change.stands;
+      nodes = change.nodes ∙ ap (λ xs. set nodes p (record change.node { entries = xs ++ e ∷ [] })) (sym its);
+      room = change.room;
+    }
 
 -- the nodes before an update are those of some tree
 pub ready_forest : (version key : ℕ) (alive : Bool) (nodes : List NodeState) → version < now → IsReady version key alive nodes → IsSomeForest nodes

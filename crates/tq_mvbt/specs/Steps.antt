@@ -10,6 +10,10 @@ use Rattle.tq_mvbt.specs.Points.{now, with_end}
 abbrev pub edited : ℕ → ℕ → ℕ → List Entry → NodeState → NodeState
 edited low high version added n = record n { entries = map (with_end low high version) n.entries ++ added }
 
+-- the node with one more entry
+abbrev pub with_entry : Entry → NodeState → NodeState
+with_entry entry n = record n { entries = n.entries ++ entry ∷ [] }
+
 -- the node, dead from the version on, without its last entries
 abbrev pub retired : ℕ → ℕ → NodeState → NodeState
 retired version last n = record n { died = version; entries = take (length n.entries - last) n.entries }

@@ -1,6 +1,6 @@
 //! Nodes: a range of keys, a life in versions, and entries.
 
-ghost use Rattle.std.specs.Prelude.{◌≡◌, ◌+◌, ◌<◌, ◌≤◌, ◌++◌, ◌-◌, length, take, filter, count_by, slice_get, Some, IsTrue, ◌↔◌, IfSome, MatchOption};
+ghost use Rattle.std.specs.Prelude.{◌≡◌, ◌+◌, ◌<◌, ◌≤◌, ◌++◌, ◌-◌, length, take, filter, count_by, slice_get, Some, IsTrue, true, ◌↔◌, IfSome, MatchOption};
 ghost use Rattle.arrayvec.specs.ArrayVec.{array_vec_len};
 ghost use Rattle.tq_mvbt.specs.Points.{is_live, leads, IsChild, end_of};
 
@@ -26,7 +26,8 @@ pub struct Link {
 /// The links of a leaf.
 pub(crate) type Links = ArrayVec<Link, 2>;
 
-/// A node of the tree. During an update it may hold two entries too many.
+/// A node of the tree, with the number of its entries that live now. During an update it may hold two entries too
+/// many.
 #[derive(Drop)]
 pub struct Node {
     level: u32,
@@ -34,20 +35,25 @@ pub struct Node {
     high: u128,
     born: u32,
     died: u32,
+    live: usize,
     entries: ArrayVec<Entry, 34>,
     links: Links,
 }
 
 impl Model for Node {
+    ghost use Rattle.std.specs.Prelude.{◌≡◌, count_by};
     ghost use Rattle.tq_mvbt.specs.NodeState.{NodeState};
+    ghost use Rattle.tq_mvbt.specs.Points.{is_live};
 
     ghost Value = { NodeState };
 
     ghost view = { λ n. record { level = n.level; low = n.low; high = n.high; born = n.born; died = n.died; entries = n.entries.items; links = n.links.items } };
+
+    ghost invariant = { λ n. n.live ≡ count_by is_live n.entries.items };
 }
 
 impl Node {
-    ghost use Rattle.tq_mvbt.specs.Steps.{edited, retired, fresh};
+    ghost use Rattle.tq_mvbt.specs.Steps.{edited, retired, fresh, with_entry};
     ghost use Rattle.tq_mvbt.specs.Links.{links_to};
 
     /// Whether the node is a leaf; the others are index nodes.
@@ -162,6 +168,7 @@ impl Node {
             high,
             born: version,
             died: NOW,
+            live: entry::count_live(copied),
             entries,
             links: copy_links(links),
         }
@@ -174,6 +181,17 @@ impl Node {
     {
         entry::end_range(self.entries.as_mut_slice(), low, high, version);
         append(&mut self.entries, added);
+        self.live = entry::count_live(&self.entries);
+    }
+
+    // Appends an entry that lives now.
+    pub(crate) fn add(&mut self, entry: Entry)
+        requires room { length self.old.entries < 34 }
+        requires live { is_live entry ≡ true }
+        ensures { self.new ≡ with_entry entry self.old }
+    {
+        self.entries.push(entry);
+        self.live += 1;
     }
 
     // Ends the node, and takes its last entries off.
@@ -183,6 +201,7 @@ impl Node {
     {
         let len = self.entries.len();
         self.entries.truncate(len - last);
+        self.live = entry::count_live(&self.entries);
         self.died = version;
     }
 
@@ -205,14 +224,14 @@ impl Node {
     pub(crate) fn count_live(&self) -> usize
         ensures { result ≡ count_by is_live self.now.entries }
     {
-        entry::count_live(&self.entries)
+        self.live
     }
 
     // Whether no entry is over, and enough of them live.
     pub(crate) fn fits(&self, least: usize) -> bool
         ensures { IsTrue result ↔ ((length self.now.entries ≤ 32) × (least ≤ count_by is_live self.now.entries)) }
     {
-        self.entries.len() <= CAPACITY && least <= self.count_live()
+        self.entries.len() <= CAPACITY && least <= self.live
     }
 
     // Appends the live entries.

@@ -1,12 +1,12 @@
 //! Steps on the nodes of an arena: finding, editing, ending and beginning them.
 
-ghost use Rattle.std.specs.Prelude.{◌≡◌, ◌+◌, ◌-◌, ◌<◌, ◌≤◌, ◌++◌, IsTrue, ◌↔◌, length, count_by, slice_get, IfSome, filter, IsPermutation};
+ghost use Rattle.std.specs.Prelude.{◌≡◌, ◌+◌, ◌-◌, ◌<◌, ◌≤◌, ◌++◌, IsTrue, true, ◌↔◌, length, count_by, slice_get, IfSome, filter, IsPermutation};
 ghost use Rattle.std.specs.List.Sorted.{IsNonDecreasingBy};
 ghost use Rattle.arrayvec.specs.ArrayVec.{array_vec_len};
 ghost use Rattle.tq_mvbt.specs.Points.{is_live};
 ghost use Rattle.tq_mvbt.specs.Shape.{IsSomeForest, IsFound};
 ghost use Rattle.tq_mvbt.specs.Links.{links_to};
-ghost use Rattle.tq_mvbt.specs.Steps.{edited, retired, fresh, Changes, HasRoom, Puts, PutsTwo, PutsNodes};
+ghost use Rattle.tq_mvbt.specs.Steps.{edited, retired, fresh, with_entry, Changes, HasRoom, Puts, PutsTwo, PutsNodes};
 
 use crate::entry::{Entry, NOW};
 use crate::node::{Links, Node};
@@ -38,6 +38,15 @@ pub(crate) fn edit(
     ensures { Changes nodes.old nodes.new number (edited low high version added.now) }
 {
     nodes.change(NodeNo(number)).edit(low, high, version, added);
+}
+
+// Appends an entry that lives now.
+pub(crate) fn add(nodes: &mut Arena<Node>, number: u32, entry: Entry)
+    requires room { HasRoom nodes.old.nodes number 1 }
+    requires live { is_live entry ≡ true }
+    ensures { Changes nodes.old nodes.new number (with_entry entry) }
+{
+    nodes.change(NodeNo(number)).add(entry);
 }
 
 // Whether the node has no entry over, and enough of them live.

@@ -9,7 +9,7 @@ ghost use Rattle.tq_mvbt.specs.Loose.{IsForestBy, IsReady, IsSettling, Grows, Ke
 use crate::entry::{Entry, NOW};
 use crate::node::Node;
 use crate::replace::replace;
-use crate::steps::{child_of, edit, fits};
+use crate::steps::{add, child_of, edit, fits};
 use tq_arena::Arena;
 
 // Lists a key in its leaf from the version on, or ends it there; gives how many entries the leaf got.
@@ -36,7 +36,7 @@ fn set_life(nodes: &mut Arena<Node>, leaf: u32, key: u128, version: u32, alive: 
         dead: NOW,
         child: 0,
     };
-    edit(nodes, leaf, key, key + 1, version, &[entry]);
+    add(nodes, leaf, entry);
     1
 }
 
