@@ -20,8 +20,9 @@ use Rattle.tq_mvbt.specs.TreeState.{HasLife, TreeState, lives_of}
 use Rattle.tq_store.specs.declared.index.Index.{Index}
 use Rattle.tq_store.specs.declared.index.RowEvents.{RowEvents}
 use Rattle.tq_base.specs.KeyRanges.{key_of}
+use Rattle.tq_store.specs.Digests.{digest_of}
 use Rattle.tq_store.specs.Keys.{shifted, tree_key}
-use Rattle.tq_store.specs.Index.{AreIndexes, AreOpenRows, Begins, Ends, HasRows, IsIndexOf, IsKeyOf, IsOpenAt, IsRowLife, dead_of, events_of, is_open_as, is_open_under}
+use Rattle.tq_store.specs.Index.{AreIndexes, AreOpenRows, Begins, Ends, HasRows, IsIndexOf, IsKeyOf, IsOpenAt, IsRowLife, dead_of, ended, events_of, is_open_as, is_open_under}
 use Rattle.tq_store.specs.Open.{HasSame, has, place_key}
 use Rattle.tq_store.proofs.OpenRowsLemmas.{and-false, and-yes, number_other, or-false, place_row}
 use Rattle.tq_store.proofs.LifeLemmas.{IsTold, StandsAt, ended_at, eqb-other, eqb-same, lives_end, lives_other, lives_start, lives_told}
@@ -301,11 +302,11 @@ rows_counted es t index is = ap length is.rows ∙ mapped (row_lives es t)
     mapped (l ∷ ls) = ap suc (mapped ls)
 
 pub index_start : (es : List Event) (t : ℕ) (v : List Value) (at : ℕ) (old new : Index) → length es < 16777216 → IsIndexOf es t old → FitsSigned w64 (key_of v) → at < FOREVER
-    → new.rows.items ≡ old.rows.items ++ record { start = length es; end = None; from = at; to = FOREVER } ∷ [] → Begins old.tree new.tree (tree_key v (length old.rows.items)) (length es + 1)
+    → new.rows.items ≡ old.rows.items ++ record { start = length es; end = None; digest = digest_of v; from = at; to = FOREVER; key = shifted (key_of v) } ∷ [] → Begins old.tree new.tree (tree_key v (length old.rows.items)) (length es + 1)
     → ((k : ℕ) → has new.opened k ≡ (has old.opened k || eq_by_cmp nat_cmp (place_key v (length old.rows.items)) k))
     → IsIndexOf (es ++ Start t v at ∷ []) t new
 index_start es t v at old new small is fits less rows begins opened = record {
-  rows = rows ∙ ap (λ r. r ++ record { start = length es; end = None; from = at; to = FOREVER } ∷ []) is.rows ∙ sym (map-append events_of (row_lives es t) (l ∷ [])) ∙ sym (ap (map events_of) more);
+  rows = rows ∙ ap (λ r. r ++ record { start = length es; end = None; digest = digest_of v; from = at; to = FOREVER; key = shifted (key_of v) } ∷ []) is.rows ∙ sym (map-append events_of (row_lives es t) (l ∷ [])) ∙ sym (ap (map events_of) more);
   tree = subst (λ ls. HasRows ls (length (es ++ Start t v at ∷ [])) new.tree.version new.tree.nodes) (sym more)
       (subst (λ c. HasRows (row_lives es t ++ l ∷ []) c new.tree.version new.tree.nodes) (sym (length_push es (Start t v at)))
       (begun_rows (row_lives es t) (length es) old.tree new.tree l small is.tree
@@ -325,11 +326,11 @@ index_start es t v at old new small is fits less rows begins opened = record {
 
 pub index_end : (es : List Event) (t row at : ℕ) (old new : Index) (l : Life) → length es < 16777216 → IsIndexOf es t old → at < FOREVER
     → slice_get (row_lives es t) row ≡ Some l → l.ending ≡ None → l.from < at
-    → new.rows.items ≡ slice_set old.rows.items row (record { start = l.start; end = Some (length es); from = l.from; to = at }) → Ends old.tree new.tree (tree_key l.values row) (length es + 1)
+    → new.rows.items ≡ slice_set old.rows.items row (ended (length es) at (events_of l)) → Ends old.tree new.tree (tree_key l.values row) (length es + 1)
     → ((k : ℕ) → has new.opened k ≡ (has old.opened k && not (eq_by_cmp nat_cmp (place_key l.values row) k)))
     → IsIndexOf (es ++ End t row at ∷ []) t new
 index_end es t row at old new l small is finite stands none less rows ends opened = record {
-  rows = rows ∙ ap (λ r. slice_set r row (record { start = l.start; end = Some (length es); from = l.from; to = at })) is.rows ∙ sym (map_set events_of (row_lives es t) row (ended_at (length es) at l)) ∙ sym (ap (map events_of) more);
+  rows = rows ∙ ap (λ r. slice_set r row (ended (length es) at (events_of l))) is.rows ∙ sym (map_set events_of (row_lives es t) row (ended_at (length es) at l)) ∙ sym (ap (map events_of) more);
   tree = subst (λ ls. HasRows ls (length (es ++ End t row at ∷ [])) new.tree.version new.tree.nodes) (sym more)
       (subst (λ c. HasRows (slice_set (row_lives es t) row (ended_at (length es) at l)) c new.tree.version new.tree.nodes) (sym (length_push es (End t row at)))
       (ended_rows (row_lives es t) (length es) row at old.tree new.tree l small is.tree stands none ends

@@ -1,5 +1,5 @@
 -- The tree of a table, and the events of its rows: what holds of them by the events so far. This project's own.
-use Rattle.std.specs.Prelude.{◌≡◌, ◌≢◌, ℕ, ◌+◌, ◌%◌, ◌<◌, ◌≤◌, ◌&&◌, not, is_some, Bool, List, map, length, slice_get, true, false, Option, Some, None, IsSomeAnd, IfSome, FitsSigned}
+use Rattle.std.specs.Prelude.{◌≡◌, ◌≢◌, ℕ, ◌+◌, ◌*◌, ◌%◌, ◌<◌, ◌≤◌, ◌&&◌, not, is_some, Bool, List, map, length, slice_get, true, false, Option, Some, None, IsSomeAnd, IfSome, FitsSigned}
 use Rattle.std.specs.Int.{w64}
 use Rattle.std.specs.List.Sorted.{IsNonDecreasingBy}
 use Rattle.std.specs.Option.{option_map, option_map_or}
@@ -18,7 +18,8 @@ use Rattle.tq_mvbt.specs.TreeState.{HasLife, TreeState, lives_of}
 use Rattle.tq_store.specs.declared.index.Index.{Index}
 use Rattle.tq_store.specs.declared.index.RowEvents.{RowEvents}
 use Rattle.tq_base.specs.KeyRanges.{key_of}
-use Rattle.tq_store.specs.Keys.{tree_key}
+use Rattle.tq_store.specs.Digests.{digest_of}
+use Rattle.tq_store.specs.Keys.{shifted, tree_key}
 use Rattle.tq_store.specs.declared.open.OpenRows.{OpenRows}
 use Rattle.tq_store.specs.Open.{has, place_key}
 
@@ -27,9 +28,17 @@ abbrev pub dead_of : Option Ending → ℕ
 dead_of None = now
 dead_of (Some e) = e.event + 1
 
--- the events of a row
+-- the events of a row, its key and the digest of its values
 abbrev pub events_of : Life → RowEvents
-events_of l = record { start = l.start; end = option_map (λ e. e.event) l.ending; from = l.from; to = option_map_or (λ e. e.at) l.ending FOREVER }
+events_of l = record { start = l.start; end = option_map (λ e. e.event) l.ending; digest = digest_of l.values; from = l.from; to = option_map_or (λ e. e.at) l.ending FOREVER; key = shifted (key_of l.values) }
+
+-- the key that the tree has for the row of this number
+abbrev pub tree_key_of : RowEvents → ℕ → ℕ
+tree_key_of known row = known.key * 4294967296 + row
+
+-- the key under which it stands as an open one
+abbrev pub place_key_of : RowEvents → ℕ → ℕ
+place_key_of known row = (known.key * 4294967296 + known.digest) * 4294967296 + row
 
 -- the events of each row of the table
 abbrev pub rows_kept : List Event → ℕ → List RowEvents

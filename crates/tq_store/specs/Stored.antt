@@ -50,7 +50,7 @@ IsReadable events rows key = IsSomeAnd (slice_get rows (key % 4294967296)) (IsSt
 -- the row of the key as of the first n events
 abbrev pub row_of_key : List Event → List RowEvents → ℕ → ℕ → Row
 row_of_key events rows n key =
-    stored_row events n (key % 4294967296) (slice_index_or rows (key % 4294967296) (record { start = 0; end = None; from = 0; to = 0 }))
+    stored_row events n (key % 4294967296) (slice_index_or rows (key % 4294967296) (record { start = 0; end = None; digest = 0; from = 0; to = 0; key = 0 }))
 
 -- whether the event starts a row of these values before the instant
 abbrev pub starts_like : List Value → ℕ → Event → Bool

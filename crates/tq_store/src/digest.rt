@@ -1,6 +1,6 @@
 //! Digests of lists of values: numbers by which most of them are told apart.
 
-ghost use Rattle.std.specs.Prelude.{◌≡◌, ◌<◌, ◌^◌};
+ghost use Rattle.std.specs.Prelude.{◌≡◌};
 ghost use Rattle.tq_store.specs.Digests.{bytes_mixed, digest_of, mixed, value_mixed};
 
 use crate::key::shift;
@@ -41,13 +41,12 @@ fn mix_value(state: u64, value: &Value) -> u64
 }
 
 /// The digest of the values, in 32 bits.
-pub(crate) fn digest(values: &Values) -> u128
-    ensures value { result ≡ digest_of values.now }
-    ensures small { result < 2 ^ 32 }
+pub(crate) fn digest(values: &Values) -> u32
+    ensures { result ≡ digest_of values.now }
 {
     let mut mixed = 0;
     'values: for value in values.get() {
         mixed = mix_value(mixed, value);
     }
-    u128::from(mixed >> 32)
+    (mixed >> 32) as u32
 }

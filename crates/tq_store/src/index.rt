@@ -1,21 +1,24 @@
 //! A table's rows as of every count of events: a tree of their keys, the events that start and end each, and the
 //! open ones by their values.
 
-ghost use Rattle.std.specs.Prelude.{◌≡◌, ℕ, ◌+◌, ◌^◌, ◌<◌, ◌≤◌, ◌&&◌, ◌||◌, ◌++◌, ◌∷◌, [], true, false, not, length, slice_get, Some, slice_index_or, slice_set, ◌↔◌, IsTrue, IfOk, MatchOption, OnOk, OnErr};
+ghost use Rattle.std.specs.Prelude.{◌≡◌, ℕ, ◌+◌, ◌^◌, ◌<◌, ◌≤◌, ◌&&◌, ◌||◌, ◌++◌, ◌∷◌, [], true, false, not, length, slice_get, Some, slice_set, ◌↔◌, IsTrue, IfOk, MatchOption, OnOk, OnErr};
 ghost use Rattle.std.specs.List.Sorted.{IsNonDecreasingBy};
 ghost use Rattle.std.specs.Ordering.{eq_by_cmp, nat_cmp};
 ghost use Rattle.tq_base.specs.declared.period.TheConstants.{FOREVER};
+ghost use Rattle.tq_base.specs.KeyRanges.{key_of};
 ghost use Rattle.tq_base.specs.ValueOrder.{values_cmp};
 ghost use Rattle.tq_mvbt.specs.TreeState.{lives_of};
 ghost use Rattle.tq_event.specs.History.{time_of};
 ghost use Rattle.tq_event.specs.Opening as opening;
 ghost use Rattle.tq_event.specs.Recorded.{table_of};
 ghost use Rattle.tq_event.specs.Versions.{Life, row_lives};
-ghost use Rattle.tq_store.specs.Keys.{tree_key};
-ghost use Rattle.tq_store.specs.Index.{AreIndexes, Begins, CanTake, Ends, IsIndexOf, IsOpenAt, ended, is_open_at};
+ghost use Rattle.tq_store.specs.Digests.{digest_of};
+ghost use Rattle.tq_store.specs.Keys.{shifted, tree_key};
+ghost use Rattle.tq_store.specs.Index.{AreIndexes, Begins, CanTake, Ends, IsIndexOf, IsOpenAt, ended, is_open_at, place_key_of, tree_key_of};
 ghost use Rattle.tq_store.specs.Open.{HasSame, has, place_key};
 
-use crate::key::{ROWS, open_key, row_key};
+use crate::digest::digest;
+use crate::key::{ROWS, first_key, open_key, place, row_key};
 use crate::open::OpenRows;
 use crate::stored::{table, values};
 use std::alloc::{AllocError, Global};
@@ -24,12 +27,16 @@ use tq_event::Event;
 use tq_mvbt::Tree;
 
 /// The numbers and times of the events that start and end a row; no number and `forever` where it has not ended.
+/// And its key, from 0 on in place of the least one, and the digest of its values, so that its end is found in the
+/// tree and among the open rows without a look at its values.
 #[derive(Clone, Copy, Debug)]
 pub struct RowEvents {
     pub start: u32,
     pub end: Option<u32>,
+    pub digest: u32,
     pub from: Instant,
     pub to: Bound,
+    pub key: u64,
 }
 
 /// The tree of a table, the events of its rows by the rows' numbers, and its open rows.
@@ -83,7 +90,7 @@ impl Index {
         requires few { length self.old.rows.items ≤ number }
         requires never { (v : ℕ) → lives_of self.old.tree.nodes (tree_key values.now (length self.old.rows.items)) v ≡ false }
         requires new { has self.old.opened (place_key values.now (length self.old.rows.items)) ≡ false }
-        ensures rows { OnOk result (self.new.rows.items ≡ self.old.rows.items ++ record { start = number; end = None; from = at; to = FOREVER } ∷ []) }
+        ensures rows { OnOk result (self.new.rows.items ≡ self.old.rows.items ++ record { start = number; end = None; digest = digest_of values.now; from = at; to = FOREVER; key = shifted (key_of values.now) } ∷ []) }
         ensures tree { OnOk result (Begins self.old.tree self.new.tree (tree_key values.now (length self.old.rows.items)) (number + 1)) }
         ensures opened { OnOk result ((k : ℕ) → has self.new.opened k ≡ (has self.old.opened k || eq_by_cmp nat_cmp (place_key values.now (length self.old.rows.items)) k)) }
         ensures same_tree { OnErr result (self.new.tree ≡ self.old.tree) }
@@ -92,39 +99,56 @@ impl Index {
     {
         self.rows.reserve(1)?;
         let row = self.rows.len() as u32;
-        let place = open_key(values, row);
-        self.begin(row_key(values, row), number + 1, place)?;
+        let key = first_key(values);
+        let digest = digest(values);
+        self.begin(row_key(key, row), number + 1, place(key, digest, row))?;
         self.rows.push_reserved(RowEvents {
             start: number,
             end: None,
+            digest,
             from: at,
             to: Bound::new(FOREVER).unwrap(),
+            key,
         });
         Ok(())
     }
 
-    // The row, which is of these values, ends by the event of this number and time. Out of memory: all is as before.
-    fn end(&mut self, number: u32, row: u32, values: &Values, at: Instant) -> Result<(), AllocError>
+    // The row, of which this is known, ends by the event of this number and time. Out of memory: all is as before.
+    fn end(
+        &mut self,
+        number: u32,
+        row: u32,
+        known: RowEvents,
+        at: Instant,
+    ) -> Result<(), AllocError>
         requires later { self.old.tree.version ≤ number }
         requires small { number < 16777216 }
         requires row { row < length self.old.rows.items }
-        requires alive { lives_of self.old.tree.nodes (tree_key values.now row) self.old.tree.version ≡ true }
-        ensures rows { OnOk result ((d : RowEvents) → self.new.rows.items ≡ slice_set self.old.rows.items row (ended number at (slice_index_or self.old.rows.items row d))) }
-        ensures tree { OnOk result (Ends self.old.tree self.new.tree (tree_key values.now row) (number + 1)) }
-        ensures opened { OnOk result ((k : ℕ) → has self.new.opened k ≡ (has self.old.opened k && not (eq_by_cmp nat_cmp (place_key values.now row) k))) }
+        requires alive { lives_of self.old.tree.nodes (tree_key_of known row) self.old.tree.version ≡ true }
+        ensures rows { OnOk result (self.new.rows.items ≡ slice_set self.old.rows.items row (ended number at known)) }
+        ensures tree { OnOk result (Ends self.old.tree self.new.tree (tree_key_of known row) (number + 1)) }
+        ensures opened { OnOk result ((k : ℕ) → has self.new.opened k ≡ (has self.old.opened k && not (eq_by_cmp nat_cmp (place_key_of known row) k))) }
         ensures same_tree { OnErr result (self.new.tree ≡ self.old.tree) }
         ensures same_rows { OnErr result (self.new.rows.items ≡ self.old.rows.items) }
         ensures same_opened { OnErr result (HasSame self.old.opened self.new.opened) }
     {
-        self.tree.delete(row_key(values, row), number + 1)?;
-        let RowEvents { start, from, .. } = self.rows[row as usize];
+        let RowEvents {
+            start,
+            digest,
+            from,
+            key,
+            ..
+        } = known;
+        self.tree.delete(row_key(key, row), number + 1)?;
         self.rows[row as usize] = RowEvents {
             start,
             end: Some(number),
+            digest,
             from,
             to: Bound::new(at.number()).unwrap(),
+            key,
         };
-        self.opened.remove(open_key(values, row));
+        self.opened.remove(place(key, digest, row));
         Ok(())
     }
 }
@@ -142,8 +166,8 @@ impl Index {
         match event {
             Event::Start { values, at, .. } => self.start(number, values, *at),
             Event::End { row, at, .. } => {
-                let start = self.rows[*row as usize].start;
-                self.end(number, *row, values(events, start), *at)
+                let known = self.rows[*row as usize];
+                self.end(number, *row, known, *at)
             }
         }
     }

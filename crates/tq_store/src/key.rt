@@ -2,7 +2,7 @@
 
 ghost use Rattle.std.specs.Prelude.{◌≡◌, ◌+◌, ◌*◌, ◌<◌, ◌^◌};
 ghost use Rattle.tq_base.specs.KeyRanges.{key_of};
-ghost use Rattle.tq_store.specs.Keys.{shifted, tree_key};
+ghost use Rattle.tq_store.specs.Keys.{shifted};
 ghost use Rattle.tq_store.specs.Open.{place_key};
 
 use crate::digest::digest;
@@ -43,17 +43,31 @@ fn key(values: &Values) -> i128
     }
 }
 
-// The tree's key of the row of this number.
-pub(crate) fn row_key(values: &Values, row: u32) -> u128
-    ensures value { result ≡ tree_key values.now row }
-    ensures small { result < 2 ^ 96 }
+// The key of a row of these values, from 0 on in place of the least one.
+pub(crate) fn first_key(values: &Values) -> u64
+    ensures { result ≡ shifted (key_of values.now) }
 {
-    shift(key(values)) * ROWS + u128::from(row)
+    shift(key(values)) as u64
 }
 
-// The key under which the open row of this number stands.
+// The tree's key of the row of this number, with a key from 0 on.
+pub(crate) fn row_key(key: u64, row: u32) -> u128
+    ensures value { result ≡ key * 4294967296 + row }
+    ensures small { result < 2 ^ 96 }
+{
+    u128::from(key) * ROWS + u128::from(row)
+}
+
+// The key under which the open row of this number stands, with a key from 0 on and a digest of its values.
+pub(crate) fn place(key: u64, digest: u32, row: u32) -> u128
+    ensures { result ≡ (key * 4294967296 + digest) * 4294967296 + row }
+{
+    (u128::from(key) * ROWS + u128::from(digest)) * ROWS + u128::from(row)
+}
+
+// The key under which the open row of these values and this number stands.
 pub(crate) fn open_key(values: &Values, row: u32) -> u128
     ensures { result ≡ place_key values.now row }
 {
-    (shift(key(values)) * ROWS + digest(values)) * ROWS + u128::from(row)
+    place(first_key(values), digest(values), row)
 }

@@ -4,15 +4,17 @@ ghost use Rattle.std.specs.Prelude.{◌≡◌, ◌≤◌, ◌<◌, ◌-◌, leng
 ghost use Rattle.std.specs.Int.{w64};
 ghost use Rattle.std.specs.List.Sorted.{IsNonDecreasingBy};
 ghost use Rattle.tq_base.specs.declared.period.TheConstants.{FOREVER};
+ghost use Rattle.tq_base.specs.KeyRanges.{key_of};
 ghost use Rattle.tq_event.specs.History.{time_of};
 ghost use Rattle.tq_event.specs.Versions.{version_at};
 ghost use Rattle.tq_scan.specs.Windows.{whole_of};
+ghost use Rattle.tq_store.specs.Keys.{shifted};
 ghost use Rattle.tq_store.specs.Rows.{window_part};
 ghost use Rattle.tq_store.specs.Stored.{IsReadable, row_of_key, seen};
 ghost use Rattle.tq_store.specs.Valid.{shown, unnumbered};
 
 use crate::index::RowEvents;
-use crate::key::{ROWS, shift_key};
+use crate::key::{ROWS, first_key, shift_key};
 use crate::row::Row;
 use crate::stored::{period, read_row, time, values};
 use std::alloc::{AllocError, Global};
@@ -85,6 +87,18 @@ fn lend_values<'a>(
     Ok(lent)
 }
 
+// The keys of rows whose values are lent, from 0 on. The values lie somewhere else again, and this loop too does no more
+// than look at them: they are near when they are copied.
+fn first_keys(alloc: Global, lent: &[&Values]) -> Result<Vec<u64>, AllocError>
+    ensures { IfOk result (λ keys. keys.items ≡ map (λ values. shifted (key_of values.now)) lent.now) }
+{
+    let mut keys = Vec::with_capacity(alloc, lent.len())?;
+    'rows: for values in lent {
+        keys.push(first_key(values))?;
+    }
+    Ok(keys)
+}
+
 // The same rows, of so many values each, side by side.
 pub(crate) fn read_side_by_side(
     alloc: Global,
@@ -99,6 +113,7 @@ pub(crate) fn read_side_by_side(
     ensures { IfOk result (λ found. map shown found.items ≡ map (λ key. unnumbered (row_of_key events.now rows.now n key)) keys.now) }
 {
     let lent = lend_values(alloc, events, rows, keys)?;
+    let _near = first_keys(alloc, &lent)?;
     let mut found = Rows::new(alloc, width);
     'keys: for place in 0..keys.len() {
         let row = &rows[(keys[place] % ROWS) as usize];

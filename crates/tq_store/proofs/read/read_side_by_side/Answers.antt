@@ -17,7 +17,7 @@ keys-preserved c =
     let key : ℕ = get_or c.args.keys.now c.keys.place 0 in
     let values_of : ℕ → List Value = λ key. (row_of_key c.args.events.now c.args.rows.now 0 key).values in
     let lent = lent_at c.in_ok-lent.lent.items values_of c.args.keys.now c.in_ok-lent.ensures c.keys.place c.index.result.now c.keys-test.true c.index.ensures in
-    let there = row_there c.args.events.now c.args.rows.now key c.index-rows-keys.result (record { start = 0; end = None; from = 0; to = 0 }) (c.requires.readable c.keys.place 0 c.keys-test.true) c.index-rows-keys.is in
+    let there = row_there c.args.events.now c.args.rows.now key c.index-rows-keys.result (record { start = 0; end = None; digest = 0; from = 0; to = 0; key = 0 }) (c.requires.readable c.keys.place 0 c.keys-test.true) c.index-rows-keys.is in
     let same =
     ap (λ v. record { number = 0; values = v; from = c.period.result.start; to = c.period.result.end }) (c.get.ensures ∙ lent)
     ∙ ap (λ f. record { number = 0; values = values_of key; from = f; to = c.period.result.end }) c.period.ensures.start

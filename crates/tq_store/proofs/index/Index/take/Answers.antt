@@ -1,19 +1,15 @@
 use Rattle.std.proofs.Common.{◌≡◌, ◌&&◌, not, ◌++◌, ◌∷◌, ◌<◌, ◌+◌, ◌∙◌, [], length, subst, sym, ap, true, ℕ, List}
-use Rattle.std.specs.Prelude.{IsSomeAnd, slice_get, slice_index_or}
-use Rattle.std.specs.Option.{option_map_or}
+use Rattle.std.specs.Prelude.{slice_index_or, slice_set}
 use Rattle.std.specs.Ordering.{eq_by_cmp, nat_cmp}
 use Rattle.std.proofs.lemmas.Option.{get_or_from_slice_get}
-use Rattle.tq_base.specs.declared.value.Value.{Value}
 use Rattle.tq_event.specs.declared.event.Event.{Event}
 use Rattle.tq_event.specs.declared.event.Event.TheVariants.{End}
 use Rattle.tq_event.specs.Recorded.{table_of}
 use Rattle.tq_mvbt.specs.TreeState.{lives_of}
 use Rattle.tq_store.specs.declared.index.Index.{Index}
 use Rattle.tq_store.specs.declared.index.RowEvents.{RowEvents}
-use Rattle.tq_store.specs.Index.{CanTake, IsIndexOf, Ends, ended, events_of}
-use Rattle.tq_store.specs.Keys.{tree_key}
-use Rattle.tq_store.specs.Open.{has, place_key}
-use Rattle.tq_store.specs.Stored.{IsStart, values_at, values_in}
+use Rattle.tq_store.specs.Index.{CanTake, IsIndexOf, Ends, ended, events_of, place_key_of, tree_key_of}
+use Rattle.tq_store.specs.Open.{has}
 use Rattle.tq_store.proofs.IndexLemmas.{IsOpenRow, index_end, index_like, index_start, not_yet_open, on_three, on_three_err, open_row}
 use Rattle.tq_store.proofs.index.Index.take.Goals as goal
 
@@ -26,22 +22,11 @@ ending_row es event t row at index is few of_table can =
 known : (es : List Event) (t row at : ℕ) (index : Index) (k : RowEvents) → (open_there : IsOpenRow es t row at index) → k ≡ slice_index_or index.rows.items row k → k ≡ events_of open_there.life
 known es t row at index k open_there is = is ∙ get_or_from_slice_get index.rows.items row (events_of open_there.life) k open_there.kept
 
--- its values are those that are handed on
-valued : (es : List Event) (t row at : ℕ) (index : Index) (k : RowEvents) (v : List Value) → (open_there : IsOpenRow es t row at index) → k ≡ events_of open_there.life → v ≡ values_at es k.start → v ≡ open_there.life.values
-valued es t row at index k v open_there same is = is ∙ ap (λ (k : RowEvents). values_at es k.start) same ∙ ap (λ o. option_map_or values_in o []) open_there.starts
-
-pub values-requires : goal.values-requires
-values-requires c =
-    let row = ending_row c.args.events.now c.args.event.now c.in-End.table c.in-End.row c.in-End.at c.args.self.now c.in-End.is c.requires.few c.requires.index c.requires.can in
-    let same = known c.args.events.now c.in-End.table c.in-End.row c.in-End.at c.args.self.now c.index.result.now row c.index.ensures in
-    subst (λ (k : RowEvents). IsSomeAnd (slice_get c.args.events.now k.start) IsStart) (sym same) (subst (λ o. IsSomeAnd o IsStart) (sym row.starts) tt)
-
 pub end-requires-clause-alive : goal.end-requires-clause-alive
 end-requires-clause-alive c =
     let row = ending_row c.args.events.now c.args.event.now c.in-End.table c.in-End.row c.in-End.at c.args.self.now c.in-End.is c.requires.few c.requires.index c.requires.can in
-    let same = known c.args.events.now c.in-End.table c.in-End.row c.in-End.at c.args.self.now c.index.result.now row c.index.ensures in
-    let values = valued c.args.events.now c.in-End.table c.in-End.row c.in-End.at c.args.self.now c.index.result.now c.values.result.now row same c.values.ensures in
-    subst (λ v. lives_of c.args.self.now.tree.nodes (tree_key v c.in-End.row) c.args.self.now.tree.version ≡ true) (sym values) row.alive
+    let same = known c.args.events.now c.in-End.table c.in-End.row c.in-End.at c.args.self.now c.index-known.result.now row c.index-known.ensures in
+    subst (λ (k : RowEvents). lives_of c.args.self.now.tree.nodes (tree_key_of k c.in-End.row) c.args.self.now.tree.version ≡ true) (sym same) row.alive
 
 pub returns-in-Start-clause-ok : goal.returns-in-Start-clause-ok
 returns-in-Start-clause-ok c = on_three c.start.result c.start.ensures.rows c.start.ensures.tree c.start.ensures.opened (λ rows tree opened.
@@ -55,16 +40,14 @@ pub returns-in-End-clause-ok : goal.returns-in-End-clause-ok
 returns-in-End-clause-ok c = on_three c.end.result c.end.ensures.rows c.end.ensures.tree c.end.ensures.opened (λ rows tree opened.
     let es = c.args.events.now in
     let row = ending_row es c.args.event.now c.in-End.table c.in-End.row c.in-End.at c.args.self.now c.in-End.is c.requires.few c.requires.index c.requires.can in
-    let same = known es c.in-End.table c.in-End.row c.in-End.at c.args.self.now c.index.result.now row c.index.ensures in
-    let values = valued es c.in-End.table c.in-End.row c.in-End.at c.args.self.now c.index.result.now c.values.result.now row same c.values.ensures in
+    let same = known es c.in-End.table c.in-End.row c.in-End.at c.args.self.now c.index-known.result.now row c.index-known.ensures in
     let of_table = subst (λ e. IsIndexOf es (table_of e) c.args.self.now) c.in-End.is c.requires.index in
     let can = subst (CanTake es) c.in-End.is c.requires.can in
-    let old_row = get_or_from_slice_get c.args.self.now.rows.items c.in-End.row (events_of row.life) (events_of row.life) row.kept in
     subst (λ e. IsIndexOf (es ++ e ∷ []) (table_of e) c.end.new.self) (sym c.in-End.is)
     (index_end es c.in-End.table c.in-End.row c.in-End.at c.args.self.now c.end.new.self row.life c.requires.few of_table can.1 row.stands row.none row.from
-    (rows (events_of row.life) ∙ ap (λ (k : RowEvents). Rattle.std.specs.Prelude.slice_set c.args.self.now.rows.items c.in-End.row (ended (length es) c.in-End.at k)) old_row)
-    (subst (λ v. Ends c.args.self.now.tree c.end.new.self.tree (tree_key v c.in-End.row) (length es + 1)) values tree)
-    (subst (λ v. (k : ℕ) → has c.end.new.self.opened k ≡ (has c.args.self.now.opened k && not (eq_by_cmp nat_cmp (place_key v c.in-End.row) k))) values opened)))
+    (rows ∙ ap (λ (k : RowEvents). slice_set c.args.self.now.rows.items c.in-End.row (ended (length es) c.in-End.at k)) same)
+    (subst (λ (k : RowEvents). Ends c.args.self.now.tree c.end.new.self.tree (tree_key_of k c.in-End.row) (length es + 1)) same tree)
+    (subst (λ (k : RowEvents). (p : ℕ) → has c.end.new.self.opened p ≡ (has c.args.self.now.opened p && not (eq_by_cmp nat_cmp (place_key_of k c.in-End.row) p))) same opened)))
 
 pub start-requires-clause-new : goal.start-requires-clause-new
 start-requires-clause-new c = not_yet_open c.args.events.now (table_of c.args.event.now) c.args.self.now c.requires.few c.requires.index c.in-Start.values
