@@ -1,3 +1,4 @@
+pub mod ColumnLemmas
 pub mod Converse
 pub mod DateLemmas
 pub mod Existence

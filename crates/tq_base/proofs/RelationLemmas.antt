@@ -237,7 +237,7 @@ both_in left right left_columns right_columns lefts rights =
 
 -- ---- columns
 
-column_value : (rows : List (List Value)) (columns : List (Option Place)) (number : ℕ) → cell rows (chosen_column columns number) ≡ value_at (cells rows columns) number
+pub column_value : (rows : List (List Value)) (columns : List (Option Place)) (number : ℕ) → cell rows (chosen_column columns number) ≡ value_at (cells rows columns) number
 column_value rows [] number = refl
 column_value rows (column ∷ columns) zero = refl
 column_value rows (column ∷ columns) (suc number) = column_value rows columns number

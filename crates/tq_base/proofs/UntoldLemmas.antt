@@ -17,13 +17,17 @@ use Rattle.tq_base.specs.declared.value.Value.{Value}
 use Rattle.tq_base.specs.declared.sides.Key.{Key}
 use Rattle.tq_base.specs.declared.sides.Mark.{Mark}
 use Rattle.tq_base.specs.declared.sides.Mark.TheVariants.{Unknown, Begins, GoesOn}
+use Rattle.tq_base.specs.declared.place_view.PlaceView.{PlaceView}
 use Rattle.tq_base.specs.declared.sides.Side.{Side}
+use Rattle.tq_base.specs.declared.sides.Side.TheVariants.{Left, Right}
 use Rattle.tq_base.specs.Contents.{Int, Text}
-use Rattle.tq_base.specs.Keys.{columns_on, first_rank, key_cmp, key_row, held, key_values, rank_tells, told_cmp, value_at, AreMarked, BeginsWithBytes, IsKey, SidesState, TellsRight}
+use Rattle.tq_base.specs.Keys.{columns_on, first_rank, key_cmp, key_row, held, key_values, rank_tells, rows_on, told_cmp, value_at, AreMarked, BeginsWithBytes, IsKey, SidesState, TellsRight}
 use Rattle.tq_base.specs.KeyLaws.{as_values, less_from_rank, tells_same, told_firsts}
 use Rattle.tq_base.specs.Untold.{first_text, from_cmp, goes_on, rank_cmp, ranked, unmarked, value_after, values_after, values_from, with_rank, AreUnmarked, IsRanked, IsSameOrder, RunsDone, SameKeys, SameOrder}
 use Rattle.tq_base.specs.Ranks.{prefix, prefix-lt}
 use Rattle.tq_base.specs.ValueOrder.{value_cmp, values_cmp, values_same, values_total}
+use Rattle.tq_base.specs.PlaceViews.{column_on, IsViewOf}
+use Rattle.tq_base.proofs.ColumnLemmas.{column_here}
 use Rattle.tq_base.proofs.KeyLemmas.{compared_at}
 
 -- ---- what is left of values
@@ -114,6 +118,18 @@ pub from_at : (s : SidesState) (k : Key) (row : List Value) (columns : List ℕ)
     → values_from s place offset k ≡ value_after offset (value_at row column) ∷ drop (place + 1) (key_values s k)
 from_at s k row columns place column offset row_is columns_is less column_is =
     ap (values_after offset) (compared_at s k row columns place column row_is columns_is less column_is)
+
+-- the same where the value is read of the column at the place
+pub from_view : (s : SidesState) (view : PlaceView) (k : Key) (place offset : ℕ) (value : Value) → length s.left_columns ≡ length s.right_columns → place < length s.left_columns → IsViewOf s place view
+    → value ≡ value_at (column_on view k.side) k.row → values_from s place offset k ≡ value_after offset value ∷ drop (place + 1) (key_values s k)
+from_view s view k place offset value same less is_view value_is =
+    from_at s k (key_row s k).values (columns_on s k.side) place (get_or (columns_on s k.side) place 0) offset refl refl (there k.side) refl
+    ∙ ap (λ v. value_after offset v ∷ drop (place + 1) (key_values s k))
+    (sym (value_is ∙ ap (λ l. value_at l k.row) (is_view k.side) ∙ column_here (rows_on s k.side) (get_or (columns_on s k.side) place 0) k.row))
+  where
+    there : (of : Side) → place < length (columns_on s of)
+    there Left = less
+    there Right = omega (arith, less, same)
 
 pub from_past : (s : SidesState) (k : Key) (columns : List ℕ) (place offset : ℕ) → columns ≡ columns_on s k.side → length columns ≤ place → values_from s place offset k ≡ []
 from_past s k columns place offset columns_is past =

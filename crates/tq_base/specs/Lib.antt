@@ -14,6 +14,7 @@ pub mod Names
 pub mod Numbers
 pub mod Parts
 pub mod Periods
+pub mod PlaceViews
 pub mod Ranges
 pub mod Ranks
 pub mod Relations

@@ -1,6 +1,7 @@
 -- How relations keep their rows: in which source and which column there each value stands. This project's own.
-use Rattle.std.specs.Prelude.{ℕ, ◌+◌, ◌<◌, suc, pos, List, [], ◌∷◌, map, slice_index_or, Option, Some, None}
+use Rattle.std.specs.Prelude.{ℕ, ◌+◌, ◌*◌, ◌<◌, suc, pos, List, [], ◌∷◌, map, slice_index_or, Option, Some, None}
 use Rattle.std.specs.Global.{Vec}
+use Rattle.std.specs.List.{range_with_len}
 use Rattle.tq_base.specs.declared.value.Value.{Value}
 use Rattle.tq_base.specs.declared.period.Period.{Period}
 use Rattle.tq_base.specs.declared.fragment.Fragment.{Fragment}
@@ -25,6 +26,19 @@ abbrev pub number_at : Option (Vec ℕ) → ℕ → ℕ
 number_at None place = place
 number_at (Some numbers) place = slice_index_or numbers.items place 0
 
+-- the number at the place; where there are no numbers, that is the place itself
+abbrev pub number_in : Option (List ℕ) → ℕ → ℕ
+number_in None place = place
+number_in (Some numbers) place = slice_index_or numbers place 0
+
+-- of rows of one width, which lie one behind the other in one list, the value of the column in the row of this number
+abbrev pub value_there : List Value → ℕ → ℕ → ℕ → Value
+value_there values width column number = value_at values (number * width + column)
+
+-- the values of the column in the rows of the numbers at the first so many places
+abbrev pub values_there : List Value → ℕ → ℕ → Option (List ℕ) → ℕ → List Value
+values_there values width column numbers len = map (λ place. value_there values width column (number_in numbers place)) (range_with_len 0 len)
+
 -- the values of a part's row at the place
 abbrev pub part_values : Part → ℕ → List Value
 part_values part place = values_at_number (source_list part.source).items (number_at part.numbers place)
@@ -37,6 +51,10 @@ rows_at parts place = map (λ part. part_values part place) parts
 abbrev pub cell : List (List Value) → Option Place → Value
 cell rows None = Int (pos 0)
 cell rows (Some at) = value_at (slice_index_or rows at.part []) at.column
+
+-- the values of a column at the first so many places
+abbrev pub column_cells : List Part → Option Place → ℕ → List Value
+column_cells parts column len = map (λ place. cell (rows_at parts place) column) (range_with_len 0 len)
 
 -- the values of the columns
 abbrev pub cells : List (List Value) → List (Option Place) → List Value

@@ -14,6 +14,10 @@ values_at_number rows number = (slice_index_or rows number no_row).values
 abbrev pub row_at : List Fragment → ℕ → Fragment
 row_at rows number = slice_index_or rows number no_row
 
+-- the values of the column in each row; a column that a row does not have counts as the number 0
+abbrev pub column_of : List Fragment → ℕ → List Value
+column_of rows column = map (λ (row : Fragment). value_at row.values column) rows
+
 -- the values of the row of the line's number, at the line's period
 abbrev pub line_of : List Fragment → Line → Fragment
 line_of rows line = record { values = values_at_number rows line.row; period = line.period }

@@ -8,6 +8,7 @@
 #![tactic(auto)]
 
 mod catalogue;
+mod column_view;
 mod dates;
 mod form;
 mod fragment;
@@ -19,6 +20,7 @@ mod name;
 mod number;
 mod parts;
 mod period;
+mod place_view;
 mod rank;
 mod relation;
 mod row;
@@ -30,6 +32,7 @@ mod value;
 mod values;
 
 pub use catalogue::{Catalogue, Column, Kind, MAX_TEXT, Schema};
+pub use column_view::ColumnView;
 pub use dates::LAST_DAY;
 pub use form::{Form, put_instant, read_bound, read_instant};
 pub use fragment::Fragment;

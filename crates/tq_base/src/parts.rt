@@ -1,8 +1,9 @@
 // What a relation is made of: sources of rows, and where the values of a column stand.
 
 ghost use Rattle.std.specs.Prelude.{◌≡◌, ◌<◌, ℕ, IfOk, OnOk, length, map, pos, slice_index_or};
+ghost use Rattle.std.specs.Option.{option_copied};
 ghost use Rattle.tq_base.specs.Contents.{Int};
-ghost use Rattle.tq_base.specs.Parts.{cell, number_at, part_values, rows_at, source_list};
+ghost use Rattle.tq_base.specs.Parts.{cell, number_at, number_in, part_values, rows_at, source_list};
 ghost use Rattle.tq_base.specs.Relations.{values_at_number};
 
 use crate::rows::Rows;
@@ -87,6 +88,16 @@ impl Part<'_> {
         match &self.numbers {
             None => place,
             Some(numbers) => numbers.get(place as usize).copied().unwrap_or(0),
+        }
+    }
+
+    // The numbers in its source of the rows, none where they are all rows as they stand.
+    pub(crate) fn numbers(&self) -> Option<&[u32]>
+        ensures { (place : ℕ) → number_in (option_copied result) place ≡ number_at self.now.numbers place }
+    {
+        match &self.numbers {
+            None => None,
+            Some(numbers) => Some(numbers.as_slice()),
         }
     }
 

@@ -5,8 +5,9 @@ ghost use Rattle.std.specs.List.{range_with_len};
 ghost use Rattle.tq_base.specs.declared.fragment.Fragment.{Fragment};
 ghost use Rattle.tq_base.specs.Keys.{no_row};
 ghost use Rattle.tq_base.specs.Parts.{chosen_column, first_column, first_periods, moved_column, periods_of, rows_at, source_list};
-ghost use Rattle.tq_base.specs.Relations.{line_of, pair_of, projected, row_at, values_at_number};
+ghost use Rattle.tq_base.specs.Relations.{column_of, line_of, pair_of, projected, row_at, values_at_number};
 
+use crate::column_view::ColumnView;
 use crate::parts::{Part, Place, Source};
 use crate::period::Period;
 use crate::row::Row;
@@ -296,6 +297,15 @@ impl<'a> Relation<'a> {
         } else {
             Row::of(self.parts.as_slice(), &[], 0, &self.zero)
         }
+    }
+
+    /// The values of the column, numbered from 0, lent row by row; a column that the rows do not have counts as the
+    /// number 0. For loops over rows: what is the same for all of them is looked up once.
+    pub fn column(&self, column: u32) -> ColumnView<'_>
+        ensures { result ≡ column_of self.now.items column }
+    {
+        let place = self.columns.get(column as usize).copied().unwrap_or(None);
+        ColumnView::of(self.parts.as_slice(), place, self.len(), &self.zero)
     }
 
     // The rows of these numbers, each at the line's period, take the place of the rows. Where a growth was refused

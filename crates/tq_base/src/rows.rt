@@ -1,6 +1,6 @@
 //! Rows of one width, side by side in one list of values, each with the period at which it is valid.
 
-ghost use Rattle.std.specs.Prelude.{◌≡◌, ◌++◌, ◌∷◌, [], ◌<◌, ◌≤◌, List, All, IfOk, OnErr, OnOk, length, map, slice_index_or, take};
+ghost use Rattle.std.specs.Prelude.{◌≡◌, ◌++◌, ◌∷◌, [], ◌<◌, ◌≤◌, ◌*◌, ℕ, List, All, IfOk, OnErr, OnOk, drop, length, map, slice_index_or, take};
 ghost use Rattle.tq_base.specs.declared.fragment.Fragment.{Fragment};
 
 use crate::period::Period;
@@ -107,6 +107,14 @@ impl Rows {
         let values = self.values.as_slice();
         let start = row * self.width;
         &values[start..start + self.width]
+    }
+
+    // The values of all rows, one row behind the other.
+    pub(crate) fn all_values(&self) -> &[Value]
+        ensures len { length result.now ≡ length self.now.items * self.now.width }
+        ensures rows { (k : ℕ) (d : Fragment) → k < length self.now.items → (slice_index_or self.now.items k d).values ≡ take self.now.width (drop (k * self.now.width) result.now) }
+    {
+        self.values.as_slice()
     }
 
     /// Adds a row of these values, which are moved out of their list. `AllocError` where a growth was

@@ -14,9 +14,11 @@ ghost use Rattle.tq_base.specs.Untold.{first_text, from_cmp, goes_on, rank_cmp, 
 ghost use Rattle.tq_base.specs.ValueOrder.{value_cmp};
 
 use crate::keys::{compare_told, rank_tells};
+use crate::place_view::PlaceView;
 use crate::rank::{compare_after, rank_after, text_after};
 use crate::row::Row;
 use crate::sides::{Key, Mark, Sides};
+use crate::value::Value;
 use std::cmp::Ordering;
 
 // How often the ranks of one key are taken anew: what they do not tell then is read.
@@ -35,20 +37,11 @@ struct Ahead {
     longest: usize,
 }
 
-// The rank of the value in the column, or of its text from the offset on.
-fn rank_there(row: &Row<'_>, column: u32, offset: usize) -> u128
-    ensures rank { result ≡ value_rank (value_after offset (value_at row.now column)) }
-    ensures bytes { HasBytes (value_after offset (value_at row.now column)) }
-{
-    rank_after(row.at(column), offset)
-}
-
-// The text in the column from the offset on, none where there is no text.
-fn text_there<'a>(row: &Row<'a>, column: u32, offset: usize) -> &'a [u8]
-    ensures { result.now ≡ text_of (value_after offset (value_at row.now column)) }
-{
-    text_after(row.at(column), offset)
-}
+// No key was looked at.
+const NOTHING_AHEAD: Ahead = Ahead {
+    until: 0,
+    longest: 0,
+};
 
 // How the values in the two columns stand to each other, texts from the offset on.
 fn compare_there(
@@ -148,28 +141,64 @@ fn mark_going_on(keys: &mut [Key])
     }
 }
 
-impl<'a> Sides<'a> {
-    // The rank of what the key has from there on, 0 where there is nothing.
-    fn rank_from(&self, key: &Key, place: usize, offset: usize) -> u128
-        ensures rank { result ≡ first_rank (values_from (state_of self.now) place offset key.now) }
-        ensures bytes { BeginsWithBytes (values_from (state_of self.now) place offset key.now) }
-    {
-        let columns = self.columns(key.side);
-        if place >= columns.len() {
-            return 0;
+// The columns in which values come next: the one at the place, and for keys whose ranks tell their values there the one
+// behind it, each if it is compared.
+#[derive(Drop)]
+struct NextViews<'a> {
+    here: Option<PlaceView<'a>>,
+    behind: Option<PlaceView<'a>>,
+}
+
+impl<'a> NextViews<'a> {
+    // The value that comes next for the key, if one does.
+    fn value(&self, key: &Key) -> Option<&'a Value> {
+        let view = if rank_tells(key.rank) {
+            &self.behind
+        } else {
+            &self.here
+        };
+        match view {
+            Some(view) => Some(view.at(key)),
+            None => None,
         }
-        rank_there(&self.row(key), columns[place], offset)
     }
 
-    // The text that the key has there, from the offset on.
-    fn text_from(&self, key: &Key, place: usize, offset: usize) -> &'a [u8]
-        ensures { result.now ≡ first_text (values_from (state_of self.now) place offset key.now) }
-    {
-        let columns = self.columns(key.side);
-        if place >= columns.len() {
-            return &[];
+    // How many of the values that come next for the keys of the ranks that are not theirs alone lie in boxes.
+    fn count_boxed(&self, keys: &[Key]) -> usize {
+        let mut count: usize = 0;
+        'keys: for (number, key) in keys.iter().enumerate() {
+            if has_like(keys, number, key.rank)
+                && let Some(value) = self.value(key)
+            {
+                count = count.wrapping_add(value.is_boxed() as usize);
+            }
         }
-        text_there(&self.row(key), columns[place], offset)
+        count
+    }
+
+    // How long the texts are at most that come next for these keys, those at the place from the offset on.
+    fn longest(&self, keys: &[Key], offset: usize) -> usize {
+        let mut longest = 0;
+        'keys: for (number, key) in keys.iter().enumerate() {
+            if has_like(keys, number, key.rank)
+                && let Some(value) = self.value(key)
+            {
+                let start = if rank_tells(key.rank) { 0 } else { offset };
+                longest = longest.max(text_after(value, start).len());
+            }
+        }
+        longest
+    }
+}
+
+impl<'a> Sides<'a> {
+    // The column at the place, if one is compared there.
+    fn view_at(&self, place: usize) -> Option<PlaceView<'a>> {
+        if place < self.left_columns.len() {
+            Some(self.place_view(place))
+        } else {
+            None
+        }
     }
 
     // How what two keys have from there on stands to each other, and then their starts.
@@ -198,48 +227,45 @@ impl<'a> Sides<'a> {
 
     // Gives each key the rank of what it has from there on.
     fn rank_keys(&self, keys: &mut [Key], place: usize, offset: usize)
+        requires { place < length self.now.left_columns.now }
         ensures keys { keys.new ≡ map (ranked (state_of self.now) place offset) keys.old }
         ensures ranks { All (IsRanked (state_of self.now) place offset) keys.new }
     {
+        let view = self.place_view(place);
         'keys: for key in keys.iter_mut() {
-            key.rank = self.rank_from(key, place, offset);
+            key.rank = rank_after(view.at(key), offset);
         }
     }
 
     // How many bytes the texts of all keys have in common there.
     fn shared_len(&self, keys: &[Key], place: usize, offset: usize) -> usize
+        requires { place < length self.now.left_columns.now }
         ensures { Share (state_of self.now) place offset result keys.now }
     {
         let Some(first) = keys.first() else {
             return 0;
         };
-        let text = self.text_from(first, place, offset);
+        let view = self.place_view(place);
+        let text = text_after(view.at(first), offset);
         let mut len = text.len();
         'keys: for key in keys {
-            len = common_len(&text[..len], self.text_from(key, place, offset));
+            len = common_len(&text[..len], text_after(view.at(key), offset));
         }
         len
     }
 
-    // How long the text is that comes next for a key whose rank is not its alone.
-    fn next_len(&self, key: &Key, place: usize, offset: usize) -> usize {
-        if rank_tells(key.rank) {
-            self.text_from(key, place.saturating_add(1), 0).len()
-        } else {
-            self.text_from(key, place, offset).len()
-        }
-    }
-
-    // How long the texts are at most that come next for the keys of the ranks that are not theirs alone. These texts lie
-    // anywhere: in a loop that does no more than this, the processor can wait for several of them at once.
+    // How long the texts are at most that come next for the keys of the ranks that are not theirs alone. Values and their
+    // boxes lie anywhere: in a loop that does no more than look at these, or at those, the processor can wait for many
+    // of them at once. Where there are no boxes, all texts are short.
     fn longest_next(&self, keys: &[Key], place: usize, offset: usize) -> usize {
-        let mut longest = 0;
-        'keys: for (number, key) in keys.iter().enumerate() {
-            if has_like(keys, number, key.rank) {
-                longest = longest.max(self.next_len(key, place, offset));
-            }
+        let views = NextViews {
+            here: self.view_at(place),
+            behind: self.view_at(place.saturating_add(1)),
+        };
+        if views.count_boxed(keys) == 0 {
+            return HEAD;
         }
-        longest
+        views.longest(keys, offset)
     }
 
     // Looks at the next keys, from the start on, once those that were looked at are sorted.
@@ -258,6 +284,19 @@ impl<'a> Sides<'a> {
         Ahead {
             until,
             longest: self.longest_next(&keys[start..until], place, offset),
+        }
+    }
+
+    // What is known of the texts of a run that is ranked anew: in the last column they were looked at before, and no
+    // other text comes next.
+    fn known_ahead(&self, place: usize, next: usize, longest: usize) -> Ahead {
+        if next == place && place.saturating_add(1) >= self.left_columns.len() {
+            Ahead {
+                until: usize::MAX,
+                longest,
+            }
+        } else {
+            NOTHING_AHEAD
         }
     }
 
@@ -294,7 +333,8 @@ impl<'a> Sides<'a> {
 
     // Whether keys of one rank are ranked anew at the next place, and not sorted by comparisons.
     fn are_ranked_anew(&self, levels: u32, next: usize, is_further: bool) -> bool
-        ensures { OnTrue result (0 < levels) }
+        ensures levels { OnTrue result (0 < levels) }
+        ensures there { OnTrue result (next < length self.now.left_columns.now) }
     {
         levels > 0 && is_further && next < self.left_columns.len()
     }
@@ -353,7 +393,9 @@ impl<'a> Sides<'a> {
         let is_further = next > place || next_offset > offset;
         if self.are_ranked_anew(levels, next, is_further) {
             self.rank_keys(run, next, next_offset);
-            self.sort_ranked(levels - 1, run, next, next_offset);
+            let further = next_offset.saturating_sub(offset);
+            let known = self.known_ahead(place, next, longest.saturating_sub(further));
+            self.sort_ranked(levels - 1, run, next, next_offset, known);
             set_ranks(run, rank);
         } else {
             self.sort_rest(run, next, next_offset);
@@ -390,7 +432,7 @@ impl<'a> Sides<'a> {
     // Sorts keys that have the ranks of what they have from there on by these, and then each run of equal ranks,
     // and marks those that are seen to begin a run or to go on with it.
     #[cycle(untold)]
-    fn sort_ranked(&self, levels: u32, keys: &mut [Key], place: usize, offset: usize)
+    fn sort_ranked(&self, levels: u32, keys: &mut [Key], place: usize, offset: usize, known: Ahead)
         requires ranks { All (IsRanked (state_of self.now) place offset) keys.old }
         requires unmarked { AreUnmarked keys.old }
         requires decides { SameOrder (state_of self.now) 0 0 place offset keys.old }
@@ -399,10 +441,7 @@ impl<'a> Sides<'a> {
         ensures marks { AreMarked (state_of self.now) keys.new }
     {
         sort_by_rank(keys);
-        let mut ahead = Ahead {
-            until: 0,
-            longest: 0,
-        };
+        let mut ahead = known;
         let mut start = 0;
         'runs: while start < keys.len() {
             ahead = self.look_ahead(ahead, keys, start, place, offset);
@@ -419,6 +458,6 @@ impl<'a> Sides<'a> {
         ensures order { IsSorted (from_cmp (state_of self.now) 0 0) keys.new.items }
         ensures marks { AreMarked (state_of self.now) keys.new.items }
     {
-        self.sort_ranked(LEVELS, keys.as_mut_slice(), 0, 0);
+        self.sort_ranked(LEVELS, keys.as_mut_slice(), 0, 0, NOTHING_AHEAD);
     }
 }

@@ -84,7 +84,7 @@ sort_next-returns-clause-further t c =
 
 pub sort_run-sort_ranked-requires : goal.sort_run-sort_ranked-requires
 sort_run-sort_ranked-requires t c =
-    let some : 0 < c.args.levels = subst (λ b. OnTrue b (0 < c.args.levels)) c.if-are_ranked_anew.true c.are_ranked_anew.ensures in
+    let some : 0 < c.args.levels = subst (λ b. OnTrue b (0 < c.args.levels)) c.if-are_ranked_anew.true c.are_ranked_anew.ensures.levels in
     let s = state_of c.args.self.now in
     let none : AreUnmarked (map (ranked s c.next_place-next.result.0 c.next_place-next.result.1) c.args.run.now) =
     All-map (λ (k : Key). k.mark ≡ Unknown) (ranked s c.next_place-next.result.0 c.next_place-next.result.1) c.args.run.now c.requires.unmarked in

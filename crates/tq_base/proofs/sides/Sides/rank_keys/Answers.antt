@@ -1,17 +1,21 @@
-use Rattle.std.proofs.Common.{◌<◌, ◌≤◌, length, subst, arith}
+use Rattle.std.proofs.Common.{◌<◌, ◌≤◌, ◌∙◌, ap, get_or, length, subst, sym, arith}
 use Rattle.std.specs.Prelude.{All}
 use Rattle.std.proofs.lemmas.List.{take_all}
+use Rattle.tq_base.specs.declared.sides.Mark.TheVariants.{Unknown}
+use Rattle.tq_base.specs.declared.sides.Side.TheVariants.{Left}
 use Rattle.tq_base.specs.KeySides.{state_of}
+use Rattle.tq_base.specs.Keys.{first_rank, BeginsWithBytes}
 use Rattle.tq_base.specs.Untold.{ranked, IsRanked}
-use Rattle.tq_base.proofs.UntoldLemmas.{map_over_all, ranked_now}
+use Rattle.tq_base.proofs.UntoldLemmas.{from_view, map_over_all, ranked_now}
 use Rattle.tq_base.proofs.sides.Sides.rank_keys.Goals as goal
 
 pub keys-preserved : goal.keys-preserved
 keys-preserved c =
     let s = state_of c.args.self.now in
     let less : c.keys.key-index < length c.keys.keys = omega (arith, c.keys-test.true, c.keys.auto.keys) in
-    ranked_now s c.args.place c.args.offset c.args.keys.now c.keys.keys c.keys.key-index _ c.rank_from-key.result c.keys-test.true less
-    c.keys.invariant.keys c.keys.invariant.ranks c.rank_from-key.ensures.rank c.rank_from-key.ensures.bytes
+    let left = from_view s c.place_view-view.result (get_or c.keys.keys c.keys.key-index (record { rank = 0; start = 0; row = 0; side = Left; mark = Unknown })) c.args.place c.args.offset c.at.result.now c.args.self.now.same c.requires c.place_view-view.ensures c.at.ensures in
+    ranked_now s c.args.place c.args.offset c.args.keys.now c.keys.keys c.keys.key-index _ c.rank_after-key.result c.keys-test.true less
+    c.keys.invariant.keys c.keys.invariant.ranks (c.rank_after-key.ensures.rank ∙ ap first_rank (sym left)) (subst BeginsWithBytes (sym left) c.rank_after-key.ensures.bytes)
 
 pub returns-clause-keys : goal.returns-clause-keys
 returns-clause-keys c =

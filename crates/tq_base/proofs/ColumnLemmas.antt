@@ -1,0 +1,70 @@
+-- One column of rows that lie one behind the other in one list of values.
+use Rattle.std.proofs.Common.{inl, inr, suc, zero, ◌≡◌, ◌≤◌, ◌<◌, ◌+◌, ◌*◌, ℕ, List, [], ◌∷◌, length, map, get_or, drop, take, sym, refl, ap, ◌∙◌, arith}
+use Rattle.std.specs.List.{range_with_len}
+use Rattle.std.specs.Prelude.{Option, pos}
+use Rattle.std.proofs.lemmas.Bool.{cases_lt}
+use Rattle.std.proofs.lemmas.List.{get_or-drop, get_or-take, get_or_past}
+use Rattle.std.proofs.lemmas.List.FromFn.{get_or-map-range_with_len, length-map-range_with_len}
+use Rattle.tq_base.specs.declared.value.Value.{Value}
+use Rattle.tq_base.specs.declared.fragment.Fragment.{Fragment}
+use Rattle.tq_base.specs.declared.period.Period.{Period}
+use Rattle.tq_base.specs.declared.parts.Part.{Part}
+use Rattle.tq_base.specs.declared.parts.Place.{Place}
+use Rattle.tq_base.specs.Contents.{Int}
+use Rattle.tq_base.specs.Keys.{no_row, value_at}
+use Rattle.tq_base.specs.Parts.{cell, chosen_column, column_cells, number_in, rows_at, rows_by_number, value_there, values_there}
+use Rattle.tq_base.specs.Relations.{column_of, values_at_number}
+use Rattle.tq_base.proofs.RelationLemmas.{column_value}
+
+-- a row that is not there has no value
+pub value_past : (values : List Value) (width column rows number : ℕ) → length values ≡ rows * width → rows ≤ number → value_there values width column number ≡ Int (pos 0)
+value_past values width column rows number fill past =
+    let behind : rows * width ≤ number * width = grind (arith, past) in
+    get_or_past values (number * width + column) (Int (pos 0)) (omega (arith, behind, fill))
+
+-- the value stands so many places behind the first one of its row
+pub value_inside : (items : List Fragment) (values : List Value) (width column number : ℕ) → length values ≡ length items * width → column < width
+    → ((k : ℕ) (d : Fragment) → k < length items → (get_or items k d).values ≡ take width (drop (k * width) values))
+    → value_there values width column number ≡ value_at (values_at_number items number) column
+value_inside items values width column number fill inside rows = elim (cases_lt number (length items)) [
+  | inl less ↦
+      sym (ap (λ l. value_at l column) (rows number no_row less)
+      ∙ get_or-take width (drop (number * width) values) column (Int (pos 0)) inside
+      ∙ get_or-drop (number * width) values column (Int (pos 0)))
+  | inr past ↦
+      value_past values width column (length items) number fill past
+      ∙ sym (ap (λ (row : Fragment). value_at row.values column) (get_or_past items number no_row past))
+]
+
+-- the value at a place, and where there is no such place
+pub read_there : (values : List Value) (width column : ℕ) (numbers : Option (List ℕ)) (len row : ℕ) → row < len
+    → value_at (values_there values width column numbers len) row ≡ value_there values width column (number_in numbers row)
+read_there values width column numbers len row less =
+    get_or-map-range_with_len (λ place. value_there values width column (number_in numbers place)) 0 len row row (Int (pos 0)) less (omega arith)
+
+pub read_past : (values : List Value) (width column : ℕ) (numbers : Option (List ℕ)) (len row : ℕ) → len ≤ row
+    → value_at (values_there values width column numbers len) row ≡ Int (pos 0)
+read_past values width column numbers len row past =
+    get_or_past (values_there values width column numbers len) row (Int (pos 0))
+    (let short : length (values_there values width column numbers len) ≤ row = omega (arith, past, length-map-range_with_len (λ place. value_there values width column (number_in numbers place)) 0 len) in short)
+
+-- a column in one row after the other is that of the rows
+columned_from : (parts : List Part) (columns : List (Option Place)) (column place : ℕ) (periods : List Period)
+    → map (λ k. cell (rows_at parts k) (chosen_column columns column)) (range_with_len place (length periods)) ≡ column_of (rows_by_number parts columns place periods) column
+unfolding rows_by_number
+columned_from parts columns column place [] = refl
+columned_from parts columns column place (period ∷ periods) =
+    let next : place + 1 ≡ suc place = omega arith in
+    let rest : map (λ k. cell (rows_at parts k) (chosen_column columns column)) (range_with_len (place + 1) (length periods)) ≡ column_of (rows_by_number parts columns (suc place) periods) column =
+    ap (λ n. map (λ k. cell (rows_at parts k) (chosen_column columns column)) (range_with_len n (length periods))) next ∙ columned_from parts columns column (suc place) periods in
+    λ i. column_value (rows_at parts place) columns column i ∷ rest i
+
+pub columned : (parts : List Part) (columns : List (Option Place)) (column len : ℕ) (periods : List Period) → len ≡ length periods
+    → column_cells parts (chosen_column columns column) len ≡ column_of (rows_by_number parts columns 0 periods) column
+columned parts columns column len periods same = ap (column_cells parts (chosen_column columns column)) same ∙ columned_from parts columns column 0 periods
+
+-- the value of a column in a row
+pub column_here : (rows : List Fragment) (column row : ℕ) → value_at (column_of rows column) row ≡ value_at (values_at_number rows row) column
+column_here [] column row = refl
+column_here (r ∷ rows) column zero = refl
+column_here (r ∷ rows) column (suc row) = column_here rows column row

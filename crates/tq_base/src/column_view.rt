@@ -1,0 +1,127 @@
+//! One column of a relation, for loops over rows: what is the same for all rows is looked up once.
+
+ghost use Rattle.std.specs.Prelude.{◌≡◌, length, map, pos};
+ghost use Rattle.std.specs.List.{range_with_len};
+ghost use Rattle.std.specs.Option.{option_copied};
+ghost use Rattle.tq_base.specs.Contents.{Int};
+ghost use Rattle.tq_base.specs.Keys.{value_at};
+ghost use Rattle.tq_base.specs.Parts.{column_cells, number_in, part_values};
+
+use crate::parts::{Part, Place};
+use crate::value::Value;
+use std::marker::Model;
+
+/// The values of one column, lent: one for each row of a relation; seen as their list.
+#[derive(Drop)]
+pub struct ColumnView<'a> {
+    values: &'a [Value],
+    width: usize,
+    column: usize,
+    rows: usize,
+    numbers: Option<&'a [u32]>,
+    len: usize,
+    zero: &'a Value,
+}
+
+impl<'a> Model for ColumnView<'a> {
+    ghost use Rattle.std.specs.Prelude.{◌≡◌, ◌<◌, ◌*◌, List, length, pos};
+    ghost use Rattle.std.specs.Option.{option_copied};
+    ghost use Rattle.tq_base.specs.declared.value.Value.{Value as OneValue};
+    ghost use Rattle.tq_base.specs.Contents.{Int};
+    ghost use Rattle.tq_base.specs.Parts.{values_there};
+
+    ghost Value = { List OneValue };
+
+    ghost view = { λ v. values_there v.values.now v.width v.column (option_copied v.numbers) v.len };
+
+    ghost invariant = { λ v. (v.zero.now ≡ Int (pos 0)) × (length v.values.now ≡ v.rows * v.width) × (v.column < v.width) };
+}
+
+// So many rows that do not have the column.
+fn nowhere<'a>(len: usize, zero: &'a Value) -> ColumnView<'a>
+    requires { zero.now ≡ Int (pos 0) }
+    ensures { result ≡ map (λ _. Int (pos 0)) (range_with_len 0 len) }
+{
+    ColumnView {
+        values: &[],
+        width: 1,
+        column: 0,
+        rows: 0,
+        numbers: None,
+        len,
+        zero,
+    }
+}
+
+// The column in the first so many rows of the part.
+fn in_part<'a>(part: &'a Part<'a>, column: u32, len: usize, zero: &'a Value) -> ColumnView<'a>
+    requires { zero.now ≡ Int (pos 0) }
+    ensures { result ≡ map (λ place. value_at (part_values part.now place) column) (range_with_len 0 len) }
+{
+    let rows = part.source.rows();
+    let column = column as usize;
+    if column >= rows.width() {
+        return nowhere(len, zero);
+    }
+    ColumnView {
+        values: rows.all_values(),
+        width: rows.width(),
+        column,
+        rows: rows.len(),
+        numbers: part.numbers(),
+        len,
+        zero,
+    }
+}
+
+// The number at the place; where there are no numbers, that is the place itself.
+fn number_in(numbers: Option<&[u32]>, place: u32) -> u32
+    ensures { result ≡ number_in (option_copied numbers.entry) place }
+{
+    match numbers {
+        None => place,
+        Some(numbers) => numbers.get(place as usize).copied().unwrap_or(0),
+    }
+}
+
+impl<'a> ColumnView<'a> {
+    // The column in the first so many rows of the parts; one that stands nowhere is the number 0.
+    pub(crate) fn of(
+        parts: &'a [Part<'a>],
+        column: Option<Place>,
+        len: usize,
+        zero: &'a Value,
+    ) -> ColumnView<'a>
+        requires { zero.now ≡ Int (pos 0) }
+        ensures { result ≡ column_cells parts.now column len }
+    {
+        let Some(at) = column else {
+            return nowhere(len, zero);
+        };
+        match parts.get(at.part as usize) {
+            Some(part) => in_part(part, at.column, len, zero),
+            None => nowhere(len, zero),
+        }
+    }
+
+    /// How many rows there are.
+    pub fn len(&self) -> usize
+        ensures { result ≡ length self.now }
+    {
+        self.len
+    }
+
+    /// The value of the row; a row that is not there counts as the number 0.
+    pub fn at(&self, row: u32) -> &'a Value
+        ensures { result.now ≡ value_at self.now row }
+    {
+        if row as usize >= self.len {
+            return self.zero;
+        }
+        let number = number_in(self.numbers, row) as usize;
+        if number >= self.rows {
+            return self.zero;
+        }
+        &self.values[number * self.width + self.column]
+    }
+}
