@@ -3,11 +3,11 @@ use Rattle.tq_base.specs.declared.catalogue.Catalogue.{Catalogue}
 use Rattle.tq_base.specs.declared.form.Form.TheVariants.{Numbers}
 use Rattle.tq_event.specs.Tables.{lists_of, AreLoaded}
 use Rattle.tq_eval.specs.Fitting.{AreAllFitting}
-use Rattle.tq_tests_workers.proofs.workers.tables_of.Goals as goal
+use Rattle.tq_tests_workers.proofs.loaded.tables_of.Goals as goal
 
 pub returns : goal.returns
 returns c =
-    let files = c.in_ok-files_of.field-0.items in
+    let files = c.args.files.items in
     let tables = c.in_ok-tables.tables in
     let of : AreLoaded Numbers files 16777216 tables = c.tables_are_loaded.ensures Numbers files 16777216 tables c.in_ok-tables.ensures.tables in
     subst (λ (catalogue : Catalogue). AreAllFitting catalogue (lists_of tables.rows)) of.catalogue

@@ -1,0 +1,99 @@
+//! Questions to workers.
+
+ghost use Rattle.tq_event.specs.Tables.{lists_of};
+ghost use Rattle.tq_eval.specs.Fitting.{AreAllFitting};
+
+use crate::loaded::{history_of, tables_of};
+use crate::seen::Seen;
+use crate::texts::{text_among, text_here, text_in_ranges, text_with};
+use std::alloc::{AllocError, Global};
+use std::thread::Threads;
+use tq_event::Tables;
+use tq_run::Gate;
+use tq_store::Db;
+use tq_tests_help::Files;
+
+/// A call that has workers answer.
+#[derive(Clone, Copy, PartialEq, Eq)]
+pub(crate) enum Way {
+    Among,
+    Ranges,
+    With,
+}
+
+/// A statement, and how many workers are to answer it, by one of the calls or by all.
+#[derive(Clone, Copy)]
+pub(crate) struct Question<'a> {
+    pub(crate) only: Option<Way>,
+    pub(crate) workers: u32,
+    pub(crate) statement: &'a str,
+}
+
+// Whether this call is to answer.
+fn is_asked(question: &Question<'_>, way: Way) -> bool {
+    match question.only {
+        Some(only) => only == way,
+        None => true,
+    }
+}
+
+// The text of the answer by one of the calls.
+fn text_by<R: Threads + Sync, G: Gate + Sync>(
+    rt: &R,
+    alloc: Global,
+    tables: &Tables,
+    db: &Db,
+    way: Way,
+    question: &Question<'_>,
+    gate: &G,
+) -> Result<Option<Vec<u8>>, AllocError>
+    requires { AreAllFitting tables.now.catalogue (lists_of tables.now.rows) }
+{
+    let workers = question.workers.clamp(1, 16);
+    let statement = question.statement;
+    match way {
+        Way::Among => text_among(rt, alloc, tables, statement, workers, gate),
+        Way::Ranges => text_in_ranges(rt, alloc, tables, statement, workers, gate),
+        Way::With => text_with(rt, alloc, db, statement, workers, gate),
+    }
+}
+
+// The answers, beside that of one thread.
+fn ask_over<R: Threads + Sync, G: Gate + Sync>(
+    rt: &R,
+    alloc: Global,
+    tables: &Tables,
+    db: &Db,
+    question: &Question<'_>,
+    gate: &G,
+    seen: &mut Seen,
+) -> Result<(), AllocError>
+    requires { AreAllFitting tables.now.catalogue (lists_of tables.now.rows) }
+{
+    let here = text_here(alloc, tables, question.statement)?;
+    for way in [Way::Among, Way::Ranges, Way::With] {
+        if is_asked(question, way) {
+            let text = text_by(rt, alloc, tables, db, way, question, gate)?;
+            seen.take(text, &here);
+        }
+    }
+    Ok(())
+}
+
+/// The answers, beside that of one thread, if the files have no fault.
+pub(crate) fn ask<R: Threads + Sync, G: Gate + Sync>(
+    rt: &R,
+    alloc: Global,
+    files: &Files,
+    question: &Question<'_>,
+    gate: &G,
+    seen: &mut Seen,
+) -> Result<(), AllocError> {
+    let Ok(tables) = tables_of(alloc, files.copies(alloc)?) else {
+        return Ok(());
+    };
+    let Some(db) = history_of(alloc, files.copies(alloc)?)? else {
+        return Ok(());
+    };
+    ask_over(rt, alloc, &tables, &db, question, gate, seen)
+}
