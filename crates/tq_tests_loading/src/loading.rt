@@ -200,6 +200,24 @@ fn events_are_counted_over_all_parts(rt: HostRuntime) -> Result<(), Fail> {
     Ok(())
 }
 
+#[test]
+fn no_files_are_no_tables(rt: HostRuntime) -> Result<(), Fail> {
+    for workers in [1, 2, 16] {
+        let files = Vec::new(rt.alloc());
+        let loaded = load_tables_among(
+            &rt,
+            rt.alloc(),
+            files,
+            MAX_EVENTS,
+            workers,
+            &Open,
+            Form::Numbers,
+        );
+        assert_eq!(rt; told(rt.alloc(), loaded)?.as_str(), "");
+    }
+    Ok(())
+}
+
 // ---- files that are cut
 
 // A file of so many rows, with empty lines, and texts of several lengths.

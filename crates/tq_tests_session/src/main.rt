@@ -3,6 +3,7 @@
 //!
 //!     table                  the table `emp`, of no lines yet
 //!     line TEXT              its next line
+//!     lines COUNT TEXT       its next lines, so many equal ones
 //!     dates, numbers         how instants are written from now on
 //!     in TEXT                the next line of the input
 //!     bytes TEXT             its next bytes

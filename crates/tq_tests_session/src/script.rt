@@ -138,6 +138,15 @@ impl Script {
         Ok(())
     }
 
+    // Adds so many equal lines to it.
+    fn add_rows(&mut self, text: &str) -> Result<(), AllocError> {
+        let (count, text) = number_and(text);
+        for _ in 0..count {
+            self.add_row(text)?;
+        }
+        Ok(())
+    }
+
     /// Does what the line says, and writes what it answers.
     pub(crate) fn run<R: Threads + Wait + Sync>(
         &mut self,
@@ -162,6 +171,7 @@ impl Script {
                 Ok(())
             }
             "line" => self.add_row(rest),
+            "lines" => self.add_rows(rest),
             "in" => self.add_line(rest),
             "bytes" => add(&mut self.input, rest),
             "repeat" => self.add_repeated(rest),
