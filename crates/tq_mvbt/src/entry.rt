@@ -21,14 +21,6 @@ pub struct Entry {
 }
 
 impl Entry {
-    // Whether the entry lives now and its range holds the key. All three are tested before one branch, since a branch
-    // on each would often be foretold wrong.
-    fn leads(&self, key: u128) -> bool
-        ensures { result ≡ leads key self.now }
-    {
-        (self.dead == NOW) & (self.low <= key) & (key < self.high)
-    }
-
     // Ends the entry, if it lives now and its low key lies in the range.
     fn end_in(&mut self, low: u128, high: u128, version: u32)
         ensures { self.new ≡ with_end low high version self.old }
@@ -73,7 +65,7 @@ pub(crate) fn child_at(entries: &[Entry], key: u128) -> Option<u32>
     ensures child { IfSome result (IsChild entries.now key) }
 {
     for entry in entries {
-        if entry.leads(key) {
+        if entry.dead == NOW && entry.low <= key && key < entry.high {
             return Some(entry.child);
         }
     }
