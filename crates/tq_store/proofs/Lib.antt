@@ -6,6 +6,7 @@ pub mod KeyLemmas
 pub mod RowLemmas
 pub mod PartLemmas
 pub mod OpenRowsLemmas
+pub mod SetLemmas
 pub mod OpenLemmas
 pub mod FirstLemmas
 pub mod CountLemmas

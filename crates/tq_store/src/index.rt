@@ -15,13 +15,14 @@ ghost use Rattle.tq_event.specs.Versions.{Life, row_lives};
 ghost use Rattle.tq_store.specs.Digests.{digest_of};
 ghost use Rattle.tq_store.specs.Keys.{shifted, tree_key};
 ghost use Rattle.tq_store.specs.Index.{AreIndexes, Begins, CanTake, Ends, IsIndexOf, IsOpenAt, ended, is_open_at, place_key_of, tree_key_of};
-ghost use Rattle.tq_store.specs.Open.{HasSame, has, place_key};
+ghost use Rattle.tq_store.specs.Open.{HasSame, IsNear, has, place_key};
 
 use crate::digest::digest;
 use crate::key::{ROWS, first_key, open_key, place, row_key};
 use crate::open::OpenRows;
 use crate::stored::{table, values};
 use std::alloc::{AllocError, Global};
+use std::collections::BTreeSet;
 use tq_base::{Bound, FOREVER, Instant, Values};
 use tq_event::Event;
 use tq_mvbt::Tree;
@@ -181,6 +182,30 @@ impl Index {
         values(events, self.rows[row as usize].start) == wanted
     }
 
+    // The number of the first open row of these values, which stands among these keys if there is one.
+    fn first_among(
+        &self,
+        events: &[Event],
+        table: u32,
+        wanted: &Values,
+        keys: &BTreeSet<u128>,
+    ) -> Option<u32>
+        requires index { IsIndexOf events.now table self.now }
+        requires few { length events.now ≤ 16777216 }
+        requires near { IsNear self.now.opened wanted.now keys.now }
+        ensures member { MatchOption result ((r : ℕ) → is_open_at (row_lives events.now table) wanted.now r ≡ false) (λ first. is_open_at (row_lives events.now table) wanted.now first ≡ true) }
+        ensures least { MatchOption result ((r : ℕ) → is_open_at (row_lives events.now table) wanted.now r ≡ false) (λ first. (r : ℕ) → is_open_at (row_lives events.now table) wanted.now r ≡ true → first ≤ r) }
+    {
+        let least = open_key(wanted, 0);
+        'keys: for key in keys.range(least..=least + (ROWS - 1)) {
+            let row = (*key % ROWS) as u32;
+            if self.is_like(events, table, row, wanted) {
+                return Some(row);
+            }
+        }
+        None
+    }
+
     // The number of the first open row of these values.
     fn first_like(&self, events: &[Event], table: u32, wanted: &Values) -> Option<u32>
         requires index { IsIndexOf events.now table self.now }
@@ -188,14 +213,10 @@ impl Index {
         ensures member { MatchOption result ((r : ℕ) → is_open_at (row_lives events.now table) wanted.now r ≡ false) (λ first. is_open_at (row_lives events.now table) wanted.now first ≡ true) }
         ensures least { MatchOption result ((r : ℕ) → is_open_at (row_lives events.now table) wanted.now r ≡ false) (λ first. (r : ℕ) → is_open_at (row_lives events.now table) wanted.now r ≡ true → first ≤ r) }
     {
-        let least = open_key(wanted, 0);
-        'keys: for key in self.opened.keys.range(least..=least + (ROWS - 1)) {
-            let row = (*key % ROWS) as u32;
-            if self.is_like(events, table, row, wanted) {
-                return Some(row);
-            }
+        match self.opened.near(open_key(wanted, 0)) {
+            Some(keys) => self.first_among(events, table, wanted, keys),
+            None => None,
         }
-        None
     }
 
     /// The number of the first open row of these values, if it started before the instant.

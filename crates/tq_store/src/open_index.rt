@@ -10,7 +10,7 @@ ghost use Rattle.tq_event.specs.Opening as opening;
 ghost use Rattle.tq_event.specs.Recorded.{table_of};
 ghost use Rattle.tq_event.specs.Versions.{Life, row_lives};
 ghost use Rattle.tq_store.specs.Index.{CanTake, IsOpenAt, is_open_at};
-ghost use Rattle.tq_store.specs.Open.{HasSame, has, place_key};
+ghost use Rattle.tq_store.specs.Open.{HasSame, IsNear, has, place_key};
 ghost use Rattle.tq_store.specs.OpenIndex.{AreTableRows, IsOpenIndex, MayFollow, next_row, table_count};
 ghost use Rattle.tq_store.specs.Stored.{IsStart, values_in};
 
@@ -18,6 +18,7 @@ use crate::key::{ROWS, open_key};
 use crate::open::OpenRows;
 use crate::stored::{table, time};
 use std::alloc::{AllocError, Global};
+use std::collections::BTreeSet;
 use tq_base::{Catalogue, Instant, Values};
 use tq_event::Event;
 
@@ -136,6 +137,31 @@ impl TableRows {
         values_of(self.start_of(published, pending, table, row)) == wanted
     }
 
+    // The number of the first open row of these values, which stands among these keys if there is one.
+    fn first_among(
+        &self,
+        published: &[Event],
+        pending: &[Event],
+        table: u32,
+        wanted: &Values,
+        keys: &BTreeSet<u128>,
+    ) -> Option<u32>
+        requires rows { AreTableRows (published.now ++ pending.now) table self.now }
+        requires few { length (published.now ++ pending.now) ≤ 16777216 }
+        requires near { IsNear self.now.opened wanted.now keys.now }
+        ensures member { MatchOption result ((r : ℕ) → is_open_at (row_lives (published.now ++ pending.now) table) wanted.now r ≡ false) (λ first. is_open_at (row_lives (published.now ++ pending.now) table) wanted.now first ≡ true) }
+        ensures least { MatchOption result ((r : ℕ) → is_open_at (row_lives (published.now ++ pending.now) table) wanted.now r ≡ false) (λ first. (r : ℕ) → is_open_at (row_lives (published.now ++ pending.now) table) wanted.now r ≡ true → first ≤ r) }
+    {
+        let least = open_key(wanted, 0);
+        'keys: for key in keys.range(least..=least + (ROWS - 1)) {
+            let row = (*key % ROWS) as u32;
+            if self.is_like(published, pending, table, row, wanted) {
+                return Some(row);
+            }
+        }
+        None
+    }
+
     // The number of the first open row of these values.
     fn first_like(
         &self,
@@ -149,14 +175,10 @@ impl TableRows {
         ensures member { MatchOption result ((r : ℕ) → is_open_at (row_lives (published.now ++ pending.now) table) wanted.now r ≡ false) (λ first. is_open_at (row_lives (published.now ++ pending.now) table) wanted.now first ≡ true) }
         ensures least { MatchOption result ((r : ℕ) → is_open_at (row_lives (published.now ++ pending.now) table) wanted.now r ≡ false) (λ first. (r : ℕ) → is_open_at (row_lives (published.now ++ pending.now) table) wanted.now r ≡ true → first ≤ r) }
     {
-        let least = open_key(wanted, 0);
-        'keys: for key in self.opened.keys.range(least..=least + (ROWS - 1)) {
-            let row = (*key % ROWS) as u32;
-            if self.is_like(published, pending, table, row, wanted) {
-                return Some(row);
-            }
+        match self.opened.near(open_key(wanted, 0)) {
+            Some(keys) => self.first_among(published, pending, table, wanted, keys),
+            None => None,
         }
-        None
     }
 
     // Whether the row, which is open, started before the instant.
