@@ -3,8 +3,8 @@
 
     gate/limits.py PROGRAM
 
-The address space of a run is limited, from the least in which the program starts upwards in steps, until it answers in
-several steps one after another; the stack of all of them has 256 KiB. Each run ends with its answer or with the line
+The address space of a run is limited, from the least in which the program starts with words as long upwards in steps,
+until it answers in several steps one after another; the stack of all of them has 256 KiB. Each run ends with its answer or with the line
 that tells of no memory, and no signal ends it. Each failed run has one line; the last line is 'N passed, M failed'.
 """
 
@@ -45,11 +45,11 @@ def run(program, words, taken, memory, room):
     return ran.returncode, ran.stdout, ran.stderr
 
 
-def least(program, room):
-    """The least memory in which the program starts."""
+def least(program, more, room):
+    """The least memory in which the program starts with these words, which lie in that memory too."""
     for memory in range(STEP, MOST, STEP):
         try:
-            status, _, err = run(program, ["nothing"], b"", memory, room)
+            status, _, err = run(program, ["nothing", *more], b"", memory, room)
         except (OSError, subprocess.SubprocessError):
             continue
         if status in (1, 2) and err.startswith(b"tq: "):
@@ -91,8 +91,10 @@ def is_right(said, whole, is_session):
     return has_no_memory(said)
 
 
-def faults_of(program, name, words, taken, first, room):
+def faults_of(program, name, words, more, taken, room):
     """What is wrong with the runs of a question, in ever more memory."""
+    words = [*words, *more]
+    first = least(program, more, room)
     status, whole, err = run(program, words, taken, None, room)
     if status != 0:
         yield f"{name}: status {status} with all memory, {err[:80]!r}"
@@ -115,9 +117,8 @@ def main():
     with tempfile.TemporaryDirectory(prefix="tq-") as room:
         (Path(room) / "emp.csv").write_bytes(cases.EMP)
         (Path(room) / "large.csv").write_bytes(staff(2000))
-        first = least(program, room)
         return report(
-            faults_of(program, name, [words[0], "--table", table, *words[1:], *more], taken, first, room)
+            faults_of(program, name, [words[0], "--table", table, *words[1:]], more, taken, room)
             for name, table, words, more, taken in questions()
         )
 
