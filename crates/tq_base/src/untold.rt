@@ -256,7 +256,9 @@ impl<'a> Sides<'a> {
 
     // How long the texts are at most that come next for the keys of the ranks that are not theirs alone. Values and their
     // boxes lie anywhere: in a loop that does no more than look at these, or at those, the processor can wait for many
-    // of them at once. Where there are no boxes, all texts are short.
+    // of them at once. Where there are no boxes, all texts are short. Not inlined, so that the views leave the stack
+    // before ranks are taken anew.
+    #[inline(never)]
     fn longest_next(&self, keys: &[Key], place: usize, offset: usize) -> usize {
         let views = NextViews {
             here: self.view_at(place),
