@@ -1,14 +1,17 @@
 //! Questions to workers.
 
+ghost use Rattle.std.specs.Prelude.{◌≤◌};
 ghost use Rattle.tq_event.specs.Tables.{lists_of};
 ghost use Rattle.tq_eval.specs.Fitting.{AreAllFitting};
+ghost use Rattle.tq_plan.specs.Standing.{IsPlanOver};
 
-use crate::loaded::{history_of, tables_of};
+use crate::loaded::{history_of, planned, tables_of};
 use crate::seen::Seen;
 use crate::texts::{text_among, text_here, text_in_ranges, text_with};
 use std::alloc::{AllocError, Global};
 use std::thread::Threads;
 use tq_event::Tables;
+use tq_plan::Plan;
 use tq_run::Gate;
 use tq_store::Db;
 use tq_tests_help::Files;
@@ -42,23 +45,54 @@ fn text_by<R: Threads + Sync, G: Gate + Sync>(
     rt: &R,
     alloc: Global,
     tables: &Tables,
+    plan: &Plan,
     db: &Db,
+    db_plan: &Plan,
     way: Way,
-    question: &Question<'_>,
+    workers: u32,
     gate: &G,
-) -> Result<Option<Vec<u8>>, AllocError>
-    requires { AreAllFitting tables.now.catalogue (lists_of tables.now.rows) }
+) -> Result<Vec<u8>, AllocError>
+    requires fit { AreAllFitting tables.now.catalogue (lists_of tables.now.rows) }
+    requires plan { IsPlanOver tables.now.catalogue plan.now }
+    requires db_plan { IsPlanOver db.now.catalogue db_plan.now }
+    requires some { 1 ≤ workers }
+    requires at_most { workers ≤ 16 }
 {
-    let workers = question.workers.clamp(1, 16);
-    let statement = question.statement;
     match way {
-        Way::Among => text_among(rt, alloc, tables, statement, workers, gate),
-        Way::Ranges => text_in_ranges(rt, alloc, tables, statement, workers, gate),
-        Way::With => text_with(rt, alloc, db, statement, workers, gate),
+        Way::Among => text_among(rt, alloc, tables, plan, workers, gate),
+        Way::Ranges => text_in_ranges(rt, alloc, tables, plan, workers, gate),
+        Way::With => text_with(rt, alloc, db, db_plan, workers, gate),
     }
 }
 
-// The answers, beside that of one thread.
+// The answers by the calls that are asked, beside that of one thread.
+fn ask_each<R: Threads + Sync, G: Gate + Sync>(
+    rt: &R,
+    alloc: Global,
+    tables: &Tables,
+    plan: &Plan,
+    db: &Db,
+    db_plan: &Plan,
+    question: &Question<'_>,
+    gate: &G,
+    seen: &mut Seen,
+) -> Result<(), AllocError>
+    requires fit { AreAllFitting tables.now.catalogue (lists_of tables.now.rows) }
+    requires plan { IsPlanOver tables.now.catalogue plan.now }
+    requires db_plan { IsPlanOver db.now.catalogue db_plan.now }
+{
+    let workers = question.workers.clamp(1, 16);
+    let here = text_here(alloc, tables, plan)?;
+    for way in [Way::Among, Way::Ranges, Way::With] {
+        if is_asked(question, way) {
+            let text = text_by(rt, alloc, tables, plan, db, db_plan, way, workers, gate)?;
+            seen.take(text, &here);
+        }
+    }
+    Ok(())
+}
+
+// The answers, beside that of one thread, if the statement has a plan.
 fn ask_over<R: Threads + Sync, G: Gate + Sync>(
     rt: &R,
     alloc: Global,
@@ -70,17 +104,16 @@ fn ask_over<R: Threads + Sync, G: Gate + Sync>(
 ) -> Result<(), AllocError>
     requires { AreAllFitting tables.now.catalogue (lists_of tables.now.rows) }
 {
-    let here = text_here(alloc, tables, question.statement)?;
-    for way in [Way::Among, Way::Ranges, Way::With] {
-        if is_asked(question, way) {
-            let text = text_by(rt, alloc, tables, db, way, question, gate)?;
-            seen.take(text, &here);
-        }
-    }
-    Ok(())
+    let Some(plan) = planned(alloc, &tables.catalogue, question.statement) else {
+        return Ok(());
+    };
+    let Some(db_plan) = planned(alloc, db.catalogue(), question.statement) else {
+        return Ok(());
+    };
+    ask_each(rt, alloc, tables, &plan, db, &db_plan, question, gate, seen)
 }
 
-/// The answers, beside that of one thread, if the files have no fault.
+/// The answers, beside that of one thread, if the files have no fault and the statement has a plan.
 pub(crate) fn ask<R: Threads + Sync, G: Gate + Sync>(
     rt: &R,
     alloc: Global,

@@ -32,14 +32,6 @@ fn tell_text(text: &[u8], out: &mut String) -> Result<(), AllocError> {
     Ok(())
 }
 
-// Whether both are there, and are the same.
-fn are_same(one: &Option<Vec<u8>>, other: &Option<Vec<u8>>) -> bool {
-    match (one, other) {
-        (Some(one), Some(other)) => one.as_slice() == other.as_slice(),
-        _ => false,
-    }
-}
-
 impl Seen {
     /// No answers yet.
     pub(crate) fn new(alloc: Global) -> Seen {
@@ -50,17 +42,15 @@ impl Seen {
         }
     }
 
-    /// An answer, beside that of one thread. Where either is missing, that is a difference.
-    pub(crate) fn take(&mut self, answer: Option<Vec<u8>>, here: &Option<Vec<u8>>) {
-        let is_same = are_same(&answer, here);
+    /// An answer, beside that of one thread.
+    pub(crate) fn take(&mut self, answer: Vec<u8>, here: &[u8]) {
+        let is_same = answer.as_slice() == here;
+        self.answers = self.answers.saturating_add(1);
         if !is_same {
             self.differences = self.differences.saturating_add(1);
         }
-        if let Some(text) = answer {
-            self.answers = self.answers.saturating_add(1);
-            if !is_same || self.differences == 0 {
-                self.text = text;
-            }
+        if !is_same || self.differences == 0 {
+            self.text = answer;
         }
     }
 
