@@ -2,6 +2,7 @@
 
 ghost use Rattle.std.specs.List.Sorted.{IsNonDecreasingBy};
 ghost use Rattle.std.specs.Prelude.{◌≡◌, ◌++◌, ◌+◌, ◌<◌, ◌≤◌, ◌^◌, ◌&&◌, ℕ, pos, [], if◌then◌else◌, nat_le, nat_lt, length, map, take, All, IsSortedByKey, List, OnOk};
+ghost use Rattle.std.specs.Bool.{OnTrue};
 ghost use Rattle.std.specs.Ordering.{nat_cmp};
 ghost use Rattle.tq_base.specs.declared.value.Value.{Value};
 ghost use Rattle.tq_base.specs.declared.sides.Key.{Key};
@@ -12,6 +13,7 @@ ghost use Rattle.tq_base.specs.KeySides.{state_of};
 ghost use Rattle.tq_base.specs.Periods.{holds};
 ghost use Rattle.tq_ops.specs.Ordinary.{projection};
 ghost use Rattle.tq_agg.specs.declared.bounds.End.{End};
+ghost use Rattle.tq_agg.specs.declared.summands.Summand.TheVariants.{One};
 ghost use Rattle.tq_agg.specs.Totals.{added, end_key, has_rows, key_weight, row_copies, shown_copies, totals_of, totals_upto, AreSmallEnds, AreSmallKeys};
 
 use crate::bounds::{End, bound_at, ends_by, first_bound, starts_by};
@@ -63,11 +65,31 @@ struct Place {
     ended: usize,
 }
 
+// Whether each row is counted alone.
+fn is_one(summand: Summand) -> bool
+    ensures { OnTrue result (summand ≡ One) }
+{
+    match summand {
+        Summand::One => true,
+        Summand::Column(_) => false,
+    }
+}
+
+// The number of so many rows.
+fn number_of(len: usize) -> i128
+    ensures { result ≡ pos len }
+{
+    len as i128
+}
+
 // What the rows of the keys add.
 fn added_keys(summand: Summand, sides: &Sides<'_>, keys: &[Key]) -> i128
     requires { AreSmallKeys (state_of sides.now) summand keys.now }
     ensures { result ≡ added (key_weight (state_of sides.now) summand) keys.now }
 {
+    if is_one(summand) {
+        return number_of(keys.len());
+    }
     let mut total: i128 = 0;
     'keys: for key in keys {
         total += weight(summand, &sides.row(key));
@@ -80,6 +102,9 @@ fn added_ends(summand: Summand, sides: &Sides<'_>, ends: &[End]) -> i128
     requires { AreSmallEnds (state_of sides.now) summand ends.now }
     ensures { result ≡ added (λ (e : End). key_weight (state_of sides.now) summand (end_key e)) ends.now }
 {
+    if is_one(summand) {
+        return number_of(ends.len());
+    }
     let mut total: i128 = 0;
     'ends: for end in ends {
         let key = Key {

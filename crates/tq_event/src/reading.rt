@@ -56,9 +56,10 @@ pub fn read_fields(
         → values_after [] columns.now (fields_of record.now) ≡ Err fault) }
 {
     values.clear();
+    values.reserve(columns.len())?;
     'columns: for (place, column) in columns.iter().enumerate() {
         let value = read_value(alloc, column.kind, field_at(record, place))?;
-        values.push(value).map_err(AllocError::from)?;
+        values.push_reserved(value);
     }
     Ok(())
 }

@@ -1,14 +1,16 @@
 -- Selection as a sum over fragments.
-use Rattle.std.specs.Prelude.{◌≡◌, ℕ, Bool, true, false, ◌&&◌, List, Option, sum_by, refl}
+use Rattle.std.specs.Prelude.{All, ◌≡◌, ◌≤◌, ℕ, Bool, true, false, ◌&&◌, List, [], ◌∷◌, Option, None, map, max, min, sum_by, refl}
 use Rattle.std.specs.Ordering.{eq_by_cmp}
-use Rattle.std.proofs.Common.{cond, sym, ap, ◌∙◌}
+use Rattle.std.proofs.Common.{cond, sym, ap, ◌∙◌, arith}
+use Rattle.std.proofs.lemmas.List.Elements.{All-head, All-tail}
+use Rattle.std.proofs.lemmas.List.Sums.{sum_by-cons}
 use Rattle.tq_base.specs.declared.value.Value.{Value}
 use Rattle.tq_base.specs.declared.period.Period.{Period}
 use Rattle.tq_base.specs.declared.fragment.Fragment.{Fragment}
 use Rattle.tq_base.specs.ValueOrder.{values_cmp}
 use Rattle.tq_base.specs.Periods.{holds, IsOverlap, Overlap}
-use Rattle.tq_base.specs.Fragments.{at, occurrences}
-use Rattle.tq_base.specs.Copies.{tally}
+use Rattle.tq_base.specs.Fragments.{at, copies, occurrences}
+use Rattle.tq_base.specs.Copies.{copies-sum_by, tally}
 use Rattle.tq_ops.specs.declared.condition.Test.{Test}
 use Rattle.tq_ops.specs.Ordinary.{admits, selection}
 use Rattle.tq_ops.proofs.Counting.{one_if, sum_by-cond, sum_by-filter, sum_by-at}
@@ -60,3 +62,21 @@ lies_apart window test f apart t v = cases (holds f.period t) (holds window t) (
     cases true false is = refl
     cases false true is = refl
     cases false false is = refl
+
+-- a row that lies in the window is cut to itself
+kept_whole : (window : Period) (f : Fragment) → (window.start ≤ f.period.start) × (f.period.end ≤ window.end) → (t : ℕ) (v : List Value) → tally v t f ≡ selected window None t v f
+kept_whole window f within t v =
+    let start : f.period.start ≡ max f.period.start window.start = omega (arith, within.0) in
+    let end : f.period.end ≡ min f.period.end window.end = omega (arith, within.1) in
+    selects window None f f.period f.values (start, end) refl refl t v
+
+sums_whole : (window : Period) (rows : List Fragment) → All (λ (p : Period). (window.start ≤ p.start) × (p.end ≤ window.end)) (map (λ (f : Fragment). f.period) rows) → (t : ℕ) (v : List Value) → sum_by (tally v t) rows ≡ sum_by (selected window None t v) rows
+sums_whole window [] within t v = refl
+sums_whole window (f ∷ rows) within t v =
+    let here = All-head (λ (p : Period). (window.start ≤ p.start) × (p.end ≤ window.end)) f.period (map (λ (f : Fragment). f.period) rows) within in
+    let behind = All-tail (λ (p : Period). (window.start ≤ p.start) × (p.end ≤ window.end)) f.period (map (λ (f : Fragment). f.period) rows) within in
+    omega (arith, sum_by-cons (tally v t) f rows, sum_by-cons (selected window None t v) f rows, kept_whole window f here t v, sums_whole window rows behind t v)
+
+-- rows that all lie in the window are their own selection
+pub counts_whole : (window : Period) (rows : List Fragment) → All (λ (p : Period). (window.start ≤ p.start) × (p.end ≤ window.end)) (map (λ (f : Fragment). f.period) rows) → (t : ℕ) (v : List Value) → copies rows v t ≡ cond (holds window t) (occurrences (selection None (at rows t)) v) 0
+counts_whole window rows within t v = copies-sum_by rows v t ∙ sums_whole window rows within t v ∙ selected-sum_by window None rows t v

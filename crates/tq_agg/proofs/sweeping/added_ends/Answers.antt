@@ -1,9 +1,10 @@
-use Rattle.std.proofs.Common.{ap, arith}
+use Rattle.std.proofs.Common.{rules, ◌≡◌, pos, ap, arith, sym, subst, ◌∙◌}
 use Rattle.std.proofs.lemmas.Int.{ints}
 use Rattle.tq_base.specs.KeySides.{state_of}
 use Rattle.tq_agg.specs.declared.bounds.End.{End}
-use Rattle.tq_agg.specs.Totals.{end_key, key_weight, weight_of}
-use Rattle.tq_agg.proofs.Adding.{added-step}
+use Rattle.tq_agg.specs.declared.summands.Summand.{Summand}
+use Rattle.tq_agg.specs.Totals.{added, end_key, key_weight, weight_of}
+use Rattle.tq_agg.proofs.Adding.{added-ones, added-step}
 use Rattle.tq_agg.proofs.Totals.{more_fits}
 use Rattle.tq_agg.proofs.sweeping.added_ends.Goals as goal
 
@@ -23,3 +24,9 @@ ends-preserved c =
     let weighs = c.weight-total.ensures in
     let values = ap (weight_of c.args.summand) c.row.ensures in
     omega (arith, ints, fits, step, weighs, values, c.ends.invariant)
+
+pub returns-then-is_one : goal.returns-then-is_one
+returns-then-is_one c =
+    let known : c.number_of.result ≡ added (λ (e : End). key_weight (state_of c.args.sides.now) c.args.summand (end_key e)) c.args.ends.now =
+    subst (λ (summand : Summand). c.number_of.result ≡ added (λ (e : End). key_weight (state_of c.args.sides.now) summand (end_key e)) c.args.ends.now) (sym c.if-is_one.ensures) (c.number_of.ensures ∙ sym (added-ones c.args.ends.now)) in
+    search (rules, known)

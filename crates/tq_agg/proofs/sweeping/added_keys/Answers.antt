@@ -1,9 +1,10 @@
-use Rattle.std.proofs.Common.{ap, arith, get_or}
+use Rattle.std.proofs.Common.{rules, ◌≡◌, pos, ap, arith, get_or, sym, subst, ◌∙◌}
 use Rattle.std.proofs.lemmas.Int.{ints}
 use Rattle.std.proofs.lemmas.List.{get_or_default}
 use Rattle.tq_base.specs.KeySides.{state_of}
-use Rattle.tq_agg.specs.Totals.{key_weight, weight_of}
-use Rattle.tq_agg.proofs.Adding.{added-step}
+use Rattle.tq_agg.specs.declared.summands.Summand.{Summand}
+use Rattle.tq_agg.specs.Totals.{added, key_weight, weight_of}
+use Rattle.tq_agg.proofs.Adding.{added-ones, added-step}
 use Rattle.tq_agg.proofs.Runs.{no_key}
 use Rattle.tq_agg.proofs.Totals.{more_fits}
 use Rattle.tq_agg.proofs.sweeping.added_keys.Goals as goal
@@ -32,3 +33,9 @@ keys-preserved c =
     let weighs = c.weight-total.ensures in
     let values = ap (weight_of c.args.summand) c.row.ensures in
     omega (arith, ints, fits, step, weighs, values, c.keys.invariant)
+
+pub returns-then-is_one : goal.returns-then-is_one
+returns-then-is_one c =
+    let known : c.number_of.result ≡ added (key_weight (state_of c.args.sides.now) c.args.summand) c.args.keys.now =
+    subst (λ (summand : Summand). c.number_of.result ≡ added (key_weight (state_of c.args.sides.now) summand) c.args.keys.now) (sym c.if-is_one.ensures) (c.number_of.ensures ∙ sym (added-ones c.args.keys.now)) in
+    search (rules, known)

@@ -9,7 +9,7 @@ use Rattle.tq_event.proofs.reading.read_fields.Goals as goal
 
 pub returns-in_err-value-clause-fault : goal.returns-in_err-value-clause-fault
 returns-in_err-value-clause-fault c =
-    let p = err_from_is_err_and c.from_residual.result c.from_residual.ensures.1 in
+    let p = err_from_is_err_and c.from_residual-in_err-value.result c.from_residual-in_err-value.ensures.1 in
     rw (p.1, p.2) (λ known.
     let fields = fields_of c.args.record.now in
     let columns = c.args.columns.now in
@@ -23,9 +23,9 @@ columns-preserved c =
     let columns = c.args.columns.now in
     let column = drop_more columns c.columns.place c.index-columns-place.result c.columns-test.true ∙ ap (λ (x : Column). x ∷ drop (c.columns.place + 1) columns) (sym c.index-columns-place.is) in
     let field = fields_from fields c.columns.place c.field_at.result.now c.field_at.ensures (omega (arith, c.columns-test.true, c.requires)) in
-    let good : is_ok c.push.result ≡ true = search rules in
-    let pushed : c.push.new.self.items ≡ c.columns.values.items ++ c.in_ok-value.value ∷ [] = rw good at c.push.ensures.items in
+    let pushed : c.push_reserved.new.self.items ≡ c.columns.values.items ++ c.in_ok-value.value ∷ [] = c.push_reserved.ensures.items in
     record {
+      room = omega (arith, c.columns.invariant.room, c.push_reserved.ensures.len, c.push_reserved.ensures.capacity);
       as_many = rw pushed (length-append c.columns.values.items (c.in_ok-value.value ∷ []) ∙ ap (λ n. n + 1) c.columns.invariant.as_many);
       rest = c.columns.invariant.rest ∙ rw (column, field) (rw (c.in_ok-value.ensures.ok, pushed) refl);
     }

@@ -1,9 +1,15 @@
-use Rattle.std.proofs.Common.{◌≡◌, map, sym, ap, ◌∙◌, subst}
+use Rattle.std.proofs.Common.{rules, ◌≡◌, ◌≤◌, ℕ, List, None, cond, map, sym, ap, ◌∙◌, subst}
+use Rattle.std.specs.Prelude.{All}
 use Rattle.std.specs.Option.{option_copied}
 use Rattle.std.proofs.lemmas.Result.{IfOk-weaker}
-use Rattle.tq_base.specs.Fragments.{at, occurrences}
+use Rattle.tq_base.specs.declared.period.Period.{Period}
+use Rattle.tq_base.specs.declared.value.Value.{Value}
+use Rattle.tq_base.specs.Periods.{holds}
+use Rattle.tq_base.specs.Fragments.{at, copies, occurrences}
 use Rattle.tq_base.specs.Relations.{line_of}
 use Rattle.tq_ops.specs.Ordinary.{HasInside, selection}
+use Rattle.tq_ops.proofs.Cutting.{inside_from_counts, outside_from_counts}
+use Rattle.tq_ops.proofs.Selecting.{counts_whole}
 use Rattle.tq_ops.proofs.selection.select.Goals as goal
 
 pub returns-clause-inside : goal.returns-clause-inside
@@ -14,3 +20,18 @@ returns-clause-inside c =
     (λ out. HasInside c.args.window.now out.items (λ t v. occurrences (selection (option_copied c.args.test) (at rows t)) v))
     (λ out same. subst (λ l. HasInside c.args.window.now l (λ t v. occurrences (selection (option_copied c.args.test) (at rows t)) v)) (sym (same ∙ ap (map (line_of rows)) c.deref.ensures.value)) c.in_ok-lines.ensures.inside)
     c.pick.ensures.rows
+
+-- the rows that go in have these counts
+whole : (c : goal.Then-are_within) → (t : ℕ) (v : List Value) → copies c.args.rows.items v t ≡ cond (holds c.args.window.now t) (occurrences (selection (option_copied c.args.test) (at c.args.rows.items t)) v) 0
+whole c t v =
+    let within = subst (All (λ (p : Period). (c.args.window.now.start ≤ p.start) × (p.end ≤ c.args.window.now.end))) c.periods.ensures c.if-are_within.ensures in
+    let none : option_copied c.args.test ≡ None = search rules in
+    counts_whole c.args.window.now c.args.rows.items within t v ∙ ap (λ test. cond (holds c.args.window.now t) (occurrences (selection test (at c.args.rows.items t)) v) 0) (sym none)
+
+pub returns-then-are_within-clause-inside : goal.returns-then-are_within-clause-inside
+returns-then-are_within-clause-inside c =
+    inside_from_counts c.args.window.now c.args.rows.items (λ t v. occurrences (selection (option_copied c.args.test) (at c.args.rows.items t)) v) (whole c)
+
+pub returns-then-are_within-clause-outside : goal.returns-then-are_within-clause-outside
+returns-then-are_within-clause-outside c =
+    outside_from_counts c.args.window.now c.args.rows.items (λ t v. occurrences (selection (option_copied c.args.test) (at c.args.rows.items t)) v) (whole c)
