@@ -1,7 +1,7 @@
 //! Keys: rows of one or two relations, each stood for by 32 bytes, by which they are sorted and parted into runs of
 //! equal values.
 
-ghost use Rattle.std.specs.Prelude.{◌≡◌, ◌≢◌, ◌<◌, ◌≤◌, ◌++◌, All, IsPermutation, IsSorted, OnErr, OnOk, drop, length, map, slice_index_or, take, true};
+ghost use Rattle.std.specs.Prelude.{◌≡◌, ◌≢◌, ◌<◌, ◌≤◌, ◌++◌, ◌&&◌, ◌||◌, nat_eq, nat_lt, All, IsPermutation, IsSorted, OnErr, OnOk, drop, length, map, slice_index_or, take, true};
 ghost use Rattle.std.specs.Bool.{OnTrue};
 ghost use Rattle.std.specs.Option.{option_copied};
 ghost use Rattle.tq_base.specs.declared.sides.Key.{Key};
@@ -83,11 +83,25 @@ fn do_ranks_tell(keys: &[Key]) -> bool
     keys.iter().all(|key| rank_tells(key.rank))
 }
 
+// Whether a key comes before the other by the ranks, then by the starts. All is compared, so that sorting, which asks
+// this of most pairs of keys, has no branch to guess.
+fn is_told_below(one: &Key, other: &Key) -> bool
+    ensures { result ≡ (nat_lt one.now.rank other.now.rank || (nat_eq one.now.rank other.now.rank && nat_lt one.now.start other.now.start)) }
+{
+    (one.rank < other.rank) | ((one.rank == other.rank) & (one.start < other.start))
+}
+
 // By the ranks, then by the starts.
 pub(crate) fn compare_told(one: &Key, other: &Key) -> Ordering
     ensures { result ≡ told_cmp one.now other.now }
 {
-    one.rank.cmp(&other.rank).then(one.start.cmp(&other.start))
+    if is_told_below(one, other) {
+        Ordering::Less
+    } else if is_told_below(other, one) {
+        Ordering::Greater
+    } else {
+        Ordering::Equal
+    }
 }
 
 // Whether the ranks rise and fall in long runs: as counts do over a time in which rows come and then go.
