@@ -5,7 +5,8 @@
 
 The address space of a run is limited, from the least in which the program starts with words as long upwards in steps,
 until it answers in several steps one after another; the stack of all of them has 256 KiB. Each run ends with its answer or with the line
-that tells of no memory, and no signal ends it. Each failed run has one line; the last line is 'N passed, M failed'.
+that tells of no memory, and no signal ends it. On that stack it also sorts rows that take all ranks that a sort takes to be
+told apart. Each failed run has one line; the last line is 'N passed, M failed'.
 """
 
 import resource
@@ -23,6 +24,11 @@ STEP = 64 * 1024
 # The most memory that a run is given, and how many runs in a row have to answer.
 MOST = 512 * 1024 * 1024
 IN_A_ROW = 3
+# Rows that part late: so many columns of texts, in each of which so many rows part one after another, each behind as many
+# bytes more as a rank tells.
+COLUMNS = 15
+STEPS = 71
+HEAD = 14
 
 
 def run(program, words, taken, memory, room):
@@ -62,6 +68,21 @@ def staff(count):
     return b"emp:int,name:text,dept:text,from,to\n" + b"".join(
         b"%d,a name of many letters %d,dept %d,%d,%d\n" % (row, row, row % 7, row, row + count) for row in range(count)
     )
+
+
+def late_row(row):
+    """A row that has the first columns in common with those after it, and parts from them in a column behind."""
+    steps = (min(max(row - STEPS * column, 0), STEPS) for column in range(COLUMNS))
+    return ",".join(["1", *("a" * (HEAD * step) + "b" for step in steps), "0", "1"]) + "\n"
+
+
+def late_rows():
+    """A table of rows that part late, a question that shows all its columns, and the answer."""
+    names = [f"text_{number}" for number in range(COLUMNS)]
+    rows = [late_row(row) for row in range(COLUMNS * STEPS)]
+    table = ",".join(["emp:int", *(f"{name}:text" for name in names), "from,to"]) + "\n" + "".join(rows)
+    answer = ",".join(["emp", *names, "from,to"]) + "\n" + "".join(reversed(rows))
+    return table.encode(), f"VALIDTIME SELECT emp, {', '.join(names)} FROM late", answer.encode()
 
 
 def questions():
@@ -112,15 +133,25 @@ def faults_of(program, name, words, more, taken, room):
     print(f"{name}: {runs} runs, from {first >> 10} KiB to {memory >> 10} KiB")
 
 
+def faults_of_late_rows(program, workers, room):
+    """What is wrong with an answer over rows that part late, on the small stack."""
+    table, question, answer = late_rows()
+    (Path(room) / "late.csv").write_bytes(table)
+    status, out, err = run(program, ["ask", "--workers", workers, "--table", "late=late.csv", question], b"", None, room)
+    if (status, out, err) != (0, answer, b""):
+        yield f"rows that part late, by {workers} workers: status {status}, {out[:80]!r}, {err[:80]!r}"
+
+
 def main():
     program = str(Path(sys.argv[1]).resolve())
     with tempfile.TemporaryDirectory(prefix="tq-") as room:
         (Path(room) / "emp.csv").write_bytes(cases.EMP)
         (Path(room) / "large.csv").write_bytes(staff(2000))
-        return report(
+        parts = [
             faults_of(program, name, [words[0], "--table", table, *words[1:]], more, taken, room)
             for name, table, words, more, taken in questions()
-        )
+        ]
+        return report([*parts, *(faults_of_late_rows(program, workers, room) for workers in ("1", "4"))])
 
 
 if __name__ == "__main__":

@@ -1,5 +1,5 @@
 -- Keys that are compared, sorted and gathered.
-use Rattle.std.proofs.Common.{inl, inr, subst, ◌≡◌, ◌≢◌, ℕ, ◌+◌, ◌-◌, ◌<◌, nat_lt, ◌&&◌, ◌||◌, rules, Bool, true, false, cond, List, [], ◌∷◌, ◌++◌, append_assoc, append-nil, length, take, drop, map, get_or, refl, sym, ap, ◌∙◌, arith}
+use Rattle.std.proofs.Common.{inl, inr, subst, ◌≡◌, ◌≢◌, ℕ, ◌+◌, ◌-◌, ◌<◌, ◌≤◌, nat_lt, ◌&&◌, rules, Bool, true, false, cond, List, [], ◌∷◌, ◌++◌, append_assoc, append-nil, length, take, drop, map, get_or, refl, sym, ap, ◌∙◌, arith}
 use Rattle.std.specs.Prelude.{All, IsSorted, Option, Some, None}
 use Rattle.std.specs.Bool.{OnTrue}
 use Rattle.std.specs.Cmp.{IsTotalOrder, nat_cmp_total, on_total, then_total}
@@ -18,7 +18,7 @@ use Rattle.tq_base.specs.declared.sides.Key.{Key}
 use Rattle.tq_base.specs.declared.sides.Mark.{Mark}
 use Rattle.tq_base.specs.declared.sides.Mark.TheVariants.{Unknown, Begins, GoesOn}
 use Rattle.tq_base.specs.declared.sides.Side.{Side}
-use Rattle.tq_base.specs.Keys.{begins_by, begins_run, columns_on, held, held_on, is_overlap, is_within, key_cmp, key_row, key_values, no_row, overlapping, rank_tells, rows_on, told_cmp, value_at, value_key_cmp, values_left, within, AreMarked, AreTold, Held, IsKey, SidesState, TellsRight}
+use Rattle.tq_base.specs.Keys.{begins_by, begins_run, columns_on, first_rank, held, held_on, is_overlap, is_within, key_cmp, key_row, key_values, no_row, overlapping, rank_tells, rows_on, told_cmp, value_at, value_key_cmp, values_left, within, AreMarked, AreTold, BeginsWithBytes, Held, IsKey, SidesState, TellsRight}
 use Rattle.tq_base.specs.KeyLaws.{alike, told}
 use Rattle.tq_base.specs.ValueOrder.{value_cmp, values_cmp}
 
@@ -214,3 +214,21 @@ module _ (s : SidesState) (keys : List Key) (are : All (IsKey s) keys) (first : 
       marked Unknown is apart after = run_more i e less apart before
       marked Begins is apart after = cc
       marked GoesOn is apart after = marked_alike marks i e less after is before
+
+-- ---- the values that keys begin with
+
+pub first_rank_front : (values : List Value) → first_rank (take 1 values) ≡ first_rank values
+first_rank_front [] = refl
+first_rank_front (v ∷ values) = refl
+
+pub begins_front : (values : List Value) → BeginsWithBytes (take 1 values) → BeginsWithBytes values
+begins_front [] bytes = tt
+begins_front (v ∷ values) bytes = bytes
+
+-- nothing is left to be compared
+pub compared_none : (s : SidesState) (a b : Key) (first : ℕ) → ((of : Side) → length (columns_on s of) ≤ first)
+    → Equal ≡ values_cmp (drop first (key_values s a)) (drop first (key_values s b))
+compared_none s a b first past = ap (values_cmp []) (sym (none b)) ∙ ap (λ l. values_cmp l (drop first (key_values s b))) (sym (none a))
+  where
+    none : (k : Key) → drop first (key_values s k) ≡ []
+    none k = drop_all first (key_values s k) (omega (arith, past k.side, length-map (columns_on s k.side) (value_at (key_row s k).values)))

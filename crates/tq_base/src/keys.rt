@@ -7,8 +7,10 @@ ghost use Rattle.std.specs.Option.{option_copied};
 ghost use Rattle.tq_base.specs.declared.sides.Key.{Key};
 ghost use Rattle.tq_base.specs.KeySides.{state_of};
 ghost use Rattle.tq_base.specs.Keys.{begins_run, columns_on, first_rank, held, held_on, is_within, key_cmp, key_row, key_values, no_row, rank_tells, rows_on, told_cmp, value_at, value_key_cmp, within, AreMarked, AreTold, BeginsWithBytes, IsFresh, IsKey, Rises};
+ghost use Rattle.tq_base.specs.PlaceViews.{first_in, IsFirstOn};
 ghost use Rattle.tq_base.specs.ValueOrder.{value_cmp, values_cmp};
 
+use crate::column_view::ColumnView;
 use crate::period::{Bound, Instant, Period};
 use crate::rank::rank_of;
 use crate::relation::Relation;
@@ -62,6 +64,17 @@ fn is_within(period: &Period, window: Option<&Period>) -> bool
                 && window.start.number() < period.end.number()
         }
         None => true,
+    }
+}
+
+// The rank of the row's value in the column, 0 where there is no column.
+fn rank_in(column: &Option<ColumnView<'_>>, row: u32) -> u128
+    ensures rank { result ≡ first_rank (first_in column.now row) }
+    ensures bytes { BeginsWithBytes (first_in column.now row) }
+{
+    match column {
+        Some(column) => rank_of(column.at(row)),
+        None => 0,
     }
 }
 
@@ -179,8 +192,10 @@ impl<'a> Sides<'a> {
         }
     }
 
-    // How the values that are compared stand to each other from the place on.
-    pub(crate) fn compare_from(&self, first: usize, one: &Key, other: &Key) -> Ordering
+    // How the values in the columns from the place on stand to each other. Not inlined, so that loops over keys whose ranks
+    // tell all stay short.
+    #[inline(never)]
+    fn compare_rows(&self, first: usize, one: &Key, other: &Key) -> Ordering
         ensures { result ≡ values_cmp (drop first (key_values (state_of self.now) one.now)) (drop first (key_values (state_of self.now) other.now)) }
     {
         let (row, columns) = (self.row(one), self.columns(one.side));
@@ -192,6 +207,17 @@ impl<'a> Sides<'a> {
             }
         }
         Ordering::Equal
+    }
+
+    // How the values that are compared stand to each other from the place on. Where none is left, no row is looked up.
+    #[inline]
+    pub(crate) fn compare_from(&self, first: usize, one: &Key, other: &Key) -> Ordering
+        ensures { result ≡ values_cmp (drop first (key_values (state_of self.now) one.now)) (drop first (key_values (state_of self.now) other.now)) }
+    {
+        if first >= self.left_columns.len() {
+            return Ordering::Equal;
+        }
+        self.compare_rows(first, one, other)
     }
 
     /// By the ranks, then by the values that these do not tell.
@@ -215,31 +241,28 @@ impl<'a> Sides<'a> {
             .then(one.start.cmp(&other.start))
     }
 
-    // The rank of the first value of the row that is compared, 0 where none is.
-    fn rank_at(&self, side: Side, row: &Row<'_>) -> u128
-        ensures rank { result ≡ first_rank (map (value_at row.now) (columns_on (state_of self.now) side)) }
-        ensures bytes { BeginsWithBytes (map (value_at row.now) (columns_on (state_of self.now) side)) }
+    // The column of the side that is compared first, if one is.
+    fn first_column(&self, side: Side) -> Option<ColumnView<'_>>
+        ensures { IsFirstOn (state_of self.now) side result }
     {
         match self.columns(side) {
-            [first, ..] => rank_of(row.at(*first)),
-            [] => 0,
+            [first, ..] => Some(self.rows(side).column(*first)),
+            [] => None,
         }
     }
 
-    // The key of the row.
-    fn key_of(&self, side: Side, row: u32) -> Key
-        requires { row < length (rows_on (state_of self.now) side) }
+    // The key of the row, of which the column is compared first.
+    fn key_of(&self, side: Side, row: u32, column: &Option<ColumnView<'_>>, period: &Period) -> Key
+        requires stands { row < length (rows_on (state_of self.now) side) }
+        requires first { IsFirstOn (state_of self.now) side column.now }
+        requires period { (slice_index_or (rows_on (state_of self.now) side) row no_row).period ≡ period.now }
         ensures key { IsFresh (state_of self.now) result }
         ensures side { result.side ≡ side }
         ensures row { result.row ≡ row }
     {
-        let rows = self.rows(side);
-        let place = row as usize;
-        let rank = self.rank_at(side, &rows.row(place));
-        let start = rows.periods()[place].start.number();
         Key {
-            rank,
-            start,
+            rank: rank_in(column, row),
+            start: period.start.number(),
             row,
             side,
             mark: Mark::Unknown,
@@ -262,9 +285,10 @@ impl<'a> Sides<'a> {
         let rows = self.rows(side);
         let len = rows.len();
         keys.reserve(len)?;
+        let column = self.first_column(side);
         'rows: for (row, period) in rows.periods().iter().enumerate() {
             if is_within(period, window) {
-                keys.push_reserved(self.key_of(side, row as u32));
+                keys.push_reserved(self.key_of(side, row as u32, &column, period));
             }
         }
         Ok(())

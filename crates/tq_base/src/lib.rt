@@ -16,6 +16,7 @@ mod items;
 mod key_range;
 mod keys;
 pub mod laws;
+mod looks;
 mod name;
 mod number;
 mod parts;

@@ -18,8 +18,11 @@ pub fn head_of(text: &[u8]) -> [u8; SHORT]
     ensures { result ≡ padded 14 text.now }
 {
     let mut head = [0; SHORT];
-    let len = text.len().min(SHORT);
-    head[..len].copy_from_slice(&text[..len]);
+    if text.len() >= SHORT {
+        head.copy_from_slice(&text[..SHORT]);
+    } else {
+        head[..text.len()].copy_from_slice(text);
+    }
     head
 }
 

@@ -2,18 +2,21 @@
 //! next, which is the next column or what follows the common beginning of their texts, and are sorted by that. The
 //! first key of each run of one such rank is marked, since its values differ from those of the key before it; and where
 //! nothing is left to be compared, the others are, since theirs are the same.
+//!
+//! The sort calls itself for each level of ranks. What a level calls that has returned before the next one is not inlined,
+//! so that its views and lists leave the stack with it.
 
 ghost use Rattle.std.specs.Prelude.{◌≡◌, ◌≢◌, ◌<◌, ◌≤◌, All, IsPermutation, IsSorted, drop, length, map, slice_index_or, take};
 ghost use Rattle.std.specs.Bool.{OnTrue};
 ghost use Rattle.tq_base.specs.declared.sides.Key.{Key};
 ghost use Rattle.tq_base.specs.declared.sides.Mark.TheVariants.{Begins};
 ghost use Rattle.tq_base.specs.KeySides.{state_of};
-ghost use Rattle.tq_base.specs.Keys.{first_rank, value_at, AreMarked, BeginsWithBytes};
-ghost use Rattle.tq_base.specs.Ranks.{value_rank, HasBytes};
-ghost use Rattle.tq_base.specs.Untold.{first_text, from_cmp, goes_on, rank_cmp, ranked, text_of, unmarked, value_after, values_from, with_rank, AreUnmarked, IsRanked, RunsDone, SameKeys, SameOrder, Share};
+ghost use Rattle.tq_base.specs.Keys.{value_at, AreMarked};
+ghost use Rattle.tq_base.specs.Untold.{from_cmp, goes_on, rank_cmp, ranked, unmarked, value_after, with_rank, AreUnmarked, IsRanked, RunsDone, SameKeys, SameOrder, Share};
 ghost use Rattle.tq_base.specs.ValueOrder.{value_cmp};
 
 use crate::keys::{compare_told, rank_tells};
+use crate::looks::{LOOKS, Looks};
 use crate::place_view::PlaceView;
 use crate::rank::{compare_after, rank_after, text_after};
 use crate::row::Row;
@@ -28,9 +31,12 @@ const LEVELS: u32 = 256;
 const HEAD: usize = 14;
 
 // Of so many keys the texts that come next are looked at before the keys are sorted.
-const AHEAD: usize = 256;
+const AHEAD: usize = LOOKS;
 
-// The place up to which keys were looked at, and how long the texts are at most that come next for these.
+// Fewer keys are not looked at: the list of what is looked at is larger than what it would gain.
+const FEW: usize = 16;
+
+// The place up to which keys were looked at, and how many bytes the texts have at most that come next for these.
 #[derive(Clone, Copy)]
 struct Ahead {
     until: usize,
@@ -102,6 +108,7 @@ fn has_like(keys: &[Key], place: usize, rank: u128) -> bool {
 }
 
 // Sorts by the ranks. Where these are in order already, all stay as they are.
+#[inline(never)]
 fn sort_by_rank(keys: &mut [Key])
     ensures same { IsPermutation keys.old keys.new }
     ensures order { IsSorted rank_cmp keys.new }
@@ -141,54 +148,31 @@ fn mark_going_on(keys: &mut [Key])
     }
 }
 
-// The columns in which values come next: the one at the place, and for keys whose ranks tell their values there the one
-// behind it, each if it is compared.
-#[derive(Drop)]
-struct NextViews<'a> {
-    here: Option<PlaceView<'a>>,
-    behind: Option<PlaceView<'a>>,
+// The value that comes next for the key, if one does: where its rank tells the one here, the one in the column behind.
+fn next_value<'a>(
+    here: &PlaceView<'a>,
+    behind: &Option<PlaceView<'a>>,
+    key: &Key,
+) -> Option<&'a Value> {
+    if !rank_tells(key.rank) {
+        return Some(here.at(key));
+    }
+    match behind {
+        Some(behind) => Some(behind.at(key)),
+        None => None,
+    }
 }
 
-impl<'a> NextViews<'a> {
-    // The value that comes next for the key, if one does.
-    fn value(&self, key: &Key) -> Option<&'a Value> {
-        let view = if rank_tells(key.rank) {
-            &self.behind
-        } else {
-            &self.here
-        };
-        match view {
-            Some(view) => Some(view.at(key)),
-            None => None,
-        }
+// How many bytes the texts of the keys have at most there, as far as there are not more than are looked at together.
+fn longest_text(view: &PlaceView<'_>, keys: &[Key]) -> usize {
+    let Some(first) = keys.first() else {
+        return 0;
+    };
+    let mut looks = Looks::new(view.at(first));
+    'keys: for key in keys {
+        looks.push(view.at(key));
     }
-
-    // How many of the values that come next for the keys of the ranks that are not theirs alone lie in boxes.
-    fn count_boxed(&self, keys: &[Key]) -> usize {
-        let mut count: usize = 0;
-        'keys: for (number, key) in keys.iter().enumerate() {
-            if has_like(keys, number, key.rank)
-                && let Some(value) = self.value(key)
-            {
-                count = count.wrapping_add(value.is_boxed() as usize);
-            }
-        }
-        count
-    }
-
-    // How long the texts are at most that come next for these keys, those at the place from the offset on.
-    fn longest(&self, keys: &[Key], offset: usize) -> usize {
-        let mut longest = 0;
-        'keys: for (number, key) in keys.iter().enumerate() {
-            if has_like(keys, number, key.rank)
-                && let Some(value) = self.value(key)
-            {
-                let start = if rank_tells(key.rank) { 0 } else { offset };
-                longest = longest.max(text_after(value, start).len());
-            }
-        }
-        longest
-    }
+    looks.longest()
 }
 
 impl<'a> Sides<'a> {
@@ -225,19 +209,29 @@ impl<'a> Sides<'a> {
             .then(one.start.cmp(&other.start))
     }
 
-    // Gives each key the rank of what it has from there on.
-    fn rank_keys(&self, keys: &mut [Key], place: usize, offset: usize)
+    // Gives each key the rank of what it has from there on. The values of many keys, which were not looked at yet, are
+    // looked at part by part; how many bytes their texts have at most is the result.
+    #[inline(never)]
+    fn rank_keys(&self, keys: &mut [Key], place: usize, offset: usize) -> usize
         requires { place < length self.now.left_columns.now }
         ensures keys { keys.new ≡ map (ranked (state_of self.now) place offset) keys.old }
         ensures ranks { All (IsRanked (state_of self.now) place offset) keys.new }
     {
         let view = self.place_view(place);
-        'keys: for key in keys.iter_mut() {
-            key.rank = rank_after(view.at(key), offset);
+        let are_many = keys.len() > AHEAD;
+        let mut longest = 0;
+        'keys: for number in 0..keys.len() {
+            if are_many && number % AHEAD == 0 {
+                let until = number.saturating_add(AHEAD).min(keys.len());
+                longest = longest.max(longest_text(&view, &keys[number..until]));
+            }
+            keys[number].rank = rank_after(view.at(&keys[number]), offset);
         }
+        longest
     }
 
     // How many bytes the texts of all keys have in common there.
+    #[inline(never)]
     fn shared_len(&self, keys: &[Key], place: usize, offset: usize) -> usize
         requires { place < length self.now.left_columns.now }
         ensures { Share (state_of self.now) place offset result keys.now }
@@ -254,45 +248,47 @@ impl<'a> Sides<'a> {
         len
     }
 
-    // How long the texts are at most that come next for the keys of the ranks that are not theirs alone. Values and their
-    // boxes lie anywhere: in a loop that does no more than look at these, or at those, the processor can wait for many
-    // of them at once. Where there are no boxes, all texts are short. Not inlined, so that the views leave the stack
-    // before ranks are taken anew.
+    // How many bytes the texts have at most that come next for the keys of the ranks that are not theirs alone.
     #[inline(never)]
-    fn longest_next(&self, keys: &[Key], place: usize, offset: usize) -> usize {
-        let views = NextViews {
-            here: self.view_at(place),
-            behind: self.view_at(place.saturating_add(1)),
+    fn longest_next(&self, keys: &[Key], place: usize) -> usize {
+        let Some(here) = self.view_at(place) else {
+            return 0;
         };
-        if views.count_boxed(keys) == 0 {
-            return HEAD;
+        let Some(first) = keys.first() else {
+            return 0;
+        };
+        let mut looks = Looks::new(here.at(first));
+        let behind = self.view_at(place.saturating_add(1));
+        'keys: for (number, key) in keys.iter().enumerate() {
+            if has_like(keys, number, key.rank)
+                && let Some(value) = next_value(&here, &behind, key)
+            {
+                looks.push(value);
+            }
         }
-        views.longest(keys, offset)
+        looks.longest()
     }
 
-    // Looks at the next keys, from the start on, once those that were looked at are sorted.
-    fn look_ahead(
-        &self,
-        ahead: Ahead,
-        keys: &[Key],
-        start: usize,
-        place: usize,
-        offset: usize,
-    ) -> Ahead {
+    // Looks at the next keys, from the start on, once those that were looked at are sorted. Of few keys it is not known then
+    // how many bytes their texts have.
+    fn look_ahead(&self, ahead: Ahead, keys: &[Key], start: usize, place: usize) -> Ahead {
         if start < ahead.until || start >= keys.len() {
             return ahead;
         }
         let until = start.saturating_add(AHEAD).min(keys.len());
-        Ahead {
-            until,
-            longest: self.longest_next(&keys[start..until], place, offset),
-        }
+        let next = &keys[start..until];
+        let longest = if next.len() < FEW {
+            usize::MAX
+        } else {
+            self.longest_next(next, place)
+        };
+        Ahead { until, longest }
     }
 
-    // What is known of the texts of a run that is ranked anew: in the last column they were looked at before, and no
-    // other text comes next.
-    fn known_ahead(&self, place: usize, next: usize, longest: usize) -> Ahead {
-        if next == place && place.saturating_add(1) >= self.left_columns.len() {
+    // What is known of the texts of a run that is ranked anew. In the last column those of few keys were just looked at,
+    // and no others come behind them; those of many keys are far again once the keys are sorted.
+    fn known_ahead(&self, keys: usize, next: usize, longest: usize) -> Ahead {
+        if keys <= AHEAD && next.saturating_add(1) >= self.left_columns.len() {
             Ahead {
                 until: usize::MAX,
                 longest,
@@ -322,6 +318,7 @@ impl<'a> Sides<'a> {
         if rank_tells(rank) {
             return (place + 1, 0);
         }
+        let longest = longest.saturating_sub(offset);
         let len = if longest <= 2 * HEAD {
             HEAD
         } else {
@@ -355,6 +352,7 @@ impl<'a> Sides<'a> {
 
     // The same of keys whose order is that of what they have from there on. Where nothing is left, their values are
     // the same, and they are marked.
+    #[inline(never)]
     fn sort_rest(&self, keys: &mut [Key], place: usize, offset: usize)
         requires unmarked { AreUnmarked keys.old }
         requires decides { SameOrder (state_of self.now) 0 0 place offset keys.old }
@@ -394,9 +392,8 @@ impl<'a> Sides<'a> {
         let (next, next_offset) = self.next_place(rank, run, place, offset, longest);
         let is_further = next > place || next_offset > offset;
         if self.are_ranked_anew(levels, next, is_further) {
-            self.rank_keys(run, next, next_offset);
-            let further = next_offset.saturating_sub(offset);
-            let known = self.known_ahead(place, next, longest.saturating_sub(further));
+            let longest = self.rank_keys(run, next, next_offset).max(longest);
+            let known = self.known_ahead(run.len(), next, longest);
             self.sort_ranked(levels - 1, run, next, next_offset, known);
             set_ranks(run, rank);
         } else {
@@ -446,7 +443,7 @@ impl<'a> Sides<'a> {
         let mut ahead = known;
         let mut start = 0;
         'runs: while start < keys.len() {
-            ahead = self.look_ahead(ahead, keys, start, place, offset);
+            ahead = self.look_ahead(ahead, keys, start, place);
             start = self.sort_next(levels, keys, start, place, offset, ahead.longest);
         }
     }

@@ -1,4 +1,4 @@
-use Rattle.std.proofs.Common.{◌≡◌, ◌∙◌, ap, length, rules, sym, arith}
+use Rattle.std.proofs.Common.{◌≡◌, ◌∙◌, ap, length, rules, sym}
 use Rattle.tq_base.specs.Parts.{chosen_column, column_cells, periods_of}
 use Rattle.tq_base.specs.Relations.{column_of}
 use Rattle.tq_base.specs.RowLists.{RowList}

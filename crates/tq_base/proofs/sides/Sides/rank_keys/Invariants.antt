@@ -6,6 +6,6 @@ use Rattle.tq_base.proofs.sides.Sides.rank_keys.Given as goal
 
 abbrev pub invariant-keys : goal.invariant-keys
 invariant-keys l = record {
-  keys : l.keys ≡ map (ranked (state_of l.self) l.place l.offset) (take l.key-index l.fn.keys) ++ drop l.key-index l.fn.keys;
-  ranks : All (IsRanked (state_of l.self) l.place l.offset) (take l.key-index l.keys);
+  keys : l.keys ≡ map (ranked (state_of l.self) l.place l.offset) (take l.number l.fn.keys) ++ drop l.number l.fn.keys;
+  ranks : All (IsRanked (state_of l.self) l.place l.offset) (take l.number l.keys);
 }

@@ -3,7 +3,7 @@ use Rattle.std.proofs.Common.{◌≡◌, drop}
 use Rattle.tq_base.specs.KeySides.{state_of}
 use Rattle.tq_base.specs.Keys.{key_values}
 use Rattle.tq_base.specs.ValueOrder.{values_cmp}
-use Rattle.tq_base.proofs.sides.Sides.compare_from.Given as goal
+use Rattle.tq_base.proofs.sides.Sides.compare_rows.Given as goal
 
 abbrev pub invariant-places : goal.invariant-places
 invariant-places l =

@@ -1,0 +1,22 @@
+use Rattle.std.proofs.Common.{◌∙◌, ap, map, refl, subst, sym}
+use Rattle.tq_base.specs.declared.period.Period.{Period}
+use Rattle.tq_base.specs.KeySides.{state_of}
+use Rattle.tq_base.specs.Keys.{columns_on, first_rank, rows_on, value_at, BeginsWithBytes}
+use Rattle.tq_base.specs.Relations.{values_at_number}
+use Rattle.tq_base.proofs.KeyLemmas.{begins_front, first_rank_front}
+use Rattle.tq_base.proofs.sides.Sides.key_of.Goals as goal
+
+pub returns-clause-key : goal.returns-clause-key
+returns-clause-key c =
+    let s = state_of c.args.self.now in
+    let values = map (value_at (values_at_number (rows_on s c.args.side) c.args.row)) (columns_on s c.args.side) in
+    let front = c.requires.first c.args.row in
+    record {
+      key = record {
+        stands = c.requires.stands;
+        rank = c.rank_in.ensures.rank ∙ ap first_rank front ∙ first_rank_front values;
+        bytes = begins_front values (subst BeginsWithBytes front c.rank_in.ensures.bytes);
+        start = c.number.ensures.value ∙ ap (λ (p : Period). p.start) (sym c.requires.period);
+      };
+      unmarked = refl;
+    }
