@@ -1,9 +1,15 @@
 -- What a `csv` writer over a vector has written.
-use Rattle.std.specs.Prelude.{◌≡◌, ◌==◌, ◌&&◌, ◌||◌, ◌^◌, ◌-◌, ◌++◌, ℕ, List, false, length, min, not, Some}
+use Rattle.std.specs.Prelude.{◌≡◌, ◌==◌, ◌&&◌, ◌||◌, ◌^◌, ◌-◌, ◌++◌, ℕ, List, false, length, map, min, not, Some}
+use Rattle.std.specs.Borrow.{Bor}
 use Rattle.std.specs.Global.{Vec}
 use Rattle.csv.specs.Writing.{fields_written, has_written, is_blank, row_body, text_written, writer_setup}
 use Rattle.csv.specs.declared.writer.Writer.{Writer}
+use Rattle.tq_base.specs.declared.value.Value.{Value}
 use Rattle.tq_table.specs.Text.{answer_format}
+
+-- the values that are lent
+abbrev pub borrowed : List (Bor Value) → List Value
+borrowed values = map (λ (v : Bor Value). v.now) values
 
 -- the writer has written whole lines, of this text, in the format of answers
 pub record HasWritten (writer : Writer (Vec ℕ)) (text : List ℕ) : Type 0 where

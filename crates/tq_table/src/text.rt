@@ -9,7 +9,7 @@ ghost use Rattle.tq_base.specs.Numbers.{instant_text};
 ghost use Rattle.tq_base.specs.Values.{value_seen};
 ghost use Rattle.tq_table.specs.Text.{answer_format, bound_field, header_text, row_fields, rows_text, text_of, value_field};
 ghost use Rattle.tq_table.specs.Sink.{AppendsPrefix, one_more};
-ghost use Rattle.tq_table.specs.Writing.{HasWritten, IsWriting};
+ghost use Rattle.tq_table.specs.Writing.{borrowed, HasWritten, IsWriting};
 
 use crate::lines::Lines;
 use crate::sink::{Sink, WriteFault};
@@ -18,7 +18,7 @@ use csv::{Writer, WriterBuilder};
 use itoa::Buffer;
 use std::alloc::{AllocError, Global};
 use std::io::Write;
-use tq_base::{Bound, Form, Instant, Name, Period, Row, Seen, put_instant};
+use tq_base::{Bound, Form, Instant, Name, Period, Row, Seen, Value, put_instant};
 
 // Of so many rows the values are looked up before their lines are written.
 const BLOCK: usize = 64;
@@ -101,30 +101,42 @@ fn write_row(
 }
 
 // The values of a row, lent, go to the end of the list, or some of them where a growth was refused.
-fn lend_row<'r>(row: &Row<'r>, lent: &mut Vec<Seen<'r>>) -> Result<(), AllocError>
-    ensures { OnOk result (map value_seen lent.new.items ≡ map value_seen lent.old.items ++ row.now) }
+fn lend_row<'r>(row: &Row<'r>, lent: &mut Vec<&'r Value>) -> Result<(), AllocError>
+    ensures { OnOk result (borrowed lent.new.items ≡ borrowed lent.old.items ++ row.now) }
 {
     'values: for place in 0..row.len() {
-        lent.push(row.value(place).seen())?;
+        lent.push(row.value(place))?;
     }
     Ok(())
 }
 
-// The values of the rows from one to another, lent, row after row, in place of those in the list. They lie anywhere: in a
-// loop that does no more than this, the processor can wait for several of them at once.
+// The values of the rows from one to another, lent, row after row, in place of those in the list. No value is looked at.
 fn lend<'r>(
     rows: &'r Lines<'_>,
     start: usize,
     end: usize,
-    lent: &mut Vec<Seen<'r>>,
+    lent: &mut Vec<&'r Value>,
 ) -> Result<(), AllocError>
     requires ordered { start ≤ end }
     requires within { end ≤ length rows.now }
-    ensures { OnOk result (map value_seen lent.new.items ≡ flat_map (λ (row : Fragment). row.values) (drop start (take end rows.now))) }
+    ensures { OnOk result (borrowed lent.new.items ≡ flat_map (λ (row : Fragment). row.values) (drop start (take end rows.now))) }
 {
     lent.clear();
     'rows: for row in start..end {
         lend_row(&rows.row(row), lent)?;
+    }
+    Ok(())
+}
+
+// What the values are, in place of those in the list. Values lie anywhere: in a loop that does no more than this, the
+// processor can wait for many of them at once.
+fn see<'r>(lent: &[&'r Value], seen: &mut Vec<Seen<'r>>) -> Result<(), AllocError>
+    ensures { OnOk result (map value_seen seen.new.items ≡ borrowed lent.now) }
+{
+    seen.clear();
+    seen.reserve(lent.len())?;
+    'values: for value in lent {
+        seen.push_reserved(value.seen());
     }
     Ok(())
 }
@@ -163,11 +175,13 @@ fn write_rows(
     ensures { (text : List ℕ) → HasWritten writer.old text → OnOk result (HasWritten writer.new (text ++ rows_text form rows.now)) }
 {
     let mut lent = Vec::new(alloc);
+    let mut seen = Vec::new(alloc);
     let mut start = 0;
     'blocks: while start < rows.len() {
         let end = start.saturating_add(BLOCK).min(rows.len());
         lend(rows, start, end, &mut lent)?;
-        write_lent(writer, rows, start, end, &lent, form)?;
+        see(&lent, &mut seen)?;
+        write_lent(writer, rows, start, end, &seen, form)?;
         start = end;
     }
     Ok(())
