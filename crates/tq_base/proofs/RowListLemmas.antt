@@ -1,7 +1,7 @@
 -- Rows that lie one behind the other in one list of values.
 use Rattle.std.proofs.Common.{suc, zero, ◌≡◌, ◌≤◌, ◌<◌, ◌+◌, ◌*◌, ℕ, List, [], ◌∷◌, ◌++◌, length, take, drop, map, get_or, sym, refl, ap, ◌∙◌, arith, length-drop}
 use Rattle.std.specs.Prelude.{All}
-use Rattle.std.proofs.lemmas.List.{drop-append-le, take-append-le, take_all, drop-drop, length-take-le}
+use Rattle.std.proofs.lemmas.List.{drop-append-le, drop-take, take-append-le, take-take, take_all, drop-drop, length-take-le}
 use Rattle.std.proofs.lemmas.List.Elements.{All-cons}
 use Rattle.tq_base.specs.declared.value.Value.{Value}
 use Rattle.tq_base.specs.declared.fragment.Fragment.{Fragment}
@@ -68,6 +68,18 @@ append-rows_from width values more (first ∷ periods) later fill =
     let rest : drop width (values ++ more) ≡ drop width values ++ more = drop-append-le width values more inside in
     let others : rows_from width (drop width values ++ more) (periods ++ later) ≡ rows_from width (drop width values) periods ++ rows_from width more later = append-rows_from width (drop width values) more periods later left in
     rw (values_stay, rest, others) refl
+
+-- the first rows, so many, have the first values and periods
+pub take-rows_from : (width : ℕ) (values : List Value) (periods : List Period) (k : ℕ) → rows_from width (take (k * width) values) (take k periods) ≡ take k (rows_from width values periods)
+unfolding rows_from
+take-rows_from width values periods zero = refl
+take-rows_from width values [] (suc k) = refl
+take-rows_from width values (period ∷ periods) (suc k) =
+    let place : suc k * width ≡ width + k * width = grind arith in
+    let first : take width (take (width + k * width) values) ≡ take width values = take-take width (width + k * width) values (omega arith) in
+    let later : drop width (take (width + k * width) values) ≡ take (k * width) (drop width values) = drop-take width (k * width) values in
+    let rest : rows_from width (take (k * width) (drop width values)) (take k periods) ≡ take k (rows_from width (drop width values) periods) = take-rows_from width (drop width values) periods k in
+    rw (place, first, later, rest) refl
 
 -- the values of a row lie within those of all rows
 pub row_inside : (row rows width total : ℕ) → row < rows → total ≡ rows * width → row * width + width ≤ total

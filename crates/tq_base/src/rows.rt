@@ -153,6 +153,17 @@ impl Rows {
         Ok(())
     }
 
+    /// Keeps the first rows, so many; all of them where there are no more.
+    pub fn truncate(&mut self, len: usize)
+        ensures width { self.new.width ≡ self.old.width }
+        ensures rows { self.new.items ≡ take len self.old.items }
+    {
+        if len < self.periods.len() {
+            self.periods.truncate(len);
+            self.values.truncate(len * self.width);
+        }
+    }
+
     /// The rows, then those of the other, as wide. No value is copied. `AllocError` where a growth was refused, or
     /// where there are 2^32 rows or more.
     pub fn followed_by(self, other: Rows) -> Result<Rows, AllocError>
