@@ -1,5 +1,5 @@
 -- Over a share of what is valid a query has the rows of its answer whose first value goes to the share.
-use Rattle.std.proofs.Common.{◌≡◌, ℕ, zero, suc, ◌+◌, ◌-◌, ◌*◌, ◌<◌, ◌==◌, Bool, true, false, not, cond, if◌then◌else◌, List, [], ◌∷◌, map, length, take, drop, Option, Some, None, refl, sym, ap, ◌∙◌, subst, arith}
+use Rattle.std.proofs.Common.{◌≡◌, ℕ, suc, ◌+◌, ◌-◌, ◌*◌, ◌<◌, ◌==◌, Bool, true, false, not, cond, if◌then◌else◌, List, [], ◌∷◌, map, length, take, drop, Option, Some, None, refl, sym, ap, ◌∙◌, subst, arith}
 use Rattle.std.specs.Prelude.{All, filter}
 use Rattle.std.specs.List.{list_all, list_any}
 use Rattle.std.proofs.lemmas.Bool.{eqb-true}
@@ -17,15 +17,14 @@ use Rattle.tq_ops.specs.Ordinary.{admits, product_of, projection, selection}
 use Rattle.tq_agg.specs.Grouping.{Row, each_once, first_row, grouped_by, same_row}
 use Rattle.tq_plan.specs.declared.plans.Output.{Output}
 use Rattle.tq_plan.specs.declared.plans.Output.TheVariants.{Column}
-use Rattle.tq_plan.specs.declared.plans.Plan.{Plan}
 use Rattle.tq_plan.specs.declared.plans.QueryPlan.{QueryPlan}
 use Rattle.tq_plan.specs.declared.plans.QuerySource.{QuerySource}
 use Rattle.tq_plan.specs.Plans.{tables_in, tables_of}
-use Rattle.tq_plan.specs.Standing.{AreQueriesOver, HasColumns, IsQueryOver, StandFrom, is_aggregate, items_stand, may_stand}
-use Rattle.tq_eval.specs.Answers.{lists_at, times_at, times_by, times_in, times_in_right, ValidRows}
+use Rattle.tq_plan.specs.Standing.{IsQueryOver, StandFrom, is_aggregate, items_stand, may_stand}
+use Rattle.tq_eval.specs.Answers.{lists_at, times_by, times_in, times_in_right, ValidRows}
 use Rattle.tq_eval.specs.Fitting.{AreFitting}
 use Rattle.tq_eval.specs.Ordinary.{alone_or_together, groups, ordinary, output_value}
-use Rattle.tq_eval.specs.Shares.{ArePartedBy, Columns, HasAt, IsPartedBy, SharesPartAnswers, SharesPartRows, goes_to, in_share, is_parted}
+use Rattle.tq_eval.specs.Shares.{Columns, HasAt, IsPartedBy, SharesPartAnswers, SharesPartRows, goes_to, in_share, is_parted}
 use Rattle.tq_eval.specs.Sources.{part_of, SameCounts}
 use Rattle.tq_eval.proofs.BagLemmas.{is_it, one_if}
 use Rattle.tq_eval.proofs.GroupBags.{first_of_key, of_key, positive_once}
@@ -128,7 +127,7 @@ module _ (share_of : Value → ℕ) (columns : Columns) (number : ℕ) where
   abbrev goes : ℕ → Row → Bool
   goes place row = share_of (value_at row place) == number
 
-  grouped_left : (place : ℕ) (keys : List ℕ) → list_any (λ key. key == place) keys ≡ true → (rows : List Row)
+  pub grouped_left : (place : ℕ) (keys : List ℕ) → list_any (λ key. key == place) keys ≡ true → (rows : List Row)
       → grouped_by keys (filter (goes place) rows) ≡ filter (λ group. goes place (first_row group)) (grouped_by keys rows)
   grouped_left place keys some rows =
       let (j, at) = key_column place keys some in

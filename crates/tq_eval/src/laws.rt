@@ -3,6 +3,7 @@
 ghost use Rattle.tq_eval.specs.Answers.{AnswersAgree, AnswersAreUnique, AnswersExist, AnswersStay};
 ghost use Rattle.tq_eval.specs.Bounds.{BoundsAreGiven};
 ghost use Rattle.tq_eval.specs.Fitting.{HeldRowsFit};
+ghost use Rattle.tq_eval.specs.Gathering.{SharesPartGroups};
 ghost use Rattle.tq_eval.specs.Shares.{SharesPartAnswers, SharesPartRows};
 ghost use Rattle.tq_eval.specs.TableAnswers.{TablesAnswer};
 
@@ -70,4 +71,10 @@ pub fn shares_part_answers()
 /// passes has that value at a place, the rows that pass and have a value of the share there.
 pub fn shares_part_rows()
     ensures { SharesPartRows }
+{}
+
+/// Of rows of the values that groups are made of, those whose first value goes to a share make the rows of the groups
+/// that go there, and no others.
+pub fn shares_part_groups()
+    ensures { SharesPartGroups }
 {}
