@@ -1,5 +1,6 @@
 pub mod ColumnLemmas
 pub mod FetchLemmas
+pub mod GroupLemmas
 pub mod PassingLemmas
 pub mod PieceLemmas
 pub mod RangeLemmas

@@ -3,3 +3,4 @@ pub mod Fetching
 pub mod Ranges
 pub mod Shares
 pub mod Passing
+pub mod Grouped

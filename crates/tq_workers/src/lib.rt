@@ -17,6 +17,7 @@ mod columns;
 mod edges;
 mod fetched;
 mod fetching;
+mod grouped;
 mod joined;
 mod parting;
 mod pieces;

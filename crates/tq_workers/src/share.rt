@@ -29,7 +29,7 @@ pub(crate) struct Share<'a> {
 }
 
 // Whether it is told that the row goes to the share of this number.
-fn goes(told: &[u8], row: usize, number: u8) -> bool
+pub(crate) fn goes(told: &[u8], row: usize, number: u8) -> bool
     requires { row < length told.now }
     ensures { (d : ℕ) → result ≡ (slice_index_or told.now row d == number) }
 {

@@ -96,6 +96,15 @@ pub(crate) fn are_apart(cuts: &[u128]) -> bool {
     cuts.first() != cuts.last()
 }
 
+// Whether rows may be gone through in shares: there are several workers, and so many rows or more.
+pub(crate) fn are_worth_shares(lists: &[Rows], workers: u32, few: usize) -> bool {
+    let mut rows: usize = 0;
+    'lists: for list in lists {
+        rows = rows.saturating_add(list.len());
+    }
+    workers > 1 && rows >= few
+}
+
 /// The texts of the plan's answer, those of the values of a share after those of the one before it, made by these
 /// workers; none where the plan does not fall apart by a value, or where most rows have values that no rank tells apart.
 pub(crate) fn share_texts<'p, R: Threads + Sync, G: Gate + Sync>(

@@ -40,7 +40,7 @@ fn share_at(cuts: &[u128], values: &[Value], column: u32) -> u8
 }
 
 // The shares of the rows from one to another.
-fn shares_at(
+pub(crate) fn shares_at(
     alloc: Global,
     cuts: &[u128],
     rows: &Rows,
@@ -195,8 +195,8 @@ fn rank_at(values: &[Value], column: u32) -> u128 {
     }
 }
 
-// The ranks of the values in the column of some of the rows, in order.
-fn some_ranks(
+// The ranks of the values in the column of some of the rows, in no order.
+pub(crate) fn some_ranks(
     alloc: Global,
     rows: &Rows,
     column: u32,
@@ -208,8 +208,23 @@ fn some_ranks(
             ranks.push(rank_at(rows.values(number), column))?;
         }
     }
-    ranks.sort_unstable();
     Ok(ranks)
+}
+
+/// Of these ranks, in order, those at which so many shares begin, each of them once.
+pub(crate) fn spaced(alloc: Global, ranks: &[u128], shares: usize) -> Result<Vec<u128>, AllocError>
+    requires { shares ≤ 64 }
+    ensures { IfOk result (λ cuts. length cuts.items ≤ 63) }
+{
+    let mut cuts = Vec::with_capacity(alloc, shares)?;
+    'shares: for share in 1..shares {
+        match ranks.get(ranks.len() / shares * share) {
+            Some(rank) if cuts.last() == Some(rank) => {}
+            Some(rank) => cuts.push(*rank)?,
+            None => break,
+        }
+    }
+    Ok(cuts)
 }
 
 /// Ranks of values in the column by which the rows fall into shares of about as many rows, at most so many.
@@ -222,13 +237,7 @@ pub(crate) fn cuts_of(
     requires { shares ≤ 64 }
     ensures { IfOk result (λ cuts. length cuts.items ≤ 63) }
 {
-    let ranks = some_ranks(alloc, rows, column, shares * LOOKED_AT)?;
-    let mut cuts = Vec::with_capacity(alloc, shares)?;
-    'shares: for share in 1..shares {
-        match ranks.get(ranks.len() / shares * share) {
-            Some(rank) => cuts.push(*rank)?,
-            None => break,
-        }
-    }
-    Ok(cuts)
+    let mut ranks = some_ranks(alloc, rows, column, shares * LOOKED_AT)?;
+    ranks.sort_unstable();
+    spaced(alloc, &ranks, shares)
 }

@@ -16,7 +16,7 @@ use crate::among::pieces_of;
 use crate::edges::table_edges;
 use crate::joined::joined_groups;
 use crate::ranges::range_texts;
-use crate::shares::share_texts;
+use crate::shares::{are_worth_shares, share_texts};
 use std::alloc::{AllocError, Global};
 use std::marker::Model;
 use std::thread::Threads;
@@ -68,15 +68,6 @@ fn is_one_list(plan: &Plan) -> bool {
             .all(|output| matches!(output, Output::Column(_)))
 }
 
-// Whether an answer may be worked out in shares of the rows of the tables.
-fn are_worth_shares(tables: &[Rows], workers: u32, few: usize) -> bool {
-    let mut rows: usize = 0;
-    'tables: for table in tables {
-        rows = rows.saturating_add(table.len());
-    }
-    workers > 1 && rows >= few
-}
-
 // The plan's rows at each instant of its window, found by these workers, in shares of the tables only where these have `few` rows or
 // more.
 fn rows_among<'a, R: Threads + Sync, G: Gate + Sync>(
@@ -97,7 +88,7 @@ fn rows_among<'a, R: Threads + Sync, G: Gate + Sync>(
         return rows_within(alloc, &snapshot, plan, &plan.window);
     }
     if are_worth_shares(snapshot.tables, workers, few)
-        && let Some(rows) = joined_groups(rt, alloc, snapshot, plan, workers, gate)?
+        && let Some(rows) = joined_groups(rt, alloc, snapshot, plan, workers, few, gate)?
     {
         return Ok(rows);
     }

@@ -1,6 +1,6 @@
 -- There is at most one cut less than shares.
 use Rattle.std.proofs.Common.{◌≤◌, ◌+◌, length}
-use Rattle.tq_workers.proofs.telling.cuts_of.Given as goal
+use Rattle.tq_workers.proofs.telling.spaced.Given as goal
 
 abbrev pub invariant-shares : goal.invariant-shares
 invariant-shares l = record {
