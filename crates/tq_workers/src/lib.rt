@@ -8,7 +8,7 @@
 //! for every number of workers and every gate. `text_among` promises the text of the answer. Where the plan falls apart
 //! by a value, it parts the tables by that into shares, over each of which the plan has the answer's rows of some values,
 //! and their text; else it parts a long answer into ranges of values, whose lines and text are pieces of work too. Rows
-//! of joined tables that are grouped by something else are found in shares, and then grouped together.
+//! of joined tables that are grouped by something else are found in shares, and then grouped in shares of the groups.
 #![tactic(auto)]
 
 mod among;

@@ -24,6 +24,9 @@ use tq_table::{coalesce, rows_text};
 // So many shares a worker, so that nobody waits long for the last one.
 pub(crate) const SHARES_EACH: u32 = 4;
 
+// And so many at least: values may be few, and some much more frequent than others.
+const LEAST_SHARES: u32 = 32;
+
 // The most tables of which rows are parted.
 pub(crate) const MOST_TABLES: usize = 64;
 
@@ -129,7 +132,8 @@ pub(crate) fn share_texts<'p, R: Threads + Sync, G: Gate + Sync>(
     let Some(columns) = parting_columns(alloc, plan, all.tables.len())? else {
         return Ok(None);
     };
-    let cuts = first_cuts(alloc, plan, all.tables, &columns, SHARES_EACH * workers)?;
+    let shares = (SHARES_EACH * workers).max(LEAST_SHARES);
+    let cuts = first_cuts(alloc, plan, all.tables, &columns, shares)?;
     if !are_apart(&cuts) {
         return Ok(None);
     }
