@@ -2,7 +2,9 @@
 
 ghost use Rattle.std.specs.Prelude.{◌≡◌, ◌<◌, ◌≤◌, ℕ, [], All, IfSome, IsPermutation, IsSortedByKey, OnOk, length, map, slice_index_or, take};
 ghost use Rattle.std.specs.Ordering.{nat_cmp};
+ghost use Rattle.tq_base.specs.declared.fragment.Fragment.{Fragment};
 ghost use Rattle.tq_base.specs.KeySides.{state_of};
+ghost use Rattle.tq_base.specs.Keys.{key_row};
 ghost use Rattle.tq_base.specs.declared.sides.Key.{Key};
 ghost use Rattle.tq_agg.specs.declared.bounds.End.{End};
 ghost use Rattle.tq_agg.specs.Bounds.{end_in, moved, start_in, IsBoundAtFront};
@@ -52,6 +54,18 @@ fn start_in(key: &Key, window: &Period) -> Bound
     moved(key.start, window)
 }
 
+// Where the row of the key ends. Rows of a group lie anywhere, so their ends are read out of one list: in a loop that does
+// little more than this, the processor waits for many of them at once.
+fn end_of(sides: &Sides<'_>, lefts: &[Period], key: &Key) -> Bound
+    requires { lefts.now ≡ map (λ (row : Fragment). row.period) sides.now.left.now.items }
+    ensures { result ≡ (key_row (state_of sides.now) key.now).period.end }
+{
+    match (key.side, lefts.get(key.row as usize)) {
+        (Side::Left, Some(period)) => period.end,
+        _ => sides.period(key).end,
+    }
+}
+
 // Where the rows of the keys end, in the window and in order, takes the place of what stands in the list.
 pub(crate) fn fill_ends(
     sides: &Sides<'_>,
@@ -63,12 +77,14 @@ pub(crate) fn fill_ends(
     ensures sorted { OnOk result (IsSortedByKey (λ (e : End). e.at) nat_cmp ends.new.items) }
 {
     ends.clear();
+    ends.reserve(keys.len())?;
+    let lefts = sides.left.periods();
     'keys: for key in keys {
-        ends.push(End {
-            at: moved(sides.period(key).end.number(), window),
+        ends.push_reserved(End {
+            at: moved(end_of(sides, lefts, key).number(), window),
             row: key.row,
             side: key.side,
-        })?;
+        });
     }
     ends.sort_unstable_by_key(|end| end.at);
     Ok(())
