@@ -13,7 +13,7 @@ use tq_store::Db;
 use tq_table::Table;
 
 /// The tables of a `Db` as of its first `n` events; a table that is not there has no rows. Rows whose keys are not
-/// asked for are not read.
+/// asked for are not read, and the values of those that are read are lent.
 #[derive(Clone, Copy)]
 pub struct AsOf<'a> {
     pub db: &'a Db,
@@ -37,8 +37,7 @@ impl<'a> Snapshot<'a> for AsOf<'a> {
         keys: &KeyRange,
         window: &Period,
     ) -> Result<Relation<'a>, AllocError> {
-        let rows = self.db.rows_in(alloc, self.n, table, keys, window)?;
-        Relation::made(alloc, rows)
+        self.db.rows_in(alloc, self.n, table, keys, window)
     }
 }
 

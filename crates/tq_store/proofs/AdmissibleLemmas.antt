@@ -4,7 +4,8 @@ use Rattle.std.specs.Prelude.{IfSome, IsSomeAnd, FitsSigned}
 use Rattle.std.specs.Int.{w64}
 use Rattle.std.specs.List.Sorted.{IsNonDecreasingBy}
 use Rattle.std.proofs.lemmas.Bool.Decides.{nat_tests}
-use Rattle.std.proofs.lemmas.Option.{get_or_from_slice_get, slice_get-get_or, slice_get_within}
+use Rattle.std.specs.Option.{option_map}
+use Rattle.std.proofs.lemmas.Option.{get_or_from_slice_get, slice_get-get_or, slice_get-map, slice_get_within}
 use Rattle.std.proofs.lemmas.List.Sorted.{IsNonDecreasingBy-push}
 use Rattle.tq_base.specs.declared.catalogue.Catalogue.{Catalogue}
 use Rattle.tq_base.specs.declared.catalogue.Column.{Column}
@@ -22,7 +23,7 @@ use Rattle.tq_event.specs.Recorded.{table_of}
 use Rattle.tq_event.specs.Versions.{Ending, Life, row_lives}
 use Rattle.tq_store.specs.declared.index.Index.{Index}
 use Rattle.tq_base.specs.KeyRanges.{key_of}
-use Rattle.tq_store.specs.Index.{AreIndexes, AreRowLives, CanEnd, CanTake, IsIndexOf, IsOpenAt}
+use Rattle.tq_store.specs.Index.{AreIndexes, AreRowLives, CanEnd, CanTake, FitsIndexes, IsIndexOf, IsOpenAt, columns_of, widths_of}
 use Rattle.tq_store.proofs.LifeLemmas.{as_of, end_by, known_by, rows_known}
 use Rattle.tq_store.proofs.IndexLemmas.{end_stands, start_stands}
 
@@ -39,6 +40,15 @@ fit_key [] (x ∷ v) fits = absurd fits
 fit_key (c ∷ columns) [] fits = absurd fits
 fit_key (c ∷ columns) (Int n ∷ v) fits = kind_key c.kind n fits.0
 fit_key (c ∷ columns) (Text t ∷ v) fits = search rules
+
+-- ---- widths
+
+-- values that fit a table are as many as its columns
+pub fit_length : (columns : List Column) (values : List Value) → Fit columns values → length values ≡ length columns
+fit_length [] [] fits = refl
+fit_length [] (v ∷ values) fits = absurd fits
+fit_length (c ∷ columns) [] fits = absurd fits
+fit_length (c ∷ columns) (v ∷ values) fits = ap suc (fit_length columns values fits.1)
 
 -- ---- open rows
 
@@ -134,6 +144,18 @@ can_take c es indexes (Start t v at) tables are fits finite = (by (slice_get c.t
     by None can = absurd can
     by (Some s) can = fit_key s.columns v can
 can_take c es indexes (End t r at) tables are fits finite = ((possible_end c es indexes t r at tables are fits.1).1, finite)
+
+-- a row that starts has as many values as the others of its table
+pub fits_indexes : (c : Catalogue) (es : List Event) (indexes : List Index) (e : Event) → widths_of indexes ≡ columns_of c.tables → IsAdmissible c es e → FitsIndexes indexes e
+fits_indexes c es indexes (Start t v at) widths fits = by (slice_get c.tables t) refl fits.1
+  where
+    by : (o : Option Schema) → slice_get c.tables t ≡ o → IsSomeAnd o (λ (s : Schema). Fit s.columns v) → FitsIndexes indexes (Start t v at)
+    by None is can = absurd can
+    by (Some s) is can =
+        fit_length s.columns v can
+        ∙ sym (get_or_from_slice_get (widths_of indexes) t (length s.columns) 0
+        (ap (λ ws. slice_get ws t) widths ∙ slice_get-map (λ (x : Schema). length x.columns) c.tables t ∙ ap (option_map (λ (x : Schema). length x.columns)) is))
+fits_indexes c es indexes (End t r at) widths fits = tt
 
 -- ---- histories
 

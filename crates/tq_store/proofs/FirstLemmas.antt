@@ -3,7 +3,7 @@ use Rattle.std.proofs.Common.{◌≡◌, ℕ, zero, suc, drop, [], ◌∷◌, �
 use Rattle.std.specs.Prelude.{Contains, is_some, filter}
 use Rattle.std.specs.BTreeMap.{is_at}
 use Rattle.std.specs.BTreeMap.Range.{range_contains}
-use Rattle.std.specs.BTreeSet.{BTreeSet, IsOrdered, contains}
+use Rattle.std.specs.BTreeSet.{BTreeSet, IsOrdered}
 use Rattle.std.specs.Cmp.{eq_by_cmp_equiv, nat_cmp_total}
 use Rattle.std.specs.List.{list_any}
 use Rattle.std.specs.Option.{option_map_or}

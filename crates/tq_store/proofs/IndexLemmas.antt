@@ -9,6 +9,7 @@ use Rattle.std.proofs.lemmas.Option.{slice_get-map, slice_get_within, slice_get_
 use Rattle.std.proofs.lemmas.List.{map-append}
 use Rattle.tq_base.specs.declared.period.TheConstants.{FOREVER}
 use Rattle.tq_base.specs.declared.value.Value.{Value}
+use Rattle.tq_base.specs.RowLists.{RowList}
 use Rattle.tq_event.specs.declared.event.Event.{Event}
 use Rattle.tq_event.specs.declared.event.Event.TheVariants.{Start, End}
 use Rattle.tq_event.specs.Recorded.{table_of}
@@ -22,7 +23,7 @@ use Rattle.tq_store.specs.declared.index.RowEvents.{RowEvents}
 use Rattle.tq_base.specs.KeyRanges.{key_of}
 use Rattle.tq_store.specs.Digests.{digest_of}
 use Rattle.tq_store.specs.Keys.{shifted, tree_key}
-use Rattle.tq_store.specs.Index.{AreIndexes, AreOpenRows, Begins, Ends, HasRows, IsIndexOf, IsKeyOf, IsOpenAt, IsRowLife, dead_of, ended, events_of, is_open_as, is_open_under}
+use Rattle.tq_store.specs.Index.{AreIndexes, AreOpenRows, Begins, Ends, HasRows, IsIndexOf, IsKeyOf, IsOpenAt, IsRowLife, dead_of, ended, events_of, is_open_as, is_open_under, values_kept, values_of, widths_of}
 use Rattle.tq_store.specs.Open.{HasSame, has, place_key}
 use Rattle.tq_store.proofs.OpenRowsLemmas.{and-false, and-yes, number_other, or-false, place_row}
 use Rattle.tq_store.proofs.LifeLemmas.{IsTold, StandsAt, ended_at, eqb-other, eqb-same, lives_end, lives_other, lives_start, lives_told}
@@ -45,6 +46,11 @@ pub set_length : {X : Type 0} → (xs : List X) (i : ℕ) (v : X) → length (sl
 set_length [] i v = refl
 set_length (x ∷ xs) zero v = refl
 set_length (x ∷ xs) (suc i) v = ap suc (set_length xs i v)
+
+pub set_same : {X : Type 0} → (xs : List X) (i : ℕ) (v : X) → slice_get xs i ≡ Some v → slice_set xs i v ≡ xs
+set_same [] i v here = refl
+set_same (x ∷ xs) zero v here = let same : x ≡ v = cc in ap (λ y. y ∷ xs) (sym same)
+set_same (x ∷ xs) (suc i) v here = ap (λ l. x ∷ l) (set_same xs i v here)
 
 pub map_set : {X Y : Type 0} → (f : X → Y) (xs : List X) (i : ℕ) (v : X) → map f (slice_set xs i v) ≡ slice_set (map f xs) i (f v)
 map_set f [] i v = refl
@@ -304,9 +310,11 @@ rows_counted es t index is = ap length is.rows ∙ mapped (row_lives es t)
 pub index_start : (es : List Event) (t : ℕ) (v : List Value) (at : ℕ) (old new : Index) → length es < 16777216 → IsIndexOf es t old → FitsSigned w64 (key_of v) → at < FOREVER
     → new.rows.items ≡ old.rows.items ++ record { start = length es; end = None; digest = digest_of v; from = at; to = FOREVER; key = shifted (key_of v) } ∷ [] → Begins old.tree new.tree (tree_key v (length old.rows.items)) (length es + 1)
     → ((k : ℕ) → has new.opened k ≡ (has old.opened k || eq_by_cmp nat_cmp (place_key v (length old.rows.items)) k))
+    → values_of new.kept.items ≡ values_of old.kept.items ++ v ∷ []
     → IsIndexOf (es ++ Start t v at ∷ []) t new
-index_start es t v at old new small is fits less rows begins opened = record {
+index_start es t v at old new small is fits less rows begins opened kept = record {
   rows = rows ∙ ap (λ r. r ++ record { start = length es; end = None; digest = digest_of v; from = at; to = FOREVER; key = shifted (key_of v) } ∷ []) is.rows ∙ sym (map-append events_of (row_lives es t) (l ∷ [])) ∙ sym (ap (map events_of) more);
+  kept = kept ∙ ap (λ vs. vs ++ v ∷ []) is.kept ∙ sym (map-append (λ (x : Life). x.values) (row_lives es t) (l ∷ [])) ∙ sym (ap (map (λ (x : Life). x.values)) more);
   tree = subst (λ ls. HasRows ls (length (es ++ Start t v at ∷ [])) new.tree.version new.tree.nodes) (sym more)
       (subst (λ c. HasRows (row_lives es t ++ l ∷ []) c new.tree.version new.tree.nodes) (sym (length_push es (Start t v at)))
       (begun_rows (row_lives es t) (length es) old.tree new.tree l small is.tree
@@ -328,9 +336,13 @@ pub index_end : (es : List Event) (t row at : ℕ) (old new : Index) (l : Life) 
     → slice_get (row_lives es t) row ≡ Some l → l.ending ≡ None → l.from < at
     → new.rows.items ≡ slice_set old.rows.items row (ended (length es) at (events_of l)) → Ends old.tree new.tree (tree_key l.values row) (length es + 1)
     → ((k : ℕ) → has new.opened k ≡ (has old.opened k && not (eq_by_cmp nat_cmp (place_key l.values row) k)))
+    → new.kept ≡ old.kept
     → IsIndexOf (es ++ End t row at ∷ []) t new
-index_end es t row at old new l small is finite stands none less rows ends opened = record {
+index_end es t row at old new l small is finite stands none less rows ends opened kept = record {
   rows = rows ∙ ap (λ r. slice_set r row (ended (length es) at (events_of l))) is.rows ∙ sym (map_set events_of (row_lives es t) row (ended_at (length es) at l)) ∙ sym (ap (map events_of) more);
+  kept = ap (λ (r : RowList). values_of r.items) kept ∙ is.kept
+      ∙ sym (set_same (values_kept es t) row l.values (slice_get-map (λ (x : Life). x.values) (row_lives es t) row ∙ ap (option_map (λ (x : Life). x.values)) stands))
+      ∙ sym (map_set (λ (x : Life). x.values) (row_lives es t) row (ended_at (length es) at l)) ∙ sym (ap (map (λ (x : Life). x.values)) more);
   tree = subst (λ ls. HasRows ls (length (es ++ End t row at ∷ [])) new.tree.version new.tree.nodes) (sym more)
       (subst (λ c. HasRows (slice_set (row_lives es t) row (ended_at (length es) at l)) c new.tree.version new.tree.nodes) (sym (length_push es (End t row at)))
       (ended_rows (row_lives es t) (length es) row at old.tree new.tree l small is.tree stands none ends
@@ -353,6 +365,7 @@ index_end es t row at old new l small is finite stands none less rows ends opene
 pub index_other : (es : List Event) (t : ℕ) (e : Event) (index : Index) → IsIndexOf es t index → (table_of e == t) ≡ false → IsIndexOf (es ++ e ∷ []) t index
 index_other es t e index is other = record {
   rows = is.rows ∙ sym (ap (map events_of) same);
+  kept = is.kept ∙ sym (ap (map (λ (x : Life). x.values)) same);
   tree = subst (λ ls. HasRows ls (length (es ++ e ∷ [])) index.tree.version index.tree.nodes) (sym same)
       (subst (λ c. HasRows (row_lives es t) c index.tree.version index.tree.nodes) (sym (length_push es e)) (same_rows (row_lives es t) (length es) index.tree.version index.tree.nodes is.tree));
   opened = λ k. is.opened k ∙ sym (ap (λ ls. is_open_under ls k) same);
@@ -362,18 +375,21 @@ index_other es t e index is other = record {
     same = lives_other t 0 0 es e other
 
 -- an index that is seen as another one
-pub index_like : (es : List Event) (t : ℕ) (old new : Index) → new.tree ≡ old.tree → new.rows.items ≡ old.rows.items → HasSame old.opened new.opened → IsIndexOf es t old → IsIndexOf es t new
-index_like es t old new tree rows open_like is = record {
+pub index_like : (es : List Event) (t : ℕ) (old new : Index) → new.tree ≡ old.tree → new.rows.items ≡ old.rows.items → new.kept.items ≡ old.kept.items → HasSame old.opened new.opened → IsIndexOf es t old
+    → IsIndexOf es t new
+index_like es t old new tree rows kept open_like is = record {
   rows = rows ∙ is.rows;
+  kept = ap values_of kept ∙ is.kept;
   tree = subst (λ (s : TreeState). HasRows (row_lives es t) (length es) s.version s.nodes) (sym tree) is.tree;
   opened = λ k. open_like k ∙ is.opened k;
 }
 
 -- no event
-pub index_none : (t : ℕ) (index : Index) → index.rows.items ≡ [] → index.tree.version ≡ 0 → ((k v : ℕ) → lives_of index.tree.nodes k v ≡ false)
+pub index_none : (t : ℕ) (index : Index) → index.rows.items ≡ [] → index.kept.items ≡ [] → index.tree.version ≡ 0 → ((k v : ℕ) → lives_of index.tree.nodes k v ≡ false)
     → ((k : ℕ) → has index.opened k ≡ false) → IsIndexOf [] t index
-index_none t index rows version none shut_all = record {
+index_none t index rows kept version none shut_all = record {
   rows = rows;
+  kept = ap values_of kept;
   tree = record {
     each = λ row l stands. absurd (cc);
     only = λ k v lives. absurd (let no = none k v in cc);
@@ -409,6 +425,16 @@ indexes_after es e indexes new are less is =
 pub indexes_kept : (es : List Event) (t : ℕ) (indexes : List Index) (new : Index) → AreIndexes es indexes → t < length indexes → IsIndexOf es t new → AreIndexes es (slice_set indexes t new)
 indexes_kept es t indexes new are less is = indexes_set es es indexes t new are less is (λ u index away old. old)
 
+-- the width of an index is that of its place
+pub width_at : (indexes : List Index) (t : ℕ) (index : Index) → slice_get indexes t ≡ Some index → slice_get (widths_of indexes) t ≡ Some index.kept.width
+width_at indexes t index here = slice_get-map (λ (i : Index). i.kept.width) indexes t ∙ ap (option_map (λ (i : Index). i.kept.width)) here
+
+-- an index that stays as wide
+pub widths_kept : (indexes : List Index) (t : ℕ) (old new : Index) → slice_get indexes t ≡ Some old → new.kept.width ≡ old.kept.width → widths_of (slice_set indexes t new) ≡ widths_of indexes
+widths_kept indexes t old new here same =
+    map_set (λ (i : Index). i.kept.width) indexes t new
+    ∙ set_same (widths_of indexes) t new.kept.width (width_at indexes t old here ∙ ap (λ w. Some w) (sym same))
+
 -- ---- what the events tell of a row
 
 pub row_told : (es : List Event) (t row : ℕ) (l : Life) → slice_get (row_lives es t) row ≡ Some l → IsTold t row 0 es l
@@ -439,6 +465,14 @@ not_yet_open es t index small is v =
     ∙ ap (λ o. option_map_or (is_open_as key) o false) (slice_get_past (row_lives es t) (length index.rows.items) (omega (arith, len)))
 
 -- ---- results
+
+pub on_four : {T E : Type 0} → (r : Result T E) {P Q R S U : Type 0} → OnOk r P → OnOk r Q → OnOk r R → OnOk r S → (P → Q → R → S → U) → OnOk r U
+on_four (Ok x) p q s t step = step p q s t
+on_four (Err e) p q s t step = p
+
+pub on_four_err : {T E : Type 0} → (r : Result T E) {P Q R S U : Type 0} → OnErr r P → OnErr r Q → OnErr r R → OnErr r S → (P → Q → R → S → U) → OnErr r U
+on_four_err (Ok x) p q s t step = p
+on_four_err (Err e) p q s t step = step p q s t
 
 pub on_ok : {T E : Type 0} → (r : Result T E) {P Q : Type 0} → OnOk r P → (P → Q) → OnOk r Q
 on_ok (Ok x) is step = step is

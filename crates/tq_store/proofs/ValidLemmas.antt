@@ -10,7 +10,6 @@ use Rattle.std.proofs.lemmas.List.{length-take}
 use Rattle.std.specs.Option.{option_map}
 use Rattle.std.proofs.lemmas.Option.{get_or_from_slice_get, slice_get-get_or, slice_get-map, slice_get_past, slice_get_within}
 use Rattle.tq_base.specs.declared.catalogue.Catalogue.{Catalogue}
-use Rattle.tq_base.specs.declared.catalogue.Column.{Column}
 use Rattle.tq_base.specs.declared.catalogue.Schema.{Schema}
 use Rattle.tq_base.specs.declared.fragment.Fragment.{Fragment}
 use Rattle.tq_base.specs.declared.period.Period.{Period}
@@ -25,7 +24,6 @@ use Rattle.tq_event.specs.History.{IsHistory, Row, end_of, rows_from, rows_of, t
 use Rattle.tq_event.specs.Recorded.{HasTable}
 use Rattle.tq_event.specs.Versions.{Life, birth_of, version_at}
 use Rattle.tq_base.specs.declared.key_range.KeyRange.{KeyRange}
-use Rattle.tq_scan.specs.declared.window.Part.{Part}
 use Rattle.tq_base.specs.KeyRanges.{key_of}
 use Rattle.tq_store.specs.Keys.{shifted}
 use Rattle.tq_store.specs.Rows.{ArePartRows, HasReference, IsPartRow, row_key, window_part}
@@ -59,12 +57,6 @@ split_at : {X : Type 0} → (xs : List X) (i : ℕ) (x : X) → slice_get xs i �
 split_at [] i x here = absurd (cc)
 split_at (y ∷ xs) zero x here = let same : y ≡ x = cc in record { before = []; after = xs; same = ap (λ z. z ∷ xs) same }
 split_at (y ∷ xs) (suc i) x here = let rest = split_at xs i x here in record { before = y ∷ rest.before; after = rest.after; same = ap (λ l. y ∷ l) rest.same }
-
-fit_length : (columns : List Column) (values : List Value) → Fit columns values → length values ≡ length columns
-fit_length [] [] fits = refl
-fit_length [] (v ∷ values) fits = absurd fits
-fit_length (c ∷ columns) [] fits = absurd fits
-fit_length (c ∷ columns) (v ∷ values) fits = ap suc (fit_length columns values fits.1)
 
 there_of : {X : Type 0} → (xs : List X) (x : X) → Contains xs x → IsThere xs x
 there_of xs x there = record { place = there.0; stands = slice_get-get_or xs there.0 x there.1 ∙ ap (λ y. Some y) there.2 }
@@ -111,9 +103,6 @@ module _ (c : Catalogue) (es : List Event) (history : IsHistory c es) (n t : ℕ
 
   pub no_rows : slice_get c.tables t ≡ None → (row : Row) → Contains (rows_of es n t) row → ⊥
   no_rows none row there = subst (λ o. IsSomeAnd o (λ (s : Schema). Fit s.columns row.values)) none (row_fits row there)
-
-  pub row_width : (s : Schema) → slice_get c.tables t ≡ Some s → (row : Row) → Contains (rows_of es n t) row → length row.values ≡ length s.columns
-  row_width s some row there = fit_length s.columns row.values (subst (λ o. IsSomeAnd o (λ (s : Schema). Fit s.columns row.values)) some (row_fits row there))
 
   row_key_fits : (row : Row) → Contains (rows_of es n t) row → FitsSigned w64 (key_of row.values)
   row_key_fits row there = by (slice_get c.tables t) (row_fits row there)
@@ -245,13 +234,6 @@ keys_in es n t range period fragments whole k d less = by (slice_get whole.rows 
         let part = (whole.are.just row).0 (contains_of whole.rows k row stands) in
         let both : unnumbered row ≡ shown (get_or fragments k d) = cc in
         subst (HasKeyIn range) (ap (λ (r : Row). r.values) both) (record { low = part.low; high = part.high })
-
--- the rows of keys have as many values as those of the table
-pub key_widths : (es : List Event) (n t : ℕ) (range : KeyRange) (period : Period) (p : Part) (f : ℕ → Row) (keys : List ℕ) (width : ℕ) → ArePartRows es n t range period p (map f keys)
-    → ((row : Row) → Contains (rows_of es n t) row → length row.values ≡ width) → All (λ key. length (f key).values ≡ width) keys
-key_widths es n t range period p f keys width are wide k d less =
-    wide (f (get_or keys k d))
-    ((are.just (f (get_or keys k d))).0 (contains_of (map f keys) k (f (get_or keys k d)) (slice_get-map f keys k ∙ ap (option_map f) (slice_get-get_or keys k d less)))).known
 
 -- a table that is not there has none
 pub none_there : (c : Catalogue) (es : List Event) (n t : ℕ) (range : KeyRange) (period : Period) (fragments : List Fragment) → IsHistory c es → length c.tables ≤ t → fragments ≡ [] → AreWhole es n t range period fragments

@@ -1,16 +1,19 @@
 -- The tree of a table, and the events of its rows: what holds of them by the events so far. This project's own.
-use Rattle.std.specs.Prelude.{◌≡◌, ◌≢◌, ℕ, ◌+◌, ◌*◌, ◌%◌, ◌<◌, ◌≤◌, ◌&&◌, not, is_some, Bool, List, map, length, slice_get, true, false, Option, Some, None, IsSomeAnd, IfSome, FitsSigned}
+use Rattle.std.specs.Prelude.{◌≡◌, ◌≢◌, ℕ, ◌+◌, ◌*◌, ◌%◌, ◌<◌, ◌≤◌, ◌&&◌, not, is_some, Bool, List, map, length, slice_get, slice_index_or, true, false, Option, Some, None, IsSomeAnd, IfSome, FitsSigned, ⊤}
 use Rattle.std.specs.Int.{w64}
 use Rattle.std.specs.List.Sorted.{IsNonDecreasingBy}
 use Rattle.std.specs.Option.{option_map, option_map_or}
 use Rattle.std.specs.Ordering.{eq_by_cmp, nat_cmp}
 use Rattle.tq_base.specs.declared.catalogue.Catalogue.{Catalogue}
+use Rattle.tq_base.specs.declared.catalogue.Schema.{Schema}
+use Rattle.tq_base.specs.declared.fragment.Fragment.{Fragment}
 use Rattle.tq_base.specs.declared.period.TheConstants.{FOREVER}
 use Rattle.tq_base.specs.declared.value.Value.{Value}
 use Rattle.tq_base.specs.ValueOrder.{values_cmp}
 use Rattle.tq_event.specs.declared.event.Event.{Event}
 use Rattle.tq_event.specs.declared.event.Event.TheVariants.{Start, End}
 use Rattle.tq_event.specs.History.{IsHistory, time_of}
+use Rattle.tq_event.specs.Recorded.{table_of}
 use Rattle.tq_event.specs.Versions.{Ending, Life, row_lives}
 use Rattle.tq_mvbt.specs.NodeState.{NodeState}
 use Rattle.tq_mvbt.specs.Points.{now}
@@ -43,6 +46,14 @@ place_key_of known row = (known.key * 4294967296 + known.digest) * 4294967296 + 
 -- the events of each row of the table
 abbrev pub rows_kept : List Event → ℕ → List RowEvents
 rows_kept events table = map events_of (row_lives events table)
+
+-- the values of each row of the table
+abbrev pub values_kept : List Event → ℕ → List (List Value)
+values_kept events table = map (λ (l : Life). l.values) (row_lives events table)
+
+-- the values of rows that stand side by side
+abbrev pub values_of : List Fragment → List (List Value)
+values_of rows = map (λ (row : Fragment). row.values) rows
 
 -- whether a row of this life is open and has these values
 abbrev pub is_open_of : List Value → Life → Bool
@@ -96,9 +107,10 @@ pub record AreOpenRows (events : List Event) (table : ℕ) (rows : OpenRows) : T
   pub few : length (row_lives events table) ≤ length events
   pub opened : (key : ℕ) → has rows key ≡ is_open_under (row_lives events table) key
 
--- the tree, the rows and the open ones among them are those of the table by these events
+-- the tree, the rows, their values and the open ones among them are those of the table by these events
 pub record IsIndexOf (events : List Event) (table : ℕ) (index : Index) : Type 0 where
   pub rows : index.rows.items ≡ rows_kept events table
+  pub kept : values_of index.kept.items ≡ values_kept events table
   pub tree : HasRows (row_lives events table) (length events) index.tree.version index.tree.nodes
   pub opened : (key : ℕ) → has index.opened key ≡ is_open_under (row_lives events table) key
 
@@ -106,12 +118,21 @@ pub record IsIndexOf (events : List Event) (table : ℕ) (index : Index) : Type 
 pub record AreIndexes (events : List Event) (indexes : List Index) : Type 0 where
   pub each : (table : ℕ) (index : Index) → slice_get indexes table ≡ Some index → IsIndexOf events table index
 
+-- how many values the rows of each of the indexes have
+abbrev pub widths_of : List Index → List ℕ
+widths_of indexes = map (λ (index : Index). index.kept.width) indexes
+
+-- how many columns each of the tables has
+abbrev pub columns_of : List Schema → List ℕ
+columns_of tables = map (λ (schema : Schema). length schema.columns) tables
+
 -- a history with its indexes
 pub record IsDb (catalogue : Catalogue) (events : List Event) (indexes : List Index) : Type 0 where
   pub history : IsHistory catalogue events
   pub ordered : IsNonDecreasingBy time_of events
   pub few : length events ≤ 16777216
   pub tables : length indexes ≡ length catalogue.tables
+  pub widths : widths_of indexes ≡ columns_of catalogue.tables
   pub indexed : AreIndexes events indexes
 
 -- ---- one more event
@@ -128,6 +149,15 @@ CanEnd tables events table row at = (table < tables) × IsOpenAt events table ro
 abbrev pub CanTake : List Event → Event → Type 0
 CanTake events (Start t v at) = FitsSigned w64 (key_of v) × (at < FOREVER)
 CanTake events (End t r at) = IsOpenAt events t r at × (at < FOREVER)
+
+-- a row that the event starts has so many values
+abbrev pub HasWidth : ℕ → Event → Type 0
+HasWidth width (Start t v at) = length v ≡ width
+HasWidth width (End t r at) = ⊤
+
+-- a row that the event starts has as many values as the others of its table
+abbrev pub FitsIndexes : List Index → Event → Type 0
+FitsIndexes indexes event = HasWidth (slice_index_or (widths_of indexes) (table_of event) 0) event
 
 -- the key begins to live at the version
 pub record Begins (old new : TreeState) (key version : ℕ) : Type 0 where

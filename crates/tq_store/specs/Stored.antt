@@ -3,6 +3,7 @@ use Rattle.std.specs.Prelude.{ℕ, ◌%◌, ◌<◌, ◌&&◌, ◌==◌, not, is
 use Rattle.std.specs.Option.{option_map_or}
 use Rattle.std.specs.Ordering.{eq_by_cmp}
 use Rattle.tq_base.specs.declared.period.TheConstants.{FOREVER}
+use Rattle.tq_base.specs.declared.relation.Line.{Line}
 use Rattle.tq_base.specs.declared.value.Value.{Value}
 use Rattle.tq_base.specs.ValueOrder.{values_cmp}
 use Rattle.tq_event.specs.declared.event.Event.{Event}
@@ -51,6 +52,25 @@ IsReadable events rows key = IsSomeAnd (slice_get rows (key % 4294967296)) (IsSt
 abbrev pub row_of_key : List Event → List RowEvents → ℕ → ℕ → Row
 row_of_key events rows n key =
     stored_row events n (key % 4294967296) (slice_index_or rows (key % 4294967296) (record { start = 0; end = None; digest = 0; from = 0; to = 0; key = 0 }))
+
+-- the key is that of a row, which ends later than it starts
+abbrev pub IsLasting : List RowEvents → ℕ → Type 0
+IsLasting rows key = IsSomeAnd (slice_get rows (key % 4294967296)) (λ (row : RowEvents). row.from < row.to)
+
+-- a row's number, and from when to when it is valid
+pub record Times : Type 0 where
+  pub number : ℕ
+  pub from : ℕ
+  pub to : ℕ
+
+-- those of a line
+abbrev pub line_times : Line → Times
+line_times line = record { number = line.row; from = line.period.start; to = line.period.end }
+
+-- those of the row of the key, as of the first n events
+abbrev pub times_of_key : List RowEvents → ℕ → ℕ → Times
+times_of_key rows n key =
+    let row = row_of_key [] rows n key in record { number = row.number; from = row.from; to = row.to }
 
 -- whether the event starts a row of these values before the instant
 abbrev pub starts_like : List Value → ℕ → Event → Bool

@@ -1,9 +1,8 @@
 //! Tables as of any count of events.
 
-ghost use Rattle.std.specs.Prelude.{ℕ, All, Contains, ◌≡◌, ◌↔◌, ◌+◌, ◌*◌, ◌/◌, ◌<◌, ◌≤◌, ◌∷◌, ◌++◌, [], IsTrue, IfOk, OnOk, OnErr, if◌then◌else◌, length, map, min};
+ghost use Rattle.std.specs.Prelude.{ℕ, All, ◌≡◌, ◌↔◌, ◌+◌, ◌*◌, ◌/◌, ◌<◌, ◌≤◌, ◌∷◌, ◌++◌, [], IsTrue, IfOk, OnOk, OnErr, if◌then◌else◌, length, map, min};
 ghost use Rattle.tq_base.specs.declared.period.TheConstants.{FOREVER};
-ghost use Rattle.tq_event.specs.History as rows;
-ghost use Rattle.tq_event.specs.History.{CanHappen, IsAdmissible, IsHistory, IsNotBefore, rows_of, time_of};
+ghost use Rattle.tq_event.specs.History.{CanHappen, IsAdmissible, IsHistory, IsNotBefore, time_of};
 ghost use Rattle.tq_event.specs.Opening.{open_row};
 ghost use Rattle.tq_event.specs.Recorded.{HasTable};
 ghost use Rattle.tq_event.specs.Versions.{version_at};
@@ -14,13 +13,13 @@ ghost use Rattle.tq_store.specs.Stored.{IsReadable, row_of_key, seen};
 ghost use Rattle.tq_store.specs.Valid.{AreWhole};
 
 use crate::index::{Index, no_indexes, take};
-use crate::read::{find_version, make_window, read_rows, read_side_by_side};
+use crate::read::{find_version, first_keys, make_window, read_lines, read_rows};
 use crate::row::Row;
 use crate::stored::time;
 use std::alloc::{AllocError, Global};
 use std::marker::Model;
 use tq_arena::Meter;
-use tq_base::{Catalogue, Instant, KeyRange, Period, Rows, Values};
+use tq_base::{Catalogue, Instant, KeyRange, Period, Relation, Values};
 use tq_event::Event;
 use tq_mvbt::trees_tile;
 use tq_scan::{Found, Part, Window, scan};
@@ -97,7 +96,7 @@ impl Db {
     pub fn new(alloc: Global, catalogue: Catalogue) -> Result<Db, AllocError>
         ensures { IfOk result (λ db. db ≡ record { catalogue = catalogue; events = [] }) }
     {
-        let indexes = no_indexes(alloc, catalogue.tables.get().len())?;
+        let indexes = no_indexes(alloc, catalogue.tables.get())?;
         Ok(Db {
             alloc,
             catalogue,
@@ -232,7 +231,7 @@ impl Db {
         read_rows(self.alloc, &self.events, &index.rows, found.keys.get(), n)
     }
 
-    // The rows of all of the window, of so many values each, side by side. Out of memory: nothing is given.
+    // The rows of all of the window, their values lent. Out of memory: nothing is given.
     pub(crate) fn whole(
         &self,
         alloc: Global,
@@ -240,16 +239,16 @@ impl Db {
         table: u32,
         range: &KeyRange,
         period: &Period,
-        width: usize,
-    ) -> Result<Rows, AllocError>
+    ) -> Result<Relation<'_>, AllocError>
         requires known { n ≤ length self.now.events }
         requires table { table < length self.now.catalogue.tables }
-        requires width { (row : rows.Row) → Contains (rows_of self.now.events n table) row → length row.values ≡ width }
         ensures { IfOk result (λ rows. AreWhole self.now.events n table range.now period.now rows.items) }
     {
         let part = self.window(n, table, range, period).whole();
         let found = self.find(n, table, range, period, &part, &mut Meter::new())?;
         let index = &self.indexes[table as usize];
-        read_side_by_side(alloc, &self.events, &index.rows, found.keys.get(), n, width)
+        let lines = read_lines(alloc, &index.rows, found.keys.get(), n)?;
+        let _near = first_keys(alloc, &index.kept, &lines)?;
+        Relation::of(alloc, &index.kept)?.pick(alloc, &lines)
     }
 }

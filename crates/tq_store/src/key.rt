@@ -6,7 +6,7 @@ ghost use Rattle.tq_store.specs.Keys.{shifted};
 ghost use Rattle.tq_store.specs.Open.{place_key};
 
 use crate::digest::digest;
-use tq_base::{Seen, Values};
+use tq_base::{Seen, Value, Values};
 
 /// How far the numbers of 64 signed bits go beyond 0: 2^63.
 const SPAN: i128 = 0x8000_0000_0000_0000;
@@ -31,10 +31,10 @@ pub(crate) fn shift_key(key: i64) -> u128
 }
 
 // The key of a row of these values.
-fn key(values: &Values) -> i128
+fn key(values: &[Value]) -> i128
     ensures { result ≡ key_of values.now }
 {
-    match values.get().first() {
+    match values.first() {
         Some(value) => match value.seen() {
             Seen::Int(number) => number,
             Seen::Text(_) => 0,
@@ -44,7 +44,7 @@ fn key(values: &Values) -> i128
 }
 
 // The key of a row of these values, from 0 on in place of the least one.
-pub(crate) fn first_key(values: &Values) -> u64
+pub(crate) fn first_key(values: &[Value]) -> u64
     ensures { result ≡ shifted (key_of values.now) }
 {
     shift(key(values)) as u64
@@ -69,5 +69,5 @@ pub(crate) fn place(key: u64, digest: u32, row: u32) -> u128
 pub(crate) fn open_key(values: &Values, row: u32) -> u128
     ensures { result ≡ place_key values.now row }
 {
-    place(first_key(values), digest(values), row)
+    place(first_key(values.get()), digest(values), row)
 }

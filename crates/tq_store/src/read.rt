@@ -4,21 +4,22 @@ ghost use Rattle.std.specs.Prelude.{◌≡◌, ◌≤◌, ◌<◌, ◌-◌, leng
 ghost use Rattle.std.specs.Int.{w64};
 ghost use Rattle.std.specs.List.Sorted.{IsNonDecreasingBy};
 ghost use Rattle.tq_base.specs.declared.period.TheConstants.{FOREVER};
+ghost use Rattle.tq_base.specs.declared.relation.Line.{Line};
 ghost use Rattle.tq_base.specs.KeyRanges.{key_of};
+ghost use Rattle.tq_base.specs.Relations.{values_at_number};
 ghost use Rattle.tq_event.specs.History.{time_of};
 ghost use Rattle.tq_event.specs.Versions.{version_at};
 ghost use Rattle.tq_scan.specs.Windows.{whole_of};
 ghost use Rattle.tq_store.specs.Keys.{shifted};
 ghost use Rattle.tq_store.specs.Rows.{window_part};
-ghost use Rattle.tq_store.specs.Stored.{IsReadable, row_of_key, seen};
-ghost use Rattle.tq_store.specs.Valid.{shown, unnumbered};
+ghost use Rattle.tq_store.specs.Stored.{IsLasting, IsReadable, line_times, row_of_key, seen, times_of_key};
 
 use crate::index::RowEvents;
 use crate::key::{ROWS, first_key, shift_key};
 use crate::row::Row;
-use crate::stored::{period, read_row, time, values};
+use crate::stored::{period, read_row, time};
 use std::alloc::{AllocError, Global};
-use tq_base::{KeyRange, Period, Rows, Values};
+use tq_base::{KeyRange, Line, Period, Rows};
 use tq_event::Event;
 use tq_scan::Window;
 
@@ -68,56 +69,37 @@ pub(crate) fn read_rows(
     Ok(found)
 }
 
-// The values of the rows, lent. One row after the other lies somewhere else: in a loop that does no more than this,
-// the processor waits for many of them at once.
-fn lend_values<'a>(
+// The numbers of a tree's keys, each with the period of its row as of the first n events. One row after the other lies
+// somewhere else: in a loop that does no more than this, the processor waits for many of them at once.
+pub(crate) fn read_lines(
     alloc: Global,
-    events: &'a [Event],
-    rows: &[RowEvents],
-    keys: &[u128],
-) -> Result<Vec<&'a Values>, AllocError>
-    requires { All (IsReadable events.now rows.now) keys.now }
-    ensures { IfOk result (λ lent. map (λ values. values.now) lent.items ≡ map (λ key. (row_of_key events.now rows.now 0 key).values) keys.now) }
-{
-    let mut lent = Vec::with_capacity(alloc, keys.len())?;
-    'keys: for key in keys {
-        let row = &rows[(*key % ROWS) as usize];
-        lent.push(values(events, row.start))?;
-    }
-    Ok(lent)
-}
-
-// The keys of rows whose values are lent, from 0 on. The values lie somewhere else again, and this loop too does no more
-// than look at them: they are near when they are copied.
-fn first_keys(alloc: Global, lent: &[&Values]) -> Result<Vec<u64>, AllocError>
-    ensures { IfOk result (λ keys. keys.items ≡ map (λ values. shifted (key_of values.now)) lent.now) }
-{
-    let mut keys = Vec::with_capacity(alloc, lent.len())?;
-    'rows: for values in lent {
-        keys.push(first_key(values))?;
-    }
-    Ok(keys)
-}
-
-// The same rows, of so many values each, side by side.
-pub(crate) fn read_side_by_side(
-    alloc: Global,
-    events: &[Event],
     rows: &[RowEvents],
     keys: &[u128],
     n: u32,
-    width: usize,
-) -> Result<Rows, AllocError>
-    requires readable { All (IsReadable events.now rows.now) keys.now }
-    requires width { All (λ key. length (row_of_key events.now rows.now n key).values ≡ width) keys.now }
-    ensures { IfOk result (λ found. map shown found.items ≡ map (λ key. unnumbered (row_of_key events.now rows.now n key)) keys.now) }
+) -> Result<Vec<Line>, AllocError>
+    requires { All (IsLasting rows.now) keys.now }
+    ensures { IfOk result (λ lines. map line_times lines.items ≡ map (times_of_key rows.now n) keys.now) }
 {
-    let lent = lend_values(alloc, events, rows, keys)?;
-    let _near = first_keys(alloc, &lent)?;
-    let mut found = Rows::new(alloc, width);
-    'keys: for place in 0..keys.len() {
-        let row = &rows[(keys[place] % ROWS) as usize];
-        found.push_copy(lent[place].get(), period(row, n))?;
+    let mut lines = Vec::with_capacity(alloc, keys.len())?;
+    'keys: for key in keys {
+        let number = (*key % ROWS) as u32;
+        lines.push(Line {
+            row: number,
+            period: period(&rows[number as usize], n),
+        })?;
     }
-    Ok(found)
+    Ok(lines)
+}
+
+// The keys of the rows of lines, from 0 on. This loop too does no more than look at values that lie somewhere else, row
+// after row: they are near when they are tested and shown.
+pub(crate) fn first_keys(alloc: Global, kept: &Rows, lines: &[Line]) -> Result<Vec<u64>, AllocError>
+    requires { All (λ (line : Line). line.row < length kept.now.items) lines.now }
+    ensures { IfOk result (λ keys. keys.items ≡ map (λ (line : Line). shifted (key_of (values_at_number kept.now.items line.row))) lines.now) }
+{
+    let mut keys = Vec::with_capacity(alloc, lines.len())?;
+    'lines: for line in lines {
+        keys.push(first_key(kept.values(line.row as usize)))?;
+    }
+    Ok(keys)
 }

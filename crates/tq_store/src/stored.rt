@@ -1,6 +1,7 @@
 //! What the events tell of a row whose start and end they are.
 
 ghost use Rattle.std.specs.Prelude.{◌≡◌, ◌<◌, slice_get, IsSomeAnd, IfOk};
+ghost use Rattle.tq_base.specs.declared.period.TheConstants.{FOREVER};
 ghost use Rattle.tq_event.specs.History.{time_of};
 ghost use Rattle.tq_event.specs.Recorded.{table_of};
 ghost use Rattle.tq_store.specs.Stored.{IsStart, IsStored, end_as_of, seen, stored_row, values_at};
@@ -38,6 +39,15 @@ pub(crate) fn values(events: &[Event], start: u32) -> &Values
         Event::Start { values, .. } => values,
         Event::End { .. } => unreachable!(),
     }
+}
+
+// All instants from this one on.
+pub(crate) fn from_now_on(start: Instant) -> Period
+    ensures start { result.start ≡ start }
+    ensures end { result.end ≡ FOREVER }
+{
+    let _finite = start.number();
+    Period::new(start, Bound::new(FOREVER).unwrap()).unwrap()
 }
 
 // When the row ends by the first n events, or forever.

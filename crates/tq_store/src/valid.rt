@@ -1,4 +1,4 @@
-//! The rows of a table at the instants of a period, side by side in one list.
+//! The rows of a table at the instants of a period, their values lent.
 
 ghost use Rattle.std.specs.Prelude.{◌≤◌, All, FitsSigned, IfOk, List, length};
 ghost use Rattle.std.specs.Int.{w64};
@@ -9,7 +9,7 @@ ghost use Rattle.tq_store.specs.Valid.{AreValid, AreValidIn, AreWhole, HasKeyIn}
 
 use crate::db::Db;
 use std::alloc::{AllocError, Global};
-use tq_base::{KeyRange, Period, Rows};
+use tq_base::{KeyRange, Period, Relation, Rows};
 
 // The keys of 64 signed bits.
 fn all_keys() -> KeyRange
@@ -19,28 +19,28 @@ fn all_keys() -> KeyRange
 }
 
 // The rows of all of the window of the range and the period.
-fn whole_rows(
+fn whole_rows<'a>(
     alloc: Global,
-    db: &Db,
+    db: &'a Db,
     n: u32,
     table: u32,
     range: &KeyRange,
     period: &Period,
-) -> Result<Rows, AllocError>
+) -> Result<Relation<'a>, AllocError>
     requires { n ≤ length db.now.events }
     ensures { IfOk result (λ rows. AreWhole db.now.events n table range.now period.now rows.items) }
 {
     let _count = db.count();
-    let Some(schema) = db.catalogue().tables.get().get(table as usize) else {
-        return Ok(Rows::new(alloc, 0));
-    };
-    db.whole(alloc, n, table, range, period, schema.columns.get().len())
+    if table as usize >= db.catalogue().tables.get().len() {
+        return Relation::made(alloc, Rows::new(alloc, 0));
+    }
+    db.whole(alloc, n, table, range, period)
 }
 
 impl Db {
     /// Rows of the table as of the first n events whose key lies in the range: at each instant of the period those
-    /// that are valid then, at others any. A table that is not there has no rows. `AllocError` where a growth was
-    /// refused.
+    /// that are valid then, at others any. Their values are lent. A table that is not there has no rows. `AllocError`
+    /// where a growth was refused.
     pub fn rows_in(
         &self,
         alloc: Global,
@@ -48,7 +48,7 @@ impl Db {
         table: u32,
         range: &KeyRange,
         period: &Period,
-    ) -> Result<Rows, AllocError>
+    ) -> Result<Relation<'_>, AllocError>
         requires { n ≤ length self.now.events }
         ensures valid { IfOk result (λ rows. AreValidIn self.now.events n table range.now period.now rows.items) }
         ensures keys { IfOk result (λ rows. All (λ (row : Fragment). HasKeyIn range.now row.values) rows.items) }
@@ -64,7 +64,7 @@ impl Db {
         n: u32,
         table: u32,
         period: &Period,
-    ) -> Result<Rows, AllocError>
+    ) -> Result<Relation<'_>, AllocError>
         requires { n ≤ length self.now.events }
         ensures { IfOk result (λ rows. AreValid self.now.events n table period.now rows.items) }
     {

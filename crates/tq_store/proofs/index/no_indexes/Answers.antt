@@ -2,8 +2,10 @@ use Rattle.std.proofs.Common.{◌∷◌, [], ◌∙◌, ℕ, length, length-appe
 use Rattle.std.specs.Prelude.{All}
 use Rattle.std.proofs.lemmas.List.Elements.{All-push, All-get_or}
 use Rattle.std.proofs.lemmas.Option.{get_or_from_slice_get, slice_get_within}
+use Rattle.tq_base.specs.declared.catalogue.Schema.{Schema}
 use Rattle.tq_store.specs.declared.index.Index.{Index}
 use Rattle.tq_store.specs.Index.{IsIndexOf}
+use Rattle.tq_store.proofs.ReadLemmas.{one_more}
 use Rattle.tq_store.proofs.index.no_indexes.Goals as goal
 
 pub tables-preserved : goal.tables-preserved
@@ -14,7 +16,10 @@ tables-preserved c =
     let Good = λ (index : Index). (table : ℕ) → IsIndexOf [] table index in
     record {
       len = ap length items ∙ omega (arith, len, before);
-      each = subst (All Good) (sym items) (All-push Good c.tables.indexes.items c.in_ok-new.field-0 c.tables.invariant.each c.in_ok-new.ensures);
+      each = subst (All Good) (sym items) (All-push Good c.tables.indexes.items c.in_ok-new.field-0 c.tables.invariant.each c.in_ok-new.ensures.index);
+      widths = one_more (λ (index : Index). index.kept.width) (λ (schema : Schema). length schema.columns) c.tables.indexes.items c.push.new.self.items c.in_ok-new.field-0 c.args.tables.now c.tables.table-index c.table-item.result
+          c.tables-test.true items c.tables.invariant.widths
+          (c.in_ok-new.ensures.width ∙ ap length c.get.ensures ∙ ap (λ (schema : Schema). length schema.columns) c.table-item.is);
     }
 
 pub returns-clause-indexes : goal.returns-clause-indexes

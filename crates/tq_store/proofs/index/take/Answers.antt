@@ -1,8 +1,9 @@
 use Rattle.std.proofs.Common.{◌++◌, ◌∷◌, ◌<◌, [], length, slice_set, subst, refl, sym}
-use Rattle.std.proofs.lemmas.Option.{slice_get_read}
+use Rattle.std.specs.Prelude.{slice_index_or}
+use Rattle.std.proofs.lemmas.Option.{get_or_from_slice_get, slice_get_read}
 use Rattle.tq_event.specs.Recorded.{table_of}
-use Rattle.tq_store.specs.Index.{AreIndexes, IsIndexOf}
-use Rattle.tq_store.proofs.IndexLemmas.{indexes_after, indexes_kept, on_err, on_ok}
+use Rattle.tq_store.specs.Index.{AreIndexes, HasWidth, IsIndexOf, widths_of}
+use Rattle.tq_store.proofs.IndexLemmas.{indexes_after, indexes_kept, on_err, on_ok, width_at, widths_kept}
 use Rattle.tq_store.proofs.index.take.Goals as goal
 
 pub take-requires-clause-index : goal.take-requires-clause-index
@@ -12,6 +13,22 @@ take-requires-clause-index c =
     let less : c.table.result < length indexes = subst (λ n. n < length indexes) (sym c.table.ensures) c.requires.table in
     subst (λ n. IsIndexOf c.args.events.now n index) c.table.ensures
     (c.requires.indexes.each c.table.result index (slice_get_read indexes (length indexes) c.table.result index refl less c.index_mut-index.ensures.value))
+
+pub take-requires-clause-width : goal.take-requires-clause-width
+take-requires-clause-width c =
+    let indexes = c.args.indexes.now.items in
+    let index = c.index_mut-index.result.now in
+    let less : c.table.result < length indexes = subst (λ n. n < length indexes) (sym c.table.ensures) c.requires.table in
+    let here = slice_get_read indexes (length indexes) c.table.result index refl less c.index_mut-index.ensures.value in
+    subst (λ w. HasWidth w c.args.event.now) (get_or_from_slice_get (widths_of indexes) c.table.result index.kept.width 0 (width_at indexes c.table.result index here))
+    (subst (λ n. HasWidth (slice_index_or (widths_of indexes) n 0) c.args.event.now) (sym c.table.ensures) c.requires.width)
+
+pub returns-clause-widths : goal.returns-clause-widths
+returns-clause-widths c =
+    let indexes = c.args.indexes.now.items in
+    let index = c.index_mut-index.result.now in
+    let less : c.table.result < length indexes = subst (λ n. n < length indexes) (sym c.table.ensures) c.requires.table in
+    widths_kept indexes c.table.result index c.take.new.self (slice_get_read indexes (length indexes) c.table.result index refl less c.index_mut-index.ensures.value) c.take.ensures.width
 
 pub returns-clause-ok : goal.returns-clause-ok
 returns-clause-ok c = on_ok c.take.result c.take.ensures.ok (λ is.

@@ -2,7 +2,7 @@ use Rattle.std.proofs.Common.{◌≡◌, ◌++◌, ◌∷◌, ◌∙◌, [], ari
 use Rattle.tq_event.specs.History.{IsAdmissible}
 use Rattle.tq_event.specs.Recorded.{Recorded}
 use Rattle.tq_store.specs.Index.{AreIndexes, CanTake}
-use Rattle.tq_store.proofs.AdmissibleLemmas.{can_take, history_push, ordered_push}
+use Rattle.tq_store.proofs.AdmissibleLemmas.{can_take, fits_indexes, history_push, ordered_push}
 use Rattle.tq_store.proofs.db.Db.apply.Goals as goal
 
 pub take-requires-clause-can : goal.take-requires-clause-can
@@ -11,6 +11,12 @@ take-requires-clause-can c =
     let fits = subst (λ l. IsAdmissible c.self.inside.catalogue l c.args.event.now) c.deref.ensures.value (c.is_admissible.ensures.admissible.0 c.if-not-is_admissible.false) in
     subst (λ l. CanTake l c.args.event.now) (sym (c.deref-3.ensures.value ∙ c.reserve.ensures.items))
     (can_take c.self.inside.catalogue es c.self.inside.indexes.items c.args.event.now c.self.invariant.tables c.self.invariant.indexed fits c.is_admissible.ensures.finite)
+
+pub take-requires-clause-width : goal.take-requires-clause-width
+take-requires-clause-width c =
+    let es = c.self.inside.events.items in
+    let fits = subst (λ l. IsAdmissible c.self.inside.catalogue l c.args.event.now) c.deref.ensures.value (c.is_admissible.ensures.admissible.0 c.if-not-is_admissible.false) in
+    fits_indexes c.self.inside.catalogue es c.self.inside.indexes.items c.args.event.now c.self.invariant.widths fits
 
 pub invariant_of-self-2 : goal.invariant_of-self-2
 invariant_of-self-2 c =
@@ -27,5 +33,6 @@ invariant_of-self-2 c =
       ordered = ordered_push es e c.self.invariant.ordered fits.0;
       few = omega (arith, viewed, few, len);
       tables = c.take.ensures.len ∙ c.self.invariant.tables;
+      widths = c.take.ensures.widths ∙ c.self.invariant.widths;
       indexed = indexed;
     })

@@ -1,5 +1,5 @@
 use Rattle.std.proofs.Common.{◌≡◌, ◌<◌, ◌≤◌, ◌+◌, ◌*◌, ◌/◌, ◌∙◌, arith, length, map, refl, sym, ap, subst, ℕ, List}
-use Rattle.std.specs.Prelude.{IfOk, Result, Ok, Err, slice_index_or}
+use Rattle.std.specs.Prelude.{All, IfOk, Result, Ok, Err, slice_index_or}
 use Rattle.std.proofs.lemmas.List.{length-map}
 use Rattle.std.proofs.lemmas.Option.{slice_get_read}
 use Rattle.tq_base.specs.declared.catalogue.Catalogue.{Catalogue}
@@ -8,7 +8,7 @@ use Rattle.tq_event.specs.Recorded.{Recorded}
 use Rattle.tq_store.specs.declared.index.Index.{Index}
 use Rattle.tq_store.specs.Index.{IsDb, rows_kept}
 use Rattle.tq_store.specs.Rows.{ArePartRows}
-use Rattle.tq_store.specs.Stored.{row_of_key, seen}
+use Rattle.tq_store.specs.Stored.{IsReadable, row_of_key, seen}
 use Rattle.tq_store.proofs.db.Db.rows_part.Goals as goal
 
 if_ok : {T E : Type 0} → (r : Result T E) {P Q : T → Type 0} → IfOk r P → ((x : T) → P x → Q x) → IfOk r Q
@@ -20,6 +20,19 @@ kept : (catalogue : Catalogue) (es : List Event) (indexes : List Index) (table :
 kept catalogue es indexes table index db less is =
     let tables = db.tables in
     (db.indexed.each table index (slice_get_read indexes (length indexes) table index refl (omega (arith, less, tables)) is)).rows
+
+pub read_rows-requires : goal.read_rows-requires
+read_rows-requires c =
+    let es = c.self.inside.events.items in
+    let index = c.index-index.result.now in
+    let events : c.args.self.now.events ≡ es = sym (ap (λ (r : Recorded). r.events) c.self.view_is) in
+    let in_catalogue : c.args.table < length c.self.inside.catalogue.tables = subst (λ (r : Recorded). c.args.table < length r.catalogue.tables) (sym c.self.view_is) c.requires.table in
+    let kept_is = c.deref-2.ensures.value ∙ kept c.self.inside.catalogue es c.self.inside.indexes.items c.args.table index c.self.invariant in_catalogue c.index-index.ensures in
+    let found : List ℕ = c.in_ok-found.found.keys in
+    subst (λ keys. All (IsReadable c.deref.result.now c.deref-2.result.now) keys) (sym c.get.ensures)
+    (subst (λ l. All (IsReadable l c.deref-2.result.now) found) (sym c.deref.ensures.value)
+    (subst (λ r. All (IsReadable es r) found) (sym kept_is)
+    (subst (λ l. All (IsReadable l (rows_kept l c.args.table)) found) events c.in_ok-found.ensures.readable)))
 
 pub returns-clause-rows : goal.returns-clause-rows
 returns-clause-rows c = if_ok c.read_rows.result c.read_rows.ensures (λ rows same.

@@ -5,7 +5,7 @@ use Rattle.std.specs.BTreeSet.{contains}
 use Rattle.std.specs.List.{list_any}
 use Rattle.std.specs.Ordering.{eq_by_cmp, nat_cmp}
 use Rattle.std.proofs.lemmas.Option.{slice_get_read}
-use Rattle.tq_store.specs.Open.{has, set_place}
+use Rattle.tq_store.specs.Open.{set_place}
 use Rattle.tq_store.proofs.OpenRowsLemmas.{or-cond, or-false}
 use Rattle.tq_store.proofs.SetLemmas.{changed_in, has_in}
 use Rattle.tq_store.proofs.open.OpenRows.insert.Goals as goal

@@ -2,7 +2,7 @@ use Rattle.std.proofs.Common.{◌≡◌, ◌&&◌, not, ◌<◌, ◌∙◌, ap, 
 use Rattle.std.specs.BTreeSet.{contains}
 use Rattle.std.specs.Ordering.{eq_by_cmp, nat_cmp}
 use Rattle.std.proofs.lemmas.Option.{slice_get_read}
-use Rattle.tq_store.specs.Open.{has, set_place}
+use Rattle.tq_store.specs.Open.{set_place}
 use Rattle.tq_store.proofs.OpenRowsLemmas.{and-cond, and-yes}
 use Rattle.tq_store.proofs.SetLemmas.{changed_in, has_in}
 use Rattle.tq_store.proofs.open.OpenRows.remove.Goals as goal
