@@ -169,7 +169,8 @@ impl Session {
                 period_of(*start, *end),
             ) {
                 (Ok(n), Ok(table), Some(period)) if n <= self.db.count() => {
-                    tell_list(&self.db.rows_over(alloc, n, table, &period)?, out)
+                    let rows = self.db.rows_over(alloc, n, table, &period)?;
+                    tell_list(&rows.copied(alloc)?, out)
                 }
                 _ => tell_nothing(out),
             };
@@ -179,7 +180,7 @@ impl Session {
                 let rows = self
                     .db
                     .rows_in(alloc, it.n, it.table, &it.range, &it.period)?;
-                tell_list(&rows, out)
+                tell_list(&rows.copied(alloc)?, out)
             }
             _ => tell_nothing(out),
         }

@@ -41,7 +41,8 @@ impl Work for Reads<'_> {
         let Asked { table, keys } = self.asked[i as usize];
         let rows = self
             .db
-            .rows_in(self.alloc, self.n, table, &keys, self.window)?;
+            .rows_in(self.alloc, self.n, table, &keys, self.window)?
+            .copied(self.alloc)?;
         Ok(Fetched { table, keys, rows })
     }
 }
