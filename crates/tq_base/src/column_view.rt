@@ -7,7 +7,9 @@ ghost use Rattle.tq_base.specs.Contents.{Int};
 ghost use Rattle.tq_base.specs.Keys.{value_at};
 ghost use Rattle.tq_base.specs.Parts.{column_cells, number_in, part_values};
 
+use crate::looks::{LOOKS, Looks};
 use crate::parts::{Part, Place};
+use crate::short_text::SHORT;
 use crate::value::Value;
 use std::marker::Model;
 
@@ -123,5 +125,19 @@ impl<'a> ColumnView<'a> {
             return self.zero;
         }
         &self.values[number * self.width + self.column]
+    }
+
+    // Whether there may be values in boxes among those of as many rows from this one on as are looked at together. Where
+    // rows stand in another order than their values, these are looked at together; others lie side by side.
+    #[inline(never)]
+    pub(crate) fn has_boxed(&self, from: u32) -> bool {
+        if self.numbers.is_none() {
+            return true;
+        }
+        let mut looks = Looks::new(self.at(from));
+        'rows: for row in from..from.saturating_add(LOOKS as u32) {
+            looks.push(self.at(row));
+        }
+        looks.longest() > SHORT
     }
 }

@@ -12,7 +12,8 @@ ghost use Rattle.tq_base.specs.ValueOrder.{value_cmp, values_cmp};
 
 use crate::column_view::ColumnView;
 use crate::period::{Bound, Instant, Period};
-use crate::rank::rank_of;
+use crate::looks::LOOKS;
+use crate::rank::{rank_in_place, rank_of};
 use crate::relation::Relation;
 use crate::row::Row;
 use crate::sides::{Key, Mark, Side, Sides};
@@ -68,13 +69,28 @@ fn is_within(period: &Period, window: Option<&Period>) -> bool
 }
 
 // The rank of the row's value in the column, 0 where there is no column.
-fn rank_in(column: &Option<ColumnView<'_>>, row: u32) -> u128
+fn rank_in(column: &Option<ColumnView<'_>>, row: u32, are_boxed: bool) -> u128
     ensures rank { result ≡ first_rank (first_in column.now row) }
     ensures bytes { BeginsWithBytes (first_in column.now row) }
 {
     match column {
-        Some(column) => rank_of(column.at(row)),
+        Some(column) => {
+            let value = column.at(row);
+            if are_boxed {
+                rank_of(value)
+            } else {
+                rank_in_place(value)
+            }
+        }
         None => 0,
+    }
+}
+
+// Whether there may be values in boxes in the column from the row on, as far as values are looked at together.
+fn has_boxed(column: &Option<ColumnView<'_>>, row: u32) -> bool {
+    match column {
+        Some(column) => column.has_boxed(row),
+        None => false,
     }
 }
 
@@ -117,20 +133,18 @@ pub(crate) fn compare_told(one: &Key, other: &Key) -> Ordering
     }
 }
 
-// Whether the ranks rise and fall in long runs: as counts do over a time in which rows come and then go.
+// Whether the keys rise and fall in long runs: as counts do over a time in which rows come and then go.
 fn are_long_runs(keys: &[Key]) -> bool {
     let mut turns_left = keys.len() / LONG_RUN;
     let mut rises = true;
-    let mut rank = 0;
-    'keys: for key in keys {
-        if (rank <= key.rank) != rises {
+    'keys: for place in 1..keys.len() {
+        if is_told_below(&keys[place], &keys[place - 1]) == rises {
             if turns_left == 0 {
                 return false;
             }
             turns_left -= 1;
             rises = !rises;
         }
-        rank = key.rank;
     }
     true
 }
@@ -252,7 +266,14 @@ impl<'a> Sides<'a> {
     }
 
     // The key of the row, of which the column is compared first.
-    fn key_of(&self, side: Side, row: u32, column: &Option<ColumnView<'_>>, period: &Period) -> Key
+    fn key_of(
+        &self,
+        side: Side,
+        row: u32,
+        column: &Option<ColumnView<'_>>,
+        are_boxed: bool,
+        period: &Period,
+    ) -> Key
         requires stands { row < length (rows_on (state_of self.now) side) }
         requires first { IsFirstOn (state_of self.now) side column.now }
         requires period { (slice_index_or (rows_on (state_of self.now) side) row no_row).period ≡ period.now }
@@ -261,7 +282,7 @@ impl<'a> Sides<'a> {
         ensures row { result.row ≡ row }
     {
         Key {
-            rank: rank_in(column, row),
+            rank: rank_in(column, row, are_boxed),
             start: period.start.number(),
             row,
             side,
@@ -286,9 +307,13 @@ impl<'a> Sides<'a> {
         let len = rows.len();
         keys.reserve(len)?;
         let column = self.first_column(side);
+        let mut are_boxed = true;
         'rows: for (row, period) in rows.periods().iter().enumerate() {
+            if row % LOOKS == 0 {
+                are_boxed = has_boxed(&column, row as u32);
+            }
             if is_within(period, window) {
-                keys.push_reserved(self.key_of(side, row as u32, &column, period));
+                keys.push_reserved(self.key_of(side, row as u32, &column, are_boxed, period));
             }
         }
         Ok(())

@@ -42,6 +42,18 @@ pub fn rank_of(value: &Value) -> u128
     }
 }
 
+// The same, with least to do for a value that lies in no box.
+pub(crate) fn rank_in_place(value: &Value) -> u128
+    ensures rank { result ≡ value_rank value.now }
+    ensures bytes { HasBytes value.now }
+{
+    match &value.kept {
+        Kept::Int(number) => int_rank(i128::from(*number)),
+        Kept::Short(text) => text.rank(),
+        _ => rank_of(value),
+    }
+}
+
 // The bytes from the offset on, none where there are no more.
 fn bytes_after(bytes: &[u8], offset: usize) -> &[u8]
     ensures { result.now ≡ drop offset bytes.now }
