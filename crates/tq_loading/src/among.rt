@@ -36,7 +36,8 @@ fn tables_of_parts<R: Threads + Sync, G: Gate + Sync>(
     let Some(schemas) = well(read_schemas(alloc, files))? else {
         return Ok(None);
     };
-    let parts = cut(alloc, files, part_len(files, workers, least))?;
+    let len = part_len(files, workers, least);
+    let parts = cut(alloc, files, len, workers)?;
     let read = read_parts(
         rt, alloc, limit, files, &schemas, &parts, workers, gate, form,
     )?;

@@ -15,7 +15,10 @@ use tq_event::steps::begins_with_mark;
 const MOST_CUTS: usize = 4_096;
 
 // About so many parts fall to each worker.
-const PARTS_A_WORKER: usize = 4;
+const PARTS_A_WORKER: usize = 16;
+
+// The first part of a file is longer only where it has so many bytes.
+const LONG: usize = 65_536;
 
 /// About how long a part is to be for these workers, and not shorter than this.
 pub fn part_len(files: &[TableFile], workers: u32, least: usize) -> usize
@@ -26,6 +29,18 @@ pub fn part_len(files: &[TableFile], workers: u32, least: usize) -> usize
         all = all.saturating_add(file.bytes.get().len());
     }
     (all / PARTS_A_WORKER / workers as usize).max(least).max(1)
+}
+
+// How long the first part of a file is to be, where the others are to have this length: nearly as long as what each
+// worker reads of the file, since its rows stay where they are, and those of the other parts are moved behind them.
+fn first_len(file: usize, workers: u32, len: usize) -> usize {
+    let share = file / (workers as usize + 1);
+    if share < LONG { len } else { share.max(len) }
+}
+
+// How long a part is to be that begins there.
+fn wanted_len(start: usize, first: usize, len: usize) -> usize {
+    if start == 0 { first } else { len }
 }
 
 // How many bytes the byte order mark in front takes.
@@ -104,11 +119,13 @@ fn has_quote(bytes: &[u8]) -> bool
     memchr(b'"', bytes).is_some()
 }
 
-// The parts of a file go to the end of the list, each of about this length.
+// The parts of a file go to the end of the list, each of about this length, and the first one longer where that serves
+// so many workers.
 fn add_parts(
     files: &[TableFile],
     table: u32,
     len: usize,
+    workers: u32,
     parts: &mut Vec<Part>,
 ) -> Result<(), AllocError>
     requires here { table < length files.now }
@@ -118,10 +135,12 @@ fn add_parts(
 {
     let bytes = files[table as usize].bytes.get();
     let quoted = has_quote(bytes);
+    let first = first_len(bytes.len(), workers, len);
     let mut start = 0;
     let mut from = mark_len(bytes);
     'cuts: for _ in 0..MOST_CUTS {
-        let Some(place) = next_begin(bytes, quoted, from, len) else {
+        let wanted = wanted_len(start, first, len);
+        let Some(place) = next_begin(bytes, quoted, from, wanted) else {
             break;
         };
         if !begins_with_mark(&bytes[place..]) {
@@ -136,15 +155,21 @@ fn add_parts(
     Ok(())
 }
 
-/// The parts of the files, file by file, each of about this length.
-pub fn cut(alloc: Global, files: &[TableFile], len: usize) -> Result<Vec<Part>, AllocError>
+/// The parts of the files, file by file, each of about this length; the first one of a long file is longer, as serves so
+/// many workers.
+pub fn cut(
+    alloc: Global,
+    files: &[TableFile],
+    len: usize,
+    workers: u32,
+) -> Result<Vec<Part>, AllocError>
     requires { length files.now ≤ 16 }
     ensures parts { IfOk result (λ parts. All (IsPartOf files.now) parts.items) }
     ensures few { IfOk result (λ parts. length parts.items ≤ 65552) }
 {
     let mut parts = Vec::new(alloc);
     'tables: for table in 0..files.len() as u32 {
-        add_parts(files, table, len, &mut parts)?;
+        add_parts(files, table, len, workers, &mut parts)?;
     }
     Ok(parts)
 }
