@@ -8,9 +8,9 @@
 
 The loaded rows have not ended, and each has a key of its own. Three sessions run, each the longer by what is measured:
 one that only loads, one that also starts and ends rows, one that also asks. What is printed has to be as the lines
-say. By user and system seconds, lines a second and milliseconds a question are printed, each beside what is wanted, and
-the peak memory beside that of one `Db` that holds the loaded rows, and in the end beside that of one that holds those that
-were started too (crates/bench_snapshot).
+say. By user and system seconds, of which the least of three runs counts, lines a second and milliseconds a question are
+printed, each beside what is wanted, and the peak memory beside that of one `Db` that holds the loaded rows, and in the
+end beside that of one that holds those that were started too (crates/bench_snapshot).
 """
 
 import argparse
@@ -20,7 +20,7 @@ import subprocess
 import sys
 import tempfile
 
-from measuring import HERE, held_in_one
+from measuring import HERE, TRIES, held_in_one
 
 AT_ONCE = 1000
 NEIGHBOURS = 250
@@ -73,7 +73,7 @@ def lines_of(options):
     return plain, said, woven, found
 
 
-def run(options, table, lines):
+def run_once(options, table, lines):
     """What a session prints for the lines, its user and system seconds, and its peak memory in bytes."""
     with tempfile.TemporaryFile() as taken, tempfile.TemporaryFile() as out:
         taken.write("".join(line + "\n" for line in lines).encode())
@@ -84,6 +84,12 @@ def run(options, table, lines):
             sys.exit(f"a session ended with status {os.waitstatus_to_exitcode(status)}")
         out.seek(0)
         return out.read().decode().splitlines(), usage.ru_utime + usage.ru_stime, usage.ru_maxrss * 1024
+
+
+def run(options, table, lines):
+    """The same of some runs: what the last one prints, the least seconds, and the greatest peak."""
+    runs = [run_once(options, table, lines) for _ in range(TRIES)]
+    return runs[-1][0], min(seconds for _, seconds, _ in runs), max(peak for _, _, peak in runs)
 
 
 def main():
