@@ -1,10 +1,12 @@
 -- Shares of the rows of tables: each value goes to one of them, and the texts of the answers over them are that of the answer.
-use Rattle.std.proofs.Common.{◌≡◌, ◌<◌, ◌≤◌, ◌+◌, ◌==◌, ℕ, zero, suc, true, false, Bool, cond, List, [], ◌∷◌, ◌∙◌, ap, arith, get_or, length, map, filter, take, ◌++◌, None, Some, Option, refl, subst, sum_by, sym}
-use Rattle.std.specs.Prelude.{nat_le}
+use Rattle.std.proofs.Common.{◌≡◌, ◌<◌, ◌≤◌, ◌+◌, ◌-◌, ◌==◌, ℕ, zero, suc, true, false, Bool, cond, List, [], ◌∷◌, ◌∙◌, ap, arith, get_or, length, map, filter, drop, None, Some, Option, refl, subst, sum_by, sym}
+use Rattle.std.specs.Prelude.{All, nat_le}
 use Rattle.std.specs.Global.{Vec}
 use Rattle.std.specs.List.{range_with_len}
-use Rattle.std.proofs.lemmas.List.{length-map, take_more}
-use Rattle.std.proofs.lemmas.List.Elements.{filter-append}
+use Rattle.std.proofs.lemmas.List.{drop_all, drop_more, get_or-map, length-map}
+use Rattle.std.proofs.lemmas.List.Elements.{All-weaker}
+use Rattle.memchr.specs.Find.{Passes, is_byte, places, places_from}
+use Rattle.memchr.proofs.lemmas.CallerLemmas.{All-places}
 use Rattle.tq_base.specs.declared.catalogue.Catalogue.{Catalogue}
 use Rattle.tq_base.specs.declared.form.Form.{Form}
 use Rattle.tq_base.specs.declared.fragment.Fragment.{Fragment}
@@ -71,12 +73,6 @@ have_answer law form catalogue valid plan cuts columns shares fit over parted ar
 
 -- ---- the rows of a share
 
--- of one row more
-pub left_more : {X : Type 0} (p : X → Bool) (xs : List X) (place : ℕ) (d : X) → place < length xs → filter p (take (place + 1) xs) ≡ filter p (take place xs) ++ cond (p (get_or xs place d)) (get_or xs place d ∷ []) []
-left_more p xs place d within =
-    ap (filter p) (take_more xs place d within)
-    ∙ filter-append p (take place xs) (get_or xs place d ∷ [])
-
 -- what is valid of the rows that are left
 pub at_left : (p : List Value → Bool) (rows : List Fragment) (t : ℕ) → at (filter (λ (row : Fragment). p row.values) rows) t ≡ filter p (at rows t)
 at_left p [] t = refl
@@ -127,3 +123,36 @@ share_held cuts number column columns tables table window keys rows some is =
     (ap (λ l. at l t) is
     ∙ at_left (λ values. share_of cuts (value_at values column) == number) (rows_in tables table) t
     ∙ ap (λ c. filter (goes_to (share_of cuts) number c) (at (rows_in tables table) t)) (sym some))
+
+-- ---- the rows at the places at which the number of a share is told
+
+-- an item that is put in front, or left out
+first_or_none : {X Y : Type 0} (f : X → Y) (b : Bool) (x : X) (xs : List X) (ys : List Y) → map f xs ≡ ys → map f (cond b (x ∷ xs) xs) ≡ cond b (f x ∷ ys) ys
+first_or_none f true x xs ys rest = ap (λ l. f x ∷ l) rest
+first_or_none f false x xs ys rest = rest
+
+-- of those from a place on
+from_place : {X : Type 0} (share : X → ℕ) (number : ℕ) (rows : List X) (d : X) (place n : ℕ) → place + n ≡ length rows → map (λ k. get_or rows k d) (places_from (is_byte number) (map share rows) place n) ≡ filter (λ row. share row == number) (drop place rows)
+unfolding places_from
+from_place share number rows d place zero is = sym (ap (filter (λ row. share row == number)) (drop_all place rows (omega (arith, is))))
+from_place share number rows d place (suc n) is =
+    let within : place < length rows = omega (arith, is) in
+    let later = places_from (is_byte number) (map share rows) (place + 1) n in
+    let left = filter (λ row. share row == number) (drop (place + 1) rows) in
+    ap (λ m. map (λ k. get_or rows k d) (cond (m == number) (place ∷ later) later)) (get_or-map share rows place d 0 within)
+    ∙ first_or_none (λ k. get_or rows k d) (share (get_or rows place d) == number) place later left (from_place share number rows d (place + 1) n (omega (arith, is)))
+    ∙ sym (ap (filter (λ row. share row == number)) (drop_more rows place d within))
+
+-- of all
+pub at_places : {X : Type 0} (share : X → ℕ) (number : ℕ) (told : List ℕ) (rows : List X) (d : X) → told ≡ map share rows → map (λ k. get_or rows k d) (places (is_byte number) told) ≡ filter (λ row. share row == number) rows
+at_places share number told rows d is =
+    let many : length (map share rows) - 0 ≡ length rows = omega (arith, length-map rows share) in
+    ap (λ l. map (λ k. get_or rows k d) (places (is_byte number) l)) is
+    ∙ ap (λ n. map (λ k. get_or rows k d) (places_from (is_byte number) (map share rows) 0 n)) many
+    ∙ from_place share number rows d 0 (length rows) (omega arith)
+
+-- at each of the places stands one of so many rows
+pub places_within : (number : ℕ) (told found : List ℕ) (many : ℕ) → found ≡ places (is_byte number) told → length told ≡ many → All (λ k. k < many) found
+places_within number told found many are is =
+    subst (All (λ k. k < many)) (sym are)
+    (All-weaker (λ k. (k < length told) × Passes (is_byte number) told k) (λ k. k < many) (λ k here. subst (λ n. k < n) is here.0) (places (is_byte number) told) (All-places (is_byte number) told))

@@ -1,6 +1,6 @@
 // A share of the rows of tables.
 
-ghost use Rattle.std.specs.Prelude.{◌≡◌, ◌<◌, ◌==◌, ℕ, All, IfOk, filter, length, map, slice_index_or, Some};
+ghost use Rattle.std.specs.Prelude.{◌≡◌, ◌<◌, ◌==◌, ℕ, All, IfOk, filter, length, map, Some};
 ghost use Rattle.std.proofs.Props.{props};
 ghost use Rattle.tq_base.specs.declared.fragment.Fragment.{Fragment};
 ghost use Rattle.tq_base.specs.declared.relation.Line.{Line as AnyLine};
@@ -12,6 +12,7 @@ ghost use Rattle.tq_eval.specs.Shares.{in_share};
 ghost use Rattle.tq_workers.specs.Shares.{columns_in, share_of, AreTold, are_told_prop};
 
 use crate::columns::column_in;
+use memchr::memchr_iter;
 use std::alloc::{AllocError, Global};
 use tq_base::{KeyRange, Line, Period, Relation, Rows};
 use tq_eval::{Snapshot, TablesOfRows};
@@ -28,27 +29,18 @@ pub(crate) struct Share<'a> {
     ghost are: { AreTold cuts.now columns.now (lists_of all.tables.now) told.now } by { Prim.hlevel (props, are_told_prop) },
 }
 
-// Whether it is told that the row goes to the share of this number.
-pub(crate) fn goes(told: &[u8], row: usize, number: u8) -> bool
-    requires { row < length told.now }
-    ensures { (d : ℕ) → result ≡ (slice_index_or told.now row d == number) }
-{
-    told[row] == number
-}
-
 // The rows that go to the share of this number.
 fn lines_in(alloc: Global, rows: &Rows, told: &[u8], number: u8) -> Result<Vec<Line>, AllocError>
     requires { length told.now ≡ length rows.now.items }
     ensures within { IfOk result (λ lines. All (λ (line : AnyLine). line.row < length rows.now.items) lines.items) }
     ensures rows { (share : Fragment → ℕ) → told.now ≡ map share rows.now.items → IfOk result (λ lines. map (line_of rows.now.items) lines.items ≡ filter (λ (row : Fragment). share row == number) rows.now.items) }
 {
+    rows.len();
     let mut lines = Vec::new(alloc);
-    'rows: for row in 0..rows.len() {
-        if goes(told, row, number) {
-            let period = rows.period(row);
-            let row = row as u32;
-            lines.push(Line { row, period })?;
-        }
+    'rows: for row in memchr_iter(number, told) {
+        let period = rows.period(row);
+        let row = row as u32;
+        lines.push(Line { row, period })?;
     }
     Ok(lines)
 }

@@ -1,51 +1,50 @@
-use Rattle.std.proofs.Common.{◌≡◌, ◌<◌, ◌==◌, ◌++◌, ◌∷◌, ◌∙◌, ℕ, [], ap, append-nil, append_assoc, arith, cond, filter, get_or, length, map, sym, take}
-use Rattle.std.proofs.lemmas.List.{get_or-map}
-use Rattle.tq_base.specs.declared.fragment.Fragment.{Fragment}
+use Rattle.std.proofs.Common.{◌<◌, ◌++◌, ◌∷◌, [], ◌∙◌, ap, append-nil, append_assoc, length, map, refl, subst, sym}
+use Rattle.std.specs.Prelude.{All}
+use Rattle.std.proofs.lemmas.List.Elements.{All-head, All-tail}
 use Rattle.tq_base.specs.Keys.{no_row}
-use Rattle.tq_base.specs.RowLists.{RowList}
-use Rattle.tq_workers.proofs.ShareLemmas.{left_more}
-use Rattle.tq_workers.proofs.grouped.add_share.Goals.{then-goes+in_ok-push_copy, else-goes}
+use Rattle.tq_base.specs.Relations.{row_at}
+use Rattle.tq_workers.proofs.ShareLemmas.{at_places, places_within}
 use Rattle.tq_workers.proofs.grouped.add_share.Goals as goal
 
-pub goes-requires : goal.goes-requires
-goes-requires c = omega (arith, c.requires.told, c.rows-test.true, c.len-row-end.ensures.len)
+pub rows-init : goal.rows-init
+rows-init c =
+    let items = c.args.rows.now.items in
+    let are = c.into_iter-row-iterator.ensures.into_iter_gives ∙ c.memchr_iter-row-items.ensures.value in
+    record {
+      width = refl;
+      left = places_within c.args.number c.args.told.now c.into_iter-row-iterator.result (length items) are c.requires.told;
+      rows = ap (λ l. c.args.out.now.items ++ map (row_at items) l) are;
+    }
 
 pub push_copy-requires : goal.push_copy-requires
 push_copy-requires c =
-    let within : c.rows.row < length c.args.rows.now.items = omega (arith, c.rows-test.true, c.len-row-end.ensures.len) in
-    ap length (c.values.ensures no_row) ∙ c.requires.wide c.rows.row no_row within ∙ sym c.rows.invariant.width
+    let items = c.args.rows.now.items in
+    let left = subst (All (λ k. k < length items)) c.in-Some.ensures.steps c.rows.invariant.left in
+    ap length (c.values.ensures no_row)
+    ∙ c.requires.wide c.in-Some.row no_row (All-head (λ k. k < length items) c.in-Some.row c.next.new.self left)
+    ∙ sym c.rows.invariant.width
 
 pub rows-preserved : goal.rows-preserved
 rows-preserved c =
     let items = c.args.rows.now.items in
-    let place = c.rows.row in
-    let within : place < length items = omega (arith, c.rows-test.true, c.len-row-end.ensures.len) in
-    let item = get_or items place no_row in
-    let before = c.args.out.now.items in
-    let goes : (share : Fragment → ℕ) → c.args.told.now ≡ map share items → (share item == c.args.number) ≡ c.goes.result =
-    λ share told. ap (λ n. n == c.args.number) (sym (ap (λ l. get_or l place 0) told ∙ get_or-map share items place no_row 0 within)) ∙ sym (c.goes.ensures 0) in
-    elim c.if-goes.branch [
-      | then-goes+in_ok-push_copy w ↦
-          let is_item : record { values = w.values.result.now; period = w.period.result } ≡ item = λ i. record { values = w.values.ensures no_row i; period = w.period.ensures no_row i } in
-          record {
-            width = ap (λ (r : RowList). r.width) w.out-is ∙ w.in_ok-push_copy.ensures.width ∙ c.rows.invariant.width;
-            rows = λ share told.
-                ap (λ (r : RowList). r.items) w.out-is
-                ∙ w.in_ok-push_copy.ensures.pushed
-                ∙ (λ i. c.rows.invariant.rows share told i ++ is_item i ∷ [])
-                ∙ append_assoc before (filter (λ (row : Fragment). share row == c.args.number) (take place items)) (item ∷ [])
-                ∙ ap (λ b. before ++ (filter (λ (row : Fragment). share row == c.args.number) (take place items) ++ cond b (item ∷ []) [])) (sym (goes share told ∙ w.if-goes.true))
-                ∙ ap (λ l. before ++ l) (sym (left_more (λ (row : Fragment). share row == c.args.number) items place no_row within));
-          }
-      | else-goes w ↦
-          record {
-            width = ap (λ (r : RowList). r.width) w.out-is ∙ c.rows.invariant.width;
-            rows = λ share told.
-                ap (λ (r : RowList). r.items) w.out-is
-                ∙ c.rows.invariant.rows share told
-                ∙ ap (λ l. before ++ l)
-                (sym (append-nil (filter (λ (row : Fragment). share row == c.args.number) (take place items)))
-                ∙ ap (λ b. filter (λ (row : Fragment). share row == c.args.number) (take place items) ++ cond b (item ∷ []) []) (sym (goes share told ∙ w.if-goes.false))
-                ∙ sym (left_more (λ (row : Fragment). share row == c.args.number) items place no_row within));
-          }
-    ]
+    let row = c.in-Some.row in
+    let rest = c.next.new.self in
+    let left = subst (All (λ k. k < length items)) c.in-Some.ensures.steps c.rows.invariant.left in
+    record {
+      width = c.in_ok-push_copy.ensures.width ∙ c.rows.invariant.width;
+      left = All-tail (λ k. k < length items) row rest left;
+      rows = ap (λ l. l ++ map (row_at items) rest) c.in_ok-push_copy.ensures.pushed
+          ∙ append_assoc c.rows.out.items (record { values = c.values.result.now; period = c.period.result } ∷ []) (map (row_at items) rest)
+          ∙ (λ i. c.rows.out.items ++ record { values = c.values.ensures no_row i; period = c.period.ensures no_row i } ∷ map (row_at items) rest)
+          ∙ ap (λ l. c.rows.out.items ++ map (row_at items) l) (sym c.in-Some.ensures.steps)
+          ∙ c.rows.invariant.rows;
+    }
+
+pub returns-clause-rows : goal.returns-clause-rows
+returns-clause-rows c =
+    λ share told.
+    let items = c.args.rows.now.items in
+    sym (append-nil c.rows.out.items)
+    ∙ ap (λ l. c.rows.out.items ++ map (row_at items) l) (sym c.in-None.ensures.steps.0)
+    ∙ c.rows.invariant.rows
+    ∙ ap (λ l. c.args.out.now.items ++ l) (at_places share c.args.number c.args.told.now items no_row told)

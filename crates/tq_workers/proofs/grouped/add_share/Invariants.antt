@@ -1,10 +1,13 @@
--- Behind the others stand the rows so far that go to the share.
-use Rattle.std.proofs.Common.{◌≡◌, ◌++◌, ◌==◌, ℕ, filter, map, take}
-use Rattle.tq_base.specs.declared.fragment.Fragment.{Fragment}
+-- Behind the others stand rows that, with those at the places that are left, are the ones that go to the share.
+use Rattle.std.proofs.Common.{◌≡◌, ◌<◌, ◌++◌, length, map}
+use Rattle.std.specs.Prelude.{All}
+use Rattle.tq_base.specs.Relations.{row_at}
+use Rattle.memchr.specs.Find.{is_byte, places}
 use Rattle.tq_workers.proofs.grouped.add_share.Given as goal
 
 abbrev pub invariant-rows : goal.invariant-rows
 invariant-rows l = record {
   width : l.out.width ≡ l.fn.out.width;
-  rows : (share : Fragment → ℕ) → l.told ≡ map share l.rows.items → l.out.items ≡ l.fn.out.items ++ filter (λ (row : Fragment). share row == l.number) (take l.row l.rows.items);
+  left : All (λ k. k < length l.rows.items) l.row-iterator;
+  rows : l.out.items ++ map (row_at l.rows.items) l.row-iterator ≡ l.fn.out.items ++ map (row_at l.rows.items) (places (is_byte l.number) l.told);
 }
