@@ -16,3 +16,4 @@ pub mod Knowing
 pub mod Turns
 pub mod Widths
 pub mod Ranging
+pub mod Sufficing

@@ -1,5 +1,5 @@
 -- Selection as a sum over fragments.
-use Rattle.std.specs.Prelude.{All, ◌≡◌, ◌≤◌, ℕ, Bool, true, false, ◌&&◌, List, [], ◌∷◌, Option, None, map, max, min, sum_by, refl}
+use Rattle.std.specs.Prelude.{All, ◌≡◌, ◌≤◌, ℕ, Bool, true, false, ◌&&◌, List, [], ◌∷◌, Option, map, max, min, sum_by, refl}
 use Rattle.std.specs.Ordering.{eq_by_cmp}
 use Rattle.std.proofs.Common.{cond, sym, ap, ◌∙◌, arith}
 use Rattle.std.proofs.lemmas.List.Elements.{All-head, All-tail}
@@ -63,20 +63,24 @@ lies_apart window test f apart t v = cases (holds f.period t) (holds window t) (
     cases false true is = refl
     cases false false is = refl
 
--- a row that lies in the window is cut to itself
-kept_whole : (window : Period) (f : Fragment) → (window.start ≤ f.period.start) × (f.period.end ≤ window.end) → (t : ℕ) (v : List Value) → tally v t f ≡ selected window None t v f
-kept_whole window f within t v =
+-- a row that lies in the window and passes is cut to itself
+kept_whole : (window : Period) (test : Option Test) (f : Fragment) → (window.start ≤ f.period.start) × (f.period.end ≤ window.end) → admits test f.values ≡ true → (t : ℕ) (v : List Value) → tally v t f ≡ selected window test t v f
+kept_whole window test f within passes t v =
     let start : f.period.start ≡ max f.period.start window.start = omega (arith, within.0) in
     let end : f.period.end ≡ min f.period.end window.end = omega (arith, within.1) in
-    selects window None f f.period f.values (start, end) refl refl t v
+    selects window test f f.period f.values (start, end) refl passes t v
 
-sums_whole : (window : Period) (rows : List Fragment) → All (λ (p : Period). (window.start ≤ p.start) × (p.end ≤ window.end)) (map (λ (f : Fragment). f.period) rows) → (t : ℕ) (v : List Value) → sum_by (tally v t) rows ≡ sum_by (selected window None t v) rows
-sums_whole window [] within t v = refl
-sums_whole window (f ∷ rows) within t v =
+sums_whole : (window : Period) (test : Option Test) (rows : List Fragment) → All (λ (p : Period). (window.start ≤ p.start) × (p.end ≤ window.end)) (map (λ (f : Fragment). f.period) rows) → All (λ (f : Fragment). admits test f.values ≡ true) rows
+    → (t : ℕ) (v : List Value) → sum_by (tally v t) rows ≡ sum_by (selected window test t v) rows
+sums_whole window test [] within passes t v = refl
+sums_whole window test (f ∷ rows) within passes t v =
     let here = All-head (λ (p : Period). (window.start ≤ p.start) × (p.end ≤ window.end)) f.period (map (λ (f : Fragment). f.period) rows) within in
     let behind = All-tail (λ (p : Period). (window.start ≤ p.start) × (p.end ≤ window.end)) f.period (map (λ (f : Fragment). f.period) rows) within in
-    omega (arith, sum_by-cons (tally v t) f rows, sum_by-cons (selected window None t v) f rows, kept_whole window f here t v, sums_whole window rows behind t v)
+    let pass = All-head (λ (f : Fragment). admits test f.values ≡ true) f rows passes in
+    let pass_behind = All-tail (λ (f : Fragment). admits test f.values ≡ true) f rows passes in
+    omega (arith, sum_by-cons (tally v t) f rows, sum_by-cons (selected window test t v) f rows, kept_whole window test f here pass t v, sums_whole window test rows behind pass_behind t v)
 
--- rows that all lie in the window are their own selection
-pub counts_whole : (window : Period) (rows : List Fragment) → All (λ (p : Period). (window.start ≤ p.start) × (p.end ≤ window.end)) (map (λ (f : Fragment). f.period) rows) → (t : ℕ) (v : List Value) → copies rows v t ≡ cond (holds window t) (occurrences (selection None (at rows t)) v) 0
-counts_whole window rows within t v = copies-sum_by rows v t ∙ sums_whole window rows within t v ∙ selected-sum_by window None rows t v
+-- rows that all lie in the window and pass are their own selection
+pub counts_whole : (window : Period) (test : Option Test) (rows : List Fragment) → All (λ (p : Period). (window.start ≤ p.start) × (p.end ≤ window.end)) (map (λ (f : Fragment). f.period) rows) → All (λ (f : Fragment). admits test f.values ≡ true) rows
+    → (t : ℕ) (v : List Value) → copies rows v t ≡ cond (holds window t) (occurrences (selection test (at rows t)) v) 0
+counts_whole window test rows within passes t v = copies-sum_by rows v t ∙ sums_whole window test rows within passes t v ∙ selected-sum_by window test rows t v

@@ -4,7 +4,7 @@ use Rattle.std.specs.Int.{w64}
 use Rattle.tq_base.specs.declared.value.Value.{Value}
 use Rattle.tq_base.specs.declared.key_range.KeyRange.{KeyRange}
 use Rattle.tq_base.specs.Contents.{Int}
-use Rattle.tq_base.specs.KeyRanges.{IsInSomeRange}
+use Rattle.tq_base.specs.KeyRanges.{IsInRange, IsInSomeRange}
 use Rattle.tq_base.specs.ValueOrder.{value_cmp}
 use Rattle.tq_ops.specs.declared.condition.Compare.{Compare}
 use Rattle.tq_ops.specs.declared.condition.Operand.{Operand}
@@ -29,3 +29,13 @@ HasBeside op value told = (n : ℤ) → FitsSigned w64 n → IsTrue (accepts op 
 abbrev pub HasCompared : Operand → Compare → Operand → ℕ → Option KeyRange → Type 0
 HasCompared left op right place told =
     (row : List Value) (n : ℤ) → value_at row place ≡ Int n → FitsSigned w64 n → IsTrue (accepts op (value_cmp (operand_value left row) (operand_value right row))) → IsInSomeRange told n
+
+-- each row passes the condition in which a number of the range stands in the column
+abbrev pub IsEnough : Test → ℕ → KeyRange → Type 0
+IsEnough test column range = (row : List Value) (n : ℤ) → value_at row column ≡ Int n → IsInRange range n → IsTrue (passes test row)
+
+-- the value is a number of the range
+pub record HasNumber (range : KeyRange) (value : Value) : Type 0 where
+  pub number : ℤ
+  pub is : value ≡ Int number
+  pub within : IsInRange range number

@@ -1,12 +1,15 @@
 //! What a condition tells of the number at a place of a row.
 
-ghost use Rattle.std.specs.Prelude.{◌≡◌, ◌≢◌, ℤ, false, not, FitsSigned, IsTrue};
+ghost use Rattle.std.specs.Prelude.{◌≡◌, ◌≢◌, ℤ, false, not, FitsSigned, IfSome, IsTrue, List};
 ghost use Rattle.std.specs.Int.{w64};
 ghost use Rattle.std.specs.Ordering.{int_cmp, ordering_reverse};
 ghost use Rattle.std.specs.declared.cmp.Ordering.{Ordering};
-ghost use Rattle.tq_base.specs.KeyRanges.{IsInSomeRange};
-ghost use Rattle.tq_ops.specs.Conditions.{accepts};
-ghost use Rattle.tq_ops.specs.KeyRanges.{HasBeside, HasCompared, TellsNumbers, TellsWithin};
+ghost use Rattle.tq_base.specs.declared.value.Value.{Value};
+ghost use Rattle.tq_base.specs.Contents.{Int};
+ghost use Rattle.tq_base.specs.KeyRanges.{IsInRange, IsInSomeRange};
+ghost use Rattle.tq_base.specs.ValueOrder.{value_cmp};
+ghost use Rattle.tq_ops.specs.Conditions.{accepts, operand_value, value_at};
+ghost use Rattle.tq_ops.specs.KeyRanges.{HasBeside, HasCompared, HasNumber, IsEnough, TellsNumbers, TellsWithin};
 ghost use Rattle.tq_ops.specs.Known.{agrees};
 
 use crate::condition::{Compare, Operand, Test};
@@ -185,6 +188,99 @@ impl Test {
                     part = inner.get();
                 }
             }
+        }
+    }
+}
+
+// Numbers of 64 signed bits that all stand so to the value; none where that is not plain.
+fn numbers_so(op: Compare, value: &Value) -> Option<KeyRange>
+    ensures { (n : ℤ) → IsInSomeRange result n → IsTrue (accepts op (value_cmp (Int n) value.now)) }
+{
+    if op == Compare::Ne {
+        return None;
+    }
+    match value.seen() {
+        Seen::Int(number) => match i64::try_from(number) {
+            Ok(number) => numbers_by(op, number),
+            Err(_) => None,
+        },
+        Seen::Text(_) => None,
+    }
+}
+
+// Numbers of a column of which each is enough: a row in which one stands there passes a condition.
+#[derive(Clone, Copy)]
+pub(crate) struct Enough {
+    pub(crate) column: u32,
+    pub(crate) range: KeyRange,
+}
+
+impl Enough {
+    // Whether the value is one of the numbers.
+    pub(crate) fn has(&self, value: &Value) -> bool
+        ensures { IsTrue result → HasNumber self.now.range value.now }
+    {
+        match value.seen() {
+            Seen::Int(number) => {
+                i128::from(self.range.low) <= number && number <= i128::from(self.range.high)
+            }
+            Seen::Text(_) => false,
+        }
+    }
+
+    // The numbers of both, where they are of one column.
+    fn both(self, other: Enough) -> Option<Enough>
+        ensures column { IfSome result (λ both. both.column ≡ self.column) }
+        ensures same { IfSome result (λ both. both.column ≡ other.column) }
+        ensures one { IfSome result (λ both. (n : ℤ) → IsInRange both.range n → IsInRange self.range n) }
+        ensures other { IfSome result (λ both. (n : ℤ) → IsInRange both.range n → IsInRange other.range n) }
+    {
+        if self.column != other.column {
+            return None;
+        }
+        Some(Enough {
+            column: self.column,
+            range: self.range.common(other.range)?,
+        })
+    }
+}
+
+// Numbers of a column that is compared with a value, of which each is enough for the comparison to hold.
+fn enough_compared(left: &Operand, op: Compare, right: &Operand) -> Option<Enough>
+    ensures { IfSome result (λ e. (row : List Value) (n : ℤ) → value_at row e.column ≡ Int n → IsInRange e.range n
+        → IsTrue (accepts op (value_cmp (operand_value left.now row) (operand_value right.now row)))) }
+{
+    match (left, right) {
+        (Operand::Column(column), Operand::Literal(value)) => Some(Enough {
+            column: *column,
+            range: numbers_so(op, value)?,
+        }),
+        _ => None,
+    }
+}
+
+impl Test {
+    // The same of a condition that is one comparison.
+    fn enough_of_one(&self) -> Option<Enough>
+        ensures { IfSome result (λ e. IsEnough self.now e.column e.range) }
+    {
+        match self {
+            Test::Is { left, op, right } => enough_compared(left, *op, right),
+            _ => None,
+        }
+    }
+
+    // Numbers of a column of which each is enough for its row to pass, where the condition is a comparison or two that
+    // bound the column by numbers.
+    pub(crate) fn enough(&self) -> Option<Enough>
+        ensures { IfSome result (λ e. IsEnough self.now e.column e.range) }
+    {
+        match self {
+            Test::And(first, last) => {
+                let one = first.get().enough_of_one()?;
+                one.both(last.get().enough_of_one()?)
+            }
+            _ => self.enough_of_one(),
         }
     }
 }

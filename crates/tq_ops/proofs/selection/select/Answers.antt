@@ -1,4 +1,4 @@
-use Rattle.std.proofs.Common.{rules, ◌≡◌, ◌≤◌, ℕ, List, None, cond, map, sym, ap, ◌∙◌, subst}
+use Rattle.std.proofs.Common.{◌≡◌, ◌≤◌, ℕ, List, cond, map, refl, sym, ap, ◌∙◌, subst}
 use Rattle.std.specs.Prelude.{All}
 use Rattle.std.specs.Option.{option_copied}
 use Rattle.std.proofs.lemmas.Result.{IfOk-weaker}
@@ -22,16 +22,15 @@ returns-clause-inside c =
     c.pick.ensures.rows
 
 -- the rows that go in have these counts
-whole : (c : goal.Then-are_within) → (t : ℕ) (v : List Value) → copies c.args.rows.items v t ≡ cond (holds c.args.window.now t) (occurrences (selection (option_copied c.args.test) (at c.args.rows.items t)) v) 0
+whole : (c : goal.Then-do_all_pass) → (t : ℕ) (v : List Value) → copies c.args.rows.items v t ≡ cond (holds c.args.window.now t) (occurrences (selection (option_copied c.args.test) (at c.args.rows.items t)) v) 0
 whole c t v =
     let within = subst (All (λ (p : Period). (c.args.window.now.start ≤ p.start) × (p.end ≤ c.args.window.now.end))) c.periods.ensures c.if-are_within.ensures in
-    let none : option_copied c.args.test ≡ None = search rules in
-    counts_whole c.args.window.now c.args.rows.items within t v ∙ ap (λ test. cond (holds c.args.window.now t) (occurrences (selection test (at c.args.rows.items t)) v) 0) (sym none)
+    counts_whole c.args.window.now (option_copied c.args.test) c.args.rows.items within (c.if-do_all_pass.ensures refl) t v
 
-pub returns-then-are_within-clause-inside : goal.returns-then-are_within-clause-inside
-returns-then-are_within-clause-inside c =
+pub returns-then-do_all_pass-clause-inside : goal.returns-then-do_all_pass-clause-inside
+returns-then-do_all_pass-clause-inside c =
     inside_from_counts c.args.window.now c.args.rows.items (λ t v. occurrences (selection (option_copied c.args.test) (at c.args.rows.items t)) v) (whole c)
 
-pub returns-then-are_within-clause-outside : goal.returns-then-are_within-clause-outside
-returns-then-are_within-clause-outside c =
+pub returns-then-do_all_pass-clause-outside : goal.returns-then-do_all_pass-clause-outside
+returns-then-do_all_pass-clause-outside c =
     outside_from_counts c.args.window.now c.args.rows.items (λ t v. occurrences (selection (option_copied c.args.test) (at c.args.rows.items t)) v) (whole c)
