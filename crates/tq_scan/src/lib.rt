@@ -18,5 +18,5 @@ mod window;
 pub use cutting::cut;
 pub use found::{Found, Keys};
 pub use laws::each_key_in_one_part;
-pub use scanning::scan;
+pub use scanning::{scan, scan_keys};
 pub use window::{Part, Window};

@@ -117,3 +117,22 @@ pub fn scan(
         leaves: NodeNos::of(leaves),
     })
 }
+
+/// The keys of the tree that are found in the part, each of them once and in any order: those of `scan`, which are
+/// not sorted here.
+/// Out of memory: nothing is given.
+pub fn scan_keys(
+    alloc: Global,
+    tree: &Tree,
+    window: &Window,
+    part: &Part,
+) -> Result<Vec<u128>, AllocError>
+    requires { IsInside window.now part.now }
+    ensures { IfOk result (λ keys. ListsOnce (FoundIn tree.now.nodes window.now part.now) keys.items) }
+{
+    trees_tile();
+    let _version = tree.version();
+    let mut meter = Meter::new();
+    let mut leaves = last_leaves(alloc, tree, part, &mut meter)?;
+    read_leaves(alloc, tree, window, part, &mut leaves, &mut meter)
+}
