@@ -76,7 +76,7 @@ module _ {X : Type 0} (key : X → ℕ) where
           other.stands) in
           omega (arith, count_cons q x xs, ap tally is, less, count_without q ys first.place x first.stands)
 
-  apart_pairs : (xs : List X) → ((i j : ℕ) (x y : X) → i < j → slice_get xs i ≡ Some x → slice_get xs j ≡ Some y → key x ≢ key y) → AreApart xs
+  pub apart_pairs : (xs : List X) → ((i j : ℕ) (x y : X) → i < j → slice_get xs i ≡ Some x → slice_get xs j ≡ Some y → key x ≢ key y) → AreApart xs
   apart_pairs [] pairs = tt
   apart_pairs (x ∷ xs) pairs =
       ((λ j y here. pairs 0 (suc j) x y (omega arith) refl here), apart_pairs xs (λ i j y z less one other. pairs (suc i) (suc j) y z (omega (arith, less)) one other))

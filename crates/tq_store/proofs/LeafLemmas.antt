@@ -12,13 +12,13 @@ use Rattle.tq_scan.specs.Windows.{lies_in}
 use Rattle.tq_store.proofs.LifeLemmas.{and-true}
 use Rattle.tq_store.proofs.VersionLemmas.{count_cons, tally}
 
-less_is : (a b : ℕ) → a < b → nat_lt a b ≡ true
+pub less_is : (a b : ℕ) → a < b → nat_lt a b ≡ true
 less_is a b less = search (rules, nat_tests, less)
 
-le_is : (a b : ℕ) → a ≤ b → nat_le a b ≡ true
+pub le_is : (a b : ℕ) → a ≤ b → nat_le a b ≡ true
 le_is a b le = search (rules, nat_tests, le)
 
-both_true : (a b : Bool) → a ≡ true → b ≡ true → (a && b) ≡ true
+pub both_true : (a b : Bool) → a ≡ true → b ≡ true → (a && b) ≡ true
 both_true a b a_is b_is = ap (λ x. x && b) a_is ∙ b_is
 
 -- the part's first key at its last version

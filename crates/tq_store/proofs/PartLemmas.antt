@@ -25,7 +25,7 @@ pub record IsOnly {X : Type 0} (p : X → Bool) (xs : List X) : Type 0 where
   pub passes : p item ≡ true
   pub only : (j : ℕ) (y : X) → slice_get xs j ≡ Some y → p y ≡ true → j ≡ place
 
-only_one : {X : Type 0} (p : X → Bool) (xs : List X) → count_by p xs ≡ 1 → IsOnly p xs
+pub only_one : {X : Type 0} (p : X → Bool) (xs : List X) → count_by p xs ≡ 1 → IsOnly p xs
 only_one p [] one = absurd (omega (arith, one))
 only_one {X = X} p (x ∷ xs) one = by (p x) refl (only_one p xs)
   where

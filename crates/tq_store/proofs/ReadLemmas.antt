@@ -1,14 +1,16 @@
 -- What is read of one key after the other.
-use Rattle.std.proofs.Common.{◌≡◌, ℕ, suc, ◌+◌, ◌%◌, ◌<◌, List, [], ◌∷◌, ◌++◌, Option, Some, None, map, take, length, get_or, slice_get, refl, sym, ap, subst, ◌∙◌, arith}
-use Rattle.std.specs.Prelude.{All, IsSomeAnd}
+use Rattle.std.proofs.Common.{◌≡◌, ℕ, suc, ◌+◌, ◌%◌, ◌<◌, ◌≤◌, ◌&&◌, Bool, true, List, [], ◌∷◌, ◌++◌, Option, Some, None, map, take, length, get_or, slice_get, nat_le, nat_lt, refl, sym, ap, subst, ◌∙◌, arith, rules}
+use Rattle.std.specs.Prelude.{All, IsSomeAnd, IsTrue}
+use Rattle.std.proofs.lemmas.Bool.Decides.{nat_tests}
 use Rattle.std.specs.Option.{option_map, option_map_or}
-use Rattle.std.proofs.lemmas.List.{length-map, map-append, take_more}
+use Rattle.std.proofs.lemmas.List.{get_or-map, length-map, map-append, take_more}
 use Rattle.std.proofs.lemmas.Option.{get_or_from_slice_get, slice_get-get_or, slice_get-map, slice_get_within}
 use Rattle.std.proofs.lemmas.Simd.{map-map}
 use Rattle.tq_base.specs.declared.fragment.Fragment.{Fragment}
 use Rattle.tq_base.specs.declared.key_range.KeyRange.{KeyRange}
 use Rattle.tq_base.specs.declared.period.Period.{Period}
 use Rattle.tq_base.specs.declared.relation.Line.{Line}
+use Rattle.tq_base.specs.Periods.{holds}
 use Rattle.tq_base.specs.Relations.{line_of, values_at_number}
 use Rattle.tq_base.specs.Keys.{no_row}
 use Rattle.tq_event.specs.declared.event.Event.{Event}
@@ -17,11 +19,19 @@ use Rattle.tq_event.specs.Versions.{Life, row_lives}
 use Rattle.tq_store.specs.declared.index.Index.{Index}
 use Rattle.tq_store.specs.declared.index.RowEvents.{RowEvents}
 use Rattle.tq_store.specs.Index.{IsIndexOf, rows_kept}
-use Rattle.tq_store.specs.Stored.{IsLasting, IsReadable, IsStored, Times, line_times, row_of_key, times_of_key, values_at, values_in}
+use Rattle.tq_store.specs.Stored.{IsLasting, IsMet, IsReadable, IsStored, StandIn, Standing, Times, line_at, line_for, line_times, row_of_key, times_at, times_of_key, values_at, values_in}
 use Rattle.tq_scan.specs.declared.window.Part.{Part}
-use Rattle.tq_store.specs.Rows.{ArePartRows, window_part}
-use Rattle.tq_store.specs.Valid.{AreWhole, shown, unnumbered}
+use Rattle.tq_store.specs.Rows.{HasPartRows, window_part}
+use Rattle.tq_store.specs.Valid.{AreWhole, Shown, fragment_at, row_at}
 use Rattle.tq_store.proofs.IndexLemmas.{IsKnown, known_row, known_start, rows_counted}
+use Rattle.tq_store.proofs.LeafLemmas.{both_true, le_is, less_is}
+use Rattle.tq_store.proofs.LifeLemmas.{and-true}
+
+lt_from : (a b : ℕ) → nat_lt a b ≡ true → a < b
+lt_from a b is = search (rules, nat_tests, is)
+
+le_from : (a b : ℕ) → nat_le a b ≡ true → a ≤ b
+le_from a b is = search (rules, nat_tests, is)
 
 -- the row that stands at the key's number
 pub row_there : (P : RowEvents → Type 0) (rows : List RowEvents) (key : ℕ) (row d : RowEvents) → IsSomeAnd (slice_get rows (key % 4294967296)) P → row ≡ get_or rows (key % 4294967296) row → row ≡ get_or rows (key % 4294967296) d
@@ -52,6 +62,52 @@ readable_lasts es rows keys readable k d less = by (slice_get rows (get_or keys 
     by None there = absurd there
     by (Some r) there = there.lasts
 
+-- a row without its number
+abbrev unnumbered : Row → Row
+unnumbered row = record row { number = 0 }
+
+-- a period holds its first instant
+holds_first : (period : Period) → holds period period.start ≡ true
+holds_first period = both_true (nat_le period.start period.start) (nat_lt period.start period.end) (le_is period.start period.start (omega arith)) (less_is period.start period.end period.ordered)
+
+-- the rows of a part are valid at some instant of the period
+pub rows_met : (es : List Event) (rows : List RowEvents) (n t : ℕ) (range : KeyRange) (period : Period) (p : Part) (keys : List ℕ) → HasPartRows es n t range period p (map (row_of_key es rows n) keys) → All (IsMet rows n period) keys
+rows_met es rows n t range period p keys has k d less =
+    let row = row_of_key es rows n (get_or keys k d) in
+    let counted = length-map keys (row_of_key es rows n) in
+    let is = (has.just row).0 (k, omega (arith, less, counted), get_or-map (row_of_key es rows n) keys k d row less) in
+    record { begins = is.begins; lasts = is.lasts }
+
+-- ---- lines at the instants of a period
+
+abbrev standing : ℕ → Bool → Standing
+standing number valid = record { number = number; valid = valid }
+
+-- lines that have the times of the rows
+pub stand_read : (rows : List RowEvents) (n : ℕ) (period : Period) (keys : List ℕ) (lines : List Line) → map line_times lines ≡ map (times_of_key rows n) keys → StandIn rows n period keys lines
+stand_read rows n period keys lines same at inside =
+    sym (map-map (times_at at) line_times lines) ∙ ap (map (times_at at)) same ∙ map-map (times_at at) (times_of_key rows n) keys
+
+-- lines that have the one instant of the period at which the rows are valid
+pub stand_at : (rows : List RowEvents) (n : ℕ) (period : Period) (keys : List ℕ) (lines : List Line) → period.end ≡ period.start + 1 → All (IsMet rows n period) keys
+    → lines ≡ map (line_for period) keys → StandIn rows n period keys lines
+stand_at rows n period keys lines one met named at inside =
+    ap (map (line_at at)) named ∙ map-map (line_at at) (line_for period) keys
+    ∙ map_where (λ key. line_at at (line_for period key)) (λ key. times_at at (times_of_key rows n key)) keys same
+  where
+    same : (k d : ℕ) → k < length keys → line_at at (line_for period (get_or keys k d)) ≡ times_at at (times_of_key rows n (get_or keys k d))
+    same k d less =
+        let is = met k d less in
+        let times : Times = times_of_key rows n (get_or keys k d) in
+        let both = and-true (nat_le period.start at) (nat_lt at period.end) inside in
+        let low = le_from period.start at both.0 in
+        let high = lt_from at period.end both.1 in
+        let begins = is.begins in
+        let lasts = is.lasts in
+        let valid : (nat_le times.from at && nat_lt at times.to) ≡ true =
+        both_true (nat_le times.from at) (nat_lt at times.to) (le_is times.from at (omega (arith, one, low, high, begins))) (less_is at times.to (omega (arith, one, low, high, lasts))) in
+        ap (standing (get_or keys k d % 4294967296)) (inside ∙ sym valid)
+
 -- ---- the rows of an index, named by lines
 
 module _ (es : List Event) (t : ℕ) (index : Index) (is : IsIndexOf es t index) where
@@ -78,7 +134,7 @@ module _ (es : List Event) (t : ℕ) (index : Index) (is : IsIndexOf es t index)
           ap (λ (x : Fragment). x.values) (get_or_from_slice_get index.kept.items row f d stands) ∙ same
           ∙ sym (ap (λ o. option_map_or values_in o []) (known_start es t row known of_row))
 
-  module _ (n : ℕ) (keys : List ℕ) (readable : All (IsReadable es (rows_kept es t)) keys) (lines : List Line) (same : map line_times lines ≡ map (times_of_key index.rows.items n) keys) where
+  module _ (n : ℕ) (period : Period) (keys : List ℕ) (readable : All (IsReadable es (rows_kept es t)) keys) (lines : List Line) (same : StandIn index.rows.items n period keys lines) where
     -- the row of the key, its values taken from where they stand
     abbrev put : Times → Row
     put x = record { number = 0; values = values_at_number index.kept.items x.number; from = x.from; to = x.to }
@@ -86,17 +142,22 @@ module _ (es : List Event) (t : ℕ) (index : Index) (is : IsIndexOf es t index)
     there : (k d : ℕ) → k < length keys → IsReadable es index.rows.items (get_or keys k d)
     there k d less = subst (λ rows. IsReadable es rows (get_or keys k d)) (sym is.rows) (readable k d less)
 
+    -- the lines stand so at the period's first instant
+    same_first : map (line_at period.start) lines ≡ map (λ key. times_at period.start (times_of_key index.rows.items n key)) keys
+    same_first = same period.start (holds_first period)
+
     pub lines_within : All (λ (line : Line). line.row < length index.kept.items) lines
     lines_within k d less = by (slice_get keys k) refl
-        (sym (slice_get-map (times_of_key index.rows.items n) keys k) ∙ sym (ap (λ l. slice_get l k) same) ∙ slice_get-map line_times lines k ∙ ap (option_map line_times) (slice_get-get_or lines k d less))
+        (sym (slice_get-map (λ key. times_at period.start (times_of_key index.rows.items n key)) keys k) ∙ sym (ap (λ l. slice_get l k) same_first) ∙ slice_get-map (line_at period.start) lines k
+        ∙ ap (option_map (line_at period.start)) (slice_get-get_or lines k d less))
       where
-        by : (o : Option ℕ) → slice_get keys k ≡ o → option_map (times_of_key index.rows.items n) o ≡ Some (line_times (get_or lines k d)) → (get_or lines k d).row < length index.kept.items
+        by : (o : Option ℕ) → slice_get keys k ≡ o → option_map (λ key. times_at period.start (times_of_key index.rows.items n key)) o ≡ Some (line_at period.start (get_or lines k d)) → (get_or lines k d).row < length index.kept.items
         by None stands told = absurd (cc)
         by (Some key) stands told = found (slice_get index.rows.items (key % 4294967296)) refl
             (subst (IsReadable es index.rows.items) (get_or_from_slice_get keys k key key stands) (there k key (slice_get_within keys k key stands)))
           where
             number : key % 4294967296 ≡ (get_or lines k d).row
-            number = let both : times_of_key index.rows.items n key ≡ line_times (get_or lines k d) = cc in ap (λ (x : Times). x.number) both
+            number = let both : times_at period.start (times_of_key index.rows.items n key) ≡ line_at period.start (get_or lines k d) = cc in ap (λ (x : Standing). x.number) both
 
             found : (o : Option RowEvents) → slice_get index.rows.items (key % 4294967296) ≡ o → IsSomeAnd o (IsStored es) → (get_or lines k d).row < length index.kept.items
             found None here is_there = absurd is_there
@@ -121,19 +182,23 @@ module _ (es : List Event) (t : ℕ) (index : Index) (is : IsIndexOf es t index)
             ap (λ v. record (unnumbered (row_of_key es index.rows.items n key)) { values = v })
             (values_there (key % 4294967296) known no_row here ∙ sym (ap (λ (r : RowEvents). values_at es r.start) read))
 
-    pub shown_lines : map shown (map (line_of index.kept.items) lines) ≡ map unnumbered (map (row_of_key es (rows_kept es t) n) keys)
-    shown_lines =
-        map-map shown (line_of index.kept.items) lines
-        ∙ sym (map-map put line_times lines)
-        ∙ ap (map put) same
-        ∙ map-map put (times_of_key index.rows.items n) keys
-        ∙ map_where (λ key. put (times_of_key index.rows.items n key)) (λ key. unnumbered (row_of_key es (rows_kept es t) n key)) keys same_row
-        ∙ sym (map-map unnumbered (row_of_key es (rows_kept es t) n) keys)
+    -- what stands at a number, its values taken from where they stand
+    abbrev stood : Standing → Shown
+    stood x = record { values = values_at_number index.kept.items x.number; valid = x.valid }
 
-    pub whole_of_lines : (range : KeyRange) (period : Period) (p : Part) (fragments : List Fragment) → p ≡ window_part es n range period → ArePartRows es n t range period p (map (row_of_key es (rows_kept es t) n) keys)
+    shown_lines : (at : ℕ) → IsTrue (holds period at) → map (fragment_at at) (map (line_of index.kept.items) lines) ≡ map (row_at at) (map (row_of_key es (rows_kept es t) n) keys)
+    shown_lines at inside =
+        map-map (fragment_at at) (line_of index.kept.items) lines
+        ∙ sym (map-map stood (line_at at) lines)
+        ∙ ap (map stood) (same at inside)
+        ∙ map-map stood (λ key. times_at at (times_of_key index.rows.items n key)) keys
+        ∙ map_where (λ key. stood (times_at at (times_of_key index.rows.items n key))) (λ key. row_at at (row_of_key es (rows_kept es t) n key)) keys (λ k d less. ap (row_at at) (same_row k d less))
+        ∙ sym (map-map (row_at at) (row_of_key es (rows_kept es t) n) keys)
+
+    pub whole_of_lines : (range : KeyRange) (fragments : List Fragment) → HasPartRows es n t range period (window_part es n range period) (map (row_of_key es (rows_kept es t) n) keys)
         → fragments ≡ map (line_of index.kept.items) lines → AreWhole es n t range period fragments
-    whole_of_lines range period p fragments part are named = record {
+    whole_of_lines range fragments are named = record {
       rows = map (row_of_key es (rows_kept es t) n) keys;
-      are = subst (λ q. ArePartRows es n t range period q (map (row_of_key es (rows_kept es t) n) keys)) part are;
-      same = ap (map shown) named ∙ shown_lines;
+      are = are;
+      same = λ at inside. ap (map (fragment_at at)) named ∙ shown_lines at inside;
     }

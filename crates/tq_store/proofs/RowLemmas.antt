@@ -1,10 +1,10 @@
 -- The rows of a part: those whose keys a scan finds.
 use Rattle.std.proofs.Common.{◌≡◌, ℕ, zero, suc, ◌+◌, ◌-◌, ◌*◌, ◌%◌, ◌<◌, ◌≤◌, ◌&&◌, max, Bool, true, false, if◌then◌else◌, List, [], ◌∷◌, Option, Some, None, length, map, get_or, slice_get, nat_lt, nat_le, refl, sym, ap, subst, ◌∙◌, inl, inr, arith, rules}
-use Rattle.std.specs.Prelude.{Contains, IfSome, IsSomeAnd, FitsSigned}
+use Rattle.std.specs.Prelude.{Contains, IfSome, IsSomeAnd, FitsSigned, nat_eq, ◌↔◌}
 use Rattle.std.specs.Int.{w64}
 use Rattle.std.specs.Option.{option_map, option_map_or}
 use Rattle.std.specs.List.Sorted.{IsNonDecreasingBy, IsStrictlyIncreasing}
-use Rattle.std.proofs.lemmas.Bool.{cases_lt}
+use Rattle.std.proofs.lemmas.Bool.{cases_lt, eq-eqb, eqb-true}
 use Rattle.std.proofs.lemmas.Bool.Decides.{nat_tests}
 use Rattle.std.proofs.lemmas.Option.{get_or_from_slice_get, slice_get-get_or, slice_get-map, slice_get_within}
 use Rattle.tq_base.specs.declared.period.Period.{Period}
@@ -18,18 +18,19 @@ use Rattle.tq_mvbt.specs.Points.{now, within}
 use Rattle.tq_mvbt.specs.TreeState.{HasLife, lives_of}
 use Rattle.tq_scan.specs.declared.window.Part.{Part}
 use Rattle.tq_scan.specs.declared.window.Window.{Window}
-use Rattle.tq_scan.specs.Lists.{ListsJust}
+use Rattle.tq_scan.specs.Lists.{ListsJust, ListsOnce}
 use Rattle.tq_scan.specs.Scans.{FoundIn}
 use Rattle.tq_scan.specs.Windows.{lies_in, whole_of}
 use Rattle.tq_base.specs.declared.key_range.KeyRange.{KeyRange}
 use Rattle.tq_base.specs.KeyRanges.{key_of}
 use Rattle.tq_store.specs.Keys.{shifted, tree_key}
 use Rattle.tq_store.specs.Index.{HasRows, IsKeyOf, IsRowLife, dead_of, events_of, rows_kept}
-use Rattle.tq_store.specs.Rows.{ArePartRows, IsPartRow, row_key, window_part}
+use Rattle.tq_store.specs.Rows.{ArePartRows, HasPartRows, IsPartRow, row_key, window_part}
 use Rattle.tq_store.specs.Stored.{IsReadable, IsStart, IsStored, end_as_of, row_of_key, stored_row, values_in}
 use Rattle.tq_store.proofs.IndexLemmas.{end_stands, start_stands}
 use Rattle.tq_store.proofs.KeyLemmas.{key_row, shifted-le, unshifted-le}
 use Rattle.tq_store.proofs.LifeLemmas.{and-true, as_of, end_by, known_by, rows_known}
+use Rattle.tq_store.proofs.PartLemmas.{only_one}
 use Rattle.tq_store.proofs.VersionLemmas.{before_version, past_version, version_rises, version_within}
 
 lt_from : (a b : ℕ) → nat_lt a b ≡ true → a < b
@@ -391,15 +392,55 @@ module _ (es : List Event) (n t : ℕ) (range : KeyRange) (period : Period) (nod
       ∙ stored_is es t n row.number of_row.life of_row.stands
       ∙ sym of_row.same
 
+  -- where the keys are just those that are found, their rows are just those of the part
+  rows_just : (keys : List ℕ) → ((key : ℕ) → Contains keys key ↔ FoundIn nodes w p key) → (row : Row) → Contains (map (row_of_key es (rows_kept es t) n) keys) row ↔ IsPartRow es n t range period p row
+  rows_just keys just row = (
+    λ there.
+        let one = has_row (row_of_key es (rows_kept es t) n) keys row there in
+        let found = found_row one.0 ((just one.0).0 one.1) in
+        subst (IsPartRow es n t range period p) (sym (one.2 ∙ read_is one.0 found)) found.part,
+    λ is. subst (Contains (map (row_of_key es (rows_kept es t) n) keys)) (own_row row is)
+        (row_stands (row_of_key es (rows_kept es t) n) keys (row_key row) ((just (row_key row)).1 (row_found row is))),
+  )
+
   pub part_rows : (keys : List ℕ) → ListsJust (FoundIn nodes w p) keys → ArePartRows es n t range period p (map (row_of_key es (rows_kept es t) n) keys)
   part_rows keys just = record {
     ordered = subst IsStrictlyIncreasing (sym (keys_kept keys (λ key there. (just.just key).0 there))) just.ascending;
-    just = λ row. (
-      λ there.
-          let one = has_row (row_of_key es (rows_kept es t) n) keys row there in
-          let found = found_row one.0 ((just.just one.0).0 one.1) in
-          subst (IsPartRow es n t range period p) (sym (one.2 ∙ read_is one.0 found)) found.part,
-      λ is. subst (Contains (map (row_of_key es (rows_kept es t) n) keys)) (own_row row is)
-          (row_stands (row_of_key es (rows_kept es t) n) keys (row_key row) ((just.just (row_key row)).1 (row_found row is))),
-    );
+    just = rows_just keys just.just;
   }
+
+  -- the same of keys in any order
+  module _ (keys : List ℕ) (lists : ListsOnce (FoundIn nodes w p) keys) where
+    found_at : (i key : ℕ) → slice_get keys i ≡ Some key → FoundIn nodes w p key
+    found_at i key here = subst (FoundIn nodes w p) (get_or_from_slice_get keys i key key here) (lists.all i key (slice_get_within keys i key here))
+
+    once_just : (key : ℕ) → Contains keys key ↔ FoundIn nodes w p key
+    once_just key = (
+      λ there. subst (FoundIn nodes w p) there.2 (lists.all there.0 key there.1),
+      λ found.
+          let only = only_one (nat_eq key) keys (lists.once key found) in
+          let same : only.item ≡ key = sym (eqb-true key only.item only.passes) in
+          (only.place, slice_get_within keys only.place only.item only.stands, get_or_from_slice_get keys only.place only.item key only.stands ∙ same),
+    )
+
+    key_at : (i : ℕ) (row : Row) → slice_get (map (row_of_key es (rows_kept es t) n) keys) i ≡ Some row → slice_get keys i ≡ Some (row_key row)
+    key_at i row here = by (slice_get keys i) refl (sym (slice_get-map (row_of_key es (rows_kept es t) n) keys i) ∙ here)
+      where
+        by : (o : Option ℕ) → slice_get keys i ≡ o → option_map (row_of_key es (rows_kept es t) n) o ≡ Some row → slice_get keys i ≡ Some (row_key row)
+        by None stands same = absurd (cc)
+        by (Some key) stands same =
+            let is : row_of_key es (rows_kept es t) n key ≡ row = cc in
+            stands ∙ ap (λ k. Some k) (sym (key_kept key (found_at i key stands)) ∙ ap row_key is)
+
+    pub part_rows_once : HasPartRows es n t range period p (map (row_of_key es (rows_kept es t) n) keys)
+    part_rows_once = record {
+      apart = λ i j one other less here there same.
+          let first = key_at i one here in
+          let second : slice_get keys j ≡ Some (row_key one) = key_at j other there ∙ ap (λ k. Some k) (sym same) in
+          let only = only_one (nat_eq (row_key one)) keys (lists.once (row_key one) (found_at i (row_key one) first)) in
+          let itself : nat_eq (row_key one) (row_key one) ≡ true = eq-eqb (row_key one) (row_key one) refl in
+          let one_place = only.only i (row_key one) first itself in
+          let other_place = only.only j (row_key one) second itself in
+          absurd (omega (arith, less, one_place, other_place));
+      just = rows_just keys once_just;
+    }

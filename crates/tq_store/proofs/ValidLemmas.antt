@@ -26,10 +26,10 @@ use Rattle.tq_event.specs.Versions.{Life, birth_of, version_at}
 use Rattle.tq_base.specs.declared.key_range.KeyRange.{KeyRange}
 use Rattle.tq_base.specs.KeyRanges.{key_of}
 use Rattle.tq_store.specs.Keys.{shifted}
-use Rattle.tq_store.specs.Rows.{ArePartRows, HasReference, IsPartRow, row_key, window_part}
-use Rattle.tq_store.specs.Valid.{AreValid, AreValidIn, AreWhole, HasKeyIn, shown, unnumbered}
+use Rattle.tq_store.specs.Rows.{HasPartRows, HasReference, IsPartRow, row_key, window_part}
+use Rattle.tq_store.specs.Valid.{AreValid, AreValidIn, AreWhole, HasKeyIn, Shown, fragment_at, row_at}
 use Rattle.tq_store.proofs.AdmissibleLemmas.{fit_key, ordered_push}
-use Rattle.tq_store.proofs.CountLemmas.{IsThere, apart_placed, apart_rising, at_most, count_kept, count_made}
+use Rattle.tq_store.proofs.CountLemmas.{IsThere, apart_pairs, apart_placed, at_most, count_kept, count_made}
 use Rattle.tq_store.proofs.IndexLemmas.{start_stands}
 use Rattle.tq_store.proofs.KeyLemmas.{shifted-le}
 use Rattle.tq_store.proofs.LifeLemmas.{and-true}
@@ -181,11 +181,11 @@ module _ (c : Catalogue) (es : List Event) (history : IsHistory c es) (few : len
           omega (arith, before, rises, born)
 
   -- as many rows of these values are valid at the instant
-  same_count : (rows : List Row) → ArePartRows es n t range period (window_part es n range period) rows → (at : ℕ) (v : List Value) → holds period at ≡ true
+  same_count : (rows : List Row) → HasPartRows es n t range period (window_part es n range period) rows → (at : ℕ) (v : List Value) → holds period at ≡ true
       → ((row : Row) → Contains (rows_of es n t) row → row.values ≡ v → HasKeyIn range row.values)
       → count_by (counts at v) rows ≡ count_by (counts at v) (rows_of es n t)
   same_count rows are at v inside keys =
-      let one = at_most row_key (counts at v) rows (rows_of es n t) (apart_rising row_key rows are.ordered)
+      let one = at_most row_key (counts at v) rows (rows_of es n t) (apart_pairs row_key rows are.apart)
       (λ i row pass here. there_of (rows_of es n t) row ((are.just row).0 (contains_of rows i row here)).known) in
       let other = at_most (λ (row : Row). row.number) (counts at v) (rows_of es n t) rows (apart_placed (λ (row : Row). row.number) (rows_of es n t) (λ i row here. let number = numbered t 0 (take n es) i row here in omega (arith, number)))
       (λ i row pass here. there_of rows row ((are.just row).1 (part row (contains_of (rows_of es n t) i row here) pass))) in
@@ -210,11 +210,15 @@ module _ (c : Catalogue) (es : List Event) (history : IsHistory c es) (few : len
       → copies fragments v at ≡ occurrences (valid_at es n t at) v
   same_copies fragments whole at v inside keys =
       count_kept (λ u. eq_by_cmp values_cmp u v) (λ (f : Fragment). f.values) (λ (f : Fragment). holds f.period at) fragments
-      ∙ sym (count_made (counts at v) shown fragments)
-      ∙ ap (count_by (counts at v)) whole.same
-      ∙ count_made (counts at v) unnumbered whole.rows
+      ∙ sym (count_made stands (fragment_at at) fragments)
+      ∙ ap (count_by stands) (whole.same at inside)
+      ∙ count_made stands (row_at at) whole.rows
       ∙ same_count whole.rows whole.are at v inside keys
       ∙ sym (count_kept (λ u. eq_by_cmp values_cmp u v) (λ (row : Row). row.values) (λ (row : Row). nat_le row.from at && nat_lt at row.to) (rows_of es n t))
+    where
+      -- whether what is shown is valid and has these values
+      stands : Shown → Bool
+      stands x = x.valid && eq_by_cmp values_cmp x.values v
 
   pub valid_in : (fragments : List Fragment) → AreWhole es n t range period fragments → AreValidIn es n t range period fragments
   valid_in fragments whole at v key inside = same_copies fragments whole at v inside (λ row there same. subst (HasKeyIn range) (sym same) key)
@@ -226,22 +230,31 @@ module _ (c : Catalogue) (es : List Event) (history : IsHistory c es) (few : len
 
 -- their keys lie in the range
 pub keys_in : (es : List Event) (n t : ℕ) (range : KeyRange) (period : Period) (fragments : List Fragment) → AreWhole es n t range period fragments → All (λ (f : Fragment). HasKeyIn range f.values) fragments
-keys_in es n t range period fragments whole k d less = by (slice_get whole.rows k) refl (sym (slice_get-map unnumbered whole.rows k) ∙ sym (ap (λ l. slice_get l k) whole.same) ∙ slice_get-map shown fragments k ∙ ap (option_map shown) (slice_get-get_or fragments k d less))
+keys_in es n t range period fragments whole k d less =
+    by (slice_get whole.rows k) refl
+    (sym (slice_get-map (row_at first) whole.rows k) ∙ sym (ap (λ l. slice_get l k) (whole.same first inside)) ∙ slice_get-map (fragment_at first) fragments k
+    ∙ ap (option_map (fragment_at first)) (slice_get-get_or fragments k d less))
   where
-    by : (o : Option Row) → slice_get whole.rows k ≡ o → option_map unnumbered o ≡ Some (shown (get_or fragments k d)) → HasKeyIn range (get_or fragments k d).values
+    first : ℕ
+    first = period.start
+
+    inside : holds period first ≡ true
+    inside = both-true (nat_le period.start first) (nat_lt first period.end) (le_is period.start first (omega arith)) (lt_is first period.end period.ordered)
+
+    by : (o : Option Row) → slice_get whole.rows k ≡ o → option_map (row_at first) o ≡ Some (fragment_at first (get_or fragments k d)) → HasKeyIn range (get_or fragments k d).values
     by None stands same = absurd (cc)
     by (Some row) stands same =
         let part = (whole.are.just row).0 (contains_of whole.rows k row stands) in
-        let both : unnumbered row ≡ shown (get_or fragments k d) = cc in
-        subst (HasKeyIn range) (ap (λ (r : Row). r.values) both) (record { low = part.low; high = part.high })
+        let both : row_at first row ≡ fragment_at first (get_or fragments k d) = cc in
+        subst (HasKeyIn range) (ap (λ (x : Shown). x.values) both) (record { low = part.low; high = part.high })
 
 -- a table that is not there has none
 pub none_there : (c : Catalogue) (es : List Event) (n t : ℕ) (range : KeyRange) (period : Period) (fragments : List Fragment) → IsHistory c es → length c.tables ≤ t → fragments ≡ [] → AreWhole es n t range period fragments
 none_there c es n t range period fragments history past none = record {
   rows = [];
   are = record {
-    ordered = λ k less. absurd (omega (arith, less));
+    apart = λ i j one other less here there. absurd (cc);
     just = λ row. ((λ there. absurd (let less = there.1 in omega (arith, less))), (λ is. absurd (no_rows c es history n t (slice_get_past c.tables t past) row is.known)));
   };
-  same = ap (map shown) none;
+  same = λ at inside. ap (map (fragment_at at)) none;
 }

@@ -1,5 +1,5 @@
 -- Which rows a part of a window has. After van den Bercken and Seeger 1996; the keys are this project's own.
-use Rattle.std.specs.Prelude.{◌≡◌, ℕ, ◌+◌, ◌-◌, ◌*◌, ◌<◌, ◌≤◌, ◌≤ℤ◌, ◌↔◌, max, List, map, true, Contains}
+use Rattle.std.specs.Prelude.{◌≡◌, ◌≢◌, ℕ, ◌+◌, ◌-◌, ◌*◌, ◌<◌, ◌≤◌, ◌≤ℤ◌, ◌↔◌, max, List, Some, map, slice_get, true, Contains}
 use Rattle.std.proofs.Common.{subst}
 use Rattle.std.specs.List.Sorted.{IsStrictlyIncreasing}
 use Rattle.tq_base.specs.declared.period.Period.{Period}
@@ -60,4 +60,9 @@ pub record IsPartRow (history : List Event) (n table : ℕ) (range : KeyRange) (
 -- just these rows, in the order of their keys and numbers
 pub record ArePartRows (history : List Event) (n table : ℕ) (range : KeyRange) (period : Period) (part : Part) (rows : List Row) : Type 0 where
   pub ordered : IsStrictlyIncreasing (map row_key rows)
+  pub just : (row : Row) → Contains rows row ↔ IsPartRow history n table range period part row
+
+-- just these rows, each once, in any order
+pub record HasPartRows (history : List Event) (n table : ℕ) (range : KeyRange) (period : Period) (part : Part) (rows : List Row) : Type 0 where
+  pub apart : (i j : ℕ) (one other : Row) → i < j → slice_get rows i ≡ Some one → slice_get rows j ≡ Some other → row_key one ≢ row_key other
   pub just : (row : Row) → Contains rows row ↔ IsPartRow history n table range period part row

@@ -1,10 +1,12 @@
 -- What the events tell of a row whose start and end they are. This project's own.
-use Rattle.std.specs.Prelude.{ℕ, ◌%◌, ◌<◌, ◌&&◌, ◌==◌, not, is_some, Bool, false, List, [], slice_get, slice_index_or, nat_lt, if◌then◌else◌, Option, Some, None, IsSomeAnd, ⊤}
+use Rattle.std.specs.Prelude.{◌≡◌, ℕ, ◌%◌, ◌<◌, ◌&&◌, ◌==◌, not, is_some, Bool, false, List, [], map, slice_get, slice_index_or, nat_le, nat_lt, if◌then◌else◌, Option, Some, None, IsSomeAnd, IsTrue, ⊤}
 use Rattle.std.specs.Option.{option_map_or}
 use Rattle.std.specs.Ordering.{eq_by_cmp}
+use Rattle.tq_base.specs.declared.period.Period.{Period}
 use Rattle.tq_base.specs.declared.period.TheConstants.{FOREVER}
 use Rattle.tq_base.specs.declared.relation.Line.{Line}
 use Rattle.tq_base.specs.declared.value.Value.{Value}
+use Rattle.tq_base.specs.Periods.{holds}
 use Rattle.tq_base.specs.ValueOrder.{values_cmp}
 use Rattle.tq_event.specs.declared.event.Event.{Event}
 use Rattle.tq_event.specs.declared.event.Event.TheVariants.{Start, End}
@@ -71,6 +73,33 @@ line_times line = record { number = line.row; from = line.period.start; to = lin
 abbrev pub times_of_key : List RowEvents → ℕ → ℕ → Times
 times_of_key rows n key =
     let row = row_of_key [] rows n key in record { number = row.number; from = row.from; to = row.to }
+
+-- the row of the key, as of the first n events, is valid at some instant of the period
+pub record IsMet (rows : List RowEvents) (n : ℕ) (period : Period) (key : ℕ) : Type 0 where
+  pub begins : (times_of_key rows n key).from < period.end
+  pub lasts : period.start < (times_of_key rows n key).to
+
+-- a row's number, and whether it is valid at an instant
+pub record Standing : Type 0 where
+  pub number : ℕ
+  pub valid : Bool
+
+-- a row of these times at the instant
+abbrev pub times_at : ℕ → Times → Standing
+times_at t times = record { number = times.number; valid = nat_le times.from t && nat_lt t times.to }
+
+-- a line at the instant
+abbrev pub line_at : ℕ → Line → Standing
+line_at t line = times_at t (line_times line)
+
+-- the line of the number of a tree's key, with the period
+abbrev pub line_for : Period → ℕ → Line
+line_for period key = record { row = key % 4294967296; period = period }
+
+-- at each instant of the period the lines stand as the rows of the keys do, as of the first n events
+abbrev pub StandIn : List RowEvents → ℕ → Period → List ℕ → List Line → Type 0
+StandIn rows n period keys lines =
+    (t : ℕ) → IsTrue (holds period t) → map (line_at t) lines ≡ map (λ key. times_at t (times_of_key rows n key)) keys
 
 -- whether the event starts a row of these values before the instant
 abbrev pub starts_like : List Value → ℕ → Event → Bool

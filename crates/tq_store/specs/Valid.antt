@@ -1,5 +1,5 @@
 -- The rows of a table at the instants of a period, in a list. This project's own.
-use Rattle.std.specs.Prelude.{◌≡◌, ℕ, ◌≤ℤ◌, IsTrue, List, map}
+use Rattle.std.specs.Prelude.{◌≡◌, ℕ, ◌≤ℤ◌, ◌&&◌, Bool, IsTrue, List, map, nat_le, nat_lt}
 use Rattle.tq_base.specs.declared.fragment.Fragment.{Fragment}
 use Rattle.tq_base.specs.declared.period.Period.{Period}
 use Rattle.tq_base.specs.declared.value.Value.{Value}
@@ -9,7 +9,7 @@ use Rattle.tq_event.specs.declared.event.Event.{Event}
 use Rattle.tq_event.specs.History.{Row, valid_at}
 use Rattle.tq_base.specs.declared.key_range.KeyRange.{KeyRange}
 use Rattle.tq_base.specs.KeyRanges.{key_of}
-use Rattle.tq_store.specs.Rows.{ArePartRows, window_part}
+use Rattle.tq_store.specs.Rows.{HasPartRows, window_part}
 
 -- the values have a key of the range
 pub record HasKeyIn (range : KeyRange) (values : List Value) : Type 0 where
@@ -26,16 +26,21 @@ abbrev pub AreValidIn : List Event → ℕ → ℕ → KeyRange → Period → L
 AreValidIn history n table range period rows =
     (t : ℕ) (v : List Value) → HasKeyIn range v → IsTrue (holds period t) → copies rows v t ≡ occurrences (valid_at history n table t) v
 
--- a row without its number
-abbrev pub unnumbered : Row → Row
-unnumbered row = record row { number = 0 }
+-- a row at an instant: its values, and whether it is valid then
+pub record Shown : Type 0 where
+  pub values : List Value
+  pub valid : Bool
 
--- the same of values and a period
-abbrev pub shown : Fragment → Row
-shown fragment = record { number = 0; values = fragment.values; from = fragment.period.start; to = fragment.period.end }
+-- a row of a list at the instant
+abbrev pub fragment_at : ℕ → Fragment → Shown
+fragment_at t fragment = record { values = fragment.values; valid = holds fragment.period t }
 
--- they are the rows of all of a window
+-- a row of the definition at the instant
+abbrev pub row_at : ℕ → Row → Shown
+row_at t row = record { values = row.values; valid = nat_le row.from t && nat_lt t row.to }
+
+-- they are the rows of all of a window, as they stand at each instant of the period
 pub record AreWhole (history : List Event) (n table : ℕ) (range : KeyRange) (period : Period) (fragments : List Fragment) : Type 0 where
   pub rows : List Row
-  pub are : ArePartRows history n table range period (window_part history n range period) rows
-  pub same : map shown fragments ≡ map unnumbered rows
+  pub are : HasPartRows history n table range period (window_part history n range period) rows
+  pub same : (t : ℕ) → IsTrue (holds period t) → map (fragment_at t) fragments ≡ map (row_at t) rows

@@ -8,12 +8,12 @@ ghost use Rattle.tq_event.specs.Recorded.{HasTable};
 ghost use Rattle.tq_event.specs.Versions.{version_at};
 ghost use Rattle.tq_scan.specs.Windows.{whole_of};
 ghost use Rattle.tq_store.specs.Index.{AreIndexes, CanEnd, rows_kept};
-ghost use Rattle.tq_store.specs.Rows.{ArePartRows, IsWithin, window_part};
+ghost use Rattle.tq_store.specs.Rows.{ArePartRows, HasPartRows, IsWithin, window_part};
 ghost use Rattle.tq_store.specs.Stored.{IsReadable, row_of_key, seen};
 ghost use Rattle.tq_store.specs.Valid.{AreWhole};
 
 use crate::index::{Index, no_indexes, take};
-use crate::read::{find_version, first_keys, make_window, read_lines, read_rows};
+use crate::read::{find_version, first_keys, lines_in, make_window, read_rows};
 use crate::row::Row;
 use crate::stored::time;
 use std::alloc::{AllocError, Global};
@@ -22,7 +22,7 @@ use tq_arena::Meter;
 use tq_base::{Catalogue, Instant, KeyRange, Period, Relation, Values};
 use tq_event::Event;
 use tq_mvbt::trees_tile;
-use tq_scan::{Found, Part, Window, scan};
+use tq_scan::{Found, Part, Window, scan, scan_keys};
 
 /// A history that answers as of any count of its events: a catalogue, and the events that it took, in order.
 #[derive(Drop)]
@@ -231,6 +231,26 @@ impl Db {
         read_rows(self.alloc, &self.events, &index.rows, found.keys.get(), n)
     }
 
+    // The keys that the table's tree has for the rows of all of the window, in any order. Out of memory: nothing is
+    // given.
+    fn find_all(
+        &self,
+        alloc: Global,
+        n: u32,
+        table: u32,
+        range: &KeyRange,
+        period: &Period,
+    ) -> Result<Vec<u128>, AllocError>
+        requires known { n ≤ length self.now.events }
+        requires table { table < length self.now.catalogue.tables }
+        ensures readable { IfOk result (λ keys. All (IsReadable self.now.events (rows_kept self.now.events table)) keys.items) }
+        ensures rows { IfOk result (λ keys. HasPartRows self.now.events n table range.now period.now (window_part self.now.events n range.now period.now) (map (row_of_key self.now.events (rows_kept self.now.events table) n) keys.items)) }
+    {
+        let window = make_window(&self.events, n, range, period);
+        let index = &self.indexes[table as usize];
+        scan_keys(alloc, &index.tree, &window, &window.whole())
+    }
+
     // The rows of all of the window, their values lent. Out of memory: nothing is given.
     pub(crate) fn whole(
         &self,
@@ -244,10 +264,9 @@ impl Db {
         requires table { table < length self.now.catalogue.tables }
         ensures { IfOk result (λ rows. AreWhole self.now.events n table range.now period.now rows.items) }
     {
-        let part = self.window(n, table, range, period).whole();
-        let found = self.find(n, table, range, period, &part, &mut Meter::new())?;
+        let keys = self.find_all(alloc, n, table, range, period)?;
         let index = &self.indexes[table as usize];
-        let lines = read_lines(alloc, &index.rows, found.keys.get(), n)?;
+        let lines = lines_in(alloc, &index.rows, &keys, n, period)?;
         let _near = first_keys(alloc, &index.kept, &lines)?;
         Relation::of(alloc, &index.kept)?.pick(alloc, &lines)
     }

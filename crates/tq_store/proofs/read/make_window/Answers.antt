@@ -2,6 +2,7 @@ use Rattle.std.proofs.Common.{◌-◌, ◌∙◌, arith, ap, rules}
 use Rattle.std.specs.Prelude.{FitsSigned}
 use Rattle.std.specs.Int.{w64}
 use Rattle.std.proofs.lemmas.Int.{to_z-of_z}
+use Rattle.tq_event.specs.Versions.{version_at}
 use Rattle.tq_store.specs.Keys.{shifted}
 use Rattle.tq_store.proofs.KeyLemmas.{shifted-le}
 use Rattle.tq_store.proofs.VersionLemmas.{version_rises}
@@ -17,13 +18,12 @@ unwrap-requires c =
     let keys = shifted-le c.args.range.now.low c.args.range.now.high c.args.range.now.ordered in
     let ordered = c.args.period.now.ordered in
     let start = c.number.ensures.value in
-    let last = c.number-2.ensures.value in
-    let first_at = c.find_version-first.ensures.value in
-    let last_at = c.find_version-last.ensures.value in
-    let within = c.find_version-last.ensures.within in
+    let first_at = c.find_version-first.ensures.value ∙ ap (version_at c.args.events.now c.args.n) start in
+    let last_at = c.find_last-last.ensures.value in
+    let within = c.find_last-last.ensures.within in
     let known = c.requires.known in
     let few = c.requires.few in
-    let rises = version_rises c.args.events.now c.args.n c.number.result (c.number-2.result - 1) (omega (arith, start, last, ordered)) in
+    let rises = version_rises c.args.events.now c.args.n c.args.period.now.start (c.args.period.now.end - 1) (omega (arith, ordered)) in
     c.new.ensures.valid.1 (record {
       wide = omega (arith, low, high, keys);
       in_keys = omega (arith, small);
