@@ -1,3 +1,4 @@
+pub mod AsciiLemmas
 pub mod CatalogueLemmas
 pub mod DatedLemmas
 pub mod FieldLemmas

@@ -1,6 +1,7 @@
 // What a data record of a file holds.
 
-ghost use Rattle.std.specs.Prelude.{◌≡◌, ◌≢◌, ℕ, ◌+◌, ◌≤◌, [], Err, IfErr, IfOk, OnOk, Ok, length};
+ghost use Rattle.std.specs.Prelude.{◌≡◌, ◌≢◌, ℕ, ◌+◌, ◌≤◌, [], Err, IfErr, IfOk, IfSome, IsTrue, OnOk, Ok, length};
+ghost use Rattle.std.specs.Str.{IsAscii, IsUtf8};
 ghost use Rattle.csv.specs.Records.{fields_of};
 ghost use Rattle.tq_event.specs.Tables.{told_by};
 ghost use Rattle.tq_event.specs.Loading.{entry_of, make_period, period_fields, period_of, value_fields, value_of, values_after};
@@ -14,12 +15,34 @@ use tq_base::{
     Bound, Column, Form, Instant, Kind, MAX_TEXT, Period, Value, read_bound, read_instant, read_int,
 };
 
+// Whether all bytes are ASCII. Fields are short, and each byte is looked at, so that there is no branch to guess.
+fn is_ascii(bytes: &[u8]) -> bool
+    ensures { IsTrue result → IsAscii bytes.now }
+{
+    let mut ascii = true;
+    'bytes: for byte in bytes {
+        ascii &= *byte < 128;
+    }
+    ascii
+}
+
+// The text that the bytes are, if they are UTF-8. Most texts are ASCII, which is told sooner.
+fn text_in(bytes: &[u8]) -> Option<&str>
+    ensures text { IfSome result (λ text. (text.now ≡ bytes.entry.now) × IsUtf8 bytes.entry.now) }
+    ensures none { result ≡ None → ¬ (IsUtf8 bytes.entry.now) }
+{
+    if is_ascii(bytes) {
+        return Some(unsafe { str::from_utf8_unchecked(bytes) });
+    }
+    str::from_utf8(bytes).ok()
+}
+
 // The text that a field holds.
 fn read_text(alloc: Global, field: &[u8]) -> Result<Value, LoadFaultKind>
     ensures ok { IfOk result (λ value. value_of Kind.Text field.now ≡ Ok value) }
     ensures fault { IfErr result (λ fault. fault ≢ LoadFaultKind.OutOfMemory → value_of Kind.Text field.now ≡ Err fault) }
 {
-    let Ok(text) = str::from_utf8(field) else {
+    let Some(text) = text_in(field) else {
         return Err(LoadFaultKind::NotUtf8);
     };
     if field.len() > MAX_TEXT {

@@ -8,14 +8,14 @@ use Rattle.tq_event.proofs.FieldUtf8.{no_utf8}
 use Rattle.tq_event.proofs.reading.read_text.Goals as goal
 
 pub returns-in_default-clause-fault : goal.returns-in_default-clause-fault
-returns-in_default-clause-fault c known = rw (no_utf8 c.args.field.now c.in_default.ensures.cases.0) refl
+returns-in_default-clause-fault c known = rw (no_utf8 c.args.field.now (c.in_default.ensures.none refl)) refl
 
 pub returns-then-field-gt-MAX_TEXT-clause-fault : goal.returns-then-field-gt-MAX_TEXT-clause-fault
 returns-then-field-gt-MAX_TEXT-clause-fault c known =
     let long : nat_lt 1000 (length c.args.field.now) ≡ true = grind (arith, nat_tests) in
-    rw (is_utf8-from_IsUtf8 c.args.field.now c.in-Ok.ensures.cases.1, long) refl
+    rw (is_utf8-from_IsUtf8 c.args.field.now c.in-Some.ensures.text.1, long) refl
 
 pub returns-clause-ok : goal.returns-clause-ok
 returns-clause-ok c =
     let short : nat_lt 1000 (length c.args.field.now) ≡ false = grind (arith, nat_tests) in
-    rw (is_utf8-from_IsUtf8 c.args.field.now c.in-Ok.ensures.cases.1, short) (ap (λ (v : Value). let r : Result Value LoadFaultKind = Ok v in r) (sym (c.in_ok-text.ensures.value ∙ ap Text c.in-Ok.ensures.cases.0)))
+    rw (is_utf8-from_IsUtf8 c.args.field.now c.in-Some.ensures.text.1, short) (ap (λ (v : Value). let r : Result Value LoadFaultKind = Ok v in r) (sym (c.in_ok-text.ensures.value ∙ ap Text c.in-Some.ensures.text.0)))

@@ -1,0 +1,6 @@
+-- The bytes so far are ASCII, if it was not seen that one is not.
+use Rattle.std.proofs.Common.{◌≡◌, ◌<◌, ℕ, get_or, true}
+use Rattle.tq_event.proofs.reading.is_ascii.Given as goal
+
+abbrev pub invariant-bytes : goal.invariant-bytes
+invariant-bytes l = l.ascii ≡ true → (i : ℕ) → i < l.byte-index → get_or l.bytes i 0 < 128
