@@ -9,9 +9,6 @@ ghost use Rattle.tq_loading.specs.Standing.{state_of};
 
 use memchr::memchr;
 
-// So many bytes of a quoted field are gone through one after another before a quote is looked for.
-const NEAR: usize = 32;
-
 /// Where a reader of records stands between two bytes: at the start of a record or of a later field, in a field
 /// that has no quote in front or in one that has, behind a quote in the latter, or behind a carriage return that
 /// ends a record.
@@ -98,26 +95,13 @@ fn first_quote(bytes: &[u8]) -> Option<usize>
     memchr(b'"', bytes)
 }
 
-// Whether it stands in a quoted field, or behind a quote that may end it.
-fn is_open(standing: Standing) -> bool {
-    matches!(standing, Standing::InQuotes | Standing::BehindQuote)
-}
-
-/// Where the reader stands behind the bytes, which it reads from there. Outside of quoted fields only quotes are looked for;
-/// in these, which are most often short, it is followed for some bytes before the next quote is.
+/// Where the reader stands behind the bytes, which it reads from there. Only quotes are looked for.
 pub fn standing_behind(from: Standing, bytes: &[u8]) -> Standing
     ensures { state_of result ≡ stands_after (state_of from) bytes.now }
 {
     let mut standing = from;
     let mut place = 0;
     'quotes: loop {
-        'near: for _ in 0..NEAR {
-            if place >= bytes.len() || !is_open(standing) {
-                break;
-            }
-            standing = behind(standing, bytes[place]);
-            place += 1;
-        }
         let rest = &bytes[place..];
         let Some(count) = first_quote(rest) else {
             return behind_plain(standing, rest);

@@ -9,6 +9,3 @@ invariant-quotes l = (l.place ≤ length l.bytes) × (state_of l.standing ≡ st
 
 abbrev pub decreases-quotes : goal.decreases-quotes
 decreases-quotes l = length l.bytes - l.place
-
-abbrev pub invariant-near : goal.invariant-near
-invariant-near l = (l.place ≤ length l.bytes) × (l.initial.place ≤ l.place) × (state_of l.standing ≡ stands_after (state_of l.fn.from) (take l.place l.bytes))
