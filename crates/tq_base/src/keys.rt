@@ -11,8 +11,8 @@ ghost use Rattle.tq_base.specs.PlaceViews.{first_in, IsFirstOn};
 ghost use Rattle.tq_base.specs.ValueOrder.{value_cmp, values_cmp};
 
 use crate::column_view::ColumnView;
-use crate::period::{Bound, Instant, Period};
 use crate::looks::LOOKS;
+use crate::period::{Bound, Instant, Period};
 use crate::rank::{rank_in_place, rank_of};
 use crate::relation::Relation;
 use crate::row::Row;

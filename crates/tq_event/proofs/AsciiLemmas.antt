@@ -11,6 +11,7 @@ ascii_more true bytes place before both i lt = by (nat_lt i place) refl
   where
     here : get_or bytes place 0 < 128
     here = grind (arith, nat_tests)
+
     by : (b : Bool) → nat_lt i place ≡ b → get_or bytes i 0 < 128
     by true e = before refl i (grind (arith, nat_tests))
     by false e = subst (λ k. get_or bytes k 0 < 128) (let same : place ≡ i = grind (arith, nat_tests) in same) here
