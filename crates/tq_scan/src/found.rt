@@ -38,8 +38,8 @@ impl Keys {
 /// What a part of a window has: the keys that are found in it, and the leaves whose region meets it.
 #[derive(Drop, Debug)]
 pub struct Found {
-    /// The keys, in ascending order.
+    /// The keys; in ascending order where they are sorted.
     pub keys: Keys,
-    /// The numbers of the leaves, in ascending order.
+    /// The numbers of the leaves; in ascending order where they are sorted.
     pub leaves: NodeNos,
 }

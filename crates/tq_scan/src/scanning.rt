@@ -118,21 +118,28 @@ pub fn scan(
     })
 }
 
-/// The keys of the tree that are found in the part, each of them once and in any order: those of `scan`, which are
-/// not sorted here.
+/// The same, each key and each leaf once, in any order: what `scan` sorts.
 /// Out of memory: nothing is given.
-pub fn scan_keys(
+pub fn scan_unsorted(
     alloc: Global,
     tree: &Tree,
     window: &Window,
     part: &Part,
-) -> Result<Vec<u128>, AllocError>
+    meter: &mut Meter,
+) -> Result<Found, AllocError>
     requires { IsInside window.now part.now }
-    ensures { IfOk result (λ keys. ListsOnce (FoundIn tree.now.nodes window.now part.now) keys.items) }
+    ensures keys { IfOk result (λ found. ListsOnce (FoundIn tree.now.nodes window.now part.now) found.keys) }
+    ensures leaves { IfOk result (λ found. ListsOnce (IsMetLeaf tree.now.nodes part.now) (numbers found.leaves)) }
+    ensures at_least { IfOk result (λ found. min (meter.old + length found.leaves + (height_of tree.now.roots part.now.last - 1)) u64.MAX ≤ meter.new) }
+    ensures at_most { IfOk result (λ found. meter.new ≤ meter.old + length found.leaves + (height_of tree.now.roots part.now.last - 1) * count_by (alive_at tree.now.nodes part.now.last) found.leaves) }
+    ensures one_version { IfOk result (λ found. window.now.first ≡ window.now.last → length found.leaves ≤ length found.keys / 5 + 2) }
 {
     trees_tile();
     let _version = tree.version();
-    let mut meter = Meter::new();
-    let mut leaves = last_leaves(alloc, tree, part, &mut meter)?;
-    read_leaves(alloc, tree, window, part, &mut leaves, &mut meter)
+    let mut leaves = last_leaves(alloc, tree, part, meter)?;
+    let keys = read_leaves(alloc, tree, window, part, &mut leaves, meter)?;
+    Ok(Found {
+        keys: Keys::of(keys),
+        leaves: NodeNos::of(leaves),
+    })
 }

@@ -22,7 +22,7 @@ use tq_arena::Meter;
 use tq_base::{Catalogue, Instant, KeyRange, Period, Relation, Values};
 use tq_event::Event;
 use tq_mvbt::trees_tile;
-use tq_scan::{Found, Part, Window, scan, scan_keys};
+use tq_scan::{Found, Part, Window, scan, scan_unsorted};
 
 /// A history that answers as of any count of its events: a catalogue, and the events that it took, in order.
 #[derive(Drop)]
@@ -240,15 +240,21 @@ impl Db {
         table: u32,
         range: &KeyRange,
         period: &Period,
-    ) -> Result<Vec<u128>, AllocError>
+    ) -> Result<Found, AllocError>
         requires known { n ≤ length self.now.events }
         requires table { table < length self.now.catalogue.tables }
-        ensures readable { IfOk result (λ keys. All (IsReadable self.now.events (rows_kept self.now.events table)) keys.items) }
-        ensures rows { IfOk result (λ keys. HasPartRows self.now.events n table range.now period.now (window_part self.now.events n range.now period.now) (map (row_of_key self.now.events (rows_kept self.now.events table) n) keys.items)) }
+        ensures readable { IfOk result (λ found. All (IsReadable self.now.events (rows_kept self.now.events table)) found.keys) }
+        ensures rows { IfOk result (λ found. HasPartRows self.now.events n table range.now period.now (window_part self.now.events n range.now period.now) (map (row_of_key self.now.events (rows_kept self.now.events table) n) found.keys)) }
     {
         let window = make_window(&self.events, n, range, period);
         let index = &self.indexes[table as usize];
-        scan_keys(alloc, &index.tree, &window, &window.whole())
+        scan_unsorted(
+            alloc,
+            &index.tree,
+            &window,
+            &window.whole(),
+            &mut Meter::new(),
+        )
     }
 
     // The rows of all of the window, their values lent. Out of memory: nothing is given.
@@ -264,9 +270,9 @@ impl Db {
         requires table { table < length self.now.catalogue.tables }
         ensures { IfOk result (λ rows. AreWhole self.now.events n table range.now period.now rows.items) }
     {
-        let keys = self.find_all(alloc, n, table, range, period)?;
+        let found = self.find_all(alloc, n, table, range, period)?;
         let index = &self.indexes[table as usize];
-        let lines = lines_in(alloc, &index.rows, &keys, n, period)?;
+        let lines = lines_in(alloc, &index.rows, found.keys.get(), n, period)?;
         let _near = first_keys(alloc, &index.kept, &lines)?;
         Relation::of(alloc, &index.kept)?.pick(alloc, &lines)
     }

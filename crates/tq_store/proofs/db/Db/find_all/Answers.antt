@@ -45,7 +45,7 @@ module _ (catalogue : Catalogue) (es : List Event) (indexes : List Index) (n tab
       (part_rows_once es n table range period index.tree.nodes index.tree.version w p db.ordered db.few le is.tree window_is fits_low fits_high finite keys lists)
 
 pub returns-clause-readable : goal.returns-clause-readable
-returns-clause-readable c = if_ok c.scan_keys.result c.scan_keys.ensures (λ keys lists.
+returns-clause-readable c = if_ok c.scan_unsorted.result c.scan_unsorted.ensures.keys (λ found lists.
     let es = c.self.inside.events.items in
     let index = c.index-index.result.now in
     let view : c.args.self.now ≡ record { catalogue = c.self.inside.catalogue; events = es } = sym c.self.view_is in
@@ -53,12 +53,12 @@ returns-clause-readable c = if_ok c.scan_keys.result c.scan_keys.ensures (λ key
     let in_catalogue : c.args.table < length c.self.inside.catalogue.tables = subst (λ (r : Recorded). c.args.table < length r.catalogue.tables) view c.requires.table in
     let of_table = index_of c.self.inside.catalogue es c.self.inside.indexes.items c.args.table index c.self.invariant in_catalogue c.index-index.ensures in
     let window_is = c.make_window-window.ensures.window ∙ ap (λ l. window_part l c.args.n c.args.range.now c.args.period.now) c.deref.ensures.value in
-    subst (λ (r : Recorded). All (IsReadable r.events (rows_kept r.events c.args.table)) keys.items) (sym view)
-    (all_readable c.self.inside.catalogue es c.self.inside.indexes.items c.args.n c.args.table index c.args.range.now c.args.period.now c.make_window-window.result c.whole.result keys.items
+    subst (λ (r : Recorded). All (IsReadable r.events (rows_kept r.events c.args.table)) found.keys) (sym view)
+    (all_readable c.self.inside.catalogue es c.self.inside.indexes.items c.args.n c.args.table index c.args.range.now c.args.period.now c.make_window-window.result c.whole.result found.keys
     c.self.invariant le of_table window_is c.make_window-window.ensures.low c.make_window-window.ensures.high c.make_window-window.ensures.finite lists))
 
 pub returns-clause-rows : goal.returns-clause-rows
-returns-clause-rows c = if_ok c.scan_keys.result c.scan_keys.ensures (λ keys lists.
+returns-clause-rows c = if_ok c.scan_unsorted.result c.scan_unsorted.ensures.keys (λ found lists.
     let es = c.self.inside.events.items in
     let index = c.index-index.result.now in
     let view : c.args.self.now ≡ record { catalogue = c.self.inside.catalogue; events = es } = sym c.self.view_is in
@@ -66,6 +66,6 @@ returns-clause-rows c = if_ok c.scan_keys.result c.scan_keys.ensures (λ keys li
     let in_catalogue : c.args.table < length c.self.inside.catalogue.tables = subst (λ (r : Recorded). c.args.table < length r.catalogue.tables) view c.requires.table in
     let of_table = index_of c.self.inside.catalogue es c.self.inside.indexes.items c.args.table index c.self.invariant in_catalogue c.index-index.ensures in
     let window_is = c.make_window-window.ensures.window ∙ ap (λ l. window_part l c.args.n c.args.range.now c.args.period.now) c.deref.ensures.value in
-    subst (λ (r : Recorded). HasPartRows r.events c.args.n c.args.table c.args.range.now c.args.period.now (window_part r.events c.args.n c.args.range.now c.args.period.now) (map (row_of_key r.events (rows_kept r.events c.args.table) c.args.n) keys.items)) (sym view)
-    (all_rows c.self.inside.catalogue es c.self.inside.indexes.items c.args.n c.args.table index c.args.range.now c.args.period.now c.make_window-window.result c.whole.result keys.items
+    subst (λ (r : Recorded). HasPartRows r.events c.args.n c.args.table c.args.range.now c.args.period.now (window_part r.events c.args.n c.args.range.now c.args.period.now) (map (row_of_key r.events (rows_kept r.events c.args.table) c.args.n) found.keys)) (sym view)
+    (all_rows c.self.inside.catalogue es c.self.inside.indexes.items c.args.n c.args.table index c.args.range.now c.args.period.now c.make_window-window.result c.whole.result found.keys
     c.self.invariant le of_table window_is c.make_window-window.ensures.low c.make_window-window.ensures.high c.make_window-window.ensures.finite lists c.whole.ensures))

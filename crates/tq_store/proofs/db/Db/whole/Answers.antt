@@ -31,18 +31,18 @@ lines_in-requires-clause-lasting c =
     let index = c.index-index.result.now in
     let of_table = index_of c.args.self.now c.self.inside.catalogue c.self.inside.events.items c.self.inside.indexes.items c.args.table index c.self.view_is c.self.invariant c.requires.table c.index-index.ensures in
     let events = c.args.self.now.events in
-    subst (λ keys. All (IsLasting c.deref.result.now) keys) (sym c.deref-2.ensures.value)
-    (subst (λ rows. All (IsLasting rows) c.in_ok-keys.keys.items) (sym (c.deref.ensures.value ∙ of_table.rows))
-    (readable_lasts events (rows_kept events c.args.table) c.in_ok-keys.keys.items c.in_ok-keys.ensures.readable))
+    subst (λ keys. All (IsLasting c.deref.result.now) keys) (sym c.get.ensures)
+    (subst (λ rows. All (IsLasting rows) c.in_ok-found.found.keys) (sym (c.deref.ensures.value ∙ of_table.rows))
+    (readable_lasts events (rows_kept events c.args.table) c.in_ok-found.found.keys c.in_ok-found.ensures.readable))
 
 pub lines_in-requires-clause-met : goal.lines_in-requires-clause-met
 lines_in-requires-clause-met c =
     let index = c.index-index.result.now in
     let of_table = index_of c.args.self.now c.self.inside.catalogue c.self.inside.events.items c.self.inside.indexes.items c.args.table index c.self.view_is c.self.invariant c.requires.table c.index-index.ensures in
     let events = c.args.self.now.events in
-    subst (λ keys. All (IsMet c.deref.result.now c.args.n c.args.period.now) keys) (sym c.deref-2.ensures.value)
-    (subst (λ rows. All (IsMet rows c.args.n c.args.period.now) c.in_ok-keys.keys.items) (sym (c.deref.ensures.value ∙ of_table.rows))
-    (rows_met events (rows_kept events c.args.table) c.args.n c.args.table c.args.range.now c.args.period.now (window_part events c.args.n c.args.range.now c.args.period.now) c.in_ok-keys.keys.items c.in_ok-keys.ensures.rows))
+    subst (λ keys. All (IsMet c.deref.result.now c.args.n c.args.period.now) keys) (sym c.get.ensures)
+    (subst (λ rows. All (IsMet rows c.args.n c.args.period.now) c.in_ok-found.found.keys) (sym (c.deref.ensures.value ∙ of_table.rows))
+    (rows_met events (rows_kept events c.args.table) c.args.n c.args.table c.args.range.now c.args.period.now (window_part events c.args.n c.args.range.now c.args.period.now) c.in_ok-found.found.keys c.in_ok-found.ensures.rows))
 
 -- how the lines stand
 named : (rows deref_rows : List RowEvents) (n : ℕ) (period : Period) (keys deref_keys : List ℕ) (lines : List Line) → deref_rows ≡ rows → deref_keys ≡ keys → StandIn deref_rows n period deref_keys lines → StandIn rows n period keys lines
@@ -53,29 +53,29 @@ pub first_keys-requires : goal.first_keys-requires
 first_keys-requires c =
     let index = c.index-index.result.now in
     let of_table = index_of c.args.self.now c.self.inside.catalogue c.self.inside.events.items c.self.inside.indexes.items c.args.table index c.self.view_is c.self.invariant c.requires.table c.index-index.ensures in
-    let keys : List ℕ = c.in_ok-keys.keys.items in
-    let stand = named index.rows.items c.deref.result.now c.args.n c.args.period.now keys c.deref-2.result.now c.in_ok-lines.lines.items c.deref.ensures.value c.deref-2.ensures.value c.in_ok-lines.ensures in
-    subst (λ lines. All (λ (line : Line). line.row < length index.kept.items) lines) (sym c.deref-3.ensures.value)
-    (lines_within c.args.self.now.events c.args.table index of_table c.args.n c.args.period.now keys c.in_ok-keys.ensures.readable c.in_ok-lines.lines.items stand)
+    let keys : List ℕ = c.in_ok-found.found.keys in
+    let stand = named index.rows.items c.deref.result.now c.args.n c.args.period.now keys c.get.result.now c.in_ok-lines.lines.items c.deref.ensures.value c.get.ensures c.in_ok-lines.ensures in
+    subst (λ lines. All (λ (line : Line). line.row < length index.kept.items) lines) (sym c.deref-2.ensures.value)
+    (lines_within c.args.self.now.events c.args.table index of_table c.args.n c.args.period.now keys c.in_ok-found.ensures.readable c.in_ok-lines.lines.items stand)
 
 pub pick-requires : goal.pick-requires
 pick-requires c =
     let index = c.index-index.result.now in
     let of_table = index_of c.args.self.now c.self.inside.catalogue c.self.inside.events.items c.self.inside.indexes.items c.args.table index c.self.view_is c.self.invariant c.requires.table c.index-index.ensures in
-    let keys : List ℕ = c.in_ok-keys.keys.items in
-    let stand = named index.rows.items c.deref.result.now c.args.n c.args.period.now keys c.deref-2.result.now c.in_ok-lines.lines.items c.deref.ensures.value c.deref-2.ensures.value c.in_ok-lines.ensures in
-    subst (λ lines. All (λ (line : Line). line.row < length c.in_ok-of.field-0.items) lines) (sym c.deref-4.ensures.value)
+    let keys : List ℕ = c.in_ok-found.found.keys in
+    let stand = named index.rows.items c.deref.result.now c.args.n c.args.period.now keys c.get.result.now c.in_ok-lines.lines.items c.deref.ensures.value c.get.ensures c.in_ok-lines.ensures in
+    subst (λ lines. All (λ (line : Line). line.row < length c.in_ok-of.field-0.items) lines) (sym c.deref-3.ensures.value)
     (subst (λ (r : RowList). All (λ (line : Line). line.row < length r.items) c.in_ok-lines.lines.items) (sym c.in_ok-of.ensures)
-    (lines_within c.args.self.now.events c.args.table index of_table c.args.n c.args.period.now keys c.in_ok-keys.ensures.readable c.in_ok-lines.lines.items stand))
+    (lines_within c.args.self.now.events c.args.table index of_table c.args.n c.args.period.now keys c.in_ok-found.ensures.readable c.in_ok-lines.lines.items stand))
 
 pub returns : goal.returns
 returns c =
     let index = c.index-index.result.now in
     let of_table = index_of c.args.self.now c.self.inside.catalogue c.self.inside.events.items c.self.inside.indexes.items c.args.table index c.self.view_is c.self.invariant c.requires.table c.index-index.ensures in
-    let keys : List ℕ = c.in_ok-keys.keys.items in
-    let stand = named index.rows.items c.deref.result.now c.args.n c.args.period.now keys c.deref-2.result.now c.in_ok-lines.lines.items c.deref.ensures.value c.deref-2.ensures.value c.in_ok-lines.ensures in
+    let keys : List ℕ = c.in_ok-found.found.keys in
+    let stand = named index.rows.items c.deref.result.now c.args.n c.args.period.now keys c.get.result.now c.in_ok-lines.lines.items c.deref.ensures.value c.get.ensures c.in_ok-lines.ensures in
     IfOk-weaker c.pick.result _ _
-    (λ rows is. whole_of_lines c.args.self.now.events c.args.table index of_table c.args.n c.args.period.now keys c.in_ok-keys.ensures.readable c.in_ok-lines.lines.items stand
-    c.args.range.now rows.items c.in_ok-keys.ensures.rows
-    (is ∙ ap (map (line_of c.in_ok-of.field-0.items)) c.deref-4.ensures.value ∙ ap (λ (r : RowList). map (line_of r.items) c.in_ok-lines.lines.items) c.in_ok-of.ensures))
+    (λ rows is. whole_of_lines c.args.self.now.events c.args.table index of_table c.args.n c.args.period.now keys c.in_ok-found.ensures.readable c.in_ok-lines.lines.items stand
+    c.args.range.now rows.items c.in_ok-found.ensures.rows
+    (is ∙ ap (map (line_of c.in_ok-of.field-0.items)) c.deref-3.ensures.value ∙ ap (λ (r : RowList). map (line_of r.items) c.in_ok-lines.lines.items) c.in_ok-of.ensures))
     c.pick.ensures.rows
