@@ -30,18 +30,12 @@ pub(crate) fn bound_at(instant: Instant) -> Bound
     }
 }
 
-// The bound of this number, or the end of the window that is nearer.
+// The bound of this number, or the end of the window that is nearer. There is no branch to guess.
 fn moved(number: u64, window: &Period) -> Bound
     ensures { result ≡ moved window.now number }
 {
-    let first = bound_at(window.start);
-    if number <= first.number() {
-        return first;
-    }
-    if number >= window.end.number() {
-        return window.end;
-    }
-    match Bound::new(number) {
+    let nearest = number.min(window.end.number()).max(window.start.number());
+    match Bound::new(nearest) {
         Some(bound) => bound,
         None => unreachable!(),
     }
