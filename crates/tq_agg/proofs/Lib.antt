@@ -12,3 +12,4 @@ pub mod Totals
 pub mod Starts
 pub mod Moving
 pub mod Shown
+pub mod Weighing

@@ -1,5 +1,5 @@
 -- Totals over a group of rows: what each row adds, and what those add that have begun and not ended.
-use Rattle.std.specs.Prelude.{ℕ, ℤ, pos, ◌+ℤ◌, ◌-ℤ◌, FitsSigned, Bool, false, not, cond, ◌&&◌, List, [], ◌∷◌, ◌++◌, map, take, All}
+use Rattle.std.specs.Prelude.{◌≡◌, ◌<◌, ℕ, ℤ, pos, ◌+ℤ◌, ◌-ℤ◌, FitsSigned, Bool, false, not, cond, ◌&&◌, List, [], ◌∷◌, ◌++◌, length, map, slice_index_or, take, All}
 use Rattle.std.specs.Int.{w64}
 use Rattle.std.specs.Ordering.{eq_by_cmp, int_eq}
 use Rattle.tq_base.specs.declared.value.Value.{Value}
@@ -11,6 +11,7 @@ use Rattle.tq_base.specs.Periods.{holds}
 use Rattle.tq_base.specs.declared.sides.Key.{Key}
 use Rattle.tq_base.specs.declared.sides.Mark.TheVariants.{Unknown}
 use Rattle.tq_base.specs.Keys.{key_row, SidesState}
+use Rattle.tq_base.specs.Relations.{values_at_number}
 use Rattle.tq_base.specs.Sweep.{upto}
 use Rattle.tq_ops.specs.Conditions.{value_at}
 use Rattle.tq_agg.specs.declared.summands.Summand.{Summand}
@@ -32,6 +33,14 @@ added weight (x ∷ xs) = weight x +ℤ added weight xs
 -- what the row of a key adds
 abbrev pub key_weight : SidesState → Summand → Key → ℤ
 key_weight sides s k = weight_of s (key_row sides k).values
+
+-- the numbers are what the first rows add, row after row
+abbrev pub AreWeights : List Fragment → Summand → List ℤ → Type 0
+AreWeights rows s weights = (row : ℕ) → row < length weights → slice_index_or weights row (pos 0) ≡ weight_of s (values_at_number rows row)
+
+-- so are those of each list, of the summand at its place
+abbrev pub HaveWeights : List Fragment → List Summand → List (List ℤ) → Type 0
+HaveWeights rows summands lists = (place : ℕ) (d : Summand) → place < length summands → AreWeights rows (slice_index_or summands place d) (slice_index_or lists place [])
 
 -- the key of the row that ends
 abbrev pub end_key : End → Key

@@ -12,11 +12,11 @@ ghost use Rattle.tq_base.specs.Periods.{holds};
 ghost use Rattle.tq_ops.specs.Ordinary.{HasInside, IsEmptyOutside};
 ghost use Rattle.tq_agg.specs.Grouping.{AreSummable, count_rows, grouped_rows};
 ghost use Rattle.tq_agg.specs.GroupKeys.{AreOfKey};
-ghost use Rattle.tq_agg.specs.Totals.{shown_copies, totals_held, HaveSmall};
+ghost use Rattle.tq_agg.specs.Totals.{shown_copies, totals_held, HaveSmall, HaveWeights};
 
 use crate::bounds::{End, fill_ends};
 use crate::edges::{Edges, edges_of, sweep_edges};
-use crate::summands::{Summand, summands_of};
+use crate::summands::{Summand, summands_of, weights_of};
 use crate::sweeping::{Group, Head, SweepRoom, sweep, sweep_room};
 use std::alloc::{AllocError, Global};
 use tq_base::{Key, Period, Relation, Rows, Side, Sides};
@@ -45,6 +45,7 @@ fn add_group(
     keys: &[Key],
     window: &Period,
     summands: &[Summand],
+    weights: &[Vec<i64>],
     room: &mut Room,
     out: &mut Rows,
 ) -> Result<(), AllocError>
@@ -53,6 +54,7 @@ fn add_group(
     requires starts { IsNonDecreasingBy (λ (k : Key). k.start) keys.now }
     requires short { length keys.now < 2 ^ 63 }
     requires small { All (λ s. HaveSmall s (map (key_row (state_of sides.now)) keys.now)) summands.now }
+    requires weights { HaveWeights sides.now.left.now.items summands.now (map (λ list. list.items) weights.now) }
     requires width { out.old.width ≡ length sides.now.left_columns.now + length summands.now }
     ensures emptied { OnOk result (room.new.swept.values.items ≡ []) }
     ensures width { out.new.width ≡ out.old.width }
@@ -72,6 +74,7 @@ fn add_group(
         sides,
         keys,
         ends: &room.ends,
+        weights,
     };
     sweep(alloc, &head, summands, &group, window, &mut room.swept, out)
 }
@@ -103,13 +106,16 @@ pub fn group_count_sum(
     let mut sorted = Vec::new(alloc);
     sides.add_keys(Side::Left, Some(window), &mut sorted)?;
     sides.sort(&mut sorted)?;
+    let weights = weights_of(alloc, rows, &summands)?;
     let mut room = empty_room(alloc);
     let mut out = Rows::new(alloc, keys.len() + summands.len());
     let mut start = 0;
     'groups: while start < sorted.len() {
         let end = start + sides.run_len(&sorted[start..]);
         let group = &sorted[start..end];
-        add_group(alloc, &sides, group, window, &summands, &mut room, &mut out)?;
+        add_group(
+            alloc, &sides, group, window, &summands, &weights, &mut room, &mut out,
+        )?;
         start = end;
     }
     Ok(out)

@@ -3,10 +3,10 @@
 ghost use Rattle.std.specs.Prelude.{◌≡◌, ◌∷◌, map, IfOk};
 ghost use Rattle.tq_agg.specs.declared.summands.Summand.TheVariants.{Column, One};
 ghost use Rattle.tq_agg.specs.Grouping.{number_of};
-ghost use Rattle.tq_agg.specs.Totals.{weight_of};
+ghost use Rattle.tq_agg.specs.Totals.{weight_of, AreWeights, HaveWeights};
 
 use std::alloc::{AllocError, Global};
-use tq_base::{Row, Seen, Value};
+use tq_base::{Relation, Row, Seen, Value};
 
 // What each row adds to a total: 1, or the number in the column, which is 0 for a text and where the row
 // has no such column.
@@ -34,6 +34,52 @@ pub(crate) fn weight(summand: Summand, row: &Row<'_>) -> i128
         Summand::Column(column) => column,
     };
     number_of(row.at(column))
+}
+
+// What the rows add, row after row, in a column; no more where one has more than 64 signed bits. Each row is asked twice
+// for what it adds, and lies anywhere: here the processor waits for many of them at once.
+fn weights_in(alloc: Global, rows: &Relation<'_>, column: u32) -> Result<Vec<i64>, AllocError>
+    ensures { IfOk result (λ weights. AreWeights rows.now.items (Column column) weights.items) }
+{
+    let values = rows.column(column);
+    let len = rows.len() as u32;
+    let mut weights = Vec::with_capacity(alloc, rows.len())?;
+    'rows: for row in 0..len {
+        match i64::try_from(number_of(values.at(row))) {
+            Ok(weight) => weights.push(weight)?,
+            Err(_) => break,
+        }
+    }
+    Ok(weights)
+}
+
+// What the rows add to the summand, as far as it is listed: nothing is where each adds 1.
+fn weights_to(
+    alloc: Global,
+    rows: &Relation<'_>,
+    summand: Summand,
+) -> Result<Vec<i64>, AllocError>
+    ensures { IfOk result (λ weights. AreWeights rows.now.items summand weights.items) }
+{
+    match summand {
+        Summand::One => Ok(Vec::new(alloc)),
+        Summand::Column(column) => weights_in(alloc, rows, column),
+    }
+}
+
+// What the rows add to each summand, as far as it is listed.
+pub(crate) fn weights_of(
+    alloc: Global,
+    rows: &Relation<'_>,
+    summands: &[Summand],
+) -> Result<Vec<Vec<i64>>, AllocError>
+    ensures { IfOk result (λ weights. HaveWeights rows.now.items summands.now (map (λ list. list.items) weights.items)) }
+{
+    let mut weights = Vec::with_capacity(alloc, summands.len())?;
+    'summands: for summand in summands {
+        weights.push(weights_to(alloc, rows, *summand)?)?;
+    }
+    Ok(weights)
 }
 
 // The count of rows, then the sum of each column.

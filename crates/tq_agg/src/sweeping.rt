@@ -1,7 +1,7 @@
 //! The sweep over the starts and ends of a group: running totals, and a row wherever they change.
 
 ghost use Rattle.std.specs.List.Sorted.{IsNonDecreasingBy};
-ghost use Rattle.std.specs.Prelude.{◌≡◌, ◌++◌, ◌+◌, ◌<◌, ◌≤◌, ◌^◌, ◌&&◌, ℕ, pos, [], if◌then◌else◌, nat_le, nat_lt, length, map, take, All, IsSortedByKey, List, OnOk};
+ghost use Rattle.std.specs.Prelude.{◌≡◌, ◌++◌, ◌+◌, ◌<◌, ◌≤◌, ◌^◌, ◌&&◌, ℕ, pos, [], if◌then◌else◌, nat_le, nat_lt, length, map, slice_index_or, take, All, IsSortedByKey, List, OnOk};
 ghost use Rattle.std.specs.Bool.{OnTrue};
 ghost use Rattle.std.specs.Ordering.{nat_cmp};
 ghost use Rattle.tq_base.specs.declared.value.Value.{Value};
@@ -14,13 +14,13 @@ ghost use Rattle.tq_base.specs.Periods.{holds};
 ghost use Rattle.tq_ops.specs.Ordinary.{projection};
 ghost use Rattle.tq_agg.specs.declared.bounds.End.{End};
 ghost use Rattle.tq_agg.specs.declared.summands.Summand.TheVariants.{One};
-ghost use Rattle.tq_agg.specs.Totals.{added, end_key, has_rows, key_weight, row_copies, shown_copies, totals_of, totals_upto, AreSmallEnds, AreSmallKeys};
+ghost use Rattle.tq_agg.specs.Totals.{added, end_key, has_rows, key_weight, row_copies, shown_copies, totals_of, totals_upto, AreSmallEnds, AreSmallKeys, AreWeights, HaveWeights};
 
 use crate::bounds::{End, bound_at, ends_by, first_bound, starts_by};
 use crate::summands::{Summand, weight};
 use std::alloc::{AllocError, Global};
 use std::mem;
-use tq_base::{Bound, Instant, Key, Mark, Period, Row, Rows, Sides, Value};
+use tq_base::{Bound, Instant, Key, Mark, Period, Row, Rows, Side, Sides, Value};
 
 // What stands before the totals in the rows of a group: the values of one of its rows in the key
 // columns.
@@ -56,6 +56,8 @@ pub(crate) struct Group<'a> {
     pub(crate) sides: &'a Sides<'a>,
     pub(crate) keys: &'a [Key],
     pub(crate) ends: &'a [End],
+    // What the rows of the left side add to each summand, as far as it is listed.
+    pub(crate) weights: &'a [Vec<i64>],
 }
 
 // How many rows of a group have begun, and how many have ended.
@@ -82,9 +84,31 @@ fn number_of(len: usize) -> i128
     len as i128
 }
 
+// What is listed for the summand at the place.
+fn listed(weights: &[Vec<i64>], place: usize) -> &[i64]
+    ensures { result.now ≡ slice_index_or (map (λ list. list.items) weights.entry.now) place [] }
+{
+    match weights.get(place) {
+        Some(list) => list.as_slice(),
+        None => &[],
+    }
+}
+
+// What the row of the key adds, which is looked up where it is not listed.
+fn key_weight(summand: Summand, weights: &[i64], sides: &Sides<'_>, key: &Key) -> i128
+    requires { AreWeights sides.now.left.now.items summand weights.now }
+    ensures { result ≡ key_weight (state_of sides.now) summand key.now }
+{
+    match (key.side, weights.get(key.row as usize)) {
+        (Side::Left, Some(weight)) => i128::from(*weight),
+        _ => weight(summand, &sides.row(key)),
+    }
+}
+
 // What the rows of the keys add.
-fn added_keys(summand: Summand, sides: &Sides<'_>, keys: &[Key]) -> i128
-    requires { AreSmallKeys (state_of sides.now) summand keys.now }
+fn added_keys(summand: Summand, weights: &[i64], sides: &Sides<'_>, keys: &[Key]) -> i128
+    requires weights { AreWeights sides.now.left.now.items summand weights.now }
+    requires small { AreSmallKeys (state_of sides.now) summand keys.now }
     ensures { result ≡ added (key_weight (state_of sides.now) summand) keys.now }
 {
     if is_one(summand) {
@@ -92,14 +116,15 @@ fn added_keys(summand: Summand, sides: &Sides<'_>, keys: &[Key]) -> i128
     }
     let mut total: i128 = 0;
     'keys: for key in keys {
-        total += weight(summand, &sides.row(key));
+        total += key_weight(summand, weights, sides, key);
     }
     total
 }
 
 // What the rows that end add.
-fn added_ends(summand: Summand, sides: &Sides<'_>, ends: &[End]) -> i128
-    requires { AreSmallEnds (state_of sides.now) summand ends.now }
+fn added_ends(summand: Summand, weights: &[i64], sides: &Sides<'_>, ends: &[End]) -> i128
+    requires weights { AreWeights sides.now.left.now.items summand weights.now }
+    requires small { AreSmallEnds (state_of sides.now) summand ends.now }
     ensures { result ≡ added (λ (e : End). key_weight (state_of sides.now) summand (end_key e)) ends.now }
 {
     if is_one(summand) {
@@ -114,7 +139,7 @@ fn added_ends(summand: Summand, sides: &Sides<'_>, ends: &[End]) -> i128
             side: end.side,
             mark: Mark::Unknown,
         };
-        total += weight(summand, &sides.row(&key));
+        total += key_weight(summand, weights, sides, &key);
     }
     total
 }
@@ -147,6 +172,7 @@ fn fill_totals(
     requires ends_short { length group.now.ends.now < 2 ^ 63 }
     requires small { All (λ s. AreSmallKeys (state_of group.now.sides.now) s group.now.keys.now) summands.now }
     requires ends_small { All (λ s. AreSmallEnds (state_of group.now.sides.now) s group.now.ends.now) summands.now }
+    requires weights { HaveWeights group.now.sides.now.left.now.items summands.now (map (λ list. list.items) group.now.weights.now) }
     requires totals { totals.now ≡ totals_of (state_of group.now.sides.now) summands.now (take from.begun group.now.keys.now) (take from.ended group.now.ends.now) }
     ensures { OnOk result (next.new.items ≡ totals_of (state_of group.now.sides.now) summands.now (take to.begun group.now.keys.now) (take to.ended group.now.ends.now)) }
 {
@@ -154,8 +180,9 @@ fn fill_totals(
     let ends = &group.ends[from.ended..to.ended];
     next.clear();
     'summands: for (place, summand) in summands.iter().enumerate() {
-        let begun = added_keys(*summand, group.sides, keys);
-        let ended = added_ends(*summand, group.sides, ends);
+        let weights = listed(group.weights, place);
+        let begun = added_keys(*summand, weights, group.sides, keys);
+        let ended = added_ends(*summand, weights, group.sides, ends);
         next.push(totals[place] + (begun - ended))?;
     }
     Ok(())
@@ -272,6 +299,7 @@ pub(crate) fn sweep(
     requires ends_short { length group.now.ends.now < 2 ^ 63 }
     requires small { All (λ s. AreSmallKeys (state_of group.now.sides.now) s group.now.keys.now) summands.now }
     requires ends_small { All (λ s. AreSmallEnds (state_of group.now.sides.now) s group.now.ends.now) summands.now }
+    requires weights { HaveWeights group.now.sides.now.left.now.items summands.now (map (λ list. list.items) group.now.weights.now) }
     requires empty { room.old.values.items ≡ [] }
     requires width { out.old.width ≡ length head.now.keys.now + length summands.now }
     ensures emptied { OnOk result (room.new.values.items ≡ []) }

@@ -55,8 +55,8 @@ run_len-requires c =
     let Is : Key → Type 0 = λ k. IsKey (groups_state c.args.rows.now.items c.args.keys.now) k in
     let s = groups_state c.args.rows.now.items c.args.keys.now in
     record {
-      keys = rw c.deref.ensures.value (All-take Is (length sorted - c.groups.start) (drop c.groups.start sorted) (All-drop Is c.groups.start sorted c.in_ok-sort.ensures.keys));
-      marks = rw c.deref.ensures.value (subst (AreMarked s) (sym (take_rest sorted c.groups.start)) (marks_rest s sorted c.groups.start c.in_ok-sort.ensures.marks));
+      keys = rw c.deref-in-groups.ensures.value (All-take Is (length sorted - c.groups.start) (drop c.groups.start sorted) (All-drop Is c.groups.start sorted c.in_ok-sort.ensures.keys));
+      marks = rw c.deref-in-groups.ensures.value (subst (AreMarked s) (sym (take_rest sorted c.groups.start)) (marks_rest s sorted c.groups.start c.in_ok-sort.ensures.marks));
     }
 
 -- the keys that the run_len is asked of
@@ -65,8 +65,8 @@ pub run : (c : goal.In_ok-add_group)
 run c =
     let s = groups_state c.args.rows.now.items c.args.keys.now in
     let sorted = c.sort.new.keys.items in
-    let part : take (length c.deref.result.now - c.groups.start) (drop c.groups.start c.deref.result.now) ≡ drop c.groups.start sorted =
-    take_rest c.deref.result.now c.groups.start ∙ ap (drop c.groups.start) c.deref.ensures.value in
+    let part : take (length c.deref-in-groups.result.now - c.groups.start) (drop c.groups.start c.deref-in-groups.result.now) ≡ drop c.groups.start sorted =
+    take_rest c.deref-in-groups.result.now c.groups.start ∙ ap (drop c.groups.start) c.deref-in-groups.ensures.value in
     is_run c.args.rows.now.items c.args.keys.now sorted c.groups.start c.run_len.result
     (omega (arith, c.groups-test.true, c.len.ensures, c.sort.new.keys.ok.0))
     (subst (λ (l : List Key). 0 < length l → 0 < c.run_len.result) part c.run_len.ensures.some)
@@ -86,7 +86,7 @@ add_group-requires-clause-keys c =
     let start = c.groups.start in
     let len = c.groups.start + c.run_len.result - c.groups.start in
     let Is : Key → Type 0 = λ k. IsKey (groups_state c.args.rows.now.items c.args.keys.now) k in
-    subst (λ (l : List Key). All Is (take len (drop start l))) (sym c.deref-in-groups.ensures.value) (All-take Is len (drop start sorted) (All-drop Is start sorted c.in_ok-sort.ensures.keys))
+    subst (λ (l : List Key). All Is (take len (drop start l))) (sym c.deref-in-groups-2.ensures.value) (All-take Is len (drop start sorted) (All-drop Is start sorted c.in_ok-sort.ensures.keys))
 
 pub add_group-requires-clause-starts : goal.add_group-requires-clause-starts
 add_group-requires-clause-starts c =
@@ -94,18 +94,18 @@ add_group-requires-clause-starts c =
     let sorted = c.sort.new.keys.items in
     let start = c.groups.start in
     let len = c.run_len.result in
-    let part : take (length c.deref.result.now - start) (drop start c.deref.result.now) ≡ drop start sorted =
-    take_rest c.deref.result.now start ∙ ap (drop start) c.deref.ensures.value in
+    let part : take (length c.deref-in-groups.result.now - start) (drop start c.deref-in-groups.result.now) ≡ drop start sorted =
+    take_rest c.deref-in-groups.result.now start ∙ ap (drop start) c.deref-in-groups.ensures.value in
     let rise = run_starts c.args.rows.now.items c.args.keys.now sorted start len c.in_ok-sort.ensures.keys c.in_ok-sort.ensures.order
     (subst (λ (l : List Key). (d : Key) → All (λ k. key_values s k ≡ key_values s (get_or l 0 d)) (take len l)) part c.run_len.ensures.alike) in
-    subst (λ (l : List Key). IsNonDecreasingBy (λ (k : Key). k.start) (take (start + len - start) (drop start l))) (sym c.deref-in-groups.ensures.value)
+    subst (λ (l : List Key). IsNonDecreasingBy (λ (k : Key). k.start) (take (start + len - start) (drop start l))) (sym c.deref-in-groups-2.ensures.value)
     (subst (λ n. IsNonDecreasingBy (λ (k : Key). k.start) (take n (drop start sorted))) (let same : len ≡ start + len - start = omega arith in same) rise)
 
 pub add_group-requires-clause-short : goal.add_group-requires-clause-short
 add_group-requires-clause-short c =
     let start = c.groups.start in
     let len = c.groups.start + c.run_len.result - c.groups.start in
-    omega (arith, length-take len (drop start c.deref-in-groups.result.now), length-drop start c.deref-in-groups.result.now, ap length c.deref-in-groups.ensures.value, c.sort.new.keys.small, c.sort.new.keys.ok.0)
+    omega (arith, length-take len (drop start c.deref-in-groups-2.result.now), length-drop start c.deref-in-groups-2.result.now, ap length c.deref-in-groups-2.ensures.value, c.sort.new.keys.small, c.sort.new.keys.ok.0)
 
 pub add_group-requires-clause-small : goal.add_group-requires-clause-small
 add_group-requires-clause-small c =
@@ -122,8 +122,8 @@ add_group-requires-clause-small c =
     let part = All-take Fit len (drop start (map row sorted)) (All-drop Fit start (map row sorted) fit) in
     let Small : List Summand → List Fragment → Type 0 = λ summands l. All (λ s. HaveSmall s l) summands in
     let small = subst (Small (One ∷ map Column sums)) (sym (run_rows rows columns sorted start len)) (have_small sums (take len (drop start (map row sorted))) part) in
-    subst (λ (l : List Key). Small c.deref-in-groups-2.result.now (map row (take len (drop start l)))) (sym c.deref-in-groups.ensures.value)
-    (subst (λ (summands : List Summand). Small summands (map row (take len (drop start sorted)))) (sym (c.deref-in-groups-2.ensures.value ∙ c.in_ok-summands.ensures)) small)
+    subst (λ (l : List Key). Small c.deref-in-groups-3.result.now (map row (take len (drop start l)))) (sym c.deref-in-groups-2.ensures.value)
+    (subst (λ (summands : List Summand). Small summands (map row (take len (drop start sorted)))) (sym (c.deref-in-groups-3.ensures.value ∙ c.in_ok-summands.ensures)) small)
 
 pub groups-preserved : goal.groups-preserved
 groups-preserved c =
@@ -135,12 +135,12 @@ groups-preserved c =
     let x = first_row rows keys sorted start len in
     let row : Key → Fragment = λ k. key_row (groups_state rows keys) k in
     let r = run c in
-    let group : map row (take (start + len - start) (drop start c.deref-in-groups.result.now)) ≡ take len (drop start (map row sorted)) =
-    ap (λ n. map row (take n (drop start c.deref-in-groups.result.now))) (let same : start + len - start ≡ len = omega arith in same)
-    ∙ ap (λ l. map row (take len (drop start l))) c.deref-in-groups.ensures.value ∙ run_rows rows keys sorted start len in
+    let group : map row (take (start + len - start) (drop start c.deref-in-groups-2.result.now)) ≡ take len (drop start (map row sorted)) =
+    ap (λ n. map row (take n (drop start c.deref-in-groups-2.result.now))) (let same : start + len - start ≡ len = omega arith in same)
+    ∙ ap (λ l. map row (take len (drop start l))) c.deref-in-groups-2.ensures.value ∙ run_rows rows keys sorted start len in
     let Adds : List Summand → List Fragment → Type 0 = λ summands l. (k : List Value) → AreOfKey keys k l → (t : ℕ) (v : List Value) → copies c.add_group.new.out.items v t
     ≡ copies c.groups.out.items v t + cond (holds c.args.window.now t) (shown_copies k (totals_held summands c.args.window.now l t) v) 0 in
-    let adds = subst (λ (summands : List Summand). Adds summands (take len (drop start (map row sorted)))) c.deref-in-groups-2.ensures.value (subst (λ (l : List Fragment). Adds c.deref-in-groups-2.result.now l) group c.in_ok-add_group.ensures.rows) in
+    let adds = subst (λ (summands : List Summand). Adds summands (take len (drop start (map row sorted)))) c.deref-in-groups-3.ensures.value (subst (λ (l : List Fragment). Adds c.deref-in-groups-3.result.now l) group c.in_ok-add_group.ensures.rows) in
     record {
       empty = c.in_ok-add_group.ensures.emptied;
       width = c.in_ok-add_group.ensures.width ∙ c.groups.invariant.width;

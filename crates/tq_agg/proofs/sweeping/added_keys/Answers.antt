@@ -1,9 +1,9 @@
-use Rattle.std.proofs.Common.{rules, ◌≡◌, ap, arith, get_or, sym, subst, ◌∙◌}
+use Rattle.std.proofs.Common.{rules, ◌≡◌, arith, get_or, sym, subst, ◌∙◌}
 use Rattle.std.proofs.lemmas.Int.{ints}
 use Rattle.std.proofs.lemmas.List.{get_or_default}
 use Rattle.tq_base.specs.KeySides.{state_of}
 use Rattle.tq_agg.specs.declared.summands.Summand.{Summand}
-use Rattle.tq_agg.specs.Totals.{added, key_weight, weight_of}
+use Rattle.tq_agg.specs.Totals.{added, key_weight}
 use Rattle.tq_agg.proofs.Adding.{added-ones, added-step}
 use Rattle.tq_agg.proofs.Runs.{no_key}
 use Rattle.tq_agg.proofs.Totals.{more_fits}
@@ -16,10 +16,9 @@ overflow_add-total c =
     let k = get_or keys i no_key in
     let w = key_weight (state_of c.args.sides.now) c.args.summand in
     let lt = c.keys-test.true in
-    let fits = more_fits w keys i k c.requires lt (omega arith) (get_or_default keys i no_key k lt) in
-    let weighs = c.weight-total.ensures in
-    let values = ap (weight_of c.args.summand) c.row.ensures in
-    omega (arith, ints, fits, weighs, values, c.keys.invariant)
+    let fits = more_fits w keys i k c.requires.small lt (omega arith) (get_or_default keys i no_key k lt) in
+    let weighs = c.key_weight-total.ensures in
+    omega (arith, ints, fits, weighs, c.keys.invariant)
 
 pub keys-preserved : goal.keys-preserved
 keys-preserved c =
@@ -28,11 +27,10 @@ keys-preserved c =
     let k = get_or keys i no_key in
     let w = key_weight (state_of c.args.sides.now) c.args.summand in
     let lt = c.keys-test.true in
-    let fits = more_fits w keys i k c.requires lt (omega arith) (get_or_default keys i no_key k lt) in
+    let fits = more_fits w keys i k c.requires.small lt (omega arith) (get_or_default keys i no_key k lt) in
     let step = added-step w keys i k lt (get_or_default keys i no_key k lt) in
-    let weighs = c.weight-total.ensures in
-    let values = ap (weight_of c.args.summand) c.row.ensures in
-    omega (arith, ints, fits, step, weighs, values, c.keys.invariant)
+    let weighs = c.key_weight-total.ensures in
+    omega (arith, ints, fits, step, weighs, c.keys.invariant)
 
 pub returns-then-is_one : goal.returns-then-is_one
 returns-then-is_one c =
