@@ -17,3 +17,4 @@ pub mod Turns
 pub mod Widths
 pub mod Ranging
 pub mod Sufficing
+pub mod Opening
