@@ -54,11 +54,7 @@ fn weights_in(alloc: Global, rows: &Relation<'_>, column: u32) -> Result<Vec<i64
 }
 
 // What the rows add to the summand, as far as it is listed: nothing is where each adds 1.
-fn weights_to(
-    alloc: Global,
-    rows: &Relation<'_>,
-    summand: Summand,
-) -> Result<Vec<i64>, AllocError>
+fn weights_to(alloc: Global, rows: &Relation<'_>, summand: Summand) -> Result<Vec<i64>, AllocError>
     ensures { IfOk result (λ weights. AreWeights rows.now.items summand weights.items) }
 {
     match summand {
