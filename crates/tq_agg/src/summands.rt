@@ -36,8 +36,8 @@ pub(crate) fn weight(summand: Summand, row: &Row<'_>) -> i128
     number_of(row.at(column))
 }
 
-// What the rows add, row after row, in a column; no more where one has more than 64 signed bits. Each row is asked twice
-// for what it adds, and lies anywhere: here the processor waits for many of them at once.
+// What the rows add, row after row, in a column; no more of them where one has more than 64 signed bits. A sweep asks
+// each row twice for what it adds, and rows lie anywhere: here the processor waits for many of them at once.
 fn weights_in(alloc: Global, rows: &Relation<'_>, column: u32) -> Result<Vec<i64>, AllocError>
     ensures { IfOk result (λ weights. AreWeights rows.now.items (Column column) weights.items) }
 {

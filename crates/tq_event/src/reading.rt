@@ -32,6 +32,7 @@ fn text_in(bytes: &[u8]) -> Option<&str>
     ensures none { result ≡ None → ¬ (IsUtf8 bytes.entry.now) }
 {
     if is_ascii(bytes) {
+        // All of ASCII is UTF-8.
         return Some(unsafe { str::from_utf8_unchecked(bytes) });
     }
     str::from_utf8(bytes).ok()
