@@ -1,10 +1,6 @@
 -- Counting what passes a test in two lists that have the same elements, none twice.
 use Rattle.std.proofs.Common.{◌≡◌, ◌≢◌, ℕ, zero, suc, ◌+◌, ◌<◌, ◌≤◌, ◌&&◌, Bool, true, false, cond, List, [], ◌∷◌, Some, map, slice_get, refl, sym, ap, ◌∙◌, arith, count_by}
 use Rattle.std.specs.Prelude.{filter}
-use Rattle.std.specs.List.Sorted.{IsStrictlyIncreasing}
-use Rattle.std.specs.Option.{option_map}
-use Rattle.std.proofs.lemmas.List.Kept.{AllPairs-from_increasing}
-use Rattle.std.proofs.lemmas.Option.{get_or_from_slice_get, slice_get-map, slice_get_within}
 use Rattle.tq_store.proofs.VersionLemmas.{count_cons, tally}
 
 -- how often a test holds in what is made of the elements that pass another one
@@ -80,17 +76,6 @@ module _ {X : Type 0} (key : X → ℕ) where
   apart_pairs [] pairs = tt
   apart_pairs (x ∷ xs) pairs =
       ((λ j y here. pairs 0 (suc j) x y (omega arith) refl here), apart_pairs xs (λ i j y z less one other. pairs (suc i) (suc j) y z (omega (arith, less)) one other))
-
-  -- keys that rise differ
-  pub apart_rising : (xs : List X) → IsStrictlyIncreasing (map key xs) → AreApart xs
-  apart_rising xs rises = apart_pairs xs (λ i j x y less one other same.
-      let rise = AllPairs-from_increasing (map key xs) rises i j 0 less (slice_get_within (map key xs) j (key y) (at_key j y other)) in
-      let low = get_or_from_slice_get (map key xs) i (key x) 0 (at_key i x one) in
-      let high = get_or_from_slice_get (map key xs) j (key y) 0 (at_key j y other) in
-      omega (arith, rise, low, high, same))
-    where
-      at_key : (k : ℕ) (z : X) → slice_get xs k ≡ Some z → slice_get (map key xs) k ≡ Some (key z)
-      at_key k z here = slice_get-map key xs k ∙ ap (option_map key) here
 
   -- keys that are the elements' places differ
   pub apart_placed : (xs : List X) → ((i : ℕ) (x : X) → slice_get xs i ≡ Some x → key x ≡ i) → AreApart xs
