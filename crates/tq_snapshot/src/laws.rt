@@ -68,7 +68,8 @@ fn ask_around<'b, J: Naming, R: Wait>(
 ) -> Option<(Table<'b>, Table<'b>)>
     requires known { n ≤ length reader.old }
     requires plan { IsPlanOver J.catalogue plan.now }
-    ensures { IfSome result (λ answers. answers.0 ≡ answers.1) }
+    ensures answer { IfSome result (λ answers. IsPlanAnswer reader.old n plan.now answers.0) }
+    ensures same { IfSome result (λ answers. answers.0 ≡ answers.1) }
 {
     equal_asks_agree();
     let Ok(before) = ask_known(reader, alloc, n, plan) else {
@@ -100,7 +101,8 @@ fn ask_around_in<'b, J: Naming, R: Wait>(
     requires few { length loaded.events ≤ 16777216 }
     requires known { n ≤ length loaded.events }
     requires plan { IsPlanOver loaded.catalogue plan.now }
-    ensures { IfSome result (λ answers. answers.0 ≡ answers.1) }
+    ensures answer { IfSome result (λ answers. IsPlanAnswer loaded.events n plan.now answers.0) }
+    ensures same { IfSome result (λ answers. answers.0 ≡ answers.1) }
 {
     let Loaded { catalogue, events } = loaded;
     let events = events.into_vec();
@@ -124,8 +126,8 @@ fn ask_around_in<'b, J: Naming, R: Wait>(
 }
 
 /// The answers of a reader of a store over the loaded events, as of the first `n` of these, before a row of the given
-/// table and values was started and published, and once the reader was told of that: they are equal. None where a
-/// call was refused.
+/// table and values was started and published, and once the reader was told of that: both are that of the loaded
+/// events. None where a call was refused.
 pub fn ask_around_a_start<'b, R: Wait>(
     rt: &R,
     alloc: Global,
@@ -140,7 +142,8 @@ pub fn ask_around_a_start<'b, R: Wait>(
     requires few { length loaded.events ≤ 16777216 }
     requires known { n ≤ length loaded.events }
     requires plan { IsPlanOver loaded.catalogue plan.now }
-    ensures { IfSome result (λ answers. answers.0 ≡ answers.1) }
+    ensures answer { IfSome result (λ answers. IsPlanAnswer loaded.events n plan.now answers.0) }
+    ensures same { IfSome result (λ answers. answers.0 ≡ answers.1) }
 {
     ask_around_in::<Brand, R>(rt, alloc, Opened::new(), loaded, table, values, at, n, plan)
 }

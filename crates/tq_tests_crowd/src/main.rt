@@ -11,6 +11,8 @@
 //!     soak SEED EVENTS ASKS   so many random events, each published by itself, and eight readers, who ask so many
 //!                             times each, as of old counts and of the newest ones, by 0 to 16 workers
 //!     pieces W                five squares by so many workers; the same with each growth of memory refused in turn
+//!     around N TABLE AT ROW STATEMENT    the answer as of the first N events of a store, and the same once a row of
+//!                             these values was started and published and the reader was told of it
 //!
 //! `open` and the lines after it, up to an empty one, are steps of one store, taken one after another:
 //!
@@ -35,6 +37,7 @@
 #![tactic(auto)]
 
 mod agreeing;
+mod around;
 mod asker;
 mod crowd;
 mod gates;

@@ -3,6 +3,7 @@
 ghost use Rattle.std.specs.Prelude.{IfSome};
 ghost use Rattle.tq_plan.specs.Standing.{IsPlanOver};
 
+use crate::around::tell_around;
 use crate::crowd::{Seen, gather};
 use crate::history::{History, loaded};
 use crate::steps::play;
@@ -208,7 +209,7 @@ pub(crate) fn tell_steps<R: Threads + Wait + Sync>(
     }
 }
 
-/// What the line comes to, if it names a round.
+/// What the line comes to, if it names a round or a question around a start.
 pub(crate) fn tell_line<R: Threads + Wait + Sync>(
     rt: &R,
     alloc: Global,
@@ -217,6 +218,9 @@ pub(crate) fn tell_line<R: Threads + Wait + Sync>(
     out: &mut String,
 ) -> Result<(), AllocError> {
     let (word, rest) = line.split_once(' ').unwrap_or((line, ""));
+    if word == "around" {
+        return tell_around(rt, alloc, files, rest, out);
+    }
     let (first, rest) = number_and(rest);
     let (second, rest) = number_and(rest);
     match round_of(word, first, second, number_and(rest).0) {

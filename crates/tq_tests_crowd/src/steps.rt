@@ -51,8 +51,8 @@ struct Stage<J: Naming> {
     readers: Vec<Reader<J>>,
 }
 
-// The values of a row that are written so, with commas: integers, and texts.
-fn row(alloc: Global, text: &str) -> Result<Values, AllocError> {
+/// The values of a row that are written so, with commas: integers, and texts.
+pub(crate) fn row(alloc: Global, text: &str) -> Result<Values, AllocError> {
     let mut values = Vec::new(alloc);
     for field in text.split(',') {
         match field.parse() {
