@@ -1,8 +1,8 @@
 -- Where records begin in a file, and a part of a file among the parts of files.
 use Rattle.std.proofs.Common.{◌≡◌, ◌≢◌, ◌≤◌, ◌<◌, ◌+◌, ◌-◌, ◌++◌, ◌∷◌, [], ℕ, true, false, List, length, take, drop, refl, ap, sym, subst, ◌∙◌, arith}
 use Rattle.std.specs.Prelude.{All, slice_index, slice_index_or, slice_range}
-use Rattle.std.proofs.lemmas.List.{drop-take, get_or-drop, get_or-take, length-drop, length-take-le, take-append-drop, take-take, take_all, take_more}
-use Rattle.std.proofs.lemmas.List.Elements.{All-push, All-take}
+use Rattle.std.proofs.lemmas.List.{drop-take, get_or-drop, length-drop, length-take-le, take-append-drop, take-take, take_all, take_more}
+use Rattle.std.proofs.lemmas.List.Elements.{All-push}
 use Rattle.std.proofs.lemmas.Option.{get_or_from_slice_get}
 use Rattle.csv.specs.Machine.{step}
 use Rattle.csv.specs.Reading.{default_config, strip_bom}
@@ -14,7 +14,6 @@ use Rattle.tq_loading.specs.declared.part.Part.{Part}
 use Rattle.tq_loading.specs.Parts.{EndsRecords, IsCut, IsPart, IsPartOf, stands_after}
 use Rattle.tq_loading.proofs.ChainLemmas.{ends_on, stands_on}
 use Rattle.tq_loading.proofs.PartLemmas.{mark_taken, ranges, taken}
-use Rattle.tq_loading.proofs.StandingLemmas.{lines_end}
 
 module _ (files : List TableFile) (bytes : List ℕ) (part : Part) (here : part.table < length files) (of_table : (d : TableFile) → (slice_index_or files part.table d).bytes ≡ bytes)
     (ordered : part.start ≤ part.end) (within : part.end ≤ length bytes) (begins : part.start ≢ 0 → IsCut bytes part.start) where
@@ -41,13 +40,6 @@ mark_ends [] is = cc is
 mark_ends (a ∷ []) is = cc is
 mark_ends (a ∷ b ∷ []) is = cc is
 mark_ends (a ∷ b ∷ c ∷ bytes) is = (omega arith, rw is refl)
-
--- behind a line feed of bytes with no quote
-pub line_ends : (bytes : List ℕ) (place : ℕ) → 0 < place → place ≤ length bytes → All (λ b. b ≢ 34) bytes → slice_index bytes (place - 1) ≡ 10 → EndsRecords (take place bytes)
-line_ends bytes place some within unquoted ended =
-    let many : length (take place bytes) ≡ place = length-take-le place bytes within in
-    lines_end (take place bytes) (All-take (λ b. b ≢ 34) place bytes unquoted)
-    (ap (λ n. slice_index (take place bytes) (n - 1)) many ∙ get_or-take place bytes (place - 1) 0 (omega (arith, some)) ∙ ended)
 
 -- behind bytes that the reader passes over from where a record begins to where another one does
 pub next_ends : (bytes : List ℕ) (from place : ℕ) → from ≤ place → place ≤ length bytes → EndsRecords (take from bytes) → (from ≡ 0 → begins_with_mark bytes ≡ false)

@@ -1,17 +1,17 @@
 -- The machine of the `csv` crate over bytes behind which it stands at the start of a record: it finds in them what it finds
 -- before more bytes too.
-use Rattle.std.proofs.Common.{◌≡◌, ◌≢◌, ◌-◌, ℕ, suc, ◌==◌, Bool, true, false, ◌⊎◌, inl, inr, List, [], ◌∷◌, ◌++◌, length, ◌<◌, ◌∙◌, Some, None, ap, if◌then◌else◌, refl, sym, subst, arith}
-use Rattle.std.specs.Prelude.{All, slice_get, slice_index, slice_index_or}
+use Rattle.std.proofs.Common.{◌≡◌, ◌≢◌, ◌-◌, ℕ, suc, ◌==◌, Bool, true, false, ◌⊎◌, inl, inr, List, [], ◌∷◌, ◌++◌, length, ◌<◌, ◌∙◌, Some, None, ap, refl, sym, subst, arith}
+use Rattle.std.specs.Prelude.{All, slice_get, slice_index_or}
 use Rattle.std.proofs.lemmas.Bool.{eqb-true}
 use Rattle.std.proofs.lemmas.List.Elements.{All-head, All-tail}
 use Rattle.std.proofs.lemmas.Option.{get_or_from_slice_get}
 use Rattle.csv.specs.Machine.{Read, field_after, fields_after, in_field, is_end, next_record, start_record, step}
-use Rattle.csv.specs.Reading.{default_config, is_bom, strip_bom}
+use Rattle.csv.specs.Reading.{default_config}
 use Rattle.csv.specs.declared.parser.Action.{Action}
 use Rattle.csv.specs.declared.parser.State.{State}
 use Rattle.csv.specs.declared.parser.State.TheVariants as st
 use Rattle.csv.specs.declared.parser.Action.TheVariants as act
-use Rattle.tq_loading.specs.Parts.{EndsRecords, stands_after}
+use Rattle.tq_loading.specs.Parts.{stands_after}
 use Rattle.tq_loading.specs.Standing.{state_of}
 use Rattle.tq_loading.specs.declared.standing.Standing.{Standing}
 use Rattle.tq_loading.specs.declared.standing.Standing.TheVariants as at
@@ -232,61 +232,6 @@ step_unquoted st.InQuoted unquoted b other = absurd unquoted
 step_unquoted st.AfterQuote unquoted b other = rw (differs b 34 other) (field_unquoted b)
 step_unquoted st.InEscape unquoted b other = absurd unquoted
 step_unquoted st.InComment unquoted b other = absurd unquoted
-
--- a line feed ends a record
-step_feed : (s : State) → IsUnquoted s → (step default_config s 10).0 ≡ st.StartRecord
-step_feed st.StartRecord unquoted = refl
-step_feed st.AfterCr unquoted = refl
-step_feed st.StartField unquoted = refl
-step_feed st.InField unquoted = refl
-step_feed st.InQuoted unquoted = absurd unquoted
-step_feed st.AfterQuote unquoted = refl
-step_feed st.InEscape unquoted = absurd unquoted
-step_feed st.InComment unquoted = absurd unquoted
-
--- nothing, or bytes with no quote of which the last is a line feed
-abbrev AreLines : List ℕ → Type 0
-AreLines [] = Unit {0}
-AreLines (b ∷ []) = b ≡ 10
-AreLines (b ∷ c ∷ bytes) = (b ≢ 34) × AreLines (c ∷ bytes)
-
-are_lines : (bytes : List ℕ) → All (λ b. b ≢ 34) bytes → slice_index bytes (length bytes - 1) ≡ 10 → AreLines bytes
-are_lines [] unquoted ended = tt
-are_lines (b ∷ []) unquoted ended = ended
-are_lines (b ∷ c ∷ bytes) unquoted ended =
-    let place : suc (suc (length bytes)) - 1 ≡ suc (suc (length bytes) - 1) = omega arith in (
-      All-head (λ x. x ≢ 34) b (c ∷ bytes) unquoted,
-      are_lines (c ∷ bytes) (All-tail (λ x. x ≢ 34) b (c ∷ bytes) unquoted) (rw place at ended),
-    )
-
-lines_left : (b : ℕ) (bytes : List ℕ) → AreLines (b ∷ bytes) → AreLines bytes
-lines_left b [] lines = tt
-lines_left b (c ∷ bytes) lines = lines.1
-
-lines_stand : (s : State) (b : ℕ) (bytes : List ℕ) → IsUnquoted s → AreLines (b ∷ bytes) → stands_after s (b ∷ bytes) ≡ st.StartRecord
-unfolding stands_after
-lines_stand s b [] unquoted lines = rw lines (step_feed s unquoted)
-lines_stand s b (c ∷ bytes) unquoted lines = lines_stand (step default_config s b).0 c bytes (step_unquoted s unquoted b lines.0) lines.1
-
-all_stand : (bytes : List ℕ) → AreLines bytes → stands_after st.StartRecord bytes ≡ st.StartRecord
-unfolding stands_after
-all_stand [] lines = refl
-all_stand (b ∷ bytes) lines = lines_stand st.StartRecord b bytes tt lines
-
--- behind lines with no quote a record begins
-pub lines_end : (bytes : List ℕ) → All (λ b. b ≢ 34) bytes → slice_index bytes (length bytes - 1) ≡ 10 → EndsRecords bytes
-unfolding strip_bom
-lines_end [] unquoted ended = all_stand [] tt
-lines_end (a ∷ []) unquoted ended = all_stand (a ∷ []) (are_lines (a ∷ []) unquoted ended)
-lines_end (a ∷ b ∷ []) unquoted ended = all_stand (a ∷ b ∷ []) (are_lines (a ∷ b ∷ []) unquoted ended)
-lines_end (a ∷ b ∷ c ∷ bytes) unquoted ended = by (is_bom a b c)
-  where
-    lines : AreLines (a ∷ b ∷ c ∷ bytes)
-    lines = are_lines (a ∷ b ∷ c ∷ bytes) unquoted ended
-
-    by : (mark : Bool) → stands_after st.StartRecord (if mark then bytes else a ∷ b ∷ c ∷ bytes) ≡ st.StartRecord
-    by true = all_stand bytes (lines_left c bytes lines.1.1)
-    by false = all_stand (a ∷ b ∷ c ∷ bytes) lines
 
 -- ---- bytes with no quote
 

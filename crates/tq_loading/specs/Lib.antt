@@ -2,4 +2,5 @@ pub mod Laws
 pub mod Parts
 pub mod Reading
 pub mod Standing
+pub mod Stretches
 pub mod Together

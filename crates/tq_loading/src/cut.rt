@@ -3,16 +3,15 @@
 ghost use Rattle.std.specs.Prelude.{◌≡◌, ◌≢◌, ◌≤◌, ◌<◌, ◌+◌, ◌-◌, All, IfOk, IfSome, OnOk, false, length, slice_index, take};
 ghost use Rattle.tq_event.specs.Loading.{begins_with_mark as has_mark};
 ghost use Rattle.tq_loading.specs.Parts.{EndsRecords, IsPartOf};
+ghost use Rattle.tq_loading.specs.Stretches.{AreToldOf, LiesIn};
 
 use crate::part::Part;
 use crate::standing::{Standing, standing_behind, until_record};
-use memchr::memchr;
+use crate::stretches::{MOST_STRETCHES, Stretch, stretches_of, told_by, told_end};
 use std::alloc::{AllocError, Global};
+use std::thread::Threads;
 use tq_event::TableFile;
 use tq_event::steps::begins_with_mark;
-
-// The most places at which one file is cut.
-const MOST_CUTS: usize = 4_096;
 
 // About so many parts fall to each worker.
 const PARTS_A_WORKER: usize = 16;
@@ -52,32 +51,7 @@ fn mark_len(bytes: &[u8]) -> usize
     if begins_with_mark(bytes) { 3 } else { 0 }
 }
 
-// The place just behind the next line feed from the place on.
-fn line_end(bytes: &[u8], from: usize) -> Option<usize>
-    requires { from ≤ length bytes.now }
-    ensures after { IfSome result (λ place. from < place) }
-    ensures within { IfSome result (λ place. place ≤ length bytes.now) }
-    ensures ended { IfSome result (λ place. slice_index bytes.now (place - 1) ≡ 10) }
-{
-    let feed = memchr(b'\n', &bytes[from..])?;
-    Some(from + feed + 1)
-}
-
-// The next place behind which a record begins in a file without quotes, so many bytes on or more.
-fn next_line(bytes: &[u8], from: usize, len: usize) -> Option<usize>
-    requires within { from ≤ length bytes.now }
-    requires unquoted { All (λ b. b ≢ 34) bytes.now }
-    ensures after { IfSome result (λ place. from ≤ place) }
-    ensures within { IfSome result (λ place. place ≤ length bytes.now) }
-    ensures begins { IfSome result (λ place. EndsRecords (take place bytes.now)) }
-{
-    if bytes.len() - from <= len {
-        return None;
-    }
-    line_end(bytes, from + len)
-}
-
-// The same in any file, for a reader that stands at the start of a record.
+// The next place at which a record begins, so many bytes on or more from one at which one does.
 fn next_record(bytes: &[u8], from: usize, len: usize) -> Option<usize>
     requires within { from ≤ length bytes.now }
     requires begins { EndsRecords (take from bytes.now) }
@@ -95,9 +69,17 @@ fn next_record(bytes: &[u8], from: usize, len: usize) -> Option<usize>
     Some(from + len + count)
 }
 
-// The next place at which a record begins, so many bytes on or more from one at which one does.
-fn next_begin(bytes: &[u8], quoted: bool, from: usize, len: usize) -> Option<usize>
-    requires unquoted { quoted ≡ false → All (λ b. b ≢ 34) bytes.now }
+// The same, which is the end of the stretch of this number where that is known to serve.
+fn next_begin(
+    bytes: &[u8],
+    stretches: &[Stretch],
+    told: &[bool],
+    number: usize,
+    from: usize,
+    len: usize,
+) -> Option<usize>
+    requires stretches { All (LiesIn bytes.now) stretches.now }
+    requires told { AreToldOf bytes.now stretches.now told.now }
     requires within { from ≤ length bytes.now }
     requires begins { EndsRecords (take from bytes.now) }
     requires unmarked { from ≡ 0 → has_mark bytes.now ≡ false }
@@ -105,23 +87,17 @@ fn next_begin(bytes: &[u8], quoted: bool, from: usize, len: usize) -> Option<usi
     ensures within { IfSome result (λ place. place ≤ length bytes.now) }
     ensures begins { IfSome result (λ place. EndsRecords (take place bytes.now)) }
 {
-    if quoted {
-        next_record(bytes, from, len)
-    } else {
-        next_line(bytes, from, len)
+    match told_end(bytes, stretches, told, number, from) {
+        Some(place) => Some(place),
+        None => next_record(bytes, from, len),
     }
 }
 
-// Whether there is a quote among the bytes.
-fn has_quote(bytes: &[u8]) -> bool
-    ensures { result ≡ false → All (λ b. b ≢ 34) bytes.now }
-{
-    memchr(b'"', bytes).is_some()
-}
-
 // The parts of a file go to the end of the list, each of about this length, and the first one longer where that serves
-// so many workers.
-fn add_parts(
+// so many workers, who tell where records begin.
+fn add_parts<R: Threads + Sync>(
+    rt: &R,
+    alloc: Global,
     files: &[TableFile],
     table: u32,
     len: usize,
@@ -129,18 +105,21 @@ fn add_parts(
     parts: &mut Vec<Part>,
 ) -> Result<(), AllocError>
     requires here { table < length files.now }
+    requires some { 1 ≤ workers }
+    requires at_most { workers ≤ 16 }
     requires parts { All (IsPartOf files.now) parts.old.items }
     ensures parts { OnOk result (All (IsPartOf files.now) parts.new.items) }
     ensures few { OnOk result (length parts.new.items ≤ length parts.old.items + 4097) }
 {
     let bytes = files[table as usize].bytes.get();
-    let quoted = has_quote(bytes);
     let first = first_len(bytes.len(), workers, len);
     let mut start = 0;
     let mut from = mark_len(bytes);
-    'cuts: for _ in 0..MOST_CUTS {
+    let stretches = stretches_of(alloc, bytes, from, first, len)?;
+    let told = told_by(rt, alloc, bytes, &stretches, workers)?;
+    'cuts: for number in 0..MOST_STRETCHES {
         let wanted = wanted_len(start, first, len);
-        let Some(place) = next_begin(bytes, quoted, from, wanted) else {
+        let Some(place) = next_begin(bytes, &stretches, &told, number, from, wanted) else {
             break;
         };
         if !begins_with_mark(&bytes[place..]) {
@@ -157,19 +136,22 @@ fn add_parts(
 
 /// The parts of the files, file by file, each of about this length; the first one of a long file is longer, as serves so
 /// many workers.
-pub fn cut(
+pub fn cut<R: Threads + Sync>(
+    rt: &R,
     alloc: Global,
     files: &[TableFile],
     len: usize,
     workers: u32,
 ) -> Result<Vec<Part>, AllocError>
-    requires { length files.now ≤ 16 }
+    requires tables { length files.now ≤ 16 }
+    requires some { 1 ≤ workers }
+    requires at_most { workers ≤ 16 }
     ensures parts { IfOk result (λ parts. All (IsPartOf files.now) parts.items) }
     ensures few { IfOk result (λ parts. length parts.items ≤ 65552) }
 {
     let mut parts = Vec::new(alloc);
     'tables: for table in 0..files.len() as u32 {
-        add_parts(files, table, len, workers, &mut parts)?;
+        add_parts(rt, alloc, files, table, len, workers, &mut parts)?;
     }
     Ok(parts)
 }

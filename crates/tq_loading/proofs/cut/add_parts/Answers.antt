@@ -11,7 +11,7 @@ use Rattle.tq_loading.proofs.cut.add_parts.Goals.{then-not-begins_with_mark+in_o
 use Rattle.tq_loading.proofs.cut.add_parts.Goals as goal
 
 pub cuts-preserved : goal.cuts-preserved
-cuts-preserved c =
+cuts-preserved g c =
     let i = c.cuts.invariant in
     let files = c.args.files.now in
     let place = c.in-Some.place in
@@ -47,7 +47,7 @@ cuts-preserved c =
     ]
 
 pub returns-clause-parts : goal.returns-clause-parts
-returns-clause-parts c =
+returns-clause-parts g c =
     let i = c.cuts.invariant in
     let files = c.args.files.now in
     let bytes = c.get-bytes.result.now in

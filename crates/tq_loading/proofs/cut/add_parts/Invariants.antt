@@ -6,12 +6,12 @@ use Rattle.tq_loading.specs.Parts.{EndsRecords, IsCut, IsPartOf}
 use Rattle.tq_loading.proofs.cut.add_parts.Given as goal
 
 abbrev pub invariant-cuts : goal.invariant-cuts
-invariant-cuts l = record {
+invariant-cuts g l = record {
   upto : l.start ≤ l.from;
   within : l.from ≤ length l.bytes;
   begins : EndsRecords (take l.from l.bytes);
   unmarked : l.from ≡ 0 → begins_with_mark l.bytes ≡ false;
   cut : l.start ≢ 0 → IsCut l.bytes l.start;
   parts : All (IsPartOf l.files) l.parts.items;
-  few : length l.parts.items ≤ length l.fn.parts.items + l.counter;
+  few : length l.parts.items ≤ length l.fn.parts.items + l.number;
 }
