@@ -1,43 +1,115 @@
-//! Each call once, with memory at hand.
+//! An arena of numbers.
 
-use std::test::Fail;
+use crate::telling::{tell_nothing, tell_number, tell_whether};
+use std::alloc::{AllocError, Global};
 use tq_arena::{Arena, Meter, NodeNo};
 
-#[test]
-fn nodes_keep_their_numbers(rt: HostRuntime) -> Result<(), Fail> {
-    let mut arena: Arena<u32> = Arena::new(rt.alloc());
-    assert_eq!(rt; arena.len(), 0);
-    arena.reserve(2)?;
-    assert!(rt; arena.room() >= 2);
-    let first = arena.push_reserved(7);
-    let second = arena.push_reserved(9);
-    assert_eq!(rt; first, NodeNo(0));
-    assert_eq!(rt; second, NodeNo(1));
-    *arena.change(first) = 8;
-
-    let mut meter = Meter::new();
-    assert_eq!(rt; *arena.read(first, &mut meter), 8);
-    assert_eq!(rt; *arena.read(second, &mut meter), 9);
-    assert_eq!(rt; meter.count(), 2);
-    assert_eq!(rt; arena.len(), 2);
-    Ok(())
+/// An arena, and a meter of its reads.
+#[derive(Drop)]
+pub(crate) struct Numbers {
+    arena: Arena<u32>,
+    meter: Meter,
 }
 
-#[test]
-fn a_thousand_nodes_find_the_room_that_was_reserved(rt: HostRuntime) -> Result<(), Fail> {
-    let mut arena: Arena<u32> = Arena::new(rt.alloc());
-    arena.reserve(1000)?;
-    assert!(rt; arena.room() >= 1000);
-    for number in 0..1000 {
-        assert!(rt; arena.room() > 0);
-        assert_eq!(rt; arena.push_reserved(number * 3), NodeNo(number));
+impl Numbers {
+    /// No nodes and no reads.
+    pub(crate) fn new(alloc: Global) -> Numbers {
+        Numbers {
+            arena: Arena::new(alloc),
+            meter: Meter::new(),
+        }
     }
-    assert_eq!(rt; arena.len(), 1000);
-    let mut meter = Meter::new();
-    for number in 0..1000 {
-        assert!(rt; number < arena.len());
-        assert_eq!(rt; *arena.read(NodeNo(number), &mut meter), number * 3);
+
+    // Whether there is room for so many more nodes, once it is reserved.
+    fn reserve(&mut self, count: u32) -> Result<bool, AllocError> {
+        if count > u32::MAX - self.arena.len() {
+            return Ok(false);
+        }
+        self.arena.reserve(count)?;
+        Ok(self.arena.room() >= count)
     }
-    assert_eq!(rt; meter.count(), 1000);
-    Ok(())
+
+    // The next node is the number; whether there is room for it, and it stands under the number of its place.
+    fn push(&mut self, number: u32) -> bool {
+        let place = self.arena.len();
+        self.arena.room() > 0 && self.arena.push_reserved(number) == NodeNo(place)
+    }
+
+    // The node is another number; whether there is such a node.
+    fn change(&mut self, node: u32, number: u32) -> bool {
+        if node >= self.arena.len() {
+            return false;
+        }
+        *self.arena.change(NodeNo(node)) = number;
+        true
+    }
+
+    // Whether there is such a node, and it is the number.
+    fn is_read(&mut self, node: u32, number: u32) -> bool {
+        node < self.arena.len() && *self.arena.read(NodeNo(node), &mut self.meter) == number
+    }
+
+    // How many of the next nodes, which are these numbers, are as they should be.
+    fn push_all(&mut self, [number, step, count]: [u32; 3]) -> u32 {
+        let mut right: u32 = 0;
+        for more in 0..count {
+            if self.push(number.wrapping_add(more.wrapping_mul(step))) {
+                right = right.saturating_add(1);
+            }
+        }
+        right
+    }
+
+    // How many of the nodes from this one on are these numbers.
+    fn read_all(&mut self, node: u32, [number, step, count]: [u32; 3]) -> u32 {
+        let mut right: u32 = 0;
+        for more in 0..count {
+            let expected = number.wrapping_add(more.wrapping_mul(step));
+            if self.is_read(node.wrapping_add(more), expected) {
+                right = right.saturating_add(1);
+            }
+        }
+        right
+    }
+
+    // How many nodes there are, and how many were read.
+    fn tell_nodes(&self, out: &mut String) -> Result<(), AllocError> {
+        tell_number("nodes", self.arena.len() as u64, out)?;
+        tell_number("reads", self.meter.count(), out)
+    }
+
+    // What a line of this word and these numbers comes to, for several nodes.
+    fn run_all(&mut self, word: &str, numbers: &[u32], out: &mut String) -> Result<(), AllocError> {
+        match (word, numbers) {
+            ("push", [number, step, count]) => {
+                let right = self.push_all([*number, *step, *count]);
+                tell_number("as they should be", right as u64, out)
+            }
+            ("read", [node, number, step, count]) => {
+                let right = self.read_all(*node, [*number, *step, *count]);
+                tell_number("as they should be", right as u64, out)
+            }
+            ("nodes", []) => self.tell_nodes(out),
+            _ => tell_nothing(out),
+        }
+    }
+
+    /// What a line of this word and these numbers comes to.
+    pub(crate) fn run(
+        &mut self,
+        alloc: Global,
+        word: &str,
+        numbers: &[u32],
+        out: &mut String,
+    ) -> Result<(), AllocError> {
+        match (word, numbers) {
+            ("arena", []) => {
+                *self = Numbers::new(alloc);
+                Ok(())
+            }
+            ("reserve", [count]) => tell_whether(self.reserve(*count)?, out),
+            ("change", [node, number]) => tell_whether(self.change(*node, *number), out),
+            _ => self.run_all(word, numbers, out),
+        }
+    }
 }

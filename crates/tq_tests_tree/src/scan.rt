@@ -1,4 +1,0 @@
-//! A tree of 33 keys, whose parts are known, and random windows against a plain list of lives.
-
-mod known;
-mod random;
