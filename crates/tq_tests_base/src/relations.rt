@@ -50,8 +50,7 @@ pub(crate) fn tell_picked(
     [one, two, three]: [Period; 3],
     out: &mut String,
 ) -> Result<(), AllocError> {
-    let relation = Relation::of(alloc, rows)?;
-    if relation.len() < 3 {
+    if rows.len() < 3 {
         return tell_nothing(out);
     }
     let lines = [
@@ -68,7 +67,7 @@ pub(crate) fn tell_picked(
             period: three,
         },
     ];
-    tell(&relation.pick(alloc, &lines)?, out)
+    tell(&Relation::of(alloc, rows)?.pick(alloc, &lines)?, out)
 }
 
 // The last row of the left with the second of the right, and the first with the second.
@@ -78,11 +77,11 @@ fn paired<'a>(
     right: &'a Rows,
     at: Period,
 ) -> Result<Option<Relation<'a>>, AllocError> {
-    let lefts = Relation::of(alloc, left)?;
-    let rights = Relation::of(alloc, right)?;
-    if lefts.len() < 3 || rights.len() < 2 {
+    if left.len() < 3 || right.len() < 2 {
         return Ok(None);
     }
+    let lefts = Relation::of(alloc, left)?;
+    let rights = Relation::of(alloc, right)?;
     let pairs = [
         Pair {
             left: 2,
@@ -105,10 +104,10 @@ fn paired_again<'a>(
     rows: &'a Rows,
     at: Period,
 ) -> Result<Option<Relation<'a>>, AllocError> {
-    let again = Relation::of(alloc, rows)?;
-    if both.len() < 2 || again.len() < 2 {
+    if both.len() < 2 || rows.len() < 2 {
         return Ok(None);
     }
+    let again = Relation::of(alloc, rows)?;
     let pairs = [
         Pair {
             left: 1,
@@ -124,6 +123,19 @@ fn paired_again<'a>(
     Ok(Some(Relation::pair(alloc, both, again, &pairs)?))
 }
 
+// Those pairs, their columns turned round; one that is not there has the number 0.
+fn turned<'a>(
+    alloc: Global,
+    both: Relation<'a>,
+    rows: &'a Rows,
+    at: Period,
+) -> Result<Option<Relation<'a>>, AllocError> {
+    match paired_again(alloc, both, rows, at)? {
+        Some(all) => Ok(Some(all.project(alloc, &[5, 3, 1, 0, 9, 2])?)),
+        None => Ok(None),
+    }
+}
+
 /// Pairs of rows of two lists, each of these followed by a row of the left, in columns that are turned round; a column
 /// that is not there has the number 0.
 pub(crate) fn tell_pairs(
@@ -136,9 +148,8 @@ pub(crate) fn tell_pairs(
     let Some(both) = paired(alloc, left, right, at)? else {
         return tell_nothing(out);
     };
-    let Some(all) = paired_again(alloc, both, left, at)? else {
-        return tell_nothing(out);
-    };
-    let turned = all.project(alloc, &[5, 3, 1, 0, 9, 2])?;
-    tell(&turned.detached(alloc)?, out)
+    match turned(alloc, both, left, at)? {
+        Some(turned) => tell(&turned.detached(alloc)?, out),
+        None => tell_nothing(out),
+    }
 }

@@ -92,6 +92,29 @@ fn tell_keys(keys: &[Key], out: &mut String) -> Result<(), AllocError> {
     out.push('\n')
 }
 
+fn tell_equal(run: usize, out: &mut String) -> Result<(), AllocError> {
+    writeln!(out, "    the first {run} are equal")
+}
+
+// The keys, and of how many of the first the values are equal.
+fn tell_run(sorted: &Sorted, out: &mut String) -> Result<(), AllocError> {
+    tell_keys(&sorted.keys, out)?;
+    tell_equal(sorted.run, out)
+}
+
+fn tell_sides(
+    alloc: Global,
+    columns: &[u32],
+    left: &Relation<'_>,
+    right: &Relation<'_>,
+    out: &mut String,
+) -> Result<(), AllocError> {
+    let sorted = sorted_sides(alloc, left, right, columns, true)?;
+    tell_run(&sorted, out)?;
+    let told = tell_their_rows(left, right, &sorted.keys, 2);
+    writeln!(out, "    each tells its row: {told}")
+}
+
 /// The sorted keys of two sides, of how many of the first the values are equal, and whether all tell their rows.
 pub(crate) fn tell_sorted(
     alloc: Global,
@@ -102,11 +125,7 @@ pub(crate) fn tell_sorted(
 ) -> Result<(), AllocError> {
     let left = Relation::of(alloc, left)?;
     let right = Relation::of(alloc, right)?;
-    let sorted = sorted_sides(alloc, &left, &right, columns, true)?;
-    tell_keys(&sorted.keys, out)?;
-    writeln!(out, "    the first {} are equal", sorted.run)?;
-    let told = tell_their_rows(&left, &right, &sorted.keys, 2);
-    writeln!(out, "    each tells its row: {told}")
+    tell_sides(alloc, columns, &left, &right, out)
 }
 
 fn sorted_list(alloc: Global, rows: &Rows, columns: &[u32]) -> Result<Sorted, AllocError> {
@@ -121,9 +140,7 @@ pub(crate) fn tell_sorted_list(
     rows: &Rows,
     out: &mut String,
 ) -> Result<(), AllocError> {
-    let sorted = sorted_list(alloc, rows, columns)?;
-    tell_keys(&sorted.keys, out)?;
-    writeln!(out, "    the first {} are equal", sorted.run)
+    tell_run(&sorted_list(alloc, rows, columns)?, out)
 }
 
 fn keys_within(
@@ -174,11 +191,14 @@ fn rise(keys: &[Key]) -> bool {
     true
 }
 
+fn tell_rising(sorted: &Sorted, out: &mut String) -> Result<(), AllocError> {
+    writeln!(out, "    {} keys", sorted.keys.len())?;
+    tell_equal(sorted.run, out)?;
+    writeln!(out, "    they rise: {}", rise(&sorted.keys))
+}
+
 /// How many keys many rows have, of how many of the first the numbers are equal, and whether numbers and starts rise.
 pub(crate) fn tell_many(alloc: Global, count: u32, out: &mut String) -> Result<(), AllocError> {
     let rows = many_rows(alloc, count)?;
-    let sorted = sorted_list(alloc, &rows, &[0])?;
-    writeln!(out, "    {} keys", sorted.keys.len())?;
-    writeln!(out, "    the first {} are equal", sorted.run)?;
-    writeln!(out, "    they rise: {}", rise(&sorted.keys))
+    tell_rising(&sorted_list(alloc, &rows, &[0])?, out)
 }
