@@ -82,6 +82,18 @@ pub(crate) fn tell_rows_order(
     tell_misplaced(rows.len(), misplaced, out)
 }
 
+// How a copy of the text stands to it, and the copy's bytes.
+fn tell_copy(text: &Text, out: &mut String) -> Result<(), AllocError> {
+    let copy = text.try_copy()?;
+    writeln!(out, "    {:?}", copy.compare(text))?;
+    writeln!(out, "    {}", copy.get())
+}
+
+// How the first text stands to the second.
+fn tell_compared(first: &Text, second: &Text, out: &mut String) -> Result<(), AllocError> {
+    writeln!(out, "    {:?}", first.compare(second))
+}
+
 /// How the first text stands to the second, and how a copy of the second stands to it, with its bytes.
 pub(crate) fn tell_texts(
     alloc: Global,
@@ -91,10 +103,8 @@ pub(crate) fn tell_texts(
 ) -> Result<(), AllocError> {
     let first = Text::of(text_of(alloc, first)?);
     let second = Text::of(text_of(alloc, second)?);
-    writeln!(out, "    {:?}", first.compare(&second))?;
-    let copy = second.try_copy()?;
-    writeln!(out, "    {:?}", copy.compare(&second))?;
-    writeln!(out, "    {}", copy.get())
+    tell_compared(&first, &second, out)?;
+    tell_copy(&second, out)
 }
 
 fn fragments_of(alloc: Global, words: &[&str]) -> Result<Vec<Fragment>, AllocError> {
