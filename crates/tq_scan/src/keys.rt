@@ -20,23 +20,23 @@ pub(crate) fn is_before(version: u32, end: Option<u32>) -> bool
 fn is_in(part: &Part, key: u128, version: u32) -> bool
     ensures { result ≡ lies_in part.now key version }
 {
-    part.low <= key && key < part.high && (part.first <= version && version <= part.last)
+    (part.low <= key) & (key < part.high) & ((part.first <= version) & (version <= part.last))
 }
 
 // Whether the reference point of the entry's key lies in the part and in the leaf's region, and the key lives
-// there.
+// there. All is compared: which of it holds differs from entry to entry, so a branch would be guessed wrong.
 fn reports(leaf: &Node, place: u32, window: &Window, part: &Part) -> bool
     requires { place < length leaf.now.entries }
     ensures { IfSome (slice_get leaf.now.entries place) (λ e. result ≡ is_reported window.now part.now leaf.now e) }
 {
     let version = leaf.born_of(place).max(window.first);
     is_in(part, leaf.key(place), version)
-        && leaf.born() <= version
-        && is_before(version, leaf.died())
-        && is_before(version, leaf.dead_of(place))
+        & ((leaf.born() <= version)
+            & (is_before(version, leaf.died()) & is_before(version, leaf.dead_of(place))))
 }
 
-// Appends the keys that the leaf reports.
+// Appends the keys that the leaf reports. Each key is put in and taken back where it is not reported, so that the loop
+// has no branch to guess, and the processor waits for many entries at once.
 pub(crate) fn push_keys(
     keys: &mut Vec<u128>,
     leaf: &Node,
@@ -45,9 +45,11 @@ pub(crate) fn push_keys(
 ) -> Result<(), AllocError>
     ensures { OnOk result (keys.new.items ≡ keys.old.items ++ reported_keys window.now part.now leaf.now) }
 {
+    keys.reserve(leaf.len() as usize)?;
     for place in 0..leaf.len() {
-        if reports(leaf, place, window, part) {
-            keys.push(leaf.key(place))?;
+        keys.push_reserved(leaf.key(place));
+        if !reports(leaf, place, window, part) {
+            let _left_out = keys.pop();
         }
     }
     Ok(())
