@@ -1,16 +1,18 @@
 -- One column of rows that lie one behind the other in one list of values.
 use Rattle.std.proofs.Common.{inl, inr, suc, zero, ◌≡◌, ◌≤◌, ◌<◌, ◌+◌, ◌*◌, ℕ, List, [], ◌∷◌, length, map, get_or, drop, take, sym, refl, ap, ◌∙◌, arith}
 use Rattle.std.specs.List.{range_with_len}
-use Rattle.std.specs.Prelude.{Option, pos}
+use Rattle.std.specs.Prelude.{All, Option, pos}
 use Rattle.std.proofs.lemmas.Bool.{cases_lt}
-use Rattle.std.proofs.lemmas.List.{get_or-drop, get_or-take, get_or_past}
+use Rattle.std.proofs.lemmas.List.{get_or-drop, get_or-take, get_or_default, get_or_past}
 use Rattle.std.proofs.lemmas.List.FromFn.{get_or-map-range_with_len, length-map-range_with_len}
+use Rattle.std.proofs.lemmas.Simd.{map-map}
 use Rattle.tq_base.specs.declared.value.Value.{Value}
 use Rattle.tq_base.specs.declared.fragment.Fragment.{Fragment}
 use Rattle.tq_base.specs.declared.period.Period.{Period}
 use Rattle.tq_base.specs.declared.parts.Part.{Part}
 use Rattle.tq_base.specs.declared.parts.Place.{Place}
 use Rattle.tq_base.specs.Contents.{Int}
+use Rattle.tq_base.specs.KeyLaws.{all_values}
 use Rattle.tq_base.specs.Keys.{no_row, value_at}
 use Rattle.tq_base.specs.Parts.{cell, chosen_column, column_cells, number_in, rows_at, rows_by_number, value_there, values_there}
 use Rattle.tq_base.specs.Relations.{column_of, values_at_number}
@@ -68,3 +70,12 @@ pub column_here : (rows : List Fragment) (column row : ℕ) → value_at (column
 column_here [] column row = refl
 column_here (r ∷ rows) column zero = refl
 column_here (r ∷ rows) column (suc row) = column_here rows column row
+
+-- the values that all columns have in a row are those of the row
+pub columns_here : (rows : List Fragment) (width row : ℕ) (d : Fragment) → row < length rows → All (λ (r : Fragment). length r.values ≡ width) rows
+    → map (λ column. value_at column row) (map (column_of rows) (range_with_len 0 width)) ≡ (get_or rows row d).values
+columns_here rows width row d less wide =
+    map-map (λ column. value_at column row) (column_of rows) (range_with_len 0 width)
+    ∙ (λ i. map (λ column. column_here rows column row i) (range_with_len 0 width))
+    ∙ all_values (values_at_number rows row) width (wide row no_row less)
+    ∙ ap (λ (r : Fragment). r.values) (get_or_default rows row no_row d less)

@@ -1,12 +1,14 @@
 -- Rows that lie one behind the other in one list of values.
 use Rattle.std.proofs.Common.{suc, zero, ◌≡◌, ◌≤◌, ◌<◌, ◌+◌, ◌*◌, ℕ, List, [], ◌∷◌, ◌++◌, length, take, drop, map, get_or, sym, refl, ap, ◌∙◌, arith, length-drop}
 use Rattle.std.specs.Prelude.{All}
-use Rattle.std.proofs.lemmas.List.{drop-append-le, drop-take, take-append-le, take-take, take_all, drop-drop, length-take-le}
-use Rattle.std.proofs.lemmas.List.Elements.{All-cons}
+use Rattle.std.specs.List.{flat_map}
+use Rattle.std.proofs.Math.Seq.{drop-append_seam, take-append_seam}
+use Rattle.std.proofs.lemmas.List.{drop-append-le, drop-take, take-append-le, take-take, take_all, take_more, drop-drop, flat_map_more, length-append, length-take-le}
+use Rattle.std.proofs.lemmas.List.Elements.{All-cons, All-tail}
 use Rattle.tq_base.specs.declared.value.Value.{Value}
 use Rattle.tq_base.specs.declared.fragment.Fragment.{Fragment}
 use Rattle.tq_base.specs.declared.period.Period.{Period}
-use Rattle.tq_base.specs.RowLists.{rows_from}
+use Rattle.tq_base.specs.RowLists.{rows_from, RowList}
 
 pub length-rows_from : (width : ℕ) (values : List Value) (periods : List Period) → length (rows_from width values periods) ≡ length periods
 unfolding rows_from
@@ -88,3 +90,41 @@ row_inside row rows width total less fill = grind (arith, less, fill)
 -- as many values as two lists of rows have together
 pub fill_both : (values more rows others width : ℕ) → values ≡ rows * width → more ≡ others * width → values + more ≡ (rows + others) * width
 fill_both values more rows others width fill fills = grind (arith, fill, fills)
+
+-- the values of rows, one row behind the other, with one row more
+pub values_more : (rows : List Fragment) (k : ℕ) (d : Fragment) → k < length rows
+    → flat_map (λ (row : Fragment). row.values) (take k rows) ++ (get_or rows k d).values ≡ flat_map (λ (row : Fragment). row.values) (take (k + 1) rows)
+values_more rows k d less =
+    flat_map_more (λ (row : Fragment). row.values) [] (take k rows) (get_or rows k d)
+    ∙ ap (flat_map (λ (row : Fragment). row.values)) (sym (take_more rows k d less))
+
+-- how many values rows of one width have
+pub length-values : (width : ℕ) (rows : List Fragment) → All (λ (row : Fragment). length row.values ≡ width) rows → length (flat_map (λ (row : Fragment). row.values) rows) ≡ length rows * width
+length-values width [] wide = let none : 0 ≡ 0 * width = omega arith in none
+length-values width (row ∷ rows) wide =
+    let others : length (flat_map (λ (r : Fragment). r.values) rows) ≡ length rows * width = length-values width rows (All-tail (λ (r : Fragment). length r.values ≡ width) row rows wide) in
+    let first : length row.values ≡ width = wide 0 row (omega arith) in
+    let both : length (row.values ++ flat_map (λ (r : Fragment). r.values) rows) ≡ length row.values + length (flat_map (λ (r : Fragment). r.values) rows) = length-append row.values (flat_map (λ (r : Fragment). r.values) rows) in
+    let all : length (row.values ++ flat_map (λ (r : Fragment). r.values) rows) ≡ suc (length rows) * width = grind (arith, others, first, both) in
+    all
+
+-- rows of one width are made again of their values and periods
+made_again : (width : ℕ) (rows : List Fragment) → All (λ (row : Fragment). length row.values ≡ width) rows
+    → rows_from width (flat_map (λ (row : Fragment). row.values) rows) (map (λ (row : Fragment). row.period) rows) ≡ rows
+unfolding rows_from
+made_again width [] wide = refl
+made_again width (row ∷ rows) wide =
+    let rest = flat_map (λ (r : Fragment). r.values) rows in
+    let first : length row.values ≡ width = wide 0 row (omega arith) in
+    let here : take width (row.values ++ rest) ≡ row.values = ap (λ n. take n (row.values ++ rest)) (sym first) ∙ take-append_seam row.values rest in
+    let left : drop width (row.values ++ rest) ≡ rest = ap (λ n. drop n (row.values ++ rest)) (sym first) ∙ drop-append_seam row.values rest in
+    let others : rows_from width (drop width (row.values ++ rest)) (map (λ (r : Fragment). r.period) rows) ≡ rows =
+    ap (λ vs. rows_from width vs (map (λ (r : Fragment). r.period) rows)) left ∙ made_again width rows (All-tail (λ (r : Fragment). length r.values ≡ width) row rows wide) in
+    λ i. record { values = here i; period = row.period } ∷ others i
+
+pub list_made_again : (list : RowList) (width : ℕ) (values : List Value) (periods : List Period) → width ≡ list.width → values ≡ flat_map (λ (row : Fragment). row.values) list.items
+    → periods ≡ map (λ (row : Fragment). row.period) list.items → All (λ (row : Fragment). length row.values ≡ list.width) list.items
+    → record { width = width; items = rows_from width values periods } ≡ list
+list_made_again list width values periods same same_values same_periods wide =
+    (λ i. record { width = same i; items = rows_from (same i) (same_values i) (same_periods i) })
+    ∙ (λ i. record { width = list.width; items = made_again list.width list.items wide i })

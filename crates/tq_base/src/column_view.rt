@@ -1,16 +1,19 @@
 //! One column of a relation, for loops over rows: what is the same for all rows is looked up once.
 
-ghost use Rattle.std.specs.Prelude.{◌≡◌, length, map, pos};
-ghost use Rattle.std.specs.List.{range_with_len};
+ghost use Rattle.std.specs.Prelude.{◌≡◌, ◌+◌, ◌≤◌, ◌++◌, OnOk, length, map, pos, vec_capacity, vec_len};
+ghost use Rattle.std.specs.List.{list_all, range_with_len};
 ghost use Rattle.std.specs.Option.{option_copied};
 ghost use Rattle.tq_base.specs.Contents.{Int};
+ghost use Rattle.tq_base.specs.KeyRanges.{is_number_in};
 ghost use Rattle.tq_base.specs.Keys.{value_at};
 ghost use Rattle.tq_base.specs.Parts.{column_cells, number_in, part_values};
 
+use crate::key_range::KeyRange;
 use crate::looks::{LOOKS, Looks};
 use crate::parts::{Part, Place};
 use crate::short_text::SHORT;
 use crate::value::Value;
+use std::alloc::AllocError;
 use std::marker::Model;
 
 /// The values of one column, lent: one for each row of a relation; seen as their list.
@@ -77,12 +80,13 @@ fn in_part<'a>(part: &'a Part<'a>, column: u32, len: usize, zero: &'a Value) -> 
 }
 
 // The number at the place; where there are no numbers, that is the place itself.
-fn number_in(numbers: Option<&[u32]>, place: u32) -> u32
+#[inline]
+fn number_in(numbers: Option<&[u32]>, place: usize) -> usize
     ensures { result ≡ number_in (option_copied numbers.entry) place }
 {
     match numbers {
         None => place,
-        Some(numbers) => numbers.get(place as usize).copied().unwrap_or(0),
+        Some(numbers) => numbers.get(place).copied().unwrap_or(0) as usize,
     }
 }
 
@@ -113,18 +117,38 @@ impl<'a> ColumnView<'a> {
         self.len
     }
 
-    /// The value of the row; a row that is not there counts as the number 0.
-    pub fn at(&self, row: u32) -> &'a Value
+    // The value of the row; a row that is not there counts as the number 0.
+    #[inline]
+    pub(crate) fn value(&self, row: usize) -> &'a Value
         ensures { result.now ≡ value_at self.now row }
     {
-        if row as usize >= self.len {
+        if row >= self.len {
             return self.zero;
         }
-        let number = number_in(self.numbers, row) as usize;
+        let number = number_in(self.numbers, row);
         if number >= self.rows {
             return self.zero;
         }
         &self.values[number * self.width + self.column]
+    }
+
+    /// The value of the row; a row that is not there counts as the number 0.
+    pub fn at(&self, row: u32) -> &'a Value
+        ensures { result.now ≡ value_at self.now row }
+    {
+        self.value(row as usize)
+    }
+
+    /// Whether each value is a number of the range. Values lie anywhere, so all are looked at whatever the others are,
+    /// in a loop that does no more: in such a loop the processor waits for many of them at once.
+    pub fn are_numbers_in(&self, range: &KeyRange) -> bool
+        ensures { result ≡ list_all (is_number_in range.now) self.now }
+    {
+        let mut are = true;
+        'rows: for row in 0..self.len() {
+            are &= self.value(row).is_number_in(range);
+        }
+        are
     }
 
     // Whether there may be values in boxes among those of as many rows from this one on as are looked at together. Where
@@ -140,4 +164,21 @@ impl<'a> ColumnView<'a> {
         }
         looks.longest() > SHORT
     }
+}
+
+// Copies of the values that the columns have in the row go to the end of the list, which has room for them.
+pub(crate) fn push_values(
+    columns: &[ColumnView<'_>],
+    row: usize,
+    values: &mut Vec<Value>,
+) -> Result<(), AllocError>
+    requires { vec_len values.old + length columns.now ≤ vec_capacity values.old }
+    ensures values { OnOk result (values.new.items ≡ values.old.items ++ map (λ column. value_at column row) columns.now) }
+    ensures len { OnOk result (vec_len values.new ≡ vec_len values.old + length columns.now) }
+    ensures capacity { OnOk result (vec_capacity values.new ≡ vec_capacity values.old) }
+{
+    'columns: for column in columns {
+        values.push_reserved(column.value(row).try_copy()?);
+    }
+    Ok(())
 }

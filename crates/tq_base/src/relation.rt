@@ -1,13 +1,13 @@
 //! Relations: rows by their numbers in other lists of rows, so that operators move no values.
 
 ghost use Rattle.std.specs.Prelude.{◌≡◌, ◌<◌, ◌≤◌, ◌+◌, ◌++◌, ℕ, All, IfOk, OnOk, length, map, slice_index_or};
-ghost use Rattle.std.specs.List.{range_with_len};
+ghost use Rattle.std.specs.List.{flat_map, range_with_len};
 ghost use Rattle.tq_base.specs.declared.fragment.Fragment.{Fragment};
 ghost use Rattle.tq_base.specs.Keys.{no_row};
 ghost use Rattle.tq_base.specs.Parts.{chosen_column, first_column, first_periods, moved_column, periods_of, rows_at, source_list};
 ghost use Rattle.tq_base.specs.Relations.{column_of, line_of, pair_of, projected, row_at, values_at_number};
 
-use crate::column_view::ColumnView;
+use crate::column_view::{ColumnView, push_values};
 use crate::parts::{Part, Place, Source};
 use crate::period::Period;
 use crate::row::Row;
@@ -299,13 +299,20 @@ impl<'a> Relation<'a> {
         }
     }
 
+    // The values of the column at the place; a column that the rows do not have counts as the number 0.
+    fn column_at(&self, place: usize) -> ColumnView<'_>
+        ensures { result ≡ column_of self.now.items place }
+    {
+        let place = self.columns.get(place).copied().unwrap_or(None);
+        ColumnView::of(self.parts.as_slice(), place, self.len(), &self.zero)
+    }
+
     /// The values of the column, numbered from 0, lent row by row; a column that the rows do not have counts as the
     /// number 0. For loops over rows: what is the same for all of them is looked up once.
     pub fn column(&self, column: u32) -> ColumnView<'_>
         ensures { result ≡ column_of self.now.items column }
     {
-        let place = self.columns.get(column as usize).copied().unwrap_or(None);
-        ColumnView::of(self.parts.as_slice(), place, self.len(), &self.zero)
+        self.column_at(column as usize)
     }
 
     // The rows of these numbers, each at the line's period, take the place of the rows. Where a growth was refused
@@ -426,17 +433,40 @@ impl<'a> Relation<'a> {
         Ok(out)
     }
 
+    // The values of all columns.
+    fn all_columns(&self, alloc: Global) -> Result<Vec<ColumnView<'_>>, AllocError>
+        ensures { IfOk result (λ columns. columns.items ≡ map (column_of self.now.items) (range_with_len 0 self.now.width)) }
+    {
+        let mut columns = Vec::with_capacity(alloc, self.width())?;
+        'columns: for column in 0..self.width() {
+            columns.push(self.column_at(column))?;
+        }
+        Ok(columns)
+    }
+
+    // The values of all rows, copied, one row behind the other.
+    fn copied_values(&self, alloc: Global) -> Result<Vec<Value>, AllocError>
+        ensures { IfOk result (λ values. values.items ≡ flat_map (λ (row : Fragment). row.values) self.now.items) }
+    {
+        let columns = self.all_columns(alloc)?;
+        let Some(room) = self.len().checked_mul(self.width()) else {
+            return Err(AllocError);
+        };
+        let mut values = Vec::with_capacity(alloc, room)?;
+        'rows: for row in 0..self.len() {
+            push_values(&columns, row, &mut values)?;
+        }
+        Ok(values)
+    }
+
     /// The rows, their values copied. `AllocError` where a growth was refused.
     pub fn copied(&self, alloc: Global) -> Result<Rows, AllocError>
         ensures { IfOk result (λ rows. rows ≡ self.now) }
     {
-        let mut out = Rows::new(alloc, self.width());
-        let mut room = Vec::with_capacity(alloc, self.width())?;
-        'rows: for number in 0..self.len() {
-            self.row(number).show_all(&mut room)?;
-            out.push(&mut room, self.period(number))?;
-        }
-        Ok(out)
+        let _few = self.len();
+        let values = self.copied_values(alloc)?;
+        let periods = self.periods().to_vec(alloc)?;
+        Ok(Rows::of_values(self.width(), values, periods))
     }
 
     /// The same rows, their values copied, so that nothing is lent. `AllocError` where a growth was refused.

@@ -2,6 +2,7 @@
 
 ghost use Rattle.std.specs.Prelude.{◌≡◌, ◌++◌, ◌∷◌, [], ◌<◌, ◌≤◌, ◌*◌, ℕ, List, All, IfOk, OnErr, OnOk, drop, length, map, slice_index_or, take};
 ghost use Rattle.tq_base.specs.declared.fragment.Fragment.{Fragment};
+ghost use Rattle.tq_base.specs.RowLists.{rows_from};
 
 use crate::period::Period;
 use crate::value::Value;
@@ -65,6 +66,19 @@ impl Rows {
             width,
             values: Vec::new(alloc),
             periods: Vec::new(alloc),
+        }
+    }
+
+    // The rows of these values, one row behind the other, with these periods.
+    pub(crate) fn of_values(width: usize, values: Vec<Value>, periods: Vec<Period>) -> Rows
+        requires fill { length values.items ≡ length periods.items * width }
+        requires few { length periods.items ≤ 4294967295 }
+        ensures { result ≡ record { width = width; items = rows_from width values.items periods.items } }
+    {
+        Rows {
+            width,
+            values,
+            periods,
         }
     }
 

@@ -6,7 +6,7 @@ use Rattle.std.proofs.Math.Nat.{mul_comm}
 use Rattle.tq_base.specs.Keys.{value_at}
 use Rattle.tq_base.specs.Parts.{value_there}
 use Rattle.tq_base.proofs.ColumnLemmas.{read_past, read_there, value_past}
-use Rattle.tq_base.proofs.column_view.ColumnView.at.Goals as goal
+use Rattle.tq_base.proofs.column_view.ColumnView.value.Goals as goal
 
 pub returns-then-row-self : goal.returns-then-row-self
 returns-then-row-self c =
