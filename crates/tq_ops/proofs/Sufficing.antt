@@ -1,10 +1,12 @@
 -- Numbers in a column that are enough for a condition.
-use Rattle.std.proofs.Common.{◌≡◌, ℕ, ℤ, Bool, true, false, ◌&&◌, List, Option, Some, None, sym, ap, ◌∙◌}
-use Rattle.std.specs.Prelude.{IfSome}
+use Rattle.std.proofs.Common.{◌≡◌, ℕ, ℤ, Bool, true, false, ◌&&◌, List, Option, Some, None, refl, sym, subst, ap, ◌∙◌}
+use Rattle.std.specs.Prelude.{IfSome, T, int_le}
+use Rattle.std.specs.Int.Signed.{le_z_yes}
+use Rattle.std.proofs.lemmas.Bool.{and_parts, false≢true}
 use Rattle.tq_base.specs.declared.key_range.KeyRange.{KeyRange}
 use Rattle.tq_base.specs.declared.value.Value.{Value}
-use Rattle.tq_base.specs.Contents.{Int}
-use Rattle.tq_base.specs.KeyRanges.{IsInRange}
+use Rattle.tq_base.specs.Contents.{Int, Text}
+use Rattle.tq_base.specs.KeyRanges.{is_number_in, IsInRange}
 use Rattle.tq_base.specs.ValueOrder.{value_cmp}
 use Rattle.tq_ops.specs.declared.condition.Compare.{Compare}
 use Rattle.tq_ops.specs.declared.condition.Operand.{Operand}
@@ -36,3 +38,10 @@ enough_and test first last column one other range narrow more is enough enough_t
 pub if_four : {X : Type 0} {A B C D Q : X → Type 0} (r : Option X) → IfSome r A → IfSome r B → IfSome r C → IfSome r D → ((x : X) → A x → B x → C x → D x → Q x) → IfSome r Q
 if_four None a b c d f = tt
 if_four (Some x) a b c d f = f x a b c d
+
+-- a value that is a number of a range, and which number that is
+pub number_there : (range : KeyRange) (value : Value) → is_number_in range value ≡ true → (n : ℤ) × (value ≡ Int n) × IsInRange range n
+number_there range (Int n) told =
+    let both = and_parts (int_le range.low n) (int_le n range.high) told in
+    (n, refl, (le_z_yes (subst (λ b. T b) (sym both.0) tt), le_z_yes (subst (λ b. T b) (sym both.1) tt)))
+number_there range (Text t) told = absurd (false≢true told)

@@ -33,9 +33,3 @@ HasCompared left op right place told =
 -- each row passes the condition in which a number of the range stands in the column
 abbrev pub IsEnough : Test → ℕ → KeyRange → Type 0
 IsEnough test column range = (row : List Value) (n : ℤ) → value_at row column ≡ Int n → IsInRange range n → IsTrue (passes test row)
-
--- the value is a number of the range
-pub record HasNumber (range : KeyRange) (value : Value) : Type 0 where
-  pub number : ℤ
-  pub is : value ≡ Int number
-  pub within : IsInRange range number

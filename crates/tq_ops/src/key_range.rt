@@ -9,7 +9,7 @@ ghost use Rattle.tq_base.specs.Contents.{Int};
 ghost use Rattle.tq_base.specs.KeyRanges.{IsInRange, IsInSomeRange};
 ghost use Rattle.tq_base.specs.ValueOrder.{value_cmp};
 ghost use Rattle.tq_ops.specs.Conditions.{accepts, operand_value, value_at};
-ghost use Rattle.tq_ops.specs.KeyRanges.{HasBeside, HasCompared, HasNumber, IsEnough, TellsNumbers, TellsWithin};
+ghost use Rattle.tq_ops.specs.KeyRanges.{HasBeside, HasCompared, IsEnough, TellsNumbers, TellsWithin};
 ghost use Rattle.tq_ops.specs.Known.{agrees};
 
 use crate::condition::{Compare, Operand, Test};
@@ -216,18 +216,6 @@ pub(crate) struct Enough {
 }
 
 impl Enough {
-    // Whether the value is one of the numbers.
-    pub(crate) fn has(&self, value: &Value) -> bool
-        ensures { IsTrue result → HasNumber self.now.range value.now }
-    {
-        match value.seen() {
-            Seen::Int(number) => {
-                i128::from(self.range.low) <= number && number <= i128::from(self.range.high)
-            }
-            Seen::Text(_) => false,
-        }
-    }
-
     // The numbers of both, where they are of one column.
     fn both(self, other: Enough) -> Option<Enough>
         ensures column { IfSome result (λ both. both.column ≡ self.column) }

@@ -1,25 +1,24 @@
-use Rattle.std.proofs.Common.{◌≡◌, ◌<◌, inl, inr, pos, refl, arith, get_or, length, ap, sym, subst, ◌∙◌}
-use Rattle.std.specs.Prelude.{IsTrue}
-use Rattle.std.proofs.lemmas.Bool.{cases_lt}
-use Rattle.std.proofs.lemmas.List.{get_or-map}
+use Rattle.std.proofs.Common.{◌≡◌, ◌<◌, ◌∙◌, ap, get_or, length, pos, sym, true, arith}
+use Rattle.std.specs.List.{list_all}
+use Rattle.std.proofs.lemmas.List.{get_or-map, length-map}
+use Rattle.std.proofs.lemmas.List.Sums.{AllPass-from_list_all}
 use Rattle.tq_base.specs.declared.fragment.Fragment.{Fragment}
 use Rattle.tq_base.specs.Contents.{Int}
-use Rattle.tq_ops.specs.Conditions.{passes, value_at}
+use Rattle.tq_base.specs.KeyRanges.{is_number_in}
+use Rattle.tq_base.specs.Relations.{column_of}
+use Rattle.tq_ops.specs.Conditions.{value_at}
+use Rattle.tq_ops.proofs.Sufficing.{number_there}
 use Rattle.tq_ops.proofs.selection.plainly_pass.Goals as goal
 
-pub rows-preserved : goal.rows-preserved
-rows-preserved c k d less =
-    elim (cases_lt k c.rows.row) [
-      | inl before ↦ c.rows.invariant k d before
-      | inr past ↦
-          let items = c.args.rows.now.items in
-          let column = c.in-Some.enough.column in
-          let inside : c.rows.row < length items = omega (arith, c.rows-test.true, c.len-row-end.ensures.len) in
-          let cell : c.at.result.now ≡ value_at (get_or items c.rows.row d).values column =
-          c.at.ensures ∙ ap (λ l. get_or l c.rows.row (Int (pos 0))) c.column-column.ensures
-          ∙ get_or-map (λ (row : Fragment). value_at row.values column) items c.rows.row d (Int (pos 0)) inside in
-          let there = c.if-not-has.ensures refl in
-          let same : c.rows.row ≡ k = omega (arith, past, less) in
-          subst (λ j. IsTrue (passes c.args.test.now (get_or items j d).values)) same
-          (c.in-Some.ensures (get_or items c.rows.row d).values there.number (sym cell ∙ there.is) there.within)
-    ]
+pub returns : goal.returns
+returns c = λ told k d less.
+    let items = c.args.rows.now.items in
+    let column = c.in-Some.enough.column in
+    let range = c.in-Some.enough.range in
+    let all : list_all (is_number_in range) (column_of items column) ≡ true = sym (c.are_numbers_in.ensures ∙ ap (list_all (is_number_in range)) c.column.ensures) ∙ told in
+    let inside : k < length (column_of items column) = omega (arith, less, length-map items (λ (row : Fragment). value_at row.values column)) in
+    let here : is_number_in range (get_or (column_of items column) k (Int (pos 0))) ≡ true = AllPass-from_list_all (is_number_in range) (column_of items column) all k (Int (pos 0)) inside in
+    let cell : get_or (column_of items column) k (Int (pos 0)) ≡ value_at (get_or items k d).values column =
+    get_or-map (λ (row : Fragment). value_at row.values column) items k d (Int (pos 0)) less in
+    let there = number_there range (value_at (get_or items k d).values column) (sym (ap (is_number_in range) cell) ∙ here) in
+    c.in-Some.ensures (get_or items k d).values there.0 there.1 there.2
