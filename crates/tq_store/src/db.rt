@@ -13,7 +13,7 @@ ghost use Rattle.tq_store.specs.Stored.{IsReadable, row_of_key, seen};
 ghost use Rattle.tq_store.specs.Valid.{AreWhole};
 
 use crate::index::{Index, no_indexes, take};
-use crate::read::{find_version, first_keys, lines_in, make_window, read_rows};
+use crate::read::{find_version, lines_in, make_window, read_rows};
 use crate::row::Row;
 use crate::stored::time;
 use std::alloc::{AllocError, Global};
@@ -273,7 +273,6 @@ impl Db {
         let found = self.find_all(alloc, n, table, range, period)?;
         let index = &self.indexes[table as usize];
         let lines = lines_in(alloc, &index.rows, found.keys.get(), n, period)?;
-        let _near = first_keys(alloc, &index.kept, &lines)?;
         Relation::of(alloc, &index.kept)?.pick(alloc, &lines)
     }
 }

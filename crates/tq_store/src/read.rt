@@ -5,21 +5,18 @@ ghost use Rattle.std.specs.Int.{w64};
 ghost use Rattle.std.specs.List.Sorted.{IsNonDecreasingBy};
 ghost use Rattle.tq_base.specs.declared.period.TheConstants.{FOREVER};
 ghost use Rattle.tq_base.specs.declared.relation.Line.{Line};
-ghost use Rattle.tq_base.specs.KeyRanges.{key_of};
-ghost use Rattle.tq_base.specs.Relations.{values_at_number};
 ghost use Rattle.tq_event.specs.History.{time_of};
 ghost use Rattle.tq_event.specs.Versions.{version_at};
 ghost use Rattle.tq_scan.specs.Windows.{whole_of};
-ghost use Rattle.tq_store.specs.Keys.{shifted};
 ghost use Rattle.tq_store.specs.Rows.{window_part};
 ghost use Rattle.tq_store.specs.Stored.{IsLasting, IsMet, IsReadable, StandIn, line_for, line_times, row_of_key, seen, times_of_key};
 
 use crate::index::RowEvents;
-use crate::key::{ROWS, first_key, shift_key};
+use crate::key::{ROWS, shift_key};
 use crate::row::Row;
 use crate::stored::{period, read_row, time};
 use std::alloc::{AllocError, Global};
-use tq_base::{KeyRange, Line, Period, Rows};
+use tq_base::{KeyRange, Line, Period};
 use tq_event::Event;
 use tq_scan::Window;
 
@@ -120,10 +117,10 @@ fn lines_at(alloc: Global, keys: &[u128], period: &Period) -> Result<Vec<Line>, 
 {
     let mut lines = Vec::with_capacity(alloc, keys.len())?;
     'keys: for key in keys {
-        lines.push(Line {
+        lines.push_reserved(Line {
             row: (*key % ROWS) as u32,
             period: *period,
-        })?;
+        });
     }
     Ok(lines)
 }
@@ -146,17 +143,4 @@ pub(crate) fn lines_in(
     } else {
         read_lines(alloc, rows, keys, n)
     }
-}
-
-// The keys of the rows of lines, from 0 on. This loop too does no more than look at values that lie somewhere else, row
-// after row: they are near when they are tested and shown.
-pub(crate) fn first_keys(alloc: Global, kept: &Rows, lines: &[Line]) -> Result<Vec<u64>, AllocError>
-    requires { All (λ (line : Line). line.row < length kept.now.items) lines.now }
-    ensures { IfOk result (λ keys. keys.items ≡ map (λ (line : Line). shifted (key_of (values_at_number kept.now.items line.row))) lines.now) }
-{
-    let mut keys = Vec::with_capacity(alloc, lines.len())?;
-    'lines: for line in lines {
-        keys.push(first_key(kept.values(line.row as usize)))?;
-    }
-    Ok(keys)
 }

@@ -49,22 +49,13 @@ named : (rows deref_rows : List RowEvents) (n : ℕ) (period : Period) (keys der
 named rows deref_rows n period keys deref_keys lines rows_are keys_are stand =
     subst (λ ks. StandIn rows n period ks lines) keys_are (subst (λ rs. StandIn rs n period deref_keys lines) rows_are stand)
 
-pub first_keys-requires : goal.first_keys-requires
-first_keys-requires c =
-    let index = c.index-index.result.now in
-    let of_table = index_of c.args.self.now c.self.inside.catalogue c.self.inside.events.items c.self.inside.indexes.items c.args.table index c.self.view_is c.self.invariant c.requires.table c.index-index.ensures in
-    let keys : List ℕ = c.in_ok-found.found.keys in
-    let stand = named index.rows.items c.deref.result.now c.args.n c.args.period.now keys c.get.result.now c.in_ok-lines.lines.items c.deref.ensures.value c.get.ensures c.in_ok-lines.ensures in
-    subst (λ lines. All (λ (line : Line). line.row < length index.kept.items) lines) (sym c.deref-2.ensures.value)
-    (lines_within c.args.self.now.events c.args.table index of_table c.args.n c.args.period.now keys c.in_ok-found.ensures.readable c.in_ok-lines.lines.items stand)
-
 pub pick-requires : goal.pick-requires
 pick-requires c =
     let index = c.index-index.result.now in
     let of_table = index_of c.args.self.now c.self.inside.catalogue c.self.inside.events.items c.self.inside.indexes.items c.args.table index c.self.view_is c.self.invariant c.requires.table c.index-index.ensures in
     let keys : List ℕ = c.in_ok-found.found.keys in
     let stand = named index.rows.items c.deref.result.now c.args.n c.args.period.now keys c.get.result.now c.in_ok-lines.lines.items c.deref.ensures.value c.get.ensures c.in_ok-lines.ensures in
-    subst (λ lines. All (λ (line : Line). line.row < length c.in_ok-of.field-0.items) lines) (sym c.deref-3.ensures.value)
+    subst (λ lines. All (λ (line : Line). line.row < length c.in_ok-of.field-0.items) lines) (sym c.deref-2.ensures.value)
     (subst (λ (r : RowList). All (λ (line : Line). line.row < length r.items) c.in_ok-lines.lines.items) (sym c.in_ok-of.ensures)
     (lines_within c.args.self.now.events c.args.table index of_table c.args.n c.args.period.now keys c.in_ok-found.ensures.readable c.in_ok-lines.lines.items stand))
 
@@ -77,5 +68,5 @@ returns c =
     IfOk-weaker c.pick.result _ _
     (λ rows is. whole_of_lines c.args.self.now.events c.args.table index of_table c.args.n c.args.period.now keys c.in_ok-found.ensures.readable c.in_ok-lines.lines.items stand
     c.args.range.now rows.items c.in_ok-found.ensures.rows
-    (is ∙ ap (map (line_of c.in_ok-of.field-0.items)) c.deref-3.ensures.value ∙ ap (λ (r : RowList). map (line_of r.items) c.in_ok-lines.lines.items) c.in_ok-of.ensures))
+    (is ∙ ap (map (line_of c.in_ok-of.field-0.items)) c.deref-2.ensures.value ∙ ap (λ (r : RowList). map (line_of r.items) c.in_ok-lines.lines.items) c.in_ok-of.ensures))
     c.pick.ensures.rows
