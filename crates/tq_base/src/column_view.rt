@@ -1,12 +1,12 @@
 //! One column of a relation, for loops over rows: what is the same for all rows is looked up once.
 
-ghost use Rattle.std.specs.Prelude.{◌≡◌, ◌+◌, ◌≤◌, ◌++◌, OnOk, length, map, pos, vec_capacity, vec_len};
+ghost use Rattle.std.specs.Prelude.{◌≡◌, ◌+◌, ◌*◌, ◌<◌, ◌≤◌, ◌++◌, OnOk, length, map, pos, vec_capacity, vec_len};
 ghost use Rattle.std.specs.List.{list_all, range_with_len};
 ghost use Rattle.std.specs.Option.{option_copied};
 ghost use Rattle.tq_base.specs.Contents.{Int};
 ghost use Rattle.tq_base.specs.KeyRanges.{is_number_in};
 ghost use Rattle.tq_base.specs.Keys.{value_at};
-ghost use Rattle.tq_base.specs.Parts.{column_cells, number_in, part_values};
+ghost use Rattle.tq_base.specs.Parts.{column_cells, number_in, part_values, value_there};
 
 use crate::key_range::KeyRange;
 use crate::looks::{LOOKS, Looks};
@@ -90,6 +90,28 @@ fn number_in(numbers: Option<&[u32]>, place: usize) -> usize
     }
 }
 
+// The value of the column in the row of this number, where so many rows lie one behind the other; a row that is not
+// there has the number 0.
+#[inline]
+fn value_there<'a>(
+    values: &'a [Value],
+    rows: usize,
+    width: usize,
+    column: usize,
+    number: usize,
+    zero: &'a Value,
+) -> &'a Value
+    requires fill { length values.now ≡ rows * width }
+    requires inside { column < width }
+    requires zero { zero.now ≡ Int (pos 0) }
+    ensures { result.now ≡ value_there values.now width column number }
+{
+    if number >= rows {
+        return zero;
+    }
+    &values[number * width + column]
+}
+
 impl<'a> ColumnView<'a> {
     // The column in the first so many rows of the parts; one that stands nowhere is the number 0.
     pub(crate) fn of(
@@ -125,11 +147,14 @@ impl<'a> ColumnView<'a> {
         if row >= self.len {
             return self.zero;
         }
-        let number = number_in(self.numbers, row);
-        if number >= self.rows {
-            return self.zero;
-        }
-        &self.values[number * self.width + self.column]
+        value_there(
+            self.values,
+            self.rows,
+            self.width,
+            self.column,
+            number_in(self.numbers, row),
+            self.zero,
+        )
     }
 
     /// The value of the row; a row that is not there counts as the number 0.
@@ -145,8 +170,16 @@ impl<'a> ColumnView<'a> {
         ensures { result ≡ list_all (is_number_in range.now) self.now }
     {
         let mut are = true;
-        'rows: for row in 0..self.len() {
-            are &= self.value(row).is_number_in(range);
+        'rows: for row in 0..self.len {
+            let value = value_there(
+                self.values,
+                self.rows,
+                self.width,
+                self.column,
+                number_in(self.numbers, row),
+                self.zero,
+            );
+            are &= value.is_number_in(range);
         }
         are
     }

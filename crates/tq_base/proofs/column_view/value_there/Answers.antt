@@ -1,0 +1,7 @@
+use Rattle.std.proofs.Common.{◌∙◌, sym}
+use Rattle.tq_base.proofs.ColumnLemmas.{value_past}
+use Rattle.tq_base.proofs.column_view.value_there.Goals as goal
+
+pub returns-then-number-rows : goal.returns-then-number-rows
+returns-then-number-rows c =
+    c.requires.zero ∙ sym (value_past c.args.values.now c.args.width c.args.column c.args.rows c.args.number c.requires.fill c.if-number-rows.true)
