@@ -184,6 +184,23 @@ impl<'a> ColumnView<'a> {
         are
     }
 
+    // Whether a value lies in a box among those of the rows from the one on and before the other.
+    fn any_boxed(&self, from: usize, end: usize) -> bool {
+        let mut any = false;
+        'rows: for row in from..end {
+            let value = value_there(
+                self.values,
+                self.rows,
+                self.width,
+                self.column,
+                number_in(self.numbers, row),
+                self.zero,
+            );
+            any |= value.is_boxed();
+        }
+        any
+    }
+
     // Whether there may be values in boxes among those of as many rows from this one on as are looked at together. Where
     // rows stand in another order than their values, these are looked at together; others lie side by side.
     #[inline(never)]
@@ -191,9 +208,14 @@ impl<'a> ColumnView<'a> {
         if self.numbers.is_none() {
             return true;
         }
-        let mut looks = Looks::new(self.at(from));
-        'rows: for row in from..from.saturating_add(LOOKS as u32) {
-            looks.push(self.at(row));
+        let from = from as usize;
+        let end = self.len.min(from + LOOKS);
+        if !self.any_boxed(from, end) {
+            return false;
+        }
+        let mut looks = Looks::new(self.value(from));
+        'rows: for row in from..end {
+            looks.push(self.value(row));
         }
         looks.longest() > SHORT
     }
