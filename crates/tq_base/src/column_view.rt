@@ -201,8 +201,8 @@ impl<'a> ColumnView<'a> {
         any
     }
 
-    // Whether there may be values in boxes among those of as many rows from this one on as are looked at together. Where
-    // rows stand in another order than their values, these are looked at together; others lie side by side.
+    // Whether there may be values in boxes among those of as many rows from this one on as are looked at together.
+    // Where rows stand in another order than their values, these are looked at together; others lie side by side.
     #[inline(never)]
     pub(crate) fn has_boxed(&self, from: u32) -> bool {
         if self.numbers.is_none() {
