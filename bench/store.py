@@ -150,7 +150,8 @@ def main():
         asked, _, answers = measure_store(["ask", options.rows, options.questions], output)
         read, _, found = measure_store(["read", options.rows, options.questions], output)
     seconds = asked - fill
-    print(f"tq_store: {options.rows:,} rows filled in {fill:.2f} s, {peak / options.rows:.0f} bytes a row")
+    filled = f"{options.rows:,} rows filled in {fill:.2f} s, {peak / options.rows:.0f} bytes a row"
+    print(f"tq_store: {filled}, {numbers['levels']} levels in the middle of the history")
     print(f"tq_store: {seconds / options.questions * 1e6:.1f} microseconds a statement, of {answers['rows found'] / options.questions:.1f} rows")
     print(f"tq_store: {(read - fill) / options.questions * 1e6:.1f} microseconds and {found['nodes read'] / options.questions:.1f} reads for its rows alone", flush=True)
     questions = list(questions_of(numbers["events"], options.questions))

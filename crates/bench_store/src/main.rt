@@ -12,7 +12,7 @@ mod fill;
 mod questions;
 
 use fill::fill;
-use questions::{Found, ask};
+use questions::{Found, ask, count_levels};
 use std::env;
 
 /// What is to be done, with how many rows and questions.
@@ -56,6 +56,7 @@ fn main(rt: HostRuntime) -> anyhow::Result<()> {
     let task = task_of(&rt)?;
     let db = fill(alloc, task.rows)?;
     println!(rt; "events {}", db.count())?;
+    println!(rt; "levels {}", count_levels(&db)?)?;
     if task.asks {
         print_found(&rt, &ask(alloc, &db, task.questions, true)?)?;
     }

@@ -22,6 +22,14 @@ pub struct Found {
 }
 
 impl Found {
+    fn nothing() -> Found {
+        Found {
+            rows: 0,
+            numbers: 0,
+            reads: 0,
+        }
+    }
+
     // A row of this number was found.
     fn add(&mut self, number: u64) {
         self.rows = self.rows.saturating_add(1);
@@ -87,6 +95,21 @@ fn read_one(
     Ok(())
 }
 
+/// How many levels the first table's tree has in the middle of the history: for one key at one instant a node of each is
+/// read.
+pub fn count_levels(db: &Db) -> anyhow::Result<u64> {
+    let n = db.count();
+    let at = u64::from(n / 2);
+    let mut meter = Meter::new();
+    if let (Some(start), Some(end)) = (Instant::new(at), Bound::new(at + 1))
+        && let (Some(range), Some(period)) = (KeyRange::new(0, 0), Period::new(start, end))
+    {
+        let question = Question { n, range, period };
+        read_one(db, &question, &mut meter, &mut Found::nothing())?;
+    }
+    Ok(meter.count())
+}
+
 // The numbers that stand in the table's first column.
 fn add_numbers(table: &Table<'_>, found: &mut Found) {
     for line in 0..table.rows.len() {
@@ -128,11 +151,7 @@ fn answer_one(
 pub fn ask(alloc: Global, db: &Db, count: u32, answered: bool) -> anyhow::Result<Found> {
     let mut draws = Draws { state: 12345 };
     let mut meter = Meter::new();
-    let mut found = Found {
-        rows: 0,
-        numbers: 0,
-        reads: 0,
-    };
+    let mut found = Found::nothing();
     for _ in 0..count {
         if let Some(question) = draw(&mut draws, db.count()) {
             if answered {
