@@ -17,6 +17,7 @@ mod key_range;
 mod keys;
 pub mod laws;
 mod looks;
+mod middle_text;
 mod name;
 mod number;
 mod parts;

@@ -13,6 +13,15 @@ use std::str;
 /// How many bytes of a text lie in the value itself.
 pub const SHORT: usize = 14;
 
+// The ranks of texts begin there: 2^120.
+const TEXTS: u128 = 0x100_0000_0000_0000_0000_0000_0000_0000;
+
+// How far the first eight bytes stand above the others: 2^56.
+const FIRST_STEP: u128 = 0x100_0000_0000_0000;
+
+// What the last six bytes stay below: 2^48.
+const LAST_SPAN: u64 = 0x1_0000_0000_0000;
+
 /// The first 14 bytes, zeros where there are no more.
 pub fn head_of(text: &[u8]) -> [u8; SHORT]
     ensures { result ≡ padded 14 text.now }
@@ -32,7 +41,9 @@ pub fn text_rank(head: &[u8; SHORT], len: u8) -> u128
     ensures bytes { All (λ byte. byte < 256) head.now }
 {
     let [a, b, c, d, e, f, g, h, i, j, k, l, m, n] = *head;
-    u128::from_be_bytes([1, a, b, c, d, e, f, g, h, i, j, k, l, m, n, len])
+    let first = u64::from_be_bytes([a, b, c, d, e, f, g, h]);
+    let last = u64::from_be_bytes([g, h, i, j, k, l, m, n]) % LAST_SPAN;
+    TEXTS + u128::from(first) * FIRST_STEP + u128::from(last) * 256 + u128::from(len)
 }
 
 /// A text of at most 14 bytes, seen as its bytes. The bytes after its own are zeros.

@@ -30,10 +30,12 @@ pub fn part_len(files: &[TableFile], workers: u32, least: usize) -> usize
     (all / PARTS_A_WORKER / workers as usize).max(least).max(1)
 }
 
-// How long the first part of a file is to be, where the others are to have this length: nearly as long as what each
-// worker reads of the file, since its rows stay where they are, and those of the other parts are moved behind them.
-fn first_len(file: usize, workers: u32, len: usize) -> usize {
-    let share = file / (workers as usize + 1);
+// How long the first part of a file is to be, where the others are to have this length: as long as what each worker
+// reads of the file, since its rows stay where they are, and those of the other parts are moved behind them.
+fn first_len(file: usize, workers: u32, len: usize) -> usize
+    requires { 1 ≤ workers }
+{
+    let share = file / workers as usize;
     if share < LONG { len } else { share.max(len) }
 }
 

@@ -107,16 +107,27 @@ fn events_of(period: &Period) -> u32
     if period.end.number() == FOREVER { 1 } else { 2 }
 }
 
+// How many events the rows of the periods make. Each period is looked at, so that there is no branch to guess.
+fn events_in(periods: &[Period]) -> u64
+    ensures { result ≡ sum_by period_events periods.now }
+{
+    let mut events: u64 = 0;
+    'periods: for period in periods {
+        events += u64::from(events_of(period));
+    }
+    events
+}
+
 // How many events are left of so many once the rows have made theirs; `None` where they make more.
 fn events_left(left: u32, rows: &Rows) -> Option<u32>
     ensures { (table : _) → IfSome result (λ rest. rest + sum_by event_count (map (told_by table) rows.now.items) ≡ left) }
 {
-    let mut rest = left;
-    let periods = rows.periods();
-    'rows: for period in periods {
-        rest = rest.checked_sub(events_of(period))?;
+    let events = events_in(rows.periods());
+    if events <= u64::from(left) {
+        Some(left - events as u32)
+    } else {
+        None
     }
-    Some(rest)
 }
 
 /// Whether the rows of the tables make no more events than this.
