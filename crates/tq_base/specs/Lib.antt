@@ -12,6 +12,7 @@ pub mod Layering
 pub mod Layers
 pub mod Names
 pub mod Numbers
+pub mod Packed
 pub mod Parts
 pub mod Periods
 pub mod PlaceViews

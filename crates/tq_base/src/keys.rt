@@ -12,6 +12,7 @@ ghost use Rattle.tq_base.specs.ValueOrder.{value_cmp, values_cmp};
 
 use crate::column_view::ColumnView;
 use crate::looks::LOOKS;
+use crate::packed::sort_packed;
 use crate::period::{Bound, Instant, Period};
 use crate::rank::{rank_in_place, rank_of};
 use crate::relation::Relation;
@@ -150,7 +151,7 @@ fn are_long_runs(keys: &[Key]) -> bool {
 }
 
 // Sorts keys whose ranks tell all that is compared: no row is read. A stable sort takes runs as they stand,
-// and is slower where there are none.
+// and is slower where there are none: there keys are packed to be sorted, if they can be.
 fn sort_told(keys: &mut Vec<Key>) -> Result<(), AllocError>
     ensures same { OnOk result (IsPermutation keys.old.items keys.new.items) }
     ensures order { OnOk result (IsSorted told_cmp keys.new.items) }
@@ -159,7 +160,10 @@ fn sort_told(keys: &mut Vec<Key>) -> Result<(), AllocError>
     if are_long_runs(keys) {
         keys.sort_by(|one, other| compare_told(one, other))?;
     } else {
-        keys.sort_unstable_by(|one, other| compare_told(one, other));
+        let alloc = *keys.allocator();
+        if !sort_packed(alloc, keys) {
+            keys.sort_unstable_by(|one, other| compare_told(one, other));
+        }
     }
     Ok(())
 }

@@ -20,6 +20,7 @@ mod looks;
 mod middle_text;
 mod name;
 mod number;
+mod packed;
 mod parts;
 mod period;
 mod place_view;

@@ -11,6 +11,6 @@ pub returns-in_ok-sort_by-clause-order : goal.returns-in_ok-sort_by-clause-order
 returns-in_ok-sort_by-clause-order c =
     c.in_ok-sort_by.ensures.sorted (λ (x y : Key). is_lt (told_cmp x y)) (ranks_by told_total (λ (k : Key). k)) (always_returns_same _ _ _ (λ a r f k. search rules))
 
-pub returns-else-are_long_runs-clause-order : goal.returns-else-are_long_runs-clause-order
-returns-else-are_long_runs-clause-order c =
+pub returns-then-not-sort_packed-clause-order : goal.returns-then-not-sort_packed-clause-order
+returns-then-not-sort_packed-clause-order c =
     c.sort_unstable_by.ensures.sorted (λ (x y : Key). is_lt (told_cmp x y)) (ranks_by told_total (λ (k : Key). k)) (always_returns_same _ _ _ (λ a r f k. search rules))
