@@ -25,7 +25,7 @@ use tq_table::{coalesce, rows_text};
 pub(crate) const SHARES_EACH: u32 = 4;
 
 // And so many at least: values may be few, and some much more frequent than others.
-const LEAST_SHARES: u32 = 32;
+const LEAST_SHARES: u32 = 16;
 
 // The most tables of which rows are parted.
 pub(crate) const MOST_TABLES: usize = 64;

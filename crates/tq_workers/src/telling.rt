@@ -19,13 +19,17 @@ const STRETCH: usize = 65_536;
 // About as many rows are looked at for each share, so that finding the cuts costs next to nothing.
 const LOOKED_AT: usize = 64;
 
-// The share of the value.
+// The share of the value. Each cut is looked at, so that there is no branch to guess.
 fn share_of(cuts: &[u128], value: &Value) -> u8
     requires { length cuts.now ≤ 63 }
     ensures { result ≡ share_of cuts.now value.now }
 {
     let rank = rank_of(value);
-    cuts.iter().filter(|cut| **cut <= rank).count() as u8
+    let mut share = 0;
+    'cuts: for cut in cuts {
+        share += u8::from(*cut <= rank);
+    }
+    share
 }
 
 // The share of the row of these values, by that in the column.
@@ -211,6 +215,14 @@ pub(crate) fn some_ranks(
     Ok(ranks)
 }
 
+// Where a share begins among so many ranks. The later a share, the smaller it is, so that nobody waits long for the last
+// ones: of n shares the first takes 2n - 1 parts of n * n, and the last one part.
+fn begin_of(len: usize, share: usize, shares: usize) -> usize {
+    let left = shares.saturating_sub(share);
+    let parts = shares.saturating_mul(shares).max(1);
+    len.saturating_mul(parts.saturating_sub(left.saturating_mul(left))) / parts
+}
+
 /// Of these ranks, in order, those at which so many shares begin, each of them once.
 pub(crate) fn spaced(alloc: Global, ranks: &[u128], shares: usize) -> Result<Vec<u128>, AllocError>
     requires { shares ≤ 64 }
@@ -218,7 +230,7 @@ pub(crate) fn spaced(alloc: Global, ranks: &[u128], shares: usize) -> Result<Vec
 {
     let mut cuts = Vec::with_capacity(alloc, shares)?;
     'shares: for share in 1..shares {
-        match ranks.get(ranks.len() / shares * share) {
+        match ranks.get(begin_of(ranks.len(), share, shares)) {
             Some(rank) if cuts.last() == Some(rank) => {}
             Some(rank) => cuts.push(*rank)?,
             None => break,
@@ -227,7 +239,7 @@ pub(crate) fn spaced(alloc: Global, ranks: &[u128], shares: usize) -> Result<Vec
     Ok(cuts)
 }
 
-/// Ranks of values in the column by which the rows fall into shares of about as many rows, at most so many.
+/// Ranks of values in the column by which the rows fall into shares, at most so many.
 pub(crate) fn cuts_of(
     alloc: Global,
     rows: &Rows,
