@@ -17,7 +17,6 @@ mod key_range;
 mod keys;
 pub mod laws;
 mod looks;
-mod middle_text;
 mod name;
 mod number;
 mod packed;
