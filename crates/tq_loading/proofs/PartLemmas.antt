@@ -1,5 +1,5 @@
 -- Rows of a part, and of one that follows on it.
-use Rattle.std.proofs.Common.{◌≡◌, ◌≢◌, ◌≤◌, ◌<◌, ◌+◌, ◌-◌, ◌++◌, ◌∷◌, ℕ, zero, suc, false, List, [], drop, take, map, length, refl, sym, ap, subst, ◌∙◌, arith}
+use Rattle.std.proofs.Common.{◌≡◌, ◌≤◌, ◌<◌, ◌+◌, ◌-◌, ◌++◌, ◌∷◌, ◌==◌, ℕ, zero, suc, true, false, List, [], drop, take, map, length, refl, sym, ap, subst, ◌∙◌, arith}
 use Rattle.std.specs.Prelude.{Ok, slice_range}
 use Rattle.std.proofs.lemmas.List.{drop-drop, drop-take, map-append, take-append-drop, take-take, take_all}
 use Rattle.csv.specs.Machine.{next_record}
@@ -12,8 +12,10 @@ use Rattle.tq_base.specs.RowLists.{RowList}
 use Rattle.tq_event.specs.Loading.{begins_with_mark, csv_records, entry_of}
 use Rattle.tq_event.specs.Tables.{told_by}
 use Rattle.tq_loading.specs.declared.part.Part.{Part}
+use Rattle.tq_loading.specs.Feeds.{ends_in_feed}
 use Rattle.tq_loading.specs.Parts.{AreRowsOfPart, AreRowsOfTable, EndsRecords, IsCut, PartTells, TellRows, stands_after}
 use Rattle.tq_loading.proofs.ChainLemmas.{ends_on, records_apart, unmarked}
+use Rattle.tq_loading.proofs.FeedLemmas.{last_behind}
 
 -- ---- records
 
@@ -60,23 +62,30 @@ ranges bytes start middle end first second =
 pub taken : (bytes : List ℕ) (place : ℕ) → slice_range bytes 0 place ≡ take place bytes
 taken bytes place = let many : place - 0 ≡ place = omega arith in rw many refl
 
--- behind the bytes between two cuts a record begins
-ends_before : (bytes : List ℕ) (start place : ℕ) → start ≤ place → place ≤ length bytes → (start ≢ 0 → IsCut bytes start) → IsCut bytes place → EndsRecords (slice_range bytes start place)
-ends_before bytes zero place upto within begins cut = rw (taken bytes place) cut.begins
-ends_before bytes (suc start) place upto within begins cut =
-    let from : IsCut bytes (suc start) = begins (λ e. omega (arith, e)) in
-    let both : take place bytes ≡ take (suc start) bytes ++ slice_range bytes (suc start) place = sym (taken bytes place) ∙ ranges bytes 0 (suc start) place (omega arith) upto ∙ ap (λ l. l ++ slice_range bytes (suc start) place) (taken bytes (suc start)) in
-    let none : begins_with_mark (slice_range bytes (suc start) place) ≡ false = mark_taken (place - suc start) (drop (suc start) bytes) from.unmarked in
-    ap (stands_after st.StartRecord) (unmarked (slice_range bytes (suc start) place) none)
-    ∙ sym (ends_on (take (suc start) bytes) (slice_range bytes (suc start) place) from.begins (λ e. none))
-    ∙ ap (λ l. stands_after st.StartRecord (strip_bom l)) (sym both)
-    ∙ cut.begins
+-- ---- where records end
 
-records_parted : (bytes : List ℕ) (start place end : ℕ) → start ≤ place → place ≤ end → end ≤ length bytes → (start ≢ 0 → IsCut bytes start) → IsCut bytes place
+-- bytes behind which records begin, one behind the other
+ends_both : (bytes more : List ℕ) → EndsRecords bytes → begins_with_mark more ≡ false → EndsRecords more → EndsRecords (bytes ++ more)
+ends_both bytes more first none second = ends_on bytes more first (λ e. none) ∙ ap (stands_after st.StartRecord) (sym (unmarked more none)) ∙ second
+
+-- a part that ends behind a line feed is empty, or ends with that line feed
+pub part_ends : (bytes : List ℕ) (start end : ℕ) → start ≤ end → (ends_in_feed (slice_range bytes start end) ≡ true → EndsRecords (slice_range bytes start end)) → ends_in_feed (take end bytes) ≡ true
+    → EndsRecords (slice_range bytes start end)
+unfolding strip_bom stands_after
+part_ends bytes start end upto ends feed = by (slice_range bytes start end) refl
+  where
+    both : take end bytes ≡ take start bytes ++ slice_range bytes start end
+    both = sym (taken bytes end) ∙ ranges bytes 0 start end (omega arith) upto ∙ ap (λ l. l ++ slice_range bytes start end) (taken bytes start)
+
+    by : (part : List ℕ) → slice_range bytes start end ≡ part → EndsRecords (slice_range bytes start end)
+    by [] is = rw is refl
+    by (b ∷ part) is =
+        ends (ap ends_in_feed is ∙ ap (λ n. n == 10) (sym (last_behind (take start bytes) b part 0 0)) ∙ ap (λ l. ends_in_feed (take start bytes ++ l)) (sym is) ∙ ap ends_in_feed (sym both) ∙ feed)
+
+records_parted : (bytes : List ℕ) (start place end : ℕ) → start ≤ place → place ≤ end → EndsRecords (slice_range bytes start place) → begins_with_mark (drop place bytes) ≡ false
     → csv_records (slice_range bytes start end) ≡ csv_records (slice_range bytes start place) ++ csv_records (slice_range bytes place end)
-records_parted bytes start place end some upto within begins cut =
-    ap csv_records (ranges bytes start place end some upto)
-    ∙ records_apart (slice_range bytes start place) (slice_range bytes place end) (ends_before bytes start place some (omega (arith, upto, within)) begins cut) (mark_taken (end - place) (drop place bytes) cut.unmarked)
+records_parted bytes start place end some upto ends none =
+    ap csv_records (ranges bytes start place end some upto) ∙ records_apart (slice_range bytes start place) (slice_range bytes place end) ends (mark_taken (end - place) (drop place bytes) none)
 
 no_records : csv_records [] ≡ []
 unfolding records_from next_record strip_bom
@@ -111,6 +120,9 @@ module _ (form : Form) (columns : List Column) (bytes : List ℕ) (first second 
       cut : IsCut bytes (suc place)
       cut = subst (IsCut bytes) begins (is_second.part_of.begins (λ e. omega (arith, begins, e)))
 
+      behind : ends_in_feed (take (suc place) bytes) ≡ true → EndsRecords (slice_range bytes start (suc place))
+      behind = rw (at, over) at is_first.ends
+
       upto : suc place ≤ second.end
       upto = omega (arith, begins, is_second.part_of.ordered)
 
@@ -122,8 +134,21 @@ module _ (form : Form) (columns : List Column) (bytes : List ℕ) (first second 
           rw here (tell_both form columns [] (csv_records (slice_range bytes (suc place) second.end)) rows.items others.items none others_told)
       by (suc n) e =
           let some : start < suc place = omega (arith, e) in
-          rw (records_parted bytes start (suc place) second.end (omega (arith, some)) upto is_second.part_of.within (λ e. subst (IsCut bytes) at (is_first.part_of.begins (λ z. e (sym at ∙ z)))) cut)
+          rw (records_parted bytes start (suc place) second.end (omega (arith, some)) upto (behind cut.feed) cut.unmarked)
           (part_tells_both form start columns (csv_records (slice_range bytes start (suc place))) (csv_records (slice_range bytes (suc place) second.end)) rows.items others.items tells others_told)
+
+  ends_upto : (start place : ℕ) → first.start ≡ start → second.start ≡ place → ends_in_feed (take second.end bytes) ≡ true → EndsRecords (slice_range bytes start second.end)
+  ends_upto start zero at begins feed =
+      let none : start ≡ 0 = omega (arith, at, next, begins, is_first.part_of.ordered) in
+      let all : EndsRecords (slice_range bytes 0 second.end) = rw begins at (is_second.ends feed) in
+      rw none all
+  ends_upto start (suc place) at begins feed =
+      let over : first.end ≡ suc place = next ∙ begins in
+      let cut : IsCut bytes (suc place) = subst (IsCut bytes) begins (is_second.part_of.begins (λ e. omega (arith, begins, e))) in
+      let behind : ends_in_feed (take (suc place) bytes) ≡ true → EndsRecords (slice_range bytes start (suc place)) = rw (at, over) at is_first.ends in
+      let later : EndsRecords (slice_range bytes (suc place) second.end) = rw begins at (is_second.ends feed) in
+      rw (ranges bytes start (suc place) second.end (omega (arith, at, over, is_first.part_of.ordered)) (omega (arith, begins, is_second.part_of.ordered)))
+      (ends_both (slice_range bytes start (suc place)) (slice_range bytes (suc place) second.end) (behind cut.feed) (mark_taken (second.end - suc place) (drop (suc place) bytes) cut.unmarked) later)
 
   pub both_read : AreRowsOfPart form columns bytes both all
   both_read = record {
@@ -134,6 +159,7 @@ module _ (form : Form) (columns : List Column) (bytes : List ℕ) (first second 
     };
     wide = wide ∙ is_first.wide;
     told = rw (starts, ends, are) (told_upto first.start second.start refl refl);
+    ends = rw (starts, ends) (ends_upto first.start second.start refl refl);
   }
 
 -- the rows of the part that is the whole file

@@ -1,10 +1,7 @@
 -- The machine of the `csv` crate over bytes behind which it stands at the start of a record: it finds in them what it finds
 -- before more bytes too.
-use Rattle.std.proofs.Common.{◌≡◌, ◌≢◌, ◌-◌, ℕ, suc, ◌==◌, Bool, true, false, ◌⊎◌, inl, inr, List, [], ◌∷◌, ◌++◌, length, ◌<◌, ◌∙◌, Some, None, ap, refl, sym, subst, arith}
-use Rattle.std.specs.Prelude.{All, slice_get, slice_index_or}
+use Rattle.std.proofs.Common.{◌≡◌, ℕ, ◌==◌, Bool, true, false, ◌⊎◌, inl, inr, List, [], ◌∷◌, ◌++◌, Some, None, refl, sym, subst}
 use Rattle.std.proofs.lemmas.Bool.{eqb-true}
-use Rattle.std.proofs.lemmas.List.Elements.{All-head, All-tail}
-use Rattle.std.proofs.lemmas.Option.{get_or_from_slice_get}
 use Rattle.csv.specs.Machine.{Read, field_after, fields_after, in_field, is_end, next_record, start_record, step}
 use Rattle.csv.specs.Reading.{default_config}
 use Rattle.csv.specs.declared.parser.Action.{Action}
@@ -12,9 +9,6 @@ use Rattle.csv.specs.declared.parser.State.{State}
 use Rattle.csv.specs.declared.parser.State.TheVariants as st
 use Rattle.csv.specs.declared.parser.Action.TheVariants as act
 use Rattle.tq_loading.specs.Parts.{stands_after}
-use Rattle.tq_loading.specs.Standing.{state_of}
-use Rattle.tq_loading.specs.declared.standing.Standing.{Standing}
-use Rattle.tq_loading.specs.declared.standing.Standing.TheVariants as at
 
 -- ---- states
 
@@ -180,112 +174,3 @@ between_read s (b ∷ bytes) between ends = by (between_goes s between b) (λ on
         skipped (inr passes) = inr (record { none = rw is passes.none; behind = λ more. rw is (passes.behind more) })
     by (inr begins) rest =
         inl (later s [] [] b bytes begins.none (within_found (step default_config s b).0 (fields_after (step default_config s b).1 [] []) (field_after (step default_config s b).1 b []) bytes begins.within ends))
-
--- ---- lines
-
--- a state in which no quote is open
-abbrev IsUnquoted : State → Type 0
-IsUnquoted st.StartRecord = Unit {0}
-IsUnquoted st.AfterCr = Unit {0}
-IsUnquoted st.StartField = Unit {0}
-IsUnquoted st.InField = Unit {0}
-IsUnquoted st.InQuoted = ⊥
-IsUnquoted st.AfterQuote = Unit {0}
-IsUnquoted st.InEscape = ⊥
-IsUnquoted st.InComment = ⊥
-
-differs : (b n : ℕ) → b ≢ n → (b == n) ≡ false
-differs b n other = by (b == n) refl
-  where
-    by : (t : Bool) → (b == n) ≡ t → (b == n) ≡ false
-    by true e = absurd (other (eqb-true b n e))
-    by false e = e
-
-field_unquoted : (b : ℕ) → IsUnquoted (in_field default_config b).0
-field_unquoted b = by (b == 44) (b == 13) (b == 10) refl refl refl
-  where
-    by : (comma return feed : Bool) → (b == 44) ≡ comma → (b == 13) ≡ return → (b == 10) ≡ feed → IsUnquoted (in_field default_config b).0
-    by true return feed is r f = rw is tt
-    by false true feed c is f = rw (c, is) tt
-    by false false true c r is = rw (c, r, is) tt
-    by false false false c r f = rw (c, r, f) tt
-
-start_unquoted : (b : ℕ) → b ≢ 34 → IsUnquoted (start_record default_config b).0
-start_unquoted b other = by (b == 44) (b == 13) (b == 10) refl refl refl
-  where
-    quote : (b == 34) ≡ false
-    quote = differs b 34 other
-
-    by : (comma return feed : Bool) → (b == 44) ≡ comma → (b == 13) ≡ return → (b == 10) ≡ feed → IsUnquoted (start_record default_config b).0
-    by comma true feed c is f = rw is tt
-    by comma false true c r is = rw (r, is) tt
-    by true false false is r f = rw (r, f, quote, is) tt
-    by false false false c r f = rw (r, f, quote, c) tt
-
--- a byte that is no quote opens none
-step_unquoted : (s : State) → IsUnquoted s → (b : ℕ) → b ≢ 34 → IsUnquoted (step default_config s b).0
-step_unquoted st.StartRecord unquoted b other = start_unquoted b other
-step_unquoted st.AfterCr unquoted b other = subst (λ q. IsUnquoted q.0) (sym (after_return b)) (start_unquoted b other)
-step_unquoted st.StartField unquoted b other = rw (differs b 34 other) (field_unquoted b)
-step_unquoted st.InField unquoted b other = field_unquoted b
-step_unquoted st.InQuoted unquoted b other = absurd unquoted
-step_unquoted st.AfterQuote unquoted b other = rw (differs b 34 other) (field_unquoted b)
-step_unquoted st.InEscape unquoted b other = absurd unquoted
-step_unquoted st.InComment unquoted b other = absurd unquoted
-
--- ---- bytes with no quote
-
--- in quotes they change nothing
-pub quotes_stay : (bytes : List ℕ) → All (λ b. b ≢ 34) bytes → stands_after st.InQuoted bytes ≡ st.InQuoted
-unfolding stands_after
-quotes_stay [] plain = refl
-quotes_stay (b ∷ bytes) plain = rw (differs b 34 (All-head (λ x. x ≢ 34) b bytes plain)) (quotes_stay bytes (All-tail (λ x. x ≢ 34) b bytes plain))
-
-start_alike : (b : ℕ) → b ≢ 34 → b ≢ 13 → (start_record default_config b).0 ≡ (in_field default_config b).0
-start_alike b quote return = by (b == 44) (b == 10) refl refl
-  where
-    by : (comma feed : Bool) → (b == 44) ≡ comma → (b == 10) ≡ feed → (start_record default_config b).0 ≡ (in_field default_config b).0
-    by comma true c is = let at : b ≡ 10 = eqb-true b 10 is in rw at refl
-    by true false is f = rw (differs b 13 return, f, differs b 34 quote, is) refl
-    by false false c f = rw (differs b 13 return, f, differs b 34 quote, c) refl
-
--- a byte that is no carriage return is read as in a field
-step_alike : (s : State) → IsUnquoted s → (b : ℕ) → b ≢ 34 → b ≢ 13 → (step default_config s b).0 ≡ (in_field default_config b).0
-step_alike st.StartRecord unquoted b quote return = start_alike b quote return
-step_alike st.AfterCr unquoted b quote return = ap (λ q. q.0) (after_return b) ∙ start_alike b quote return
-step_alike st.StartField unquoted b quote return = rw (differs b 34 quote) refl
-step_alike st.InField unquoted b quote return = refl
-step_alike st.AfterQuote unquoted b quote return = rw (differs b 34 quote) refl
-step_alike st.InQuoted unquoted b quote return = absurd unquoted
-step_alike st.InEscape unquoted b quote return = absurd unquoted
-step_alike st.InComment unquoted b quote return = absurd unquoted
-
-last_alike : (s : State) → IsUnquoted s → (bytes : List ℕ) → All (λ b. b ≢ 34) bytes → (last : ℕ) → last ≢ 13 → 0 < length bytes
-    → ((d : ℕ) → slice_index_or bytes (length bytes - 1) d ≡ last) → stands_after s bytes ≡ (in_field default_config last).0
-unfolding stands_after
-last_alike s unquoted [] plain last return some is = absurd (omega (arith, some))
-last_alike s unquoted (b ∷ []) plain last return some is =
-    let same : b ≡ last = is 0 in
-    step_alike s unquoted b (All-head (λ x. x ≢ 34) b [] plain) (λ e. return (sym same ∙ e))
-    ∙ ap (λ x. (in_field default_config x).0) same
-last_alike s unquoted (b ∷ c ∷ bytes) plain last return some is =
-    let place : suc (suc (length bytes)) - 1 ≡ suc (suc (length bytes) - 1) = omega arith in
-    last_alike (step default_config s b).0 (step_unquoted s unquoted b (All-head (λ x. x ≢ 34) b (c ∷ bytes) plain)) (c ∷ bytes)
-    (All-tail (λ x. x ≢ 34) b (c ∷ bytes) plain) last return (omega arith) (λ d. rw place at (is d))
-
--- where no quote is open the last one tells, if it is no carriage return
-pub last_tells : (s : Standing) → s ≢ at.InQuotes → (bytes : List ℕ) → All (λ b. b ≢ 34) bytes → (last : ℕ) → last ≢ 13
-    → Some last ≡ slice_get bytes (length bytes - 1) → stands_after (state_of s) bytes ≡ (in_field default_config last).0
-last_tells s other bytes plain last return is = last_alike (state_of s) (unquoted s other) bytes plain last return (some bytes is) (λ d. get_or_from_slice_get bytes (length bytes - 1) last d (sym is))
-  where
-    unquoted : (s : Standing) → s ≢ at.InQuotes → IsUnquoted (state_of s)
-    unquoted at.Record other = tt
-    unquoted at.Field other = tt
-    unquoted at.InField other = tt
-    unquoted at.InQuotes other = absurd (other refl)
-    unquoted at.BehindQuote other = tt
-    unquoted at.BehindReturn other = tt
-
-    some : (bytes : List ℕ) → Some last ≡ slice_get bytes (length bytes - 1) → 0 < length bytes
-    some [] e = absurd cc
-    some (b ∷ bytes) e = omega arith

@@ -1,5 +1,5 @@
 -- Parts of the files of tables, and the rows that their records tell. This project's own.
-use Rattle.std.specs.Prelude.{◌≡◌, ◌≢◌, ◌≤◌, ◌<◌, ℕ, zero, suc, false, List, [], ◌∷◌, length, map, take, drop, slice_get, slice_range, Some, Ok}
+use Rattle.std.specs.Prelude.{◌≡◌, ◌≢◌, ◌≤◌, ◌<◌, ℕ, zero, suc, true, false, List, [], ◌∷◌, length, map, take, drop, slice_get, slice_range, Some, Ok}
 use Rattle.std.proofs.Props.{props}
 use Rattle.csv.specs.Machine.{step}
 use Rattle.csv.specs.Reading.{default_config, strip_bom}
@@ -13,6 +13,7 @@ use Rattle.tq_base.specs.RowLists.{RowList}
 use Rattle.tq_event.specs.declared.file.TableFile.{TableFile}
 use Rattle.tq_event.specs.Loading.{begins_with_mark, columns_of, csv_records, entry_of, next_name}
 use Rattle.tq_event.specs.Tables.{told_by}
+use Rattle.tq_loading.specs.Feeds.{ends_in_feed}
 use Rattle.tq_loading.specs.declared.part.Part.{Part}
 use Rattle.tq_loading.specs.declared.part.PartRows.{PartRows}
 
@@ -27,9 +28,9 @@ stands_after s (b ∷ bytes) = stands_after (step default_config s b).0 bytes
 abbrev pub EndsRecords : List ℕ → Type 0
 EndsRecords bytes = stands_after st.StartRecord (strip_bom bytes) ≡ st.StartRecord
 
--- at the place a record begins, and no byte order mark
+-- the place is just behind a line feed, and no byte order mark begins there
 pub record IsCut (bytes : List ℕ) (place : ℕ) : Type 0 where
-  pub begins : EndsRecords (take place bytes)
+  pub feed : ends_in_feed (take place bytes) ≡ true
   pub unmarked : begins_with_mark (drop place bytes) ≡ false
 
 -- a part of the bytes, which begins where they do or at a cut
@@ -55,11 +56,12 @@ PartTells form zero columns [] rows = ⊥
 PartTells form zero columns (header ∷ records) rows = TellRows form columns records rows
 PartTells form (suc start) columns records rows = TellRows form columns records rows
 
--- the rows of a part of a table's bytes
+-- the rows of a part of a table's bytes, which ends where a record does if a line feed stands in front of its end
 pub record AreRowsOfPart (form : Form) (columns : List Column) (bytes : List ℕ) (part : Part) (rows : RowList) : Type 0 where
   pub part_of : IsPart bytes part
   pub wide : rows.width ≡ length columns
   pub told : PartTells form part.start columns (csv_records (slice_range bytes part.start part.end)) rows.items
+  pub ends : ends_in_feed (take part.end bytes) ≡ true → EndsRecords (slice_range bytes part.start part.end)
 
 -- it holds of the file and the schema of the table
 abbrev pub HoldsAt : List TableFile → List Schema → ℕ → (TableFile → Schema → Type 0) → Type 0

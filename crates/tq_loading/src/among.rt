@@ -37,7 +37,7 @@ fn tables_of_parts<R: Threads + Sync, G: Gate + Sync>(
         return Ok(None);
     };
     let len = part_len(files, workers, least);
-    let parts = cut(rt, alloc, files, len, workers)?;
+    let parts = cut(alloc, files, len, workers)?;
     let read = read_parts(
         rt, alloc, limit, files, &schemas, &parts, workers, gate, form,
     )?;

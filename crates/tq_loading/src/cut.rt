@@ -1,15 +1,12 @@
 // Cutting files into parts.
 
-ghost use Rattle.std.specs.Prelude.{◌≡◌, ◌≢◌, ◌≤◌, ◌<◌, ◌+◌, ◌-◌, All, IfOk, IfSome, OnOk, false, length, slice_index, take};
-ghost use Rattle.tq_event.specs.Loading.{begins_with_mark as has_mark};
-ghost use Rattle.tq_loading.specs.Parts.{EndsRecords, IsPartOf};
-ghost use Rattle.tq_loading.specs.Stretches.{AreToldOf, LiesIn};
+ghost use Rattle.std.specs.Prelude.{◌≡◌, ◌≤◌, ◌<◌, ◌+◌, All, IfOk, IfSome, OnOk, length, slice_index, take, true};
+ghost use Rattle.tq_loading.specs.Feeds.{ends_in_feed};
+ghost use Rattle.tq_loading.specs.Parts.{IsCut, IsPartOf};
 
 use crate::part::Part;
-use crate::standing::{Standing, standing_behind, until_record};
-use crate::stretches::{MOST_STRETCHES, Stretch, stretches_of, told_by, told_end};
+use memchr::memchr;
 use std::alloc::{AllocError, Global};
-use std::thread::Threads;
 use tq_event::TableFile;
 use tq_event::steps::begins_with_mark;
 
@@ -18,6 +15,12 @@ const PARTS_A_WORKER: usize = 16;
 
 // The first part of a file is longer only where it has so many bytes.
 const LONG: usize = 65_536;
+
+// The most cuts of one file.
+const MOST_CUTS: usize = 4_096;
+
+// So many lines are looked at for one at which to cut.
+const MOST_LINES: usize = 64;
 
 /// About how long a part is to be for these workers, and not shorter than this.
 pub fn part_len(files: &[TableFile], workers: u32, least: usize) -> usize
@@ -44,62 +47,71 @@ fn wanted_len(start: usize, first: usize, len: usize) -> usize {
     if start == 0 { first } else { len }
 }
 
-// How many bytes the byte order mark in front takes.
-fn mark_len(bytes: &[u8]) -> usize
-    ensures within { result ≤ length bytes.now }
-    ensures begins { EndsRecords (take result bytes.now) }
-    ensures unmarked { result ≡ 0 → has_mark bytes.now ≡ false }
+// The place of the first line feed.
+fn first_feed(bytes: &[u8]) -> Option<usize>
+    ensures within { IfSome result (λ place. place < length bytes.now) }
+    ensures feed { IfSome result (λ place. slice_index bytes.now place ≡ 10) }
 {
-    if begins_with_mark(bytes) { 3 } else { 0 }
+    memchr(b'\n', bytes)
 }
 
-// The next place at which a record begins, so many bytes on or more from one at which one does.
-fn next_record(bytes: &[u8], from: usize, len: usize) -> Option<usize>
-    requires within { from ≤ length bytes.now }
-    requires begins { EndsRecords (take from bytes.now) }
-    requires unmarked { from ≡ 0 → has_mark bytes.now ≡ false }
-    ensures after { IfSome result (λ place. from ≤ place) }
+// The place just behind the next line feed from the place on.
+fn line_end(bytes: &[u8], from: usize) -> Option<usize>
+    requires { from ≤ length bytes.now }
+    ensures after { IfSome result (λ place. from < place) }
     ensures within { IfSome result (λ place. place ≤ length bytes.now) }
-    ensures begins { IfSome result (λ place. EndsRecords (take place bytes.now)) }
+    ensures feed { IfSome result (λ place. ends_in_feed (take place bytes.now) ≡ true) }
 {
-    let rest = &bytes[from..];
-    if rest.len() <= len {
+    let feed = first_feed(&bytes[from..])?;
+    Some(from + feed + 1)
+}
+
+// Whether the bytes begin as a record does, whose first field is a number: with digits, or - and digits, and a comma, or
+// the same in quotes.
+fn looks_like_record(bytes: &[u8]) -> bool {
+    let field = match bytes {
+        [b'"', rest @ ..] => rest,
+        _ => bytes,
+    };
+    let number = match field {
+        [b'-', rest @ ..] => rest,
+        _ => field,
+    };
+    'digits: for (place, byte) in number.iter().enumerate() {
+        match *byte {
+            b'0'..=b'9' => {}
+            b',' | b'"' => return place > 0,
+            _ => return false,
+        }
+    }
+    false
+}
+
+// A place for the end of a part that begins there and has so many bytes or more: the next line that looks like a
+// record. Whether it is one is known once the part is read.
+fn next_cut(bytes: &[u8], start: usize, len: usize) -> Option<usize>
+    requires { start ≤ length bytes.now }
+    ensures after { IfSome result (λ place. start < place) }
+    ensures within { IfSome result (λ place. place ≤ length bytes.now) }
+    ensures cut { IfSome result (IsCut bytes.now) }
+{
+    if bytes.len() - start <= len {
         return None;
     }
-    let standing = standing_behind(Standing::Record, &rest[..len]);
-    let count = until_record(standing, &rest[len..])?;
-    Some(from + len + count)
-}
-
-// The same, which is the end of the stretch of this number where that is known to serve.
-fn next_begin(
-    bytes: &[u8],
-    stretches: &[Stretch],
-    told: &[bool],
-    number: usize,
-    from: usize,
-    len: usize,
-) -> Option<usize>
-    requires stretches { All (LiesIn bytes.now) stretches.now }
-    requires told { AreToldOf bytes.now stretches.now told.now }
-    requires within { from ≤ length bytes.now }
-    requires begins { EndsRecords (take from bytes.now) }
-    requires unmarked { from ≡ 0 → has_mark bytes.now ≡ false }
-    ensures after { IfSome result (λ place. from ≤ place) }
-    ensures within { IfSome result (λ place. place ≤ length bytes.now) }
-    ensures begins { IfSome result (λ place. EndsRecords (take place bytes.now)) }
-{
-    match told_end(bytes, stretches, told, number, from) {
-        Some(place) => Some(place),
-        None => next_record(bytes, from, len),
+    let mut place = start + len;
+    'lines: for _ in 0..MOST_LINES {
+        place = line_end(bytes, place)?;
+        let rest = &bytes[place..];
+        if !begins_with_mark(rest) && looks_like_record(rest) {
+            return Some(place);
+        }
     }
+    None
 }
 
 // The parts of a file go to the end of the list, each of about this length, and the first one longer where that serves
-// so many workers, who tell where records begin.
-fn add_parts<R: Threads + Sync>(
-    rt: &R,
-    alloc: Global,
+// so many workers.
+fn add_parts(
     files: &[TableFile],
     table: u32,
     len: usize,
@@ -108,7 +120,6 @@ fn add_parts<R: Threads + Sync>(
 ) -> Result<(), AllocError>
     requires here { table < length files.now }
     requires some { 1 ≤ workers }
-    requires at_most { workers ≤ 16 }
     requires parts { All (IsPartOf files.now) parts.old.items }
     ensures parts { OnOk result (All (IsPartOf files.now) parts.new.items) }
     ensures few { OnOk result (length parts.new.items ≤ length parts.old.items + 4097) }
@@ -116,20 +127,12 @@ fn add_parts<R: Threads + Sync>(
     let bytes = files[table as usize].bytes.get();
     let first = first_len(bytes.len(), workers, len);
     let mut start = 0;
-    let mut from = mark_len(bytes);
-    let stretches = stretches_of(alloc, bytes, from, first, len)?;
-    let told = told_by(rt, alloc, bytes, &stretches, workers)?;
-    'cuts: for number in 0..MOST_STRETCHES {
-        let wanted = wanted_len(start, first, len);
-        let Some(place) = next_begin(bytes, &stretches, &told, number, from, wanted) else {
+    'cuts: for _ in 0..MOST_CUTS {
+        let Some(end) = next_cut(bytes, start, wanted_len(start, first, len)) else {
             break;
         };
-        if !begins_with_mark(&bytes[place..]) {
-            let end = place;
-            parts.push(Part { table, start, end })?;
-            start = place;
-        }
-        from = place;
+        parts.push(Part { table, start, end })?;
+        start = end;
     }
     let end = bytes.len();
     parts.push(Part { table, start, end })?;
@@ -137,9 +140,8 @@ fn add_parts<R: Threads + Sync>(
 }
 
 /// The parts of the files, file by file, each of about this length; the first one of a long file is longer, as serves so
-/// many workers.
-pub fn cut<R: Threads + Sync>(
-    rt: &R,
+/// many workers. A file is cut behind line feeds, where records seem to begin.
+pub fn cut(
     alloc: Global,
     files: &[TableFile],
     len: usize,
@@ -147,13 +149,12 @@ pub fn cut<R: Threads + Sync>(
 ) -> Result<Vec<Part>, AllocError>
     requires tables { length files.now ≤ 16 }
     requires some { 1 ≤ workers }
-    requires at_most { workers ≤ 16 }
     ensures parts { IfOk result (λ parts. All (IsPartOf files.now) parts.items) }
     ensures few { IfOk result (λ parts. length parts.items ≤ 65552) }
 {
     let mut parts = Vec::new(alloc);
     'tables: for table in 0..files.len() as u32 {
-        add_parts(rt, alloc, files, table, len, workers, &mut parts)?;
+        add_parts(files, table, len, workers, &mut parts)?;
     }
     Ok(parts)
 }

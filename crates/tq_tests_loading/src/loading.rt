@@ -324,7 +324,7 @@ impl Gate for Arrivals {
 
 #[test]
 fn two_workers_have_a_part_at_once(rt: HostRuntime) -> Result<(), Fail> {
-    let text = many_rows(rt.alloc(), 8_000)?;
+    let text = many_rows(rt.alloc(), 12_000)?;
     let gate = Arrivals::new();
     let same = is_loaded_among(&rt, rt.alloc(), (&text, ""), 2, &gate)?;
     assert!(rt; same);

@@ -5,7 +5,7 @@ use Rattle.tq_loading.specs.Parts.{IsPartOf}
 use Rattle.tq_loading.proofs.cut.cut.Given as goal
 
 abbrev pub invariant-tables : goal.invariant-tables
-invariant-tables g l = record {
+invariant-tables l = record {
   parts : All (IsPartOf l.files) l.parts.items;
   few : length l.parts.items ≤ 4097 * l.table;
 }

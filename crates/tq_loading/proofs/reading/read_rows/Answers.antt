@@ -1,8 +1,10 @@
-use Rattle.std.proofs.Common.{◌∙◌, ◌++◌, ◌∷◌, [], Result, ap, append-nil, append_assoc, subst, sym}
+use Rattle.std.proofs.Common.{◌≡◌, ◌∙◌, ◌++◌, ◌∷◌, [], false, Result, ap, append-nil, append_assoc, subst, sym}
+use Rattle.std.proofs.lemmas.List.Elements.{All-push}
 use Rattle.csv.specs.Records.{fields_of}
 use Rattle.tq_base.specs.declared.fragment.Fragment.{Fragment}
 use Rattle.tq_event.specs.declared.fault.LoadFaultKind.{LoadFaultKind}
 use Rattle.tq_event.specs.Entries.{Entry}
+use Rattle.tq_loading.specs.Feeds.{AreClosed, may_be_open}
 use Rattle.tq_loading.specs.Parts.{TellRows}
 use Rattle.tq_loading.proofs.PartLemmas.{tell_both}
 use Rattle.tq_loading.proofs.reading.read_rows.Goals as goal
@@ -10,14 +12,20 @@ use Rattle.tq_loading.proofs.reading.read_rows.Goals as goal
 pub next_record-requires : goal.next_record-requires
 next_record-requires c =
     let (all, has) = c.requires in
-    let (seen, left, split, after, tell) = c.rows.invariant.told all has in
+    let (seen, left, split, after, tell, closed) = c.rows.invariant.told all has in
     (left, after)
 
 pub returns-then-not-branch-clause-told : goal.returns-then-not-branch-clause-told
 returns-then-not-branch-clause-told c all has =
-    let (seen, left, split, after, tell) = c.rows.invariant.told all has in
+    let (seen, left, split, after, tell, closed) = c.rows.invariant.told all has in
     let none = rw c.if-not-branch.true at (c.in_ok-next_record.ensures left after) in
     subst (λ l. TellRows c.args.form c.args.columns.now l c.rows.rows.items) (sym (split ∙ ap (λ l. seen ++ l) none ∙ append-nil seen)) tell
+
+pub returns-then-not-branch-clause-closed : goal.returns-then-not-branch-clause-closed
+returns-then-not-branch-clause-closed c all has =
+    let (seen, left, split, after, tell, closed) = c.rows.invariant.told all has in
+    let none = rw c.if-not-branch.true at (c.in_ok-next_record.ensures left after) in
+    subst AreClosed (sym (split ∙ ap (λ l. seen ++ l) none ∙ append-nil seen)) closed
 
 pub rows-preserved : goal.rows-preserved
 rows-preserved c =
@@ -26,7 +34,7 @@ rows-preserved c =
     record {
       wide = c.push.ensures.width ∙ c.rows.invariant.wide;
       told = λ all has.
-          let (seen, left, split, after, tell) = c.rows.invariant.told all has in
+          let (seen, left, split, after, tell, closed) = c.rows.invariant.told all has in
           let (more, first, rest) = rw c.if-not-branch.false at (c.in_ok-next_record.ensures left after) in
           let fields = fields_of c.next_record.new.record in
           let one : TellRows c.args.form columns (fields ∷ []) (row ∷ []) = λ table. ap (λ (r : Result Entry LoadFaultKind). r ∷ []) (c.in_ok-period.ensures.ok table) in (
@@ -35,5 +43,6 @@ rows-preserved c =
             split ∙ ap (λ l. seen ++ l) first ∙ sym (append_assoc seen (fields ∷ []) more),
             rest,
             subst (λ l. TellRows c.args.form columns (seen ++ fields ∷ []) l) (sym c.in_ok-push.ensures.pushed) (tell_both c.args.form columns seen (fields ∷ []) c.rows.rows.items (row ∷ []) tell one),
+            All-push (λ fields. may_be_open fields ≡ false) seen fields closed (sym c.may_be_open.ensures ∙ c.if-may_be_open.false),
           );
     }

@@ -1,0 +1,36 @@
+use Rattle.std.proofs.Common.{◌≡◌, ◌∙◌, Ok, Some, true, ap, length, arith, refl, slice_get, sym}
+use Rattle.std.specs.Prelude.{slice_range}
+use Rattle.std.proofs.lemmas.Option.{slice_get_read}
+use Rattle.tq_base.specs.declared.catalogue.Schema.{Schema}
+use Rattle.tq_event.specs.declared.file.TableFile.{TableFile}
+use Rattle.tq_event.specs.Loading.{csv_records}
+use Rattle.tq_loading.specs.Feeds.{ends_in_feed}
+use Rattle.tq_loading.specs.Parts.{EndsRecords, IsPart, PartTells}
+use Rattle.tq_loading.proofs.PartLemmas.{part_ends}
+use Rattle.tq_loading.proofs.work.part_rows.Goals as goal
+
+pub returns-in-Some : goal.returns-in-Some
+returns-in-Some c file schema is_file is_schema =
+    let files = c.args.files.now in
+    let schemas = c.args.schemas.now in
+    let part = c.args.part in
+    let rows = c.in-Some.rows in
+    let own : IsPart file.bytes part = c.requires.part.of_file file is_file in
+    let file_at : slice_get files part.table ≡ Some c.index-files-part.result = slice_get_read files (length files) part.table c.index-files-part.result refl c.requires.part.table c.index-files-part.is in
+    let schema_at : slice_get schemas part.table ≡ Some c.index-schemas-part.result =
+    slice_get_read schemas (length schemas) part.table c.index-schemas-part.result refl (omega (arith, c.requires.part.table, c.requires.many)) c.index-schemas-part.is in
+    let found : Some c.index-files-part.result ≡ Some file = sym file_at ∙ is_file in
+    let other : Some c.index-schemas-part.result ≡ Some schema = sym schema_at ∙ is_schema in
+    let same : c.index-files-part.result ≡ file = cc found in
+    let like : c.index-schemas-part.result ≡ schema = cc other in
+    let bytes : c.get-bytes.result.now ≡ file.bytes = c.get-bytes.ensures ∙ ap (λ (f : TableFile). f.bytes) (sym c.index-files-part.is ∙ same) in
+    let columns : c.get-columns.result.now ≡ schema.columns = c.get-columns.ensures ∙ ap (λ (s : Schema). s.columns) (sym c.index-schemas-part.is ∙ like) in
+    let read : c.read_part.result ≡ Ok rows = rw c.in-Some.is at c.in_ok-rows.ensures.found in
+    let ends : ends_in_feed (slice_range file.bytes part.start part.end) ≡ true → EndsRecords (slice_range file.bytes part.start part.end) = rw (read, bytes) at c.read_part.ensures.ends in
+    let told : PartTells c.args.form part.start schema.columns (csv_records (slice_range file.bytes part.start part.end)) rows.items = rw (read, columns, bytes) at c.read_part.ensures.told in
+    record {
+      part_of = own;
+      wide = rw (read, columns) at c.read_part.ensures.wide;
+      told = told;
+      ends = part_ends file.bytes part.start part.end own.ordered ends;
+    }
