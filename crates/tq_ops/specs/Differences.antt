@@ -7,7 +7,7 @@ use Rattle.tq_base.specs.declared.period.Period.{Period}
 use Rattle.tq_base.specs.declared.fragment.Fragment.{Fragment}
 use Rattle.tq_base.specs.declared.sides.Side.{Side}
 use Rattle.tq_base.specs.declared.sides.Side.TheVariants.{Left, Right}
-use Rattle.tq_base.specs.Keys.{held as held_key, held_on, is_same_side, overlapping, AreMarked, Held, IsKey, Rises, SidesState}
+use Rattle.tq_base.specs.Keys.{held as held_key, held_on, is_same_side, key_row, overlapping, AreMarked, Held, IsKey, Rises, SidesState}
 use Rattle.tq_base.specs.declared.relation.Line.{Line}
 use Rattle.tq_base.specs.declared.sides.Key.{Key}
 use Rattle.tq_base.specs.Periods.{holds}
@@ -35,6 +35,10 @@ falls_upto changes t = count_by (λ c. not c.rises && nat_le c.at t) changes
 -- in all as many changes let the count rise as let it fall
 abbrev pub IsEven : List Change → Type 0
 IsEven changes = count_by (λ c. c.rises) changes ≡ count_by (λ c. not c.rises) changes
+
+-- the periods of the rows that the keys name
+abbrev pub periods_on : SidesState → List Key → List Period
+periods_on s keys = map (λ k. (key_row s k).period) keys
 
 -- each row has the values
 abbrev pub AreOfValues : List Value → List Held → Type 0

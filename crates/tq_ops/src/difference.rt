@@ -13,7 +13,7 @@ ghost use Rattle.tq_base.specs.Layering.{held};
 ghost use Rattle.tq_base.specs.Periods.{holds};
 ghost use Rattle.tq_base.specs.Relations.{line_of};
 ghost use Rattle.tq_ops.specs.declared.difference.Change.{Change};
-ghost use Rattle.tq_ops.specs.Differences.{falls_upto, lines_made, rises_upto, side_held, AddsDifference, AreKeysOfBoth, AreLines, AreOfValues, IsEven};
+ghost use Rattle.tq_ops.specs.Differences.{falls_upto, lines_made, rises_upto, side_held, periods_on, AddsDifference, AreKeysOfBoth, AreLines, AreOfValues, IsEven};
 ghost use Rattle.tq_ops.specs.Ordinary.{HasInside, IsEmptyOutside};
 
 use crate::gathering::gathered;
@@ -48,13 +48,27 @@ fn bound_at(instant: Instant) -> Bound
     }
 }
 
+// The periods of the rows that keys name, read in one short loop: keys in order name rows that lie anywhere, and such
+// reads wait for memory together.
+fn periods_of(alloc: Global, sides: &Sides<'_>, keys: &[Key]) -> Result<Vec<Period>, AllocError>
+    ensures { IfOk result (λ periods. periods.items ≡ periods_on (state_of sides.now) keys.now) }
+{
+    let mut periods = Vec::with_capacity(alloc, keys.len())?;
+    'keys: for key in keys {
+        periods.push_reserved(sides.period(key));
+    }
+    Ok(periods)
+}
+
 // The changes that the starts and ends of the rows, cut to the window, make, in order.
 fn changes_of(
     alloc: Global,
     sides: &Sides<'_>,
     group: &[Key],
+    periods: &[Period],
     window: &Period,
 ) -> Result<Vec<Change>, AllocError>
+    requires { periods.now ≡ periods_on (state_of sides.now) group.now }
     ensures counted { IfOk result (λ changes. (t : ℕ) →
         rises_upto changes.items t + side_held window.now Right (map (held_key (state_of sides.now)) group.now) t
         ≡ falls_upto changes.items t + side_held window.now Left (map (held_key (state_of sides.now)) group.now) t) }
@@ -62,11 +76,11 @@ fn changes_of(
     ensures sorted { IfOk result (λ changes. IsSortedByKey (λ (c : Change). c.at) nat_cmp changes.items) }
 {
     let mut changes = Vec::new(alloc);
-    'rows: for key in group {
-        let Some(period) = sides.period(key).overlap(window) else {
+    'rows: for place in 0..group.len() {
+        let Some(period) = periods[place].overlap(window) else {
             continue;
         };
-        let rises = is_left(key.side);
+        let rises = is_left(group[place].side);
         changes.push(Change {
             at: bound_at(period.start),
             rises,
@@ -146,21 +160,23 @@ fn first_left(group: &[Key]) -> Option<Key>
 fn add_cut(
     sides: &Sides<'_>,
     group: &[Key],
+    periods: &[Period],
     window: &Period,
     lines: &mut Vec<Line>,
 ) -> Result<(), AllocError>
+    requires periods { periods.now ≡ periods_on (state_of sides.now) group.now }
     requires left { All (λ k. is_same_side Left k.side ≡ true) group.now }
     requires keys { All (IsKey (state_of sides.now)) group.now }
     ensures within { OnOk result (AreLines (state_of sides.now) lines.old.items → AreLines (state_of sides.now) lines.new.items) }
     ensures rows { OnOk result ((v : List Value) → AreOfValues v (map (held_key (state_of sides.now)) group.now)
         → AddsDifference window.now (map (held_key (state_of sides.now)) group.now) v (lines_made (state_of sides.now) lines.old.items) (lines_made (state_of sides.now) lines.new.items)) }
 {
-    'rows: for key in group {
-        let Some(period) = sides.period(key).overlap(window) else {
+    'rows: for place in 0..group.len() {
+        let Some(period) = periods[place].overlap(window) else {
             continue;
         };
         lines.push(Line {
-            row: key.row,
+            row: group[place].row,
             period,
         })?;
     }
@@ -173,9 +189,11 @@ fn add_difference(
     alloc: Global,
     sides: &Sides<'_>,
     group: &[Key],
+    periods: &[Period],
     window: &Period,
     lines: &mut Vec<Line>,
 ) -> Result<(), AllocError>
+    requires periods { periods.now ≡ periods_on (state_of sides.now) group.now }
     requires keys { All (IsKey (state_of sides.now)) group.now }
     ensures within { OnOk result (AreLines (state_of sides.now) lines.old.items → AreLines (state_of sides.now) lines.new.items) }
     ensures rows { OnOk result ((v : List Value) → AreOfValues v (map (held_key (state_of sides.now)) group.now)
@@ -185,11 +203,11 @@ fn add_difference(
         return Ok(());
     };
     if are_left(group) {
-        return add_cut(sides, group, window, lines);
+        return add_cut(sides, group, periods, window, lines);
     }
-    let changes = changes_of(alloc, sides, group, window)?;
-    let periods = swept(alloc, &changes)?;
-    'periods: for period in &periods {
+    let changes = changes_of(alloc, sides, group, periods, window)?;
+    let left = swept(alloc, &changes)?;
+    'periods: for period in &left {
         lines.push(Line {
             row: first.row,
             period: *period,
@@ -222,10 +240,18 @@ fn add_differences(
     ensures counted { OnOk result ((t : ℕ) (v : List Value) → copies (lines_made (state_of sides.now) lines.new.items) v t
         ≡ (if holds window.now t then copies sides.now.left.now.items v t - copies sides.now.right.now.items v t else 0)) }
 {
+    let periods = periods_of(alloc, sides, keys)?;
     let mut start = 0;
     'groups: while start < keys.len() {
         let end = start + sides.run_len(&keys[start..]);
-        add_difference(alloc, sides, &keys[start..end], window, lines)?;
+        add_difference(
+            alloc,
+            sides,
+            &keys[start..end],
+            &periods[start..end],
+            window,
+            lines,
+        )?;
         start = end;
     }
     Ok(())

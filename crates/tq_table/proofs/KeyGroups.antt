@@ -1,5 +1,5 @@
 -- Keys of left rows, of which all columns are compared: their rows go into the table group by group.
-use Rattle.std.proofs.Common.{◌≡◌, ◌≢◌, ◌++◌, ◌∷◌, [], ℕ, ◌+◌, ◌<◌, false, List, get_or, length, map, take, drop, refl, sym, ap, ◌∙◌, subst, arith, IfSome, slice_get}
+use Rattle.std.proofs.Common.{◌≡◌, ◌≢◌, ◌++◌, ◌∷◌, [], ℕ, ◌+◌, ◌<◌, List, get_or, length, map, take, drop, refl, sym, ap, ◌∙◌, subst, arith, IfSome, slice_get}
 use Rattle.std.specs.Prelude.{All, AllPairs, IsPermutation}
 use Rattle.std.specs.List.{range_with_len}
 use Rattle.std.specs.declared.cmp.Ordering.TheVariants.{Less, Greater}

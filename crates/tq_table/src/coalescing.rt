@@ -1,11 +1,11 @@
 // Coalescing: the periods of each group of equal values are layered by themselves.
 
-ghost use Rattle.std.specs.Prelude.{◌≡◌, ◌<◌, All, IfOk, IsPermutation, List, OnOk, length, map};
+ghost use Rattle.std.specs.Prelude.{◌≡◌, ◌<◌, All, IfOk, IsPermutation, List, OnOk, length, map, slice_index_or};
 ghost use Rattle.std.specs.Bool.{OnTrue};
 ghost use Rattle.tq_base.specs.declared.value.Value.{Value};
 ghost use Rattle.tq_base.specs.declared.fragment.Fragment.{Fragment};
 ghost use Rattle.tq_base.specs.Fragments.{copies};
-ghost use Rattle.tq_base.specs.Keys.{key_row, AreMarked, IsKey, Rises};
+ghost use Rattle.tq_base.specs.Keys.{key_row, no_row, AreMarked, IsKey, Rises};
 ghost use Rattle.tq_base.specs.KeySides.{state_of};
 ghost use Rattle.tq_base.specs.Layers.{IsLayers};
 ghost use Rattle.tq_base.specs.Layering.{AddsLayers};
@@ -17,43 +17,46 @@ use crate::lines::Lines;
 use std::alloc::{AllocError, Global};
 use tq_base::{Key, Line, Period, Relation, Side, Sides, all_columns};
 
-// The periods of the rows.
-fn periods_of(alloc: Global, sides: &Sides<'_>, group: &[Key]) -> Result<Vec<Period>, AllocError>
-    ensures { IfOk result (λ v. v.items ≡ map (λ k. (key_row (state_of sides.now) k).period) group.now) }
+// The periods of the rows that keys name, of all rows' periods. They are read in one short loop, since keys in order
+// name rows that lie anywhere, and such reads wait for memory together.
+fn periods_at(alloc: Global, periods: &[Period], keys: &[Key]) -> Result<Vec<Period>, AllocError>
+    requires { All (λ k. k.row < length periods.now) keys.now }
+    ensures { IfOk result (λ chosen. chosen.items ≡ map (λ k. slice_index_or periods.now k.row no_row.period) keys.now) }
 {
-    let mut periods = Vec::with_capacity(alloc, group.len())?;
-    'keys: for key in group {
-        periods.push(sides.period(key))?;
+    let mut chosen = Vec::with_capacity(alloc, keys.len())?;
+    'keys: for key in keys {
+        chosen.push_reserved(periods[key.row as usize]);
     }
-    Ok(periods)
+    Ok(chosen)
 }
 
-// Whether each row ends before the next one begins: then they are their own layers.
-fn stand_apart(sides: &Sides<'_>, group: &[Key]) -> bool
-    ensures { OnTrue result (AreApart (map (key_row (state_of sides.now)) group.now)) }
+// Whether each of the rows of these periods ends before the next one begins: then they are their own layers.
+fn stand_apart(periods: &[Period]) -> bool
+    ensures { (rows : List Fragment) → periods.now ≡ map (λ (row : Fragment). row.period) rows → OnTrue result (AreApart rows) }
 {
-    group.is_sorted_by(|one, next| sides.period(one).end.number()
-        < sides.period(next).start.number())
+    periods.is_sorted_by(|one, next| one.end.number() < next.start.number())
 }
 
-// The layers of a group of rows that are alike go to the end of the table.
+// The layers of a group of rows that are alike, of these periods, go to the end of the table.
 fn add_layers(
     alloc: Global,
     sides: &Sides<'_>,
     group: &[Key],
+    periods: &[Period],
     table: &mut Vec<Line>,
 ) -> Result<(), AllocError>
+    requires periods { periods.now ≡ map (λ k. (key_row (state_of sides.now) k).period) group.now }
     requires left { All (λ k. k.side ≡ Side.Left) group.now }
     requires stand { All (λ k. k.row < length sides.now.left.now.items) group.now }
     ensures within { OnOk result (All (λ line. line.row < length sides.now.left.now.items) table.old.items → All (λ line. line.row < length sides.now.left.now.items) table.new.items) }
     ensures layers { OnOk result ((v : List Value) → All (λ k. (key_row (state_of sides.now) k).values ≡ v) group.now
         → AddsLayers v (map (key_row (state_of sides.now)) group.now) (map (line_of sides.now.left.now.items) table.old.items) (map (line_of sides.now.left.now.items) table.new.items)) }
 {
-    if stand_apart(sides, group) {
-        'apart: for key in group {
+    if stand_apart(periods) {
+        'apart: for place in 0..group.len() {
             table.push(Line {
-                row: key.row,
-                period: sides.period(key),
+                row: group[place].row,
+                period: periods[place],
             })?;
         }
         return Ok(());
@@ -61,8 +64,7 @@ fn add_layers(
     let Some(first) = group.first() else {
         return Ok(());
     };
-    let periods = periods_of(alloc, sides, group)?;
-    let layering = layered(alloc, &periods)?;
+    let layering = layered(alloc, periods)?;
     'layers: for period in &layering {
         table.push(Line {
             row: first.row,
@@ -99,11 +101,18 @@ fn lines_of(alloc: Global, rows: &Relation<'_>) -> Result<Vec<Line>, AllocError>
         right_columns: &columns,
     };
     let keys = sorted_keys(alloc, &sides)?;
+    let periods = periods_at(alloc, rows.periods(), &keys)?;
     let mut table = Vec::with_capacity(alloc, keys.len())?;
     let mut start = 0;
     'groups: while start < keys.len() {
         let end = start + sides.run_len(&keys[start..]);
-        add_layers(alloc, &sides, &keys[start..end], &mut table)?;
+        add_layers(
+            alloc,
+            &sides,
+            &keys[start..end],
+            &periods[start..end],
+            &mut table,
+        )?;
         start = end;
     }
     Ok(table)

@@ -1,6 +1,6 @@
 // A share of the rows of tables.
 
-ghost use Rattle.std.specs.Prelude.{◌≡◌, ◌<◌, ◌==◌, ℕ, All, IfOk, filter, length, map, Some};
+ghost use Rattle.std.specs.Prelude.{◌≡◌, ◌<◌, ◌≤◌, ◌==◌, ℕ, All, IfOk, filter, length, map, Some};
 ghost use Rattle.std.proofs.Props.{props};
 ghost use Rattle.tq_base.specs.declared.fragment.Fragment.{Fragment};
 ghost use Rattle.tq_base.specs.declared.relation.Line.{Line as AnyLine};
@@ -9,7 +9,8 @@ ghost use Rattle.tq_event.specs.Tables.{lists_of, rows_in as table_of};
 ghost use Rattle.tq_ops.specs.Conditions.{value_at};
 ghost use Rattle.tq_eval.specs.Answers.{in_tables};
 ghost use Rattle.tq_eval.specs.Shares.{in_share};
-ghost use Rattle.tq_workers.specs.Shares.{columns_in, share_of, AreTold, are_told_prop};
+ghost use Rattle.memchr.specs.Find.{is_byte, places};
+ghost use Rattle.tq_workers.specs.Shares.{columns_in, line_at, share_of, AreTold, are_told_prop};
 
 use crate::columns::column_in;
 use memchr::memchr_iter;
@@ -29,6 +30,34 @@ pub(crate) struct Share<'a> {
     ghost are: { AreTold cuts.now columns.now (lists_of all.tables.now) told.now } by { Prim.hlevel (props, are_told_prop) },
 }
 
+// The numbers of the rows that go to the share of this number.
+fn numbers_in(alloc: Global, told: &[u8], number: u8) -> Result<Vec<u32>, AllocError>
+    requires { length told.now ≤ 4294967295 }
+    ensures { IfOk result (λ numbers. numbers.items ≡ places (is_byte number) told.now) }
+{
+    let mut numbers = Vec::new(alloc);
+    'found: for place in memchr_iter(number, told) {
+        numbers.push(place as u32)?;
+    }
+    Ok(numbers)
+}
+
+// The rows of these numbers, each at its period. They lie apart from one another, and reads in a short loop of their own
+// wait for memory together.
+fn lines_at(alloc: Global, periods: &[Period], numbers: &[u32]) -> Result<Vec<Line>, AllocError>
+    requires { All (λ number. number < length periods.now) numbers.now }
+    ensures { IfOk result (λ lines. lines.items ≡ map (line_at periods.now) numbers.now) }
+{
+    let mut lines = Vec::with_capacity(alloc, numbers.len())?;
+    'numbers: for number in numbers {
+        lines.push_reserved(Line {
+            row: *number,
+            period: periods[*number as usize],
+        });
+    }
+    Ok(lines)
+}
+
 // The rows that go to the share of this number.
 fn lines_in(alloc: Global, rows: &Rows, told: &[u8], number: u8) -> Result<Vec<Line>, AllocError>
     requires { length told.now ≡ length rows.now.items }
@@ -36,13 +65,8 @@ fn lines_in(alloc: Global, rows: &Rows, told: &[u8], number: u8) -> Result<Vec<L
     ensures rows { (share : Fragment → ℕ) → told.now ≡ map share rows.now.items → IfOk result (λ lines. map (line_of rows.now.items) lines.items ≡ filter (λ (row : Fragment). share row == number) rows.now.items) }
 {
     rows.len();
-    let mut lines = Vec::new(alloc);
-    'rows: for row in memchr_iter(number, told) {
-        let period = rows.period(row);
-        let row = row as u32;
-        lines.push(Line { row, period })?;
-    }
-    Ok(lines)
+    let numbers = numbers_in(alloc, told, number)?;
+    lines_at(alloc, rows.periods(), &numbers)
 }
 
 // The rows of the table that go to the share.

@@ -11,5 +11,5 @@ abbrev pub invariant-rows : goal.invariant-rows
 invariant-rows l = record {
   within : AreLines (state_of l.sides) l.initial.lines.items → AreLines (state_of l.sides) l.lines.items;
   cut : (v : List Value) → AreOfValues v (map (held (state_of l.sides)) l.group)
-      → Cut l.window (take l.key-index (map (held (state_of l.sides)) l.group)) v (lines_made (state_of l.sides) l.initial.lines.items) (lines_made (state_of l.sides) l.lines.items);
+      → Cut l.window (take l.place (map (held (state_of l.sides)) l.group)) v (lines_made (state_of l.sides) l.initial.lines.items) (lines_made (state_of l.sides) l.lines.items);
 }

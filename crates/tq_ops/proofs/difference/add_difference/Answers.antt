@@ -51,9 +51,9 @@ returns-clause-rows c v alike =
     ∙ ap (λ (r : Held). r.row.values) (sym (get_or-map (held s) c.args.group.now stands.0 first (held s first) stands.1)) ∙ alike stands.0 (held s first) lt in
     let all = take_all c.periods.period-index c.deref-period-items.result.now c.periods-test.false ∙ c.deref-period-items.ensures.value in
     record {
-      periods = c.in_ok-periods.periods.items;
+      periods = c.in_ok-left.left.items;
       counted = λ t.
-          omega (arith, c.in_ok-periods.ensures t, ap (λ l. rises_upto l t) c.deref.ensures.value, ap (λ l. falls_upto l t) c.deref.ensures.value, c.in_ok-changes.ensures.counted t);
+          omega (arith, c.in_ok-left.ensures t, ap (λ l. rises_upto l t) c.deref.ensures.value, ap (λ l. falls_upto l t) c.deref.ensures.value, c.in_ok-changes.ensures.counted t);
       added = c.periods.invariant.rows ∙ ap (λ u. lines_made s c.args.lines.now.items ++ rows_of u (take c.periods.period-index c.deref-period-items.result.now)) is_v
           ∙ ap (λ l. lines_made s c.args.lines.now.items ++ rows_of v l) all;
     }

@@ -1,16 +1,17 @@
 use Rattle.std.proofs.Common.{◌≡◌, ◌≢◌, ℕ, ◌+◌, ◌-◌, ◌<◌, ◌≤◌, Bool, true, false, cond, List, length, take, drop, get_or, map, refl, sym, ap, ◌∙◌, subst, arith, length-drop}
 use Rattle.std.specs.Prelude.{All}
-use Rattle.std.proofs.lemmas.List.{length-map, take_all, take_rest}
+use Rattle.std.proofs.lemmas.List.{drop-map, length-map, take-map, take_all, take_rest}
 use Rattle.std.proofs.lemmas.List.Elements.{All-drop, All-take}
 use Rattle.tq_base.specs.declared.value.Value.{Value}
+use Rattle.tq_base.specs.declared.period.Period.{Period}
 use Rattle.tq_base.specs.declared.sides.Key.{Key}
 use Rattle.tq_base.specs.declared.sides.Side.TheVariants.{Left, Right}
 use Rattle.tq_base.specs.Fragments.{copies}
-use Rattle.tq_base.specs.Keys.{held, key_values, AreMarked, Held, IsKey}
+use Rattle.tq_base.specs.Keys.{held, key_row, key_values, AreMarked, Held, IsKey, SidesState}
 use Rattle.tq_base.specs.KeyLaws.{marks_rest}
 use Rattle.tq_base.specs.KeySides.{state_of}
 use Rattle.tq_base.specs.Periods.{holds}
-use Rattle.tq_ops.specs.Differences.{lines_made, side_copies, AddsDifference, AreOfValues}
+use Rattle.tq_ops.specs.Differences.{lines_made, periods_on, side_copies, AddsDifference, AreOfValues}
 use Rattle.tq_ops.proofs.Turns.{adds_run, group_is, side_counts}
 use Rattle.tq_ops.proofs.difference.add_differences.Goals as goal
 
@@ -20,6 +21,12 @@ run_len-requires c = record {
   marks = subst (AreMarked (state_of c.args.sides.now)) (sym (take_rest c.args.keys.now c.groups.start)) (marks_rest (state_of c.args.sides.now) c.args.keys.now c.groups.start c.requires.keys.marks);
 }
 
+-- the periods of some keys are some of those of all
+cut_periods : (s : SidesState) (keys : List Key) (periods : List Period) (start len : ℕ) → periods ≡ periods_on s keys → take len (drop start periods) ≡ periods_on s (take len (drop start keys))
+cut_periods s keys periods start len are =
+    let when : Key → Period = λ k. (key_row s k).period in
+    ap (λ l. take len (drop start l)) are ∙ ap (take len) (drop-map when start keys) ∙ take-map when len (drop start keys)
+
 pub add_difference-requires : goal.add_difference-requires
 add_difference-requires c =
     let s = state_of c.args.sides.now in
@@ -27,7 +34,9 @@ add_difference-requires c =
     let start = c.groups.start in
     let len = c.run_len.result in
     let group : take (start + len - start) (drop start keys) ≡ take len (drop start keys) = ap (λ n. take n (drop start keys)) (let same : start + len - start ≡ len = omega arith in same) in
+    let are : c.in_ok-periods.periods.items ≡ periods_on s keys = c.in_ok-periods.ensures in
     record {
+      periods = rw c.deref.ensures.value (cut_periods s keys c.in_ok-periods.periods.items start (start + len - start) are);
       keys = subst (All (IsKey s)) (sym group) (All-take (IsKey s) len (drop start keys) (All-drop (IsKey s) start keys c.requires.keys.each));
     }
 

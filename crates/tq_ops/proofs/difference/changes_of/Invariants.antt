@@ -8,7 +8,7 @@ use Rattle.tq_ops.proofs.difference.changes_of.Given as goal
 
 abbrev pub invariant-rows : goal.invariant-rows
 invariant-rows l = record {
-  counted : (t : ℕ) → rises_upto l.changes.items t + side_held l.window Right (take l.key-index (map (held (state_of l.sides)) l.group)) t
-      ≡ falls_upto l.changes.items t + side_held l.window Left (take l.key-index (map (held (state_of l.sides)) l.group)) t;
+  counted : (t : ℕ) → rises_upto l.changes.items t + side_held l.window Right (take l.place (map (held (state_of l.sides)) l.group)) t
+      ≡ falls_upto l.changes.items t + side_held l.window Left (take l.place (map (held (state_of l.sides)) l.group)) t;
   even : IsEven l.changes.items;
 }

@@ -1,6 +1,6 @@
 use Rattle.std.proofs.Common.{◌≡◌, ◌+◌, append_assoc, sym, ◌<◌, length, ◌++◌, ◌∷◌, [], List, Some, take, map, subst, refl, ap, ◌∙◌, get_or, slice_get}
 use Rattle.std.specs.Prelude.{All}
-use Rattle.std.proofs.lemmas.List.{map-append, map_more, take_all}
+use Rattle.std.proofs.lemmas.List.{get_or-map, get_or_default, map-append, map_more, take_all}
 use Rattle.std.proofs.lemmas.List.Elements.{All-head, All-map, All-push}
 use Rattle.tq_base.specs.declared.value.Value.{Value}
 use Rattle.tq_base.specs.declared.period.Period.{Period}
@@ -13,6 +13,7 @@ use Rattle.tq_base.specs.KeySides.{state_of}
 use Rattle.tq_base.specs.Layering.{rows_of, IsLayering}
 use Rattle.tq_base.specs.Relations.{line_of}
 use Rattle.tq_table.proofs.Apart.{adds_apart}
+use Rattle.tq_table.proofs.KeyGroups.{end_key}
 use Rattle.tq_table.proofs.coalescing.add_layers.Goals as goal
 
 -- what holds of each key holds of the first
@@ -37,8 +38,44 @@ returns-then-stand_apart-clause-layers c v alike =
     let group = c.args.group.now in
     let line = line_of c.args.sides.now.left.now.items in
     let old = map line c.args.table.now.items in
-    adds_apart v (map (key_row s) group) c.if-stand_apart.ensures (All-map (λ (f : Fragment). f.values ≡ v) (key_row s) group alike) old (map line c.apart.table.items)
-    (c.apart.invariant.lines ∙ ap (λ l. old ++ map (key_row s) l) (take_all c.apart.key-index group c.apart-test.false))
+    adds_apart v (map (key_row s) group) (c.if-stand_apart.ensures (map (key_row s) group) (c.requires.periods ∙ periods_are s group)) (All-map (λ (f : Fragment). f.values ≡ v) (key_row s) group alike) old (map line c.apart.table.items)
+    (c.apart.invariant.lines ∙ ap (λ l. old ++ map (key_row s) l) (take_all c.apart.place group c.apart-test.false))
+
+-- the line of a left key's row at its period is that row
+left_line : (s : SidesState) (k : Key) (period : Period) → k.side ≡ side.Left → period ≡ (key_row s k).period → line_of s.left (record { row = k.row; period = period }) ≡ key_row s k
+left_line s k period left is =
+    let same : get_or s.left k.row no_row ≡ key_row s k = subst (λ z. get_or s.left k.row no_row ≡ get_or (rows_on s z) k.row no_row) (sym left) refl in
+    let values : (get_or s.left k.row no_row).values ≡ (key_row s k).values = ap (λ (f : Fragment). f.values) same in
+    λ i. record { values = values i; period = is i }
+
+pub apart-preserved : goal.apart-preserved
+apart-preserved c =
+    let s = state_of c.args.sides.now in
+    let rows = c.args.sides.now.left.now.items in
+    let P : Line → Type 0 = λ (line : Line). line.row < length rows in
+    let group = c.args.group.now in
+    let when : Key → Period = λ k. (key_row s k).period in
+    let old = map (line_of rows) c.args.table.now.items in
+    let i = c.apart.place in
+    let key = get_or group i end_key in
+    let period = c.index-periods-place.result in
+    let line : Line = record { row = key.row; period = period } in
+    let below : i < length group = c.apart-test.true in
+    let left : key.side ≡ side.Left = c.requires.left i end_key below in
+    let stands : P line = c.requires.stand i end_key below in
+    let at : period ≡ when key = c.index-periods-place.is ∙ ap (λ l. get_or l i period) c.requires.periods ∙ get_or-map when group i end_key period below in
+    let one_more : map (key_row s) (take (i + 1) group) ≡ map (key_row s) (take i group) ++ key_row s key ∷ [] = map_more (key_row s) group i end_key below in
+    let pushed : c.push.new.self.items ≡ c.apart.table.items ++ line ∷ [] =
+    c.in_ok-push.ensures.items ∙ ap (λ (k : Key). c.apart.table.items ++ record { row = k.row; period = period } ∷ []) (get_or_default group i _ end_key below) in
+    record {
+      within = λ before. rw pushed (All-push P c.apart.table.items line (c.apart.invariant.within before) stands);
+      lines = ap (map (line_of rows)) pushed
+          ∙ map-append (line_of rows) c.apart.table.items (line ∷ [])
+          ∙ ap (λ (f : Fragment). map (line_of rows) c.apart.table.items ++ f ∷ []) (left_line s key period left at)
+          ∙ ap (λ l. l ++ key_row s key ∷ []) c.apart.invariant.lines
+          ∙ append_assoc old (map (key_row s) (take i group)) (key_row s key ∷ [])
+          ∙ ap (λ l. old ++ l) (sym one_more);
+    }
 
 pub returns-clause-layers : goal.returns-clause-layers
 returns-clause-layers c v alike =
@@ -50,7 +87,7 @@ returns-clause-layers c v alike =
     let left : first.side ≡ side.Left = at_first (λ k. k.side ≡ side.Left) group first c.in-Some.ensures.value c.requires.left in
     let values : (get_or c.args.sides.now.left.now.items first.row no_row).values ≡ v =
     read_left s first v left (at_first (λ k. (key_row s k).values ≡ v) group first c.in-Some.ensures.value alike) in
-    let given = c.deref.ensures.value ∙ c.in_ok-periods.ensures ∙ periods_are s group in
+    let given = c.requires.periods ∙ periods_are s group in
     record {
       layering = c.in_ok-layering.layering.items;
       is_layering = subst (λ periods. IsLayering periods c.in_ok-layering.layering.items) given c.in_ok-layering.ensures.layering;

@@ -11,7 +11,7 @@ abbrev pub invariant-apart : goal.invariant-apart
 invariant-apart l = record {
   within : All (λ (line : Line). line.row < length l.fn.sides.left.now.items) l.initial.table.items → All (λ (line : Line). line.row < length l.fn.sides.left.now.items) l.table.items;
   lines : map (line_of l.fn.sides.left.now.items) l.table.items
-      ≡ map (line_of l.fn.sides.left.now.items) l.initial.table.items ++ map (key_row (state_of l.fn.sides)) (take l.key-index l.fn.group);
+      ≡ map (line_of l.fn.sides.left.now.items) l.initial.table.items ++ map (key_row (state_of l.fn.sides)) (take l.place l.fn.group);
 }
 
 abbrev pub invariant-layers : goal.invariant-layers

@@ -1,18 +1,44 @@
-use Rattle.std.proofs.Common.{◌≡◌, ◌≢◌, ◌+◌, ◌-◌, ◌<◌, ◌≤◌, List, sym, ap, ◌∙◌, subst, arith, drop, take, get_or, length, map}
+use Rattle.std.proofs.Common.{◌≡◌, ◌≢◌, ℕ, ◌+◌, ◌-◌, ◌<◌, ◌≤◌, List, [], ◌∷◌, refl, sym, ap, ◌∙◌, subst, arith, drop, take, get_or, length, map}
 use Rattle.std.specs.Prelude.{All}
 use Rattle.std.specs.List.{range_with_len}
-use Rattle.std.proofs.lemmas.List.{drop_all, drop-drop, length-drop, take_rest}
-use Rattle.std.proofs.lemmas.List.Elements.{All-drop, All-nil, All-take}
+use Rattle.std.proofs.lemmas.List.{drop_all, drop-drop, drop-map, get_or-map, length-drop, length-map, take_rest, take-map}
+use Rattle.std.proofs.lemmas.List.Elements.{All-drop, All-head, All-nil, All-tail, All-take}
 use Rattle.tq_base.specs.declared.value.Value.{Value}
+use Rattle.tq_base.specs.declared.fragment.Fragment.{Fragment}
+use Rattle.tq_base.specs.declared.period.Period.{Period}
 use Rattle.tq_base.specs.declared.relation.Line.{Line}
 use Rattle.tq_base.specs.declared.sides.Key.{Key}
+use Rattle.tq_base.specs.declared.sides.Side.TheVariants as side
 use Rattle.tq_base.specs.Groups.{grouping_ends, Grouping}
 use Rattle.tq_base.specs.KeyLaws.{marks_rest}
-use Rattle.tq_base.specs.Keys.{key_row, key_values, IsKey, SidesState}
+use Rattle.tq_base.specs.Keys.{key_row, key_values, no_row, rows_on, IsKey, SidesState}
 use Rattle.tq_base.specs.Layering.{AddsLayers}
 use Rattle.tq_base.specs.Relations.{line_of}
 use Rattle.tq_table.proofs.KeyGroups.{all_stand, all_whole, grouping_starts, end_key, takes_group, AreWhole}
 use Rattle.tq_table.proofs.coalescing.lines_of.Goals as goal
+
+abbrev when : Fragment → Period
+when row = row.period
+
+-- the period of the row that a left key names
+period_is : (s : SidesState) (k : Key) → k.side ≡ side.Left → k.row < length s.left → get_or (map when s.left) k.row no_row.period ≡ (key_row s k).period
+period_is s k left stands = get_or-map when s.left k.row no_row no_row.period stands ∙ subst (λ z. (get_or s.left k.row no_row).period ≡ (get_or (rows_on s z) k.row no_row).period) (sym left) refl
+
+-- the same of all keys
+periods_are : (s : SidesState) (keys : List Key) → All (λ k. k.side ≡ side.Left) keys → All (λ k. k.row < length s.left) keys
+    → map (λ (k : Key). get_or (map when s.left) k.row no_row.period) keys ≡ map (λ (k : Key). (key_row s k).period) keys
+periods_are s [] left stand = refl
+periods_are s (k ∷ keys) left stand =
+    let first = period_is s k (All-head (λ k. k.side ≡ side.Left) k keys left) (All-head (λ (k : Key). k.row < length s.left) k keys stand) in
+    let rest = periods_are s keys (All-tail (λ k. k.side ≡ side.Left) k keys left) (All-tail (λ (k : Key). k.row < length s.left) k keys stand) in
+    rw (first, rest) refl
+
+-- the periods of some keys are some of those of all
+cut : (s : SidesState) (keys : List Key) (periods : List Period) (start len : ℕ) → periods ≡ map (λ (k : Key). (key_row s k).period) keys
+    → take len (drop start periods) ≡ map (λ (k : Key). (key_row s k).period) (take len (drop start keys))
+cut s keys periods start len are =
+    let f : Key → Period = λ k. (key_row s k).period in
+    ap (λ l. take len (drop start l)) are ∙ ap (take len) (drop-map f start keys) ∙ take-map f len (drop start keys)
 
 pub groups-init : goal.groups-init
 groups-init c =
@@ -48,6 +74,26 @@ add_layers-requires-clause-stand c =
     let Stands : Key → Type 0 = λ (k : Key). k.row < length rows in
     subst (λ (l : List Key). All Stands (take len (drop start l))) (sym c.deref-in-groups-2.ensures.value)
     (All-take Stands len (drop start keys) (All-drop Stands start keys (all_stand s keys c.in_ok-keys.ensures.keys c.in_ok-keys.ensures.left)))
+
+pub periods_at-requires : goal.periods_at-requires
+periods_at-requires c =
+    let rows = c.args.rows.now.items in
+    let keys = c.in_ok-keys.keys.items in
+    let s : SidesState = record { left = rows; right = rows; left_columns = c.deref.result.now; right_columns = c.deref-2.result.now } in
+    let stand : All (λ (k : Key). k.row < length rows) keys = all_stand s keys c.in_ok-keys.ensures.keys c.in_ok-keys.ensures.left in
+    rw (c.deref-3.ensures.value, c.periods.ensures, length-map rows when) stand
+
+pub add_layers-requires-clause-periods : goal.add_layers-requires-clause-periods
+add_layers-requires-clause-periods c =
+    let rows = c.args.rows.now.items in
+    let keys = c.in_ok-keys.keys.items in
+    let start = c.groups.start in
+    let len = c.groups.start + c.run_len.result - c.groups.start in
+    let s : SidesState = record { left = rows; right = rows; left_columns = c.deref.result.now; right_columns = c.deref-2.result.now } in
+    let stand : All (λ (k : Key). k.row < length rows) keys = all_stand s keys c.in_ok-keys.ensures.keys c.in_ok-keys.ensures.left in
+    let told : c.in_ok-periods.periods.items ≡ map (λ (k : Key). get_or (map when rows) k.row no_row.period) keys = rw (c.periods.ensures, c.deref-3.ensures.value) at c.in_ok-periods.ensures in
+    let are = told ∙ periods_are s keys c.in_ok-keys.ensures.left stand in
+    rw (c.deref-in-groups-3.ensures.value, c.deref-in-groups-2.ensures.value) (cut s keys c.in_ok-periods.periods.items start len are)
 
 pub groups-preserved : goal.groups-preserved
 groups-preserved c =

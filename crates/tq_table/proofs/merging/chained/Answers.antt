@@ -2,7 +2,6 @@ use Rattle.std.proofs.Common.{◌≡◌, ◌++◌, ◌∷◌, [], length, sym, a
 use Rattle.std.specs.Prelude.{All}
 use Rattle.std.specs.Vec.Iter.{into_iter_items}
 use Rattle.std.proofs.lemmas.List.{nil_from_length}
-use Rattle.tq_base.specs.RowLists.{RowList}
 use Rattle.tq_table.specs.Merging.{all_rows, AreOfWidth}
 use Rattle.tq_table.proofs.MergeLemmas.{all_and_next, middle_holds, of_same_width}
 use Rattle.tq_table.proofs.merging.chained.Goals as goal

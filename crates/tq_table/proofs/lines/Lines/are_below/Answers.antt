@@ -1,4 +1,4 @@
-use Rattle.std.proofs.Common.{◌≡◌, ◌∙◌, ◌-◌, ap, get_or, length, subst}
+use Rattle.std.proofs.Common.{◌∙◌, ◌-◌, ap, get_or, length, subst}
 use Rattle.tq_base.specs.Groups.{Below}
 use Rattle.tq_base.specs.Keys.{no_row}
 use Rattle.tq_table.proofs.RangeLemmas.{all_below}

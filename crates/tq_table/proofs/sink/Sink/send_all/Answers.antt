@@ -1,4 +1,4 @@
-use Rattle.std.proofs.Common.{◌≡◌, ◌∙◌, ◌<◌, ◌+◌, ◌++◌, ◌∷◌, ℕ, suc, List, ap, append_assoc, arith, drop, get_or, length, sym, take}
+use Rattle.std.proofs.Common.{◌≡◌, ◌∙◌, ◌<◌, ◌++◌, ◌∷◌, ℕ, suc, List, ap, append_assoc, arith, drop, get_or, length, sym, take}
 use Rattle.std.specs.Global.{Vec}
 use Rattle.std.specs.Prelude.{Err, Ok, OnErr, Result}
 use Rattle.std.proofs.KnownBytes.{Appends-trans}
