@@ -296,6 +296,36 @@ def among_threads():
         )
 
 
+def named_columns():
+    """Questions that name a column in one place alone. Fields of columns that they do not name are checked all the same."""
+    texts = (
+        b"k:int,a:text,b:text,c:text,from,to\n"
+        b"1,a long text of the first column,x,one more text that is long,0,10\n"
+        b"2,a long text of the first column,y,another text that is long,5,15\n"
+        b"3,b long text of the first column,x,one more text that is long,5,15\n"
+    )
+    two = b"k,from,to\n1,0,10\n3,5,15\n"
+    answers = {
+        "a condition": ("k FROM t WHERE c = 'one more text that is long'", two),
+        "a condition on the second source": ("x.k FROM t x, t y WHERE x.k = y.k AND y.c > 'b'", two),
+        "a negated condition": ("k FROM t WHERE NOT (k = 7 OR c < 'b')", two),
+        "links of both sources": ("x.k, y.k FROM t x, t y WHERE x.b = y.b AND x.k < y.k", b"k,k,from,to\n1,3,5,10\n"),
+        "a group": ("COUNT(*) FROM t GROUP BY a", b"count,from,to\n1,0,15\n1,10,15\n2,5,10\n"),
+        "the right of a difference": ("k FROM t EXCEPT ALL SELECT k FROM t WHERE c = 'another text that is long'", two),
+        "no text": ("SUM(k) FROM t GROUP BY k", b"sum,from,to\n1,0,10\n2,5,15\n3,5,15\n"),
+    }
+    cases = []
+    for place, (statement, out) in answers.items():
+        for workers in "1", "3":
+            name = f"columns named in {place}, {workers} workers"
+            cases.append(ask(name, [("t", texts)], f"VALIDTIME SELECT {statement}", ("--workers", workers), out=out))
+    for kind, text in {"NotUtf8": b"\xff", "TextTooLong": 1001 * b"x"}.items():
+        content = SMALL + b"1,x,0,1\n2," + text + b",0,1\n"
+        name = f"{kind} of a column that is not named"
+        cases.append(refused(name, [("t", content)], "VALIDTIME SELECT k FROM t", f"load {kind} table 0 record 3"))
+    return cases
+
+
 def sessions():
     """Lines of standard input over the table of the examples: what each prints follows from docs/formats.md."""
     emp = ["session", "--table", "emp=examples/emp.csv"]
@@ -846,5 +876,5 @@ def outputs_that_fail():
 
 def table():
     """All cases."""
-    makers = (files_at_fault, statements_at_fault, command_lines, words_of_all_lengths, paths, large, among_threads, sessions, pictures, checks, dates, explanations, long_statements, explained_answers, explained_files, further_faults, each_fault, unread_files, outputs_that_fail)
+    makers = (files_at_fault, statements_at_fault, command_lines, words_of_all_lengths, paths, large, among_threads, named_columns, sessions, pictures, checks, dates, explanations, long_statements, explained_answers, explained_files, further_faults, each_fault, unread_files, outputs_that_fail)
     return [case for maker in makers for case in maker()]

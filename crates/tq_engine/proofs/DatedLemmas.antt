@@ -1,9 +1,8 @@
 -- The bounds of answers over files in dates.
-use Rattle.std.proofs.Common.{◌≡◌, ℕ, suc, zero, ◌<◌, ◌≤◌, List, [], ◌∷◌, length, map, take, arith, inl, inr, refl, subst}
+use Rattle.std.proofs.Common.{ℕ, suc, zero, ◌≤◌, List, [], ◌∷◌, length, map, take, arith, inl, inr, refl, subst}
 use Rattle.std.specs.Prelude.{All, Contains}
 use Rattle.std.proofs.lemmas.List.Elements.{All-nil, All-cons, All-head, All-tail, All-weaker}
 use Rattle.tq_base.specs.declared.dates.TheConstants.{LAST_DAY}
-use Rattle.tq_base.specs.declared.form.Form.TheVariants.{Dates}
 use Rattle.tq_base.specs.declared.fragment.Fragment.{Fragment}
 use Rattle.tq_base.specs.declared.period.TheConstants.{FOREVER}
 use Rattle.tq_base.specs.Numbers.{IsDated}

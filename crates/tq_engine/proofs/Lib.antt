@@ -1,3 +1,4 @@
+pub mod AskedLemmas
 pub mod DatedLemmas
 pub mod UniqueLemmas
 pub mod FaultLemmas

@@ -17,7 +17,7 @@ use Rattle.tq_table.specs.declared.table.Table.{Table}
 use Rattle.tq_engine.specs.Answers.{HasAnswer}
 
 -- a catalogue is known by its tables
-same_catalogue : (a b : Catalogue) → a.tables ≡ b.tables → a ≡ b
+pub same_catalogue : (a b : Catalogue) → a.tables ≡ b.tables → a ≡ b
 same_catalogue a b tables = subst (λ (t : List Schema). (few : length t ≤ 16) → a ≡ record { tables = t; few = few }) tables (λ few. ap (λ w. record { tables = a.tables; few = w }) (le_prop a.few few)) b.few
 
 abbrev tokens_or : List Token → Result (List Token) SqlFault → List Token
@@ -25,7 +25,7 @@ tokens_or other (Ok tokens) = tokens
 tokens_or other (Err fault) = other
 
 -- bytes make one statement at most
-same_statement : StatementsAreUnique → (bytes : List ℕ) (s u : Statement) → Makes bytes s → Makes bytes u → s ≡ u
+pub same_statement : StatementsAreUnique → (bytes : List ℕ) (s u : Statement) → Makes bytes s → Makes bytes u → s ≡ u
 same_statement once bytes s u x y =
     let tokens : x.0 ≡ y.0 = ap (tokens_or x.0) (sym x.1 ∙ y.1) in
     once y.0 s u (subst (λ ts. IsStatement ts s) tokens x.2) y.2

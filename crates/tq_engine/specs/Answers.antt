@@ -1,5 +1,5 @@
 -- The answer of a statement over the tables of files, and the first fault where there is none.
-use Rattle.std.specs.Prelude.{◌≡◌, ℕ, List, length, All, Err, Ok}
+use Rattle.std.specs.Prelude.{◌≡◌, ◌≢◌, ℕ, Bool, List, [], length, All, Err, Ok}
 use Rattle.tq_base.specs.declared.form.Form.{Form}
 use Rattle.tq_base.specs.declared.form.Form.TheVariants.{Dates}
 use Rattle.tq_base.specs.declared.fragment.Fragment.{Fragment}
@@ -8,9 +8,10 @@ use Rattle.tq_base.specs.declared.catalogue.Catalogue.{Catalogue}
 use Rattle.tq_event.specs.declared.file.Loaded.{Loaded}
 use Rattle.tq_event.specs.declared.file.TableFile.{TableFile}
 use Rattle.tq_event.specs.declared.file.Tables.{Tables}
-use Rattle.tq_event.specs.Loading.{IsLoaded, contents_of}
-use Rattle.tq_event.specs.Tables.{AreLoaded}
-use Rattle.tq_eval.specs.Answers.{IsAnswer}
+use Rattle.tq_event.specs.Loading.{Contents, IsLoaded, contents_of}
+use Rattle.tq_event.specs.Tables.{AreLoaded, lists_of}
+use Rattle.tq_eval.specs.Answers.{IsAnswer, IsTablesAnswer}
+use Rattle.tq_eval.specs.Named.{Serve}
 use Rattle.tq_plan.specs.Plans.{plan_of}
 use Rattle.tq_plan.specs.declared.plans.Plan.{Plan}
 use Rattle.tq_sql.specs.declared.fault.SqlFault.{SqlFault}
@@ -29,17 +30,26 @@ pub record HasAnswer (form : Form) (files : List TableFile) (bytes : List ℕ) (
   pub makes : Makes bytes statement
   pub is_answer : IsAnswer form loaded.catalogue statement loaded.events (length loaded.events) table
 
--- the tables are those of the files, and the statement is the one that the bytes make
+-- the statement is the one that the bytes make, and the tables are those of the files, of which texts may be left out that it does
+-- not name: what answers a plan of it over these tables answers it over the whole ones
 pub record IsAsked (form : Form) (files : List TableFile) (bytes : List ℕ) (tables : Tables) (statement : Statement) : Type 0 where
-  pub loaded : AreLoaded form files 16777216 tables
+  pub whole : Tables
+  pub loaded : AreLoaded form files 16777216 whole
+  pub catalogue : tables.catalogue ≡ whole.catalogue
   pub makes : Makes bytes statement
+  pub same : (plan : Plan) (table : Table) → plan_of form tables.catalogue statement ≡ Ok plan → IsTablesAnswer (lists_of tables.rows) plan table → IsTablesAnswer (lists_of whole.rows) plan table
 
--- the tables are those of the files, and the plan is that of the statement that the bytes make
+-- the tables are such tables, and the plan is that of the statement
 pub record IsPlanned (form : Form) (files : List TableFile) (bytes : List ℕ) (tables : Tables) (plan : Plan) : Type 0 where
-  pub loaded : AreLoaded form files 16777216 tables
   pub statement : Statement
-  pub makes : Makes bytes statement
+  pub asked : IsAsked form files bytes tables statement
   pub planned : plan_of form tables.catalogue statement ≡ Ok plan
+
+-- whatever the files hold, and whatever plan the statement has that the bytes make: where lists are told, the columns that it names are
+-- wanted by them
+abbrev pub ServesAsked : Form → List TableFile → List ℕ → List (List Bool) → Type 0
+ServesAsked form files bytes wanted = (contents : Contents) (catalogue : Catalogue) (statement : Statement) (plan : Plan) → contents_of form files 16777216 ≡ Ok contents → catalogue.tables ≡ contents.tables
+    → Makes bytes statement → plan_of form catalogue statement ≡ Ok plan → wanted ≢ [] → Serve wanted plan
 
 -- files and a statement have one answer at most
 abbrev pub AnswersAreUnique : Type 0

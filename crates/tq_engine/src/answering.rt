@@ -1,24 +1,26 @@
 // From the bytes of files and of a statement to the answer.
 
-ghost use Rattle.std.specs.Prelude.{◌≡◌, ◌≢◌, ◌≤◌, ℕ, IfErr, IfOk, List, Ok, length};
-ghost use Rattle.tq_event.specs.declared.event.Event.{Event as AnyEvent};
+ghost use Rattle.std.specs.Prelude.{◌≡◌, ◌≢◌, ◌≤◌, ℕ, IfErr, IfOk, List, Ok};
 ghost use Rattle.tq_event.specs.declared.file.TableFile.{TableFile as AnyFile};
-ghost use Rattle.tq_event.specs.Tables.{HoldsRows, lists_of};
+ghost use Rattle.tq_event.specs.Tables.{lists_of};
+ghost use Rattle.tq_plan.specs.declared.plans.Plan.{Plan as AnyPlan};
 ghost use Rattle.tq_plan.specs.Plans.{plan_of};
 ghost use Rattle.tq_table.specs.Text.{IsTextOf};
 ghost use Rattle.tq_engine.specs.Answers.{HasAnswer, IsAsked, IsFault, IsStatementFault};
-ghost use Rattle.tq_eval.specs.Answers.{IsAnswer};
+ghost use Rattle.tq_eval.specs.Answers.{IsTablesAnswer};
 ghost use Rattle.tq_eval.specs.Fitting.{AreAllFitting};
 
+use crate::named::named_columns;
 use std::alloc::{AllocError, Global};
 use std::thread::Threads;
 use thiserror::Error;
 use tq_base::Form;
 use tq_eval::detached;
-use tq_eval::laws::{held_rows_fit, tables_answer};
+use tq_eval::laws::{held_rows_fit, kept_rows_fit, kept_tables_answer, tables_answer};
 use tq_event::laws::{loaded_is_history, tables_are_loaded};
 use tq_event::{LoadFault, LoadFaultKind, MAX_EVENTS, TableFile, Tables};
-use tq_loading::load_tables_among;
+use tq_loading::load_wanted_among;
+use tq_plan::laws::queries_stand;
 use tq_plan::{Plan, PlanFault, plan};
 use tq_run::{Gate, Open};
 use tq_sql::{SqlFault, SqlFaultKind, Statement, read};
@@ -103,8 +105,8 @@ pub(crate) struct Question {
     pub(crate) statement: Statement,
 }
 
-// What the files, which these workers load, and the bytes ask. The files' bytes are let go once they are loaded. The gate
-// is told of each part of the files.
+// What the files, which these workers load, and the bytes ask. Of the tables no texts are kept but those of columns that
+// the statement names. The files' bytes are let go once they are loaded. The gate is told of each part of the files.
 pub(crate) fn asked<R: Threads + Sync, G: Gate + Sync>(
     rt: &R,
     alloc: Global,
@@ -120,16 +122,19 @@ pub(crate) fn asked<R: Threads + Sync, G: Gate + Sync>(
     ensures fit { IfOk result (λ question. AreAllFitting question.tables.catalogue (lists_of question.tables.rows)) }
     ensures fault { IfErr result (IsFault form files.items bytes.now) }
 {
-    let tables = load_tables_among(rt, alloc, files, MAX_EVENTS, workers, gate, form)?;
+    let named = named_columns(alloc, &files, bytes, form);
+    let tables = load_wanted_among(rt, alloc, files, &named, MAX_EVENTS, workers, gate, form)?;
     tables_are_loaded();
     loaded_is_history();
     held_rows_fit();
+    queries_stand();
+    kept_rows_fit();
+    kept_tables_answer();
     let statement = read(alloc, bytes)?;
     Ok(Question { tables, statement })
 }
 
-// The answer of a statement over tables, worked out by these workers: that over any history of which the tables
-// hold all.
+// The answer of a statement's plan over tables, worked out by these workers.
 fn answer_statement<'a, R: Threads + Sync>(
     rt: &R,
     alloc: Global,
@@ -141,14 +146,12 @@ fn answer_statement<'a, R: Threads + Sync>(
     requires fit { AreAllFitting tables.now.catalogue (lists_of tables.now.rows) }
     requires some { 1 ≤ workers }
     requires few { workers ≤ 16 }
-    ensures answer { (history : List AnyEvent) → ((table : ℕ) → HoldsRows (lists_of tables.now.rows) history (length history) table)
-        → IfOk result (IsAnswer form tables.now.catalogue statement.now history (length history)) }
+    ensures answer { IfOk result (λ table. (plan : AnyPlan) × (plan_of form tables.now.catalogue statement.now ≡ Ok plan) × IsTablesAnswer (lists_of tables.now.rows) plan table) }
     ensures fault { IfErr result (IsStatementFault form tables.now.catalogue statement.now) }
 {
     let plan = plan(alloc, &tables.catalogue, statement, form)?;
     let rows = tables.rows.get();
     let table = answer_among(rt, alloc, &tables.catalogue, rows, &plan, workers, &Open)?;
-    tables_answer();
     Ok(table)
 }
 
@@ -166,15 +169,12 @@ fn statement_text<R: Threads + Sync, G: Gate + Sync>(
     requires fit { AreAllFitting tables.now.catalogue (lists_of tables.now.rows) }
     requires some { 1 ≤ workers }
     requires few { workers ≤ 16 }
-    ensures plan { IfOk result (λ found. plan_of form tables.now.catalogue statement.now ≡ Ok found.0) }
-    ensures answer { (history : List AnyEvent) → ((table : ℕ) → HoldsRows (lists_of tables.now.rows) history (length history) table)
-        → IfOk result (λ found. IsTextOf form (IsAnswer form tables.now.catalogue statement.now history (length history)) found.1) }
+    ensures answer { IfOk result (λ found. (plan_of form tables.now.catalogue statement.now ≡ Ok found.0) × IsTextOf form (IsTablesAnswer (lists_of tables.now.rows) found.0) found.1) }
     ensures fault { IfErr result (IsStatementFault form tables.now.catalogue statement.now) }
 {
     let plan = plan(alloc, &tables.catalogue, statement, form)?;
     let (catalogue, rows) = (&tables.catalogue, tables.rows.get());
     let text = text_among(rt, alloc, catalogue, rows, &plan, workers, gate, form)?;
-    tables_answer();
     Ok((plan, text))
 }
 
@@ -192,6 +192,7 @@ fn answered<'a, R: Threads + Sync>(
     ensures answer { (files : List AnyFile) (bytes : List ℕ) → IsAsked form files bytes question.now.tables question.now.statement → IfOk result (HasAnswer form files bytes) }
     ensures fault { (files : List AnyFile) (bytes : List ℕ) → IsAsked form files bytes question.now.tables question.now.statement → IfErr result (IsFault form files bytes) }
 {
+    tables_answer();
     answer_statement(
         rt,
         alloc,
@@ -219,6 +220,7 @@ pub(crate) fn answered_text<R: Threads + Sync, G: Gate + Sync>(
     ensures answer { (files : List AnyFile) (bytes : List ℕ) → IsAsked form files bytes question.now.tables question.now.statement → IfOk result (λ found. IsTextOf form (HasAnswer form files bytes) found.1) }
     ensures fault { (files : List AnyFile) (bytes : List ℕ) → IsAsked form files bytes question.now.tables question.now.statement → IfErr result (IsFault form files bytes) }
 {
+    tables_answer();
     statement_text(
         rt,
         alloc,

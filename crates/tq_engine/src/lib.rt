@@ -2,11 +2,12 @@
 //! first fault.
 //!
 //! The bytes of a file come through a `Source`, which counts its reads and those that failed, and which
-//! `read_file` reads to its end. `answer` loads the tables of all files (`tq_event`), reads the statement
-//! (`tq_sql`), plans it (`tq_plan`) and evaluates its plan (`tq_eval`); `answer_explained` has the text of that answer
-//! sent through a `Sink` (`tq_table`), while somebody watches, and hands out the tables and the plan. Its contract is the
-//! first promise: what `Ok` appends is the text of an answer, as `HasAnswer` says, and files and a statement have one at
-//! most (`laws`). `answer_bytes` does the same where nobody watches.
+//! `read_file` reads to its end. `answer` loads the tables of all files (`tq_loading`) but for texts of columns that
+//! the statement does not name, reads the statement (`tq_sql`), plans it (`tq_plan`) and evaluates its plan
+//! (`tq_eval`); `answer_explained` has the text of that answer sent through a `Sink` (`tq_table`), while somebody
+//! watches, and hands out the tables and the plan. Its contract is the first promise: what `Ok` appends is the text
+//! of an answer, as `HasAnswer` says, and files and a statement have one at most (`laws`). `answer_bytes` does the
+//! same where nobody watches.
 #![tactic(auto)]
 
 mod answering;
@@ -14,6 +15,7 @@ mod explaining;
 mod fault_names;
 mod file;
 pub mod laws;
+mod named;
 mod source;
 
 pub use answering::{AnswerFault, answer};

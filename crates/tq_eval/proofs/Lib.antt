@@ -11,5 +11,8 @@ pub mod GroupBags
 pub mod GroupingLemmas
 pub mod HeldRows
 pub mod ItemLemmas
+pub mod KeptLemmas
+pub mod NamedLemmas
+pub mod NamingLemmas
 pub mod NumberLemmas
 pub mod ShareLemmas

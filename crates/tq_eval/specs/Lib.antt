@@ -3,6 +3,8 @@ pub mod Answers
 pub mod Bounds
 pub mod Fitting
 pub mod Gathering
+pub mod Named
+pub mod Naming
 pub mod Running
 pub mod Shares
 pub mod Sources

@@ -4,6 +4,7 @@ ghost use Rattle.tq_eval.specs.Answers.{AnswersAgree, AnswersAreUnique, AnswersE
 ghost use Rattle.tq_eval.specs.Bounds.{BoundsAreGiven};
 ghost use Rattle.tq_eval.specs.Fitting.{HeldRowsFit};
 ghost use Rattle.tq_eval.specs.Gathering.{SharesPartGroups};
+ghost use Rattle.tq_eval.specs.Named.{AllColumnsTell, KeptRowsFit, KeptTablesAnswer, KeptTablesFit, KeptTablesHold, NamedColumnsTell};
 ghost use Rattle.tq_eval.specs.Shares.{SharesPartAnswers, SharesPartRows};
 ghost use Rattle.tq_eval.specs.TableAnswers.{TablesAnswer};
 
@@ -78,3 +79,29 @@ pub fn shares_part_rows()
 pub fn shares_part_groups()
     ensures { SharesPartGroups }
 {}
+
+/// The answer of a plan depends on the columns that it names, and on no others: the texts of the others may be left out.
+pub fn named_columns_tell()
+    ensures { NamedColumnsTell }
+{}
+
+/// Where nothing is told of the columns of any table, no text is left out.
+pub fn all_columns_tell()
+    ensures { AllColumnsTell }
+{}
+
+/// Rows of which texts are left out fit the tables that they fitted, and those of tables are valid when they were.
+pub fn kept_rows_fit()
+    ensures rows { KeptRowsFit }
+    ensures tables { KeptTablesFit }
+    ensures valid { KeptTablesHold }
+{}
+
+/// Tables of which only the texts of those columns are kept that a plan names give it the answer that the whole tables
+/// give it; and so do tables of which nothing is left out.
+pub fn kept_tables_answer()
+    ensures { KeptTablesAnswer }
+{
+    named_columns_tell();
+    all_columns_tell();
+}

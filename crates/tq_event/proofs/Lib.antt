@@ -12,5 +12,6 @@ pub mod RecordLemmas
 pub mod RecordedLemmas
 pub mod SortLemmas
 pub mod HeldLemmas
+pub mod KeptLemmas
 pub mod TableLemmas
 pub mod UniqueLemmas

@@ -1,5 +1,6 @@
 pub mod Entries
 pub mod History
+pub mod Keeping
 pub mod Laws
 pub mod Loading
 pub mod OneRecord

@@ -1,7 +1,9 @@
 // Loading files.
 
 ghost use Rattle.std.specs.Prelude.{◌≡◌, ◌≢◌, ◌+◌, ◌<◌, ◌≤◌, ◌++◌, ◌∷◌, ◌==◌, [], Err, IfErr, IfOk, List, OnOk, Ok, if◌then◌else◌, length, map, sum_by};
+ghost use Rattle.tq_base.specs.RowLists.{RowList};
 ghost use Rattle.tq_event.specs.Entries.{Entry};
+ghost use Rattle.tq_event.specs.Keeping.{AreKeptFiles, AreWantedTables, IsKeptAfter, IsKeptTable, kept_from, wanted_lists, wanted_of};
 ghost use Rattle.tq_event.specs.Loading.{IsLoaded, contents_of, event_count, has_table, next_contents, next_name, out_of_memory, table_contents};
 ghost use Rattle.tq_event.specs.Tables.{AreRead, AreTables, entries_from, told_by};
 
@@ -9,6 +11,7 @@ use crate::entry::entries_of;
 use crate::fault::{LoadFault, LoadFaultKind};
 use crate::file::{Loaded, TableFile, Tables};
 use crate::header::read_header;
+use crate::keeping::wanted_columns;
 use crate::order::order_events;
 use crate::reading::read_entry;
 use crate::records::{is_marked_twice, next_record, record_reader};
@@ -76,22 +79,21 @@ fn add_row(
 }
 
 // The columns that a table's bytes name, and the rows of its records, whose events are added to those
-// before. Not inlined, so that the reader's buffers leave the stack with it.
+// before; only wanted texts are kept. Not inlined, so that the reader's buffers leave the stack with it.
 #[inline(never)]
 fn read_table(
     alloc: Global,
     limit: u32,
     table: u32,
+    wanted: &[bool],
     events: &mut u32,
     bytes: &[u8],
     form: Form,
 ) -> Result<(Vec<Column>, Rows), LoadFault>
     requires limit { limit ≤ MAX_EVENTS }
     requires within { events.old ≤ limit }
-    ensures ok { (before : List Entry) → sum_by event_count before ≡ events.old → IfOk result (λ read.
-        table_contents form limit table before bytes.now ≡ Ok (read.0.items, before ++ map (told_by table) read.1.items)) }
+    ensures ok { IfOk result (λ read. IsKeptTable form limit table wanted.now bytes.now events.old events.new read.0.items read.1.items) }
     ensures width { IfOk result (λ read. read.1.width ≡ length read.0.items) }
-    ensures counted { IfOk result (λ read. events.new ≡ events.old + sum_by event_count (map (told_by table) read.1.items)) }
     ensures within { OnOk result (events.new ≤ limit) }
     ensures fault { (before : List Entry) → sum_by event_count before ≡ events.old → IfErr result (λ fault. fault.kind ≢ LoadFaultKind.OutOfMemory
         → table_contents form limit table before bytes.now ≡ Err fault) }
@@ -115,7 +117,7 @@ fn read_table(
         if !next_record(&mut reader, &mut record)? {
             return Ok((columns, rows));
         }
-        let period = match read_entry(alloc, &columns, &record, &mut values, form) {
+        let period = match read_entry(alloc, &columns, wanted, &record, &mut values, form) {
             Ok(period) => period,
             Err(kind) => return Err(fault_at(table, number, kind)),
         };
@@ -151,10 +153,11 @@ pub fn read_name(alloc: Global, tables: &[Schema], name: &[u8]) -> Result<Name, 
     Ok(name)
 }
 
-// Adds the table of a file, and its rows, to those before.
+// Adds the table of a file, and its rows, to those before. Only wanted texts are kept.
 fn load_file(
     alloc: Global,
     limit: u32,
+    wanted: &[Vec<bool>],
     tables: &mut Vec<Schema>,
     rows: &mut Vec<Rows>,
     events: &mut u32,
@@ -166,14 +169,14 @@ fn load_file(
     requires read { AreRead tables.old.items rows.old.items }
     requires counted { events.old ≡ sum_by event_count (entries_from 0 rows.old.items) }
     requires within { events.old ≤ limit }
-    ensures ok { OnOk result (next_contents form limit (record { tables = tables.old.items; entries = entries_from 0 rows.old.items }) file.now
-        ≡ Ok (record { tables = tables.new.items; entries = entries_from 0 rows.new.items })) }
+    ensures ok { (whole : List RowList) → rows.old.items ≡ kept_from (wanted_lists wanted.now) 0 whole
+        → OnOk result (IsKeptAfter form limit (wanted_lists wanted.now) tables.old.items whole file.now tables.new.items rows.new.items) }
     ensures few { OnOk result (length tables.new.items ≤ 16) }
     ensures read { OnOk result (AreRead tables.new.items rows.new.items) }
     ensures counted { OnOk result (events.new ≡ sum_by event_count (entries_from 0 rows.new.items)) }
     ensures within { OnOk result (events.new ≤ limit) }
-    ensures fault { IfErr result (λ fault. fault.kind ≢ LoadFaultKind.OutOfMemory
-        → next_contents form limit (record { tables = tables.old.items; entries = entries_from 0 rows.old.items }) file.now ≡ Err fault) }
+    ensures fault { (whole : List RowList) → rows.old.items ≡ kept_from (wanted_lists wanted.now) 0 whole → IfErr result (λ fault. fault.kind ≢ LoadFaultKind.OutOfMemory
+        → next_contents form limit (record { tables = tables.old.items; entries = entries_from 0 whole }) file.now ≡ Err fault) }
     ensures out_of_memory { IfErr result (λ fault. fault.kind ≡ LoadFaultKind.OutOfMemory → fault ≡ out_of_memory) }
 {
     let number = tables.len() as u32;
@@ -181,7 +184,9 @@ fn load_file(
         Ok(name) => name,
         Err(kind) => return Err(fault_at(number, 0, kind)),
     };
-    let (columns, read) = read_table(alloc, limit, number, events, file.bytes.get(), form)?;
+    let wanted = wanted_columns(wanted, number);
+    let bytes = file.bytes.get();
+    let (columns, read) = read_table(alloc, limit, number, wanted, events, bytes, form)?;
     let columns = Items::of(columns);
     tables
         .push(Schema { name, columns })
@@ -190,8 +195,43 @@ fn load_file(
     Ok(())
 }
 
-// The tables of files, and the rows of their records. A file's bytes are let go once its rows are read.
+// The tables of files, and the rows of their records, of which only wanted texts are kept. A file's bytes are let go once
+// its rows are read.
 fn read_files(
+    alloc: Global,
+    files: Vec<TableFile>,
+    wanted: &[Vec<bool>],
+    limit: u32,
+    form: Form,
+) -> Result<(Vec<Schema>, Vec<Rows>), LoadFault>
+    requires { limit ≤ MAX_EVENTS }
+    ensures ok { IfOk result (λ read. AreKeptFiles form files.items limit (wanted_lists wanted.now) read.0.items read.1.items) }
+    ensures few { IfOk result (λ read. length read.0.items ≤ 16) }
+    ensures read { IfOk result (λ read. AreRead read.0.items read.1.items) }
+    ensures within { IfOk result (λ read. sum_by event_count (entries_from 0 read.1.items) ≤ limit) }
+    ensures fault { IfErr result (λ fault. fault.kind ≢ LoadFaultKind.OutOfMemory → contents_of form files.items limit ≡ Err fault) }
+    ensures out_of_memory { IfErr result (λ fault. fault.kind ≡ LoadFaultKind.OutOfMemory → fault ≡ out_of_memory) }
+{
+    let mut tables = Vec::new(alloc);
+    let mut rows = Vec::new(alloc);
+    let mut events = 0;
+    'files: for file in files {
+        load_file(
+            alloc,
+            limit,
+            wanted,
+            &mut tables,
+            &mut rows,
+            &mut events,
+            &file,
+            form,
+        )?;
+    }
+    Ok((tables, rows))
+}
+
+// The tables of files, and the rows of their records, of which all texts are kept.
+fn read_whole_files(
     alloc: Global,
     files: Vec<TableFile>,
     limit: u32,
@@ -206,21 +246,7 @@ fn read_files(
     ensures fault { IfErr result (λ fault. fault.kind ≢ LoadFaultKind.OutOfMemory → contents_of form files.items limit ≡ Err fault) }
     ensures out_of_memory { IfErr result (λ fault. fault.kind ≡ LoadFaultKind.OutOfMemory → fault ≡ out_of_memory) }
 {
-    let mut tables = Vec::new(alloc);
-    let mut rows = Vec::new(alloc);
-    let mut events = 0;
-    'files: for file in files {
-        load_file(
-            alloc,
-            limit,
-            &mut tables,
-            &mut rows,
-            &mut events,
-            &file,
-            form,
-        )?;
-    }
-    Ok((tables, rows))
+    read_files(alloc, files, &[], limit, form)
 }
 
 /// Loads files into a catalogue and one list of at most `limit` events: for each data record a start
@@ -238,7 +264,7 @@ pub fn load(
     ensures fault { IfErr result (λ fault. fault.kind ≢ LoadFaultKind.OutOfMemory → contents_of form files.items limit ≡ Err fault) }
     ensures out_of_memory { IfErr result (λ fault. fault.kind ≡ LoadFaultKind.OutOfMemory → fault ≡ out_of_memory) }
 {
-    let (tables, rows) = read_files(alloc, files, limit, form)?;
+    let (tables, rows) = read_whole_files(alloc, files, limit, form)?;
     let entries = entries_of(alloc, &rows)?;
     let events = order_events(alloc, tables.len(), entries)?;
     Ok(Loaded {
@@ -262,7 +288,33 @@ pub fn load_tables(
     ensures fault { IfErr result (λ fault. fault.kind ≢ LoadFaultKind.OutOfMemory → contents_of form files.items limit ≡ Err fault) }
     ensures out_of_memory { IfErr result (λ fault. fault.kind ≡ LoadFaultKind.OutOfMemory → fault ≡ out_of_memory) }
 {
-    let (schemas, rows) = read_files(alloc, files, limit, form)?;
+    let (schemas, rows) = read_whole_files(alloc, files, limit, form)?;
+    Ok(Tables {
+        catalogue: Catalogue {
+            tables: Items::of(schemas),
+        },
+        rows: Items::of(rows),
+    })
+}
+
+/// Loads files into their tables as `load_tables` does, and keeps of their rows only texts that are wanted. The lists
+/// stand for the tables in their order, and each tells of a table's columns, from the first on, which are wanted; columns
+/// and tables behind the end of a list are. Each field is read and refused all the same: of a column that is not wanted
+/// the empty text stands in place of a text, for which no memory is taken. Numbers and periods are always kept.
+pub fn load_wanted(
+    alloc: Global,
+    files: Vec<TableFile>,
+    wanted: &[Vec<bool>],
+    limit: u32,
+    form: Form,
+) -> Result<Tables, LoadFault>
+    requires { limit ≤ MAX_EVENTS }
+    ensures tables { IfOk result (AreWantedTables form files.items limit (wanted_lists wanted.now)) }
+    ensures read { IfOk result (λ tables. AreRead tables.catalogue.tables tables.rows) }
+    ensures fault { IfErr result (λ fault. fault.kind ≢ LoadFaultKind.OutOfMemory → contents_of form files.items limit ≡ Err fault) }
+    ensures out_of_memory { IfErr result (λ fault. fault.kind ≡ LoadFaultKind.OutOfMemory → fault ≡ out_of_memory) }
+{
+    let (schemas, rows) = read_files(alloc, files, wanted, limit, form)?;
     Ok(Tables {
         catalogue: Catalogue {
             tables: Items::of(schemas),

@@ -37,7 +37,7 @@ fn fields_read(
         return Ok(None);
     }
     let mut values = Vec::new(alloc);
-    match read_fields(alloc, columns, record, &mut values) {
+    match read_fields(alloc, columns, &[], record, &mut values) {
         Ok(()) => Ok(Some(Values::of(values))),
         Err(LoadFaultKind::OutOfMemory) => Err(AllocError),
         Err(_) => Ok(None),

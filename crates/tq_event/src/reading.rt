@@ -3,10 +3,11 @@
 ghost use Rattle.std.specs.Prelude.{◌≡◌, ◌≢◌, ℕ, ◌+◌, ◌≤◌, [], Err, IfErr, IfOk, IfSome, IsTrue, OnOk, Ok, length};
 ghost use Rattle.std.specs.Str.{IsAscii, IsUtf8};
 ghost use Rattle.csv.specs.Records.{fields_of};
-ghost use Rattle.tq_event.specs.Tables.{told_by};
+ghost use Rattle.tq_event.specs.Keeping.{AreKeptValues, IsKeptEntry, IsKeptValue};
 ghost use Rattle.tq_event.specs.Loading.{entry_of, make_period, period_fields, period_of, value_fields, value_of, values_after};
 
 use crate::fault::LoadFaultKind;
+use crate::keeping::is_wanted;
 use crate::records::field_at;
 use csv::ByteRecord;
 use std::alloc::{AllocError, Global};
@@ -38,9 +39,9 @@ fn text_in(bytes: &[u8]) -> Option<&str>
     str::from_utf8(bytes).ok()
 }
 
-// The text that a field holds.
-fn read_text(alloc: Global, field: &[u8]) -> Result<Value, LoadFaultKind>
-    ensures ok { IfOk result (λ value. value_of Kind.Text field.now ≡ Ok value) }
+// The text that a field holds, or the empty one in its place where it is not wanted.
+fn read_text(alloc: Global, wanted: bool, field: &[u8]) -> Result<Value, LoadFaultKind>
+    ensures ok { IfOk result (IsKeptValue Kind.Text wanted field.now) }
     ensures fault { IfErr result (λ fault. fault ≢ LoadFaultKind.OutOfMemory → value_of Kind.Text field.now ≡ Err fault) }
 {
     let Some(text) = text_in(field) else {
@@ -49,12 +50,15 @@ fn read_text(alloc: Global, field: &[u8]) -> Result<Value, LoadFaultKind>
     if field.len() > MAX_TEXT {
         return Err(LoadFaultKind::TextTooLong);
     }
+    if !wanted {
+        return Ok(Value::text(alloc, "")?);
+    }
     Ok(Value::text(alloc, text)?)
 }
 
-// The value that a field holds.
-fn read_value(alloc: Global, kind: Kind, field: &[u8]) -> Result<Value, LoadFaultKind>
-    ensures ok { IfOk result (λ value. value_of kind field.now ≡ Ok value) }
+// The value that a field holds, of which no text is kept where it is not wanted.
+fn read_value(alloc: Global, kind: Kind, wanted: bool, field: &[u8]) -> Result<Value, LoadFaultKind>
+    ensures ok { IfOk result (IsKeptValue kind wanted field.now) }
     ensures fault { IfErr result (λ fault. fault ≢ LoadFaultKind.OutOfMemory → value_of kind field.now ≡ Err fault) }
 {
     match kind {
@@ -62,19 +66,21 @@ fn read_value(alloc: Global, kind: Kind, field: &[u8]) -> Result<Value, LoadFaul
             Some(number) => Ok(Value::int(number)),
             None => Err(LoadFaultKind::BadInt),
         },
-        Kind::Text => read_text(alloc, field),
+        Kind::Text => read_text(alloc, wanted, field),
     }
 }
 
-/// The values that the first fields of the record hold, one for each column, in place of those in the list.
+/// The values that the first fields of the record hold, one for each column, in place of those in the list. Of a column
+/// that is not wanted no text is kept.
 pub fn read_fields(
     alloc: Global,
     columns: &[Column],
+    wanted: &[bool],
     record: &ByteRecord,
     values: &mut Vec<Value>,
 ) -> Result<(), LoadFaultKind>
     requires { length columns.now ≤ length (fields_of record.now) }
-    ensures ok { OnOk result (values_after [] columns.now (fields_of record.now) ≡ Ok values.new.items) }
+    ensures ok { OnOk result (AreKeptValues columns.now wanted.now (fields_of record.now) values.new.items) }
     ensures width { OnOk result (length values.new.items ≡ length columns.now) }
     ensures fault { IfErr result (λ fault. fault ≢ LoadFaultKind.OutOfMemory
         → values_after [] columns.now (fields_of record.now) ≡ Err fault) }
@@ -82,7 +88,8 @@ pub fn read_fields(
     values.clear();
     values.reserve(columns.len())?;
     'columns: for (place, column) in columns.iter().enumerate() {
-        let value = read_value(alloc, column.kind, field_at(record, place))?;
+        let field = field_at(record, place);
+        let value = read_value(alloc, column.kind, is_wanted(wanted, place), field)?;
         values.push_reserved(value);
     }
     Ok(())
@@ -115,16 +122,18 @@ fn read_period(record: &ByteRecord, form: Form) -> Result<Period, LoadFaultKind>
     make_period(read_instant(from, form), read_bound(to, form))
 }
 
-/// The row that a record of a table of these columns tells: its period; its values come to stand in the list.
+/// The row that a record of a table of these columns tells: its period; its values come to stand in the list. Of a
+/// column that is not wanted each field is read and no text is kept: the empty one stands in its place, for which no
+/// memory is taken. Columns behind the end of the list of wanted ones are wanted.
 pub fn read_entry(
     alloc: Global,
     columns: &[Column],
+    wanted: &[bool],
     record: &ByteRecord,
     values: &mut Vec<Value>,
     form: Form,
 ) -> Result<Period, LoadFaultKind>
-    ensures ok { (table : ℕ) → IfOk result (λ period. entry_of form table columns.now (fields_of record.now)
-        ≡ Ok (told_by table (record { values = values.new.items; period = period }))) }
+    ensures ok { IfOk result (IsKeptEntry form columns.now wanted.now (fields_of record.now) values.new.items) }
     ensures width { OnOk result (length values.new.items ≡ length columns.now) }
     ensures fault { (table : ℕ) → IfErr result (λ fault. fault ≢ LoadFaultKind.OutOfMemory
         → entry_of form table columns.now (fields_of record.now) ≡ Err fault) }
@@ -133,6 +142,6 @@ pub fn read_entry(
     if width < 2 || width - 2 != columns.len() {
         return Err(LoadFaultKind::FieldCount);
     }
-    read_fields(alloc, columns, record, values)?;
+    read_fields(alloc, columns, wanted, record, values)?;
     read_period(record, form)
 }

@@ -44,7 +44,7 @@ pub(crate) fn is_faulty(
 ) -> Result<bool, AllocError>
     ensures { IfOk result (λ faulty. faulty ≡ is_faulty form columns.now (fields_of record.now)) }
 {
-    match read_entry(alloc, columns, record, values, form) {
+    match read_entry(alloc, columns, &[], record, values, form) {
         Ok(_) => Ok(false),
         Err(LoadFaultKind::OutOfMemory) => Err(AllocError),
         Err(_) => Ok(true),

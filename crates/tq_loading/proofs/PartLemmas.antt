@@ -1,5 +1,5 @@
 -- Rows of a part, and of one that follows on it.
-use Rattle.std.proofs.Common.{◌≡◌, ◌≤◌, ◌<◌, ◌+◌, ◌-◌, ◌++◌, ◌∷◌, ◌==◌, ℕ, zero, suc, true, false, List, [], drop, take, map, length, refl, sym, ap, subst, ◌∙◌, arith}
+use Rattle.std.proofs.Common.{◌≡◌, ◌≤◌, ◌<◌, ◌+◌, ◌-◌, ◌++◌, ◌∷◌, ◌==◌, ℕ, zero, suc, Bool, true, false, List, [], drop, take, map, length, refl, sym, ap, subst, ◌∙◌, arith}
 use Rattle.std.specs.Prelude.{Ok, slice_range}
 use Rattle.std.proofs.lemmas.List.{drop-drop, drop-take, map-append, take-append-drop, take-take, take_all}
 use Rattle.csv.specs.Machine.{next_record}
@@ -9,6 +9,7 @@ use Rattle.tq_base.specs.declared.form.Form.{Form}
 use Rattle.tq_base.specs.declared.catalogue.Column.{Column}
 use Rattle.tq_base.specs.declared.fragment.Fragment.{Fragment}
 use Rattle.tq_base.specs.RowLists.{RowList}
+use Rattle.tq_event.specs.Keeping.{kept_row, kept_rows}
 use Rattle.tq_event.specs.Loading.{begins_with_mark, csv_records, entry_of}
 use Rattle.tq_event.specs.Tables.{told_by}
 use Rattle.tq_loading.specs.declared.part.Part.{Part}
@@ -161,6 +162,18 @@ module _ (form : Form) (columns : List Column) (bytes : List ℕ) (first second 
     told = rw (starts, ends, are) (told_upto first.start second.start refl refl);
     ends = rw (starts, ends) (ends_upto first.start second.start refl refl);
   }
+
+-- the rows of both parts are kept as those of each are
+pub both_kept : (wanted : List Bool) (one other rows others all : RowList) → all.width ≡ rows.width → all.items ≡ rows.items ++ others.items → rows ≡ kept_rows wanted one → others ≡ kept_rows wanted other
+    → all ≡ kept_rows wanted (record { width = one.width; items = one.items ++ other.items })
+both_kept wanted one other rows others all wide are first second =
+    let width : all.width ≡ one.width = wide ∙ ap (λ (r : RowList). r.width) first in
+    let items : all.items ≡ map (kept_row wanted) (one.items ++ other.items) =
+    are
+    ∙ ap (λ (r : RowList). r.items ++ others.items) first
+    ∙ ap (λ (r : RowList). map (kept_row wanted) one.items ++ r.items) second
+    ∙ sym (map-append (kept_row wanted) one.items other.items) in
+    λ i. record { width = width i; items = items i }
 
 -- the rows of the part that is the whole file
 pub whole_read : (form : Form) (columns : List Column) (bytes : List ℕ) (part : Part) (rows : RowList) → part.start ≡ 0 → part.end ≡ length bytes → AreRowsOfPart form columns bytes part rows → AreRowsOfTable form columns bytes rows

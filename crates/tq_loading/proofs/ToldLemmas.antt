@@ -1,8 +1,8 @@
 -- What files hold whose records tell the rows of their tables.
-use Rattle.std.proofs.Common.{◌≡◌, ◌≤◌, ◌<◌, ◌+◌, ◌++◌, ◌∷◌, ℕ, zero, suc, List, [], Some, None, Ok, Result, ◌⊎◌, inl, inr, drop, take, map, length, slice_get, sum_by, refl, sym, ap, ◌∙◌, arith, append-nil, append_assoc}
+use Rattle.std.proofs.Common.{◌≡◌, ◌≤◌, ◌<◌, ◌+◌, ◌++◌, ◌∷◌, ℕ, zero, suc, Bool, List, [], Some, None, Ok, Err, Result, ◌⊎◌, inl, inr, drop, take, map, length, slice_get, sum_by, refl, sym, ap, subst, ◌∙◌, arith, append-nil, append_assoc}
 use Rattle.std.proofs.lemmas.List.{drop_more, length-drop, length-take-le, take_all, take_more}
 use Rattle.std.proofs.lemmas.List.Sums.{sum_by-append, sum_by-cons}
-use Rattle.std.proofs.lemmas.Option.{get_or_from_slice_get, slice_get-get_or, slice_get_cases, slice_get_within}
+use Rattle.std.proofs.lemmas.Option.{get_or_from_slice_get, none-some, slice_get-get_or, slice_get_cases, slice_get_within}
 use Rattle.std.specs.Prelude.{slice_index_or}
 use Rattle.tq_base.specs.declared.form.Form.{Form}
 use Rattle.tq_base.specs.declared.catalogue.Column.{Column}
@@ -12,11 +12,13 @@ use Rattle.tq_base.specs.RowLists.{RowList}
 use Rattle.tq_event.specs.declared.fault.LoadFault.{LoadFault}
 use Rattle.tq_event.specs.declared.file.TableFile.{TableFile}
 use Rattle.tq_event.specs.Entries.{Entry}
+use Rattle.tq_event.specs.Keeping.{kept_from, kept_rows, wanted_of}
 use Rattle.tq_event.specs.Loading.{Contents, contents_after, contents_of, csv_records, entries_after, entry_of, event_count, next_contents, next_name, table_contents}
 use Rattle.tq_event.specs.Tables.{AreRead, entries_from, told_by}
-use Rattle.tq_event.proofs.LoadLemmas.{add_ok, next_ok, read_ok}
+use Rattle.tq_event.proofs.LoadLemmas.{add_ok, next_ok, read_fault, read_ok}
+use Rattle.tq_event.proofs.KeptLemmas.{tables_many}
 use Rattle.tq_event.proofs.TableLemmas.{entries_put}
-use Rattle.tq_loading.specs.Parts.{AreHeaded, AreRowsOfTable, AreTold, TellRows}
+use Rattle.tq_loading.specs.Parts.{AreHeaded, AreKeptTold, AreRowsOfTable, AreTold, HoldsAt, TellRows}
 
 -- ---- records
 
@@ -120,3 +122,104 @@ pub as_wide : (form : Form) (files : List TableFile) (schemas : List Schema) (ta
 as_wide form files schemas tables headed told = all_wide schemas tables (told.many ∙ sym headed.many) (λ t s r is_schema is_rows.
     let (file, is_file) = item_at files t (omega (arith, slice_get_within tables t r is_rows, told.many)) in
     (told.each t r is_rows file s is_file is_schema).wide)
+
+-- ---- kept texts
+
+-- whole tables of which each is known by its number, from those that were kept
+gathered : (wanted : List (List Bool)) (holds : ℕ → RowList → Type 0) (number : ℕ) (tables : List RowList)
+    → ((k : ℕ) (rows : RowList) → slice_get tables k ≡ Some rows → (whole : RowList) × holds (number + k) whole × (rows ≡ kept_rows (wanted_of wanted (number + k)) whole))
+    → (all : List RowList) × (tables ≡ kept_from wanted number all) × ((k : ℕ) (rows : RowList) → slice_get all k ≡ Some rows → holds (number + k) rows)
+unfolding kept_from
+gathered wanted holds number [] each = ([], refl, λ k rows is. absurd (none-some rows is))
+gathered wanted holds number (rows ∷ tables) each =
+    let (first, held, kept) = each zero rows refl in
+    let (all, are, rest) = gathered wanted holds (number + 1) tables (λ k r is. let next : number + 1 + k ≡ number + suc k = omega arith in rw next (each (suc k) r is)) in
+    let here : number + zero ≡ number = omega arith in
+    let one : rows ≡ kept_rows (wanted_of wanted number) first = rw here at kept in
+    (first ∷ all, λ i. one i ∷ are i, by first all held rest)
+  where
+    by : (first : RowList) (all : List RowList) → holds (number + zero) first → ((k : ℕ) (r : RowList) → slice_get all k ≡ Some r → holds (number + 1 + k) r) → (k : ℕ) (r : RowList) → slice_get (first ∷ all) k ≡ Some r → holds (number + k) r
+    by first all held rest zero r is = let same : first ≡ r = cc is in subst (holds (number + zero)) same held
+    by first all held rest (suc k) r is = let next : number + 1 + k ≡ number + suc k = omega arith in subst (λ n. holds n r) next (rest k r is)
+
+module _ (form : Form) (files : List TableFile) (wanted : List (List Bool)) (schemas : List Schema) (tables : List RowList) (headed : length schemas ≡ length files) (told : AreKeptTold form files wanted schemas tables) where
+  abbrev holds : ℕ → RowList → Type 0
+  holds table rows = HoldsAt files schemas table (λ file schema. AreRowsOfTable form schema.columns file.bytes rows)
+
+  whole_at : (table : ℕ) (rows : RowList) → slice_get tables table ≡ Some rows → (whole : RowList) × holds table whole × (rows ≡ kept_rows (wanted_of wanted table) whole)
+  whole_at table rows is =
+      let here : table < length tables = slice_get_within tables table rows is in
+      let (file, is_file) = item_at files table (omega (arith, here, told.many)) in
+      let (schema, is_schema) = item_at schemas table (omega (arith, here, told.many, headed)) in
+      let kept = told.each table rows is file schema is_file is_schema in (
+        kept.whole,
+        λ f s at_file at_schema.
+            let files_agree : Some file ≡ Some f = sym is_file ∙ at_file in
+            let schemas_agree : Some schema ≡ Some s = sym is_schema ∙ at_schema in
+            let same : file ≡ f = cc files_agree in
+            let like : schema ≡ s = cc schemas_agree in
+            subst (λ (q : Schema). AreRowsOfTable form q.columns f.bytes kept.whole) like (subst (λ (q : TableFile). AreRowsOfTable form schema.columns q.bytes kept.whole) same kept.of_table),
+        kept.kept,
+      )
+
+  -- the whole tables, of which those are kept
+  pub whole_told : (whole : List RowList) × (tables ≡ kept_from wanted 0 whole) × AreTold form files schemas whole
+  whole_told =
+      let (all, are, each) = gathered wanted holds 0 tables (λ k rows is. let number : 0 + k ≡ k = omega arith in rw number (whole_at k rows is)) in (
+        all,
+        are,
+        record {
+          many = omega (arith, ap length are, tables_many wanted 0 all, told.many);
+          each = λ table rows is. let number : 0 + table ≡ table = omega arith in subst (λ n. holds n rows) number (each table rows is);
+        },
+      )
+
+-- ---- names and headers
+
+module _ (form : Form) (files : List TableFile) (limit : ℕ) (schemas : List Schema) (headed : AreHeaded files schemas) where
+  rest_headed : (left : List TableFile) (t : ℕ) (entries : List Entry) (contents : Contents) → drop t files ≡ left → t ≤ length files
+      → contents_after form limit (record { tables = take t schemas; entries = entries }) left ≡ Ok contents → contents.tables ≡ schemas
+  rest_headed [] t entries contents is upto held =
+      let past : length files ≤ t = omega (arith, length-drop t files, ap length is) in
+      let same : record { tables = take t schemas; entries = entries } ≡ contents = cc held in
+      sym (ap (λ (c : Contents). c.tables) same) ∙ take_all t schemas (omega (arith, past, headed.many))
+  rest_headed (file ∷ left) t entries contents is upto held =
+      by (entries_after form limit t schema.columns 2 entries (drop 1 (csv_records file.bytes))) refl (λ more. rest_headed left (t + 1) more contents (cc split) (omega (arith, here)))
+    where
+      here : t < length files
+      here = omega (arith, length-drop t files, ap length is)
+
+      split : slice_index_or files t file ∷ drop (t + 1) files ≡ file ∷ left
+      split = sym (drop_more files t file here) ∙ is
+
+      is_file : slice_get files t ≡ Some file
+      is_file = let same : slice_index_or files t file ≡ file = cc split in slice_get-get_or files t file here ∙ ap Some same
+
+      at : (s : Schema) × (slice_get schemas t ≡ Some s)
+      at = item_at schemas t (omega (arith, here, headed.many))
+
+      schema : Schema
+      schema = at.0
+
+      number : length (take t schemas) ≡ t
+      number = length-take-le t schemas (omega (arith, here, headed.many))
+
+      named : next_name (take t schemas) file.name ≡ Ok schema.name
+      named = headed.named t file schema is_file at.1
+
+      by : (r : Result (List Entry) LoadFault) → entries_after form limit t schema.columns 2 entries (drop 1 (csv_records file.bytes)) ≡ r
+          → ((more : List Entry) → contents_after form limit (record { tables = take (t + 1) schemas; entries = more }) left ≡ Ok contents → contents.tables ≡ schemas) → contents.tables ≡ schemas
+      by (Err fault) told rest =
+          let contents_fault : table_contents form limit t entries file.bytes ≡ Err fault = read_fault form limit t entries file.bytes schema.columns fault (headed.headed t file schema is_file at.1) told in
+          let next : next_contents form limit (record { tables = take t schemas; entries = entries }) file ≡ Err fault = rw (named, number, contents_fault) refl in
+          let none = rw next at held in
+          cc none
+      by (Ok more) told rest =
+          let contents_read : table_contents form limit t entries file.bytes ≡ Ok (schema.columns, more) = read_ok form limit t entries file.bytes schema.columns more (headed.headed t file schema is_file at.1) told in
+          let more_schemas : take (t + 1) schemas ≡ take t schemas ++ schema ∷ [] = one_more schemas t schema at.1 (omega (arith, here, headed.many)) in
+          let next : next_contents form limit (record { tables = take t schemas; entries = entries }) file ≡ Ok (record { tables = take (t + 1) schemas; entries = more }) =
+          rw (named, number, contents_read, more_schemas) refl in
+          rest more (rw next at held)
+
+  pub headers_held : (contents : Contents) → contents_of form files limit ≡ Ok contents → contents.tables ≡ schemas
+  headers_held contents held = rest_headed files 0 [] contents refl (omega arith) held

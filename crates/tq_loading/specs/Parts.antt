@@ -1,5 +1,5 @@
 -- Parts of the files of tables, and the rows that their records tell. This project's own.
-use Rattle.std.specs.Prelude.{◌≡◌, ◌≢◌, ◌≤◌, ◌<◌, ℕ, zero, suc, true, false, List, [], ◌∷◌, length, map, take, drop, slice_get, slice_range, Some, Ok}
+use Rattle.std.specs.Prelude.{◌≡◌, ◌≢◌, ◌≤◌, ◌<◌, ℕ, zero, suc, Bool, true, false, List, [], ◌∷◌, length, map, take, drop, slice_get, slice_range, Some, Ok}
 use Rattle.std.proofs.Props.{props}
 use Rattle.csv.specs.Machine.{step}
 use Rattle.csv.specs.Reading.{default_config, strip_bom}
@@ -11,6 +11,7 @@ use Rattle.tq_base.specs.declared.catalogue.Schema.{Schema}
 use Rattle.tq_base.specs.declared.fragment.Fragment.{Fragment}
 use Rattle.tq_base.specs.RowLists.{RowList}
 use Rattle.tq_event.specs.declared.file.TableFile.{TableFile}
+use Rattle.tq_event.specs.Keeping.{kept_row, kept_rows, wanted_of}
 use Rattle.tq_event.specs.Loading.{begins_with_mark, columns_of, csv_records, entry_of, next_name}
 use Rattle.tq_event.specs.Tables.{told_by}
 use Rattle.tq_loading.specs.Feeds.{ends_in_feed}
@@ -50,11 +51,23 @@ pub record IsPartOf (files : List TableFile) (part : Part) : Type 0 where
 abbrev pub TellRows : Form → List Column → List (List (List ℕ)) → List Fragment → Type 0
 TellRows form columns records rows = (table : ℕ) → map (entry_of form table columns) records ≡ map (λ row. Ok (told_by table row)) rows
 
--- the same of the records of a part from this place on, of which the first one of a file is the header
+-- the records tell rows, one each, of which only wanted texts are kept
+pub record TellKept (form : Form) (columns : List Column) (wanted : List Bool) (records : List (List (List ℕ))) (rows : List Fragment) : Type 0 where
+  pub whole : List Fragment
+  pub told : TellRows form columns records whole
+  pub kept : rows ≡ map (kept_row wanted) whole
+
+-- the records of a part from this place on tell the rows, of which records the first one of a file is the header
 abbrev pub PartTells : Form → ℕ → List Column → List (List (List ℕ)) → List Fragment → Type 0
 PartTells form zero columns [] rows = ⊥
 PartTells form zero columns (header ∷ records) rows = TellRows form columns records rows
 PartTells form (suc start) columns records rows = TellRows form columns records rows
+
+-- they tell rows of which only wanted texts are kept
+pub record PartTellsKept (form : Form) (start : ℕ) (columns : List Column) (wanted : List Bool) (records : List (List (List ℕ))) (rows : List Fragment) : Type 0 where
+  pub whole : List Fragment
+  pub told : PartTells form start columns records whole
+  pub kept : rows ≡ map (kept_row wanted) whole
 
 -- the rows of a part of a table's bytes, which ends where a record does if a line feed stands in front of its end
 pub record AreRowsOfPart (form : Form) (columns : List Column) (bytes : List ℕ) (part : Part) (rows : RowList) : Type 0 where
@@ -63,13 +76,19 @@ pub record AreRowsOfPart (form : Form) (columns : List Column) (bytes : List ℕ
   pub told : PartTells form part.start columns (csv_records (slice_range bytes part.start part.end)) rows.items
   pub ends : ends_in_feed (take part.end bytes) ≡ true → EndsRecords (slice_range bytes part.start part.end)
 
+-- the rows are those of a part, of which only wanted texts are kept
+pub record AreKeptOfPart (form : Form) (columns : List Column) (wanted : List Bool) (bytes : List ℕ) (part : Part) (rows : RowList) : Type 0 where
+  pub whole : RowList
+  pub of_part : AreRowsOfPart form columns bytes part whole
+  pub kept : rows ≡ kept_rows wanted whole
+
 -- it holds of the file and the schema of the table
 abbrev pub HoldsAt : List TableFile → List Schema → ℕ → (TableFile → Schema → Type 0) → Type 0
 HoldsAt files schemas table holds = (file : TableFile) (schema : Schema) → slice_get files table ≡ Some file → slice_get schemas table ≡ Some schema → holds file schema
 
--- the rows are those of their part
-abbrev pub IsRead : Form → List TableFile → List Schema → PartRows → Type 0
-IsRead form files schemas read = HoldsAt files schemas read.part.table (λ file schema. AreRowsOfPart form schema.columns file.bytes read.part read.rows)
+-- the rows are those of their part, of which only texts are kept that are wanted of its table
+abbrev pub IsRead : Form → List TableFile → List (List Bool) → List Schema → PartRows → Type 0
+IsRead form files wanted schemas read = HoldsAt files schemas read.part.table (λ file schema. AreKeptOfPart form schema.columns (wanted_of wanted read.part.table) file.bytes read.part read.rows)
 
 -- the schemas are those that the names and headers of the files make
 pub record AreHeaded (files : List TableFile) (schemas : List Schema) : Type 0 where
@@ -82,10 +101,22 @@ pub record AreRowsOfTable (form : Form) (columns : List Column) (bytes : List �
   pub wide : rows.width ≡ length columns
   pub told : TellRows form columns (drop 1 (csv_records bytes)) rows.items
 
+-- the same, of which only wanted texts are kept
+pub record AreKeptOfTable (form : Form) (columns : List Column) (wanted : List Bool) (bytes : List ℕ) (rows : RowList) : Type 0 where
+  pub whole : RowList
+  pub of_table : AreRowsOfTable form columns bytes whole
+  pub kept : rows ≡ kept_rows wanted whole
+
 -- there are rows of each table
 pub record AreTold (form : Form) (files : List TableFile) (schemas : List Schema) (tables : List RowList) : Type 0 where
   pub many : length tables ≡ length files
   pub each : (table : ℕ) (rows : RowList) → slice_get tables table ≡ Some rows → HoldsAt files schemas table (λ file schema. AreRowsOfTable form schema.columns file.bytes rows)
+
+-- the same, of which only wanted texts are kept
+pub record AreKeptTold (form : Form) (files : List TableFile) (wanted : List (List Bool)) (schemas : List Schema) (tables : List RowList) : Type 0 where
+  pub many : length tables ≡ length files
+  pub each : (table : ℕ) (rows : RowList) → slice_get tables table ≡ Some rows
+      → HoldsAt files schemas table (λ file schema. AreKeptOfTable form schema.columns (wanted_of wanted table) file.bytes rows)
 
 -- ---- a part is one in one way at most
 

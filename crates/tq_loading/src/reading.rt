@@ -5,7 +5,7 @@ ghost use Rattle.csv.specs.Records.{fields_of};
 ghost use Rattle.tq_event.specs.Loading.{csv_records};
 ghost use Rattle.tq_event.specs.Reading.{HasLeft};
 ghost use Rattle.tq_loading.specs.Feeds.{AreClosed, ends_in_feed, may_be_open};
-ghost use Rattle.tq_loading.specs.Parts.{EndsRecords, PartTells, TellRows};
+ghost use Rattle.tq_loading.specs.Parts.{EndsRecords, PartTellsKept, TellKept};
 ghost use Rattle.tq_loading.specs.Reading.{PassesHeader};
 
 use csv::{ByteRecord, Reader};
@@ -55,17 +55,19 @@ fn pass_header(alloc: Global, reader: &mut Reader<&[u8]>, start: usize) -> Resul
     }
 }
 
-// The rows that the records of the reader tell, at most so many and one; or a fault where one of these may be open.
+// The rows that the records of the reader tell, at most so many and one, of which only wanted texts are kept; or a fault
+// where one of these may be open.
 fn read_rows(
     alloc: Global,
     limit: u32,
     columns: &[Column],
+    wanted: &[bool],
     reader: &mut Reader<&[u8]>,
     form: Form,
 ) -> Result<Rows, LoadFaultKind>
     requires { (left : List (List (List ℕ))) × HasLeft reader.old left }
     ensures wide { IfOk result (λ rows. rows.width ≡ length columns.now) }
-    ensures told { (left : List (List (List ℕ))) → HasLeft reader.old left → IfOk result (λ rows. TellRows form columns.now left rows.items) }
+    ensures told { (left : List (List (List ℕ))) → HasLeft reader.old left → IfOk result (λ rows. TellKept form columns.now wanted.now left rows.items) }
     ensures closed { (left : List (List (List ℕ))) → HasLeft reader.old left → IfOk result (λ _. AreClosed left) }
 {
     let mut row = ByteRecord::new(alloc);
@@ -78,29 +80,30 @@ fn read_rows(
         if may_be_open(&row) {
             return Err(LoadFaultKind::BadPeriod);
         }
-        let period = read_entry(alloc, columns, &row, &mut values, form)?;
+        let period = read_entry(alloc, columns, wanted, &row, &mut values, form)?;
         rows.push(&mut values, period)?;
     }
     Err(LoadFaultKind::TooManyEvents)
 }
 
-/// The rows that the records of a part tell, which begins at this place of a file of these columns; or a fault
-/// of the part, as that it has more records than the limit, or that a line feed at its end may stand within quotes.
-/// Not inlined, so that the reader's buffers leave the stack with it.
+/// The rows that the records of a part tell, which begins at this place of a file of these columns; only wanted texts
+/// are kept. Or a fault of the part, as that it has more records than the limit, or that a line feed at its end may stand
+/// within quotes. Not inlined, so that the reader's buffers leave the stack with it.
 #[inline(never)]
 pub fn read_part(
     alloc: Global,
     limit: u32,
     columns: &[Column],
+    wanted: &[bool],
     bytes: &[u8],
     start: usize,
     form: Form,
 ) -> Result<Rows, LoadFaultKind>
     ensures wide { IfOk result (λ rows. rows.width ≡ length columns.now) }
-    ensures told { IfOk result (λ rows. PartTells form start columns.now (csv_records bytes.now) rows.items) }
+    ensures told { IfOk result (λ rows. PartTellsKept form start columns.now wanted.now (csv_records bytes.now) rows.items) }
     ensures ends { IfOk result (λ _. ends_in_feed bytes.now ≡ true → EndsRecords bytes.now) }
 {
     let mut reader = record_reader(alloc, bytes);
     pass_header(alloc, &mut reader, start)?;
-    read_rows(alloc, limit, columns, &mut reader, form)
+    read_rows(alloc, limit, columns, wanted, &mut reader, form)
 }

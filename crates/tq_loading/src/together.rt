@@ -1,12 +1,12 @@
 // Putting the rows of parts together.
 
-ghost use Rattle.std.specs.Prelude.{◌≡◌, ◌≤◌, ◌+◌, All, IfOk, IfSome, IsTrue, List, OnOk, OnSome, length, map, sum_by};
+ghost use Rattle.std.specs.Prelude.{◌≡◌, ◌≤◌, ◌+◌, All, Bool, IfOk, IfSome, IsTrue, List, OnOk, OnSome, length, map, sum_by};
 ghost use Rattle.tq_base.specs.declared.catalogue.Schema.{Schema as Heading};
 ghost use Rattle.tq_base.specs.declared.form.Form.{Form as AnyForm};
 ghost use Rattle.tq_event.specs.declared.file.TableFile.{TableFile as File};
 ghost use Rattle.tq_event.specs.Loading.{event_count};
 ghost use Rattle.tq_event.specs.Tables.{entries_from, told_by};
-ghost use Rattle.tq_loading.specs.Parts.{AreTold, IsRead};
+ghost use Rattle.tq_loading.specs.Parts.{AreKeptTold, IsRead};
 ghost use Rattle.tq_loading.specs.Together.{IsWhole, LeadsTo, period_events};
 
 use crate::part::{Part, PartRows};
@@ -26,7 +26,7 @@ fn leads_to(read: &PartRows, other: &PartRows) -> bool
 // The rows of both parts, of which the other follows on this one.
 fn both(read: PartRows, other: PartRows) -> Result<PartRows, AllocError>
     requires { LeadsTo read other }
-    ensures { (form : AnyForm) (files : List File) (schemas : List Heading) → IsRead form files schemas read → IsRead form files schemas other → IfOk result (IsRead form files schemas) }
+    ensures { (form : AnyForm) (files : List File) (wanted : List (List Bool)) (schemas : List Heading) → IsRead form files wanted schemas read → IsRead form files wanted schemas other → IfOk result (IsRead form files wanted schemas) }
 {
     let part = Part {
         table: read.part.table,
@@ -39,7 +39,7 @@ fn both(read: PartRows, other: PartRows) -> Result<PartRows, AllocError>
 
 // The rows go to the end of the list, into the last of it where they follow on that.
 fn add(all: &mut Vec<PartRows>, next: PartRows) -> Result<(), AllocError>
-    ensures { (form : AnyForm) (files : List File) (schemas : List Heading) → All (IsRead form files schemas) all.old.items → IsRead form files schemas next → OnOk result (All (IsRead form files schemas) all.new.items) }
+    ensures { (form : AnyForm) (files : List File) (wanted : List (List Bool)) (schemas : List Heading) → All (IsRead form files wanted schemas) all.old.items → IsRead form files wanted schemas next → OnOk result (All (IsRead form files wanted schemas) all.new.items) }
 {
     let Some(last) = all.pop() else {
         all.push(next)?;
@@ -59,7 +59,7 @@ pub fn side_by_side(
     alloc: Global,
     parts: Vec<Option<PartRows>>,
 ) -> Result<Option<Vec<PartRows>>, AllocError>
-    ensures { (form : AnyForm) (files : List File) (schemas : List Heading) → All (λ one. IfSome one (IsRead form files schemas)) parts.items → IfOk result (λ found. IfSome found (λ all. All (IsRead form files schemas) all.items)) }
+    ensures { (form : AnyForm) (files : List File) (wanted : List (List Bool)) (schemas : List Heading) → All (λ one. IfSome one (IsRead form files wanted schemas)) parts.items → IfOk result (λ found. IfSome found (λ all. All (IsRead form files wanted schemas) all.items)) }
 {
     let mut all = Vec::new(alloc);
     'parts: for part in parts {
@@ -84,7 +84,7 @@ pub fn whole_tables(
     files: &[TableFile],
     parts: Vec<PartRows>,
 ) -> Result<Option<Vec<Rows>>, AllocError>
-    ensures { (form : AnyForm) (schemas : List Heading) → All (IsRead form files.now schemas) parts.items → IfOk result (λ found. IfSome found (λ tables. AreTold form files.now schemas tables.items)) }
+    ensures { (form : AnyForm) (wanted : List (List Bool)) (schemas : List Heading) → All (IsRead form files.now wanted schemas) parts.items → IfOk result (λ found. IfSome found (λ tables. AreKeptTold form files.now wanted schemas tables.items)) }
 {
     if parts.len() != files.len() {
         return Ok(None);

@@ -2,6 +2,7 @@
 
 ghost use Rattle.std.specs.Prelude.{◌≡◌, ◌≤◌, All, IfOk, IfSome, length};
 ghost use Rattle.std.proofs.Props.{props};
+ghost use Rattle.tq_event.specs.Keeping.{wanted_lists};
 ghost use Rattle.tq_loading.specs.Parts.{IsPartOf, IsRead, part_of_prop};
 
 use crate::part::{Part, PartRows};
@@ -11,25 +12,29 @@ use std::alloc::{AllocError, Global};
 use std::thread::Threads;
 use tq_base::{Form, Schema};
 use tq_event::TableFile;
+use tq_event::steps::wanted_columns;
 use tq_run::{Gate, Work, run_with};
 
-// The rows of a part, or `None` where something is amiss with it.
+// The rows of a part, of which only wanted texts are kept, or `None` where something is amiss with it.
 fn part_rows(
     alloc: Global,
     limit: u32,
     files: &[TableFile],
+    wanted: &[Vec<bool>],
     schemas: &[Schema],
     part: Part,
     form: Form,
 ) -> Result<Option<PartRows>, AllocError>
     requires part { IsPartOf files.now part }
     requires many { length schemas.now ≡ length files.now }
-    ensures { IfOk result (λ read. IfSome read (IsRead form files.now schemas.now)) }
+    ensures { IfOk result (λ read. IfSome read (IsRead form files.now (wanted_lists wanted.now) schemas.now)) }
 {
     let columns = schemas[part.table as usize].columns.get();
     let bytes = files[part.table as usize].bytes.get();
     let bytes = &bytes[part.start..part.end];
-    match well(read_part(alloc, limit, columns, bytes, part.start, form))? {
+    let wanted = wanted_columns(wanted, part.table);
+    let read = read_part(alloc, limit, columns, wanted, bytes, part.start, form);
+    match well(read)? {
         Some(rows) => Ok(Some(PartRows { part, rows })),
         None => Ok(None),
     }
@@ -41,6 +46,7 @@ struct Parts<'p> {
     alloc: Global,
     limit: u32,
     files: &'p [TableFile],
+    wanted: &'p [Vec<bool>],
     schemas: &'p [Schema],
     parts: &'p [Part],
     form: Form,
@@ -54,7 +60,7 @@ impl Work for Parts<'_> {
 
     ghost count = { λ w. length w.parts.now };
 
-    ghost relates = { λ w _ read. IfSome read (IsRead w.form w.files.now w.schemas.now) };
+    ghost relates = { λ w _ read. IfSome read (IsRead w.form w.files.now (wanted_lists w.wanted.now) w.schemas.now) };
 
     fn pieces(&self) -> u32 {
         self.parts.len() as u32
@@ -65,6 +71,7 @@ impl Work for Parts<'_> {
             self.alloc,
             self.limit,
             self.files,
+            self.wanted,
             self.schemas,
             self.parts[i as usize],
             self.form,
@@ -72,12 +79,13 @@ impl Work for Parts<'_> {
     }
 }
 
-/// The rows of the parts in their order, read by these workers.
+/// The rows of the parts in their order, read by these workers. Only wanted texts are kept.
 pub fn read_parts<'p, R: Threads + Sync, G: Gate + Sync>(
     rt: &R,
     alloc: Global,
     limit: u32,
     files: &'p [TableFile],
+    wanted: &'p [Vec<bool>],
     schemas: &'p [Schema],
     parts: &'p [Part],
     workers: u32,
@@ -89,12 +97,13 @@ pub fn read_parts<'p, R: Threads + Sync, G: Gate + Sync>(
     requires are { All (IsPartOf files.now) parts.now }
     requires some { 1 ≤ workers }
     requires at_most { workers ≤ 16 }
-    ensures { IfOk result (λ read. All (λ one. IfSome one (IsRead form files.now schemas.now)) read.items) }
+    ensures { IfOk result (λ read. All (λ one. IfSome one (IsRead form files.now (wanted_lists wanted.now) schemas.now)) read.items) }
 {
     let work = Parts {
         alloc,
         limit,
         files,
+        wanted,
         schemas,
         parts,
         form,

@@ -14,6 +14,7 @@
 //!     sources TABLE,.. INSTANT  the count of all rows of these sources at an instant, by the definition
 //!     large NUMBER,.. STATEMENT the rows at 0 by the definition, after rows of these numbers started in the first table
 //!     answer STATEMENT          the answer over tables of rows, as a text
+//!     columns STATEMENT         the columns of each table that it names
 //!     same STATEMENT            whether a history of the files' events gives that answer
 //!     random SEED ROUNDS        random statements over random tables, beside the definition
 //!     random-as-of SEED ROUNDS  random events, and random statements as of random counts of them, beside the definition
@@ -24,6 +25,7 @@
 mod agreeing;
 mod as_of;
 mod by_hand;
+mod columns;
 mod draws;
 mod fault;
 mod instants;

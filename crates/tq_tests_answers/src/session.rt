@@ -2,6 +2,7 @@
 
 use crate::as_of::tell_random_as_of;
 use crate::by_hand::{tell_large, tell_sources};
+use crate::columns::tell_columns;
 use crate::fault::Fault;
 use crate::instants::{asked, tell_at, tell_changes};
 use crate::random::tell_random;
@@ -175,6 +176,7 @@ impl Session {
                 let text = answered_by_tables(alloc, self.copies(alloc)?, rest)?;
                 Ok(tell_text(&text, out)?)
             }
+            "columns" => tell_columns(alloc, self.copies(alloc)?, rest, out),
             "same" => self.tell_same(alloc, rest, out),
             "random" => {
                 let (seed, rounds) = number_and(rest);

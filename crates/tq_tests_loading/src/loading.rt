@@ -9,8 +9,8 @@ use std::test::Fail;
 use std::thread;
 use std::thread::Threads;
 use tq_base::{Form, Items, Rows, Seen};
-use tq_event::{LoadFault, MAX_EVENTS, TableFile, Tables, load_tables};
-use tq_loading::{load_tables_among, load_tables_by_parts};
+use tq_event::{LoadFault, MAX_EVENTS, TableFile, Tables, load_tables, load_wanted};
+use tq_loading::{load_tables_among, load_tables_by_parts, load_wanted_among};
 use tq_run::{Gate, Open};
 
 // The files of two tables, `a` and `b`, the second one where it has a text.
@@ -343,5 +343,53 @@ fn two_workers_have_parts_of_a_file_with_quotes(rt: HostRuntime) -> Result<(), F
     assert!(rt; !gate.limit_met.load(Ordering::SeqCst));
     let parts = gate.count.load(Ordering::SeqCst);
     assert!(rt; 3 < parts && parts < 10, "{parts}");
+    Ok(())
+}
+
+// ---- texts that are not wanted
+
+// Of two tables the texts of the first one's last column are not wanted.
+const TWO: (&str, &str) = (
+    "k:int,v:text,w:text,from,to\n1,ann,more than fourteen bytes,10,20\n2,bob,cat,15,25\n",
+    "k:int,v:text,from,to\n7,dan,1,2\n",
+);
+
+// The lists of wanted columns: the first table's second column alone; of the second table nothing is told.
+fn wanted_lists(alloc: Global) -> Result<Vec<Vec<bool>>, AllocError> {
+    let mut lists = Vec::new(alloc);
+    lists.push(vec![in alloc; false, true, false]?)?;
+    Ok(lists)
+}
+
+// What these workers load of the two tables with only wanted texts kept.
+fn told_wanted<R: Threads + Sync>(rt: &R, alloc: Global, workers: u32) -> Result<String, Fail>
+    requires some { 1 ≤ workers }
+    requires at_most { workers ≤ 16 }
+{
+    let files = files_of(alloc, TWO.0, TWO.1)?;
+    let wanted = wanted_lists(alloc)?;
+    let loaded = load_wanted_among(
+        rt,
+        alloc,
+        files,
+        &wanted,
+        MAX_EVENTS,
+        workers,
+        &Open,
+        Form::Numbers,
+    );
+    told(alloc, loaded)
+}
+
+#[test]
+fn only_wanted_texts_are_kept(rt: HostRuntime) -> Result<(), Fail> {
+    let kept = "3 columns\n1,ann,,10,20\n2,bob,,15,25\n2 columns\n7,dan,1,2\n";
+    let files = files_of(rt.alloc(), TWO.0, TWO.1)?;
+    let wanted = wanted_lists(rt.alloc())?;
+    let loaded = load_wanted(rt.alloc(), files, &wanted, MAX_EVENTS, Form::Numbers);
+    assert_eq!(rt; told(rt.alloc(), loaded)?.as_str(), kept);
+    for workers in [1, 2, 16] {
+        assert_eq!(rt; told_wanted(&rt, rt.alloc(), workers)?.as_str(), kept);
+    }
     Ok(())
 }

@@ -1,20 +1,16 @@
-use Rattle.std.proofs.Common.{List, length, get_or, sym, subst}
+use Rattle.std.proofs.Common.{List, sym, subst}
 use Rattle.tq_base.specs.RowLists.{RowList}
 use Rattle.tq_event.specs.Tables.{lists_of}
-use Rattle.tq_eval.specs.Answers.{IsTablesAnswer, tables_read}
+use Rattle.tq_eval.specs.Answers.{IsTablesAnswer}
 use Rattle.tq_eval.specs.Fitting.{AreAllFitting}
 use Rattle.tq_engine.proofs.answering.answer_statement.Goals as goal
 
 pub returns-clause-answer : goal.returns-clause-answer
-returns-clause-answer g c history hold = record {
-  plan = c.in_ok-plan.plan;
-  planned = c.in_ok-plan.ensures.plan;
-  is_answer =
-      c.tables_answer.ensures (lists_of c.args.tables.now.rows) history (length history) c.in_ok-plan.plan c.in_ok-table.table
-      (record { form = c.args.form; catalogue = c.args.tables.now.catalogue; statement = c.args.statement.now; planned = c.in_ok-plan.ensures.plan })
-      (λ k d less. hold (get_or (tables_read c.in_ok-plan.plan) k d))
-      (subst (λ (tables : List RowList). IsTablesAnswer (lists_of tables) c.in_ok-plan.plan c.in_ok-table.table) c.get-rows.ensures c.in_ok-table.ensures);
-}
+returns-clause-answer g c = (
+  c.in_ok-plan.plan,
+  c.in_ok-plan.ensures.plan,
+  subst (λ (tables : List RowList). IsTablesAnswer (lists_of tables) c.in_ok-plan.plan c.in_ok-table.table) c.get-rows.ensures c.in_ok-table.ensures,
+)
 
 pub answer_among-requires-clause-fit : goal.answer_among-requires-clause-fit
 answer_among-requires-clause-fit g c κs within = subst (λ (tables : List RowList). AreAllFitting c.args.tables.now.catalogue (lists_of tables)) (sym c.get-rows.ensures) c.requires.fit

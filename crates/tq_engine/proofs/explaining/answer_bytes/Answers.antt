@@ -1,4 +1,4 @@
-use Rattle.std.proofs.Common.{◌≡◌, ◌∙◌, Err, Ok, Result, ap, sym}
+use Rattle.std.proofs.Common.{◌∙◌, Err, Ok, Result, ap, sym}
 use Rattle.tq_engine.specs.declared.answering.AnswerFault.{AnswerFault}
 use Rattle.tq_engine.specs.declared.answering.AnswerFault.TheVariants.{Write}
 use Rattle.tq_engine.proofs.explaining.answer_bytes.Goals as goal

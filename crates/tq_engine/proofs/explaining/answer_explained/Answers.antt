@@ -1,4 +1,4 @@
-use Rattle.std.proofs.Common.{refl, rules, subst, sym, ◌∙◌, ◌≡◌, IfErr}
+use Rattle.std.proofs.Common.{refl, rules, subst, sym, ◌∙◌, IfErr}
 use Rattle.std.proofs.lemmas.Result.{IfErr-weaker, err_from_is_err_and}
 use Rattle.tq_engine.specs.Answers.{IsFault}
 use Rattle.tq_engine.proofs.explaining.answer_explained.Goals as goal
@@ -37,9 +37,8 @@ returns-in-Err-clause-write g c e =
 
 pub returns-in-Ok-clause-planned : goal.returns-in-Ok-clause-planned
 returns-in-Ok-clause-planned g c = record {
-  loaded = c.in_ok-question.ensures.asked.loaded;
   statement = c.in_ok-question.question.statement;
-  makes = c.in_ok-question.ensures.asked.makes;
+  asked = c.in_ok-question.ensures.asked;
   planned = c.in_ok-planned.ensures.plan;
 }
 

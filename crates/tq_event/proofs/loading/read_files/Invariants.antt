@@ -1,6 +1,8 @@
--- What the files that are left make of the tables and rows so far is what all make.
-use Rattle.std.proofs.Common.{◌≡◌, ◌≤◌, length, sum_by}
+-- What the files that are left make of the tables and whole rows so far is what all make.
+use Rattle.std.proofs.Common.{◌≡◌, ◌≤◌, List, length, sum_by}
 use Rattle.std.specs.Vec.Iter.{into_iter_items}
+use Rattle.tq_base.specs.RowLists.{RowList}
+use Rattle.tq_event.specs.Keeping.{kept_from, wanted_lists}
 use Rattle.tq_event.specs.Loading.{contents_after, contents_of, event_count}
 use Rattle.tq_event.specs.Tables.{AreRead, entries_from}
 use Rattle.tq_event.proofs.loading.read_files.Given as goal
@@ -11,5 +13,7 @@ invariant-files l = record {
   read : AreRead l.tables.items l.rows.items;
   counted : l.events ≡ sum_by event_count (entries_from 0 l.rows.items);
   within : l.events ≤ l.limit;
-  rest : contents_of l.form l.fn.files.items l.limit ≡ contents_after l.form l.limit (record { tables = l.tables.items; entries = entries_from 0 l.rows.items }) (into_iter_items l.file-iterator);
+  whole : List RowList;
+  kept : l.rows.items ≡ kept_from (wanted_lists l.wanted) 0 whole;
+  rest : contents_of l.form l.fn.files.items l.limit ≡ contents_after l.form l.limit (record { tables = l.tables.items; entries = entries_from 0 whole }) (into_iter_items l.file-iterator);
 }

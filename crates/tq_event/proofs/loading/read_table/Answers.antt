@@ -8,6 +8,7 @@ use Rattle.tq_event.specs.declared.fault.LoadFaultKind.{LoadFaultKind}
 use Rattle.tq_event.specs.Entries.{Entry}
 use Rattle.tq_event.specs.Loading.{csv_records, entries_after, event_count, next_entries}
 use Rattle.tq_event.specs.Tables.{told_by}
+use Rattle.tq_event.proofs.KeptLemmas.{rows_push}
 use Rattle.tq_event.proofs.LoadLemmas.{known_kind, header_fault, columns_first, columns_none, read_ok, read_fault, entry_fault, add_fault, add_ok, makes_events, next_ok, next_many, told_count}
 use Rattle.tq_event.proofs.loading.read_table.Goals as goal
 
@@ -38,13 +39,15 @@ records-init c =
     record {
       columns = columns_first bytes (fields_of c.next_record.new.record) more (sym c.is_marked_twice.ensures ∙ c.if-is_marked_twice.false) split ∙ c.in-Ok.ensures.ok;
       width = omega (arith, c.new-rows.ensures.width, c.len.ensures, c.in-Ok.columns.ok.0);
-      counted = rw c.new-rows.ensures.rows (omega arith);
+      whole = [];
+      kept = c.new-rows.ensures.rows;
+      counted = omega arith;
       within = c.requires.within;
       few = omega arith;
       left = more;
       has = has;
       rest = λ before same. ap (λ (l : List (List (List ℕ))). entries_after c.args.form c.args.limit c.args.table c.in-Ok.columns.items 2 before (drop 1 l)) split
-          ∙ ap (λ es. entries_after c.args.form c.args.limit c.args.table c.in-Ok.columns.items 2 es more) (sym (rw c.new-rows.ensures.rows (append-nil before)));
+          ∙ ap (λ es. entries_after c.args.form c.args.limit c.args.table c.in-Ok.columns.items 2 es more) (sym (append-nil before));
     }
 
 pub records-preserved : goal.records-preserved
@@ -52,16 +55,19 @@ records-preserved c =
     let i = c.records.invariant in
     let (more, split, has) = rw c.if-not-branch-2.false at (c.in_ok-next_record-2.ensures i.left i.has) in
     let table = c.args.table in
-    let told = map (told_by table) c.records.rows.items in
-    let row : Fragment = record { values = c.read_entry.new.values.items; period = c.in-Ok-read_entry.period } in
+    let told = map (told_by table) i.whole in
+    let of_record = c.in-Ok-read_entry.ensures.ok in
+    let row : Fragment = record { values = of_record.whole; period = c.in-Ok-read_entry.period } in
     let entry : Entry = told_by table row in
-    let grown : map (told_by table) c.add_row.new.rows.items ≡ told ++ entry ∷ [] = ap (map (told_by table)) c.in_default.ensures.rows ∙ map-append (told_by table) c.records.rows.items (row ∷ []) in
+    let grown : map (told_by table) (i.whole ++ row ∷ []) ≡ told ++ entry ∷ [] = map-append (told_by table) i.whole (row ∷ []) in
     let counted : c.add_row.new.events ≡ c.records.events + event_count entry = c.in_default.ensures.events in
     let pushed : sum_by event_count (told ++ entry ∷ []) ≡ sum_by event_count told + event_count entry = sum_by_push event_count told entry in
     let some : 1 ≤ event_count entry = makes_events entry in
     record {
       columns = i.columns;
       width = c.add_row.ensures.width ∙ i.width;
+      whole = i.whole ++ row ∷ [];
+      kept = rows_push c.args.wanted.now i.whole c.records.rows.items c.add_row.new.rows.items c.read_entry.new.values.items of_record.whole c.in-Ok-read_entry.period i.kept of_record.kept c.in_default.ensures.rows;
       counted = omega (arith, counted, pushed, i.counted, ap (sum_by event_count) grown);
       within = c.in_default.ensures.within;
       few = omega (arith, i.few, counted, some);
@@ -69,16 +75,22 @@ records-preserved c =
       has = has;
       rest = λ before same. i.rest before same
           ∙ add_ok c.args.form c.args.limit table c.in-Ok.columns.items c.records.number (before ++ told) (fields_of c.next_record-in-records.new.record) more i.left split entry ((before ++ told) ++ entry ∷ [])
-          (rw c.deref.ensures.value at (c.in-Ok-read_entry.ensures.ok table))
+          (rw c.deref.ensures.value at (of_record.told table))
           (next_ok c.args.limit (before ++ told) entry c.add_row.new.events (omega (arith, counted, told_count before told c.args.events.now c.records.events same i.counted)) c.in_default.ensures.within)
           ∙ ap (λ es. entries_after c.args.form c.args.limit table c.in-Ok.columns.items (c.records.number + 1) es more) (append_assoc before told (entry ∷ []) ∙ ap (λ es. before ++ es) (sym grown));
     }
 
 pub returns-then-not-branch-2-clause-ok : goal.returns-then-not-branch-2-clause-ok
-returns-then-not-branch-2-clause-ok c before same =
+returns-then-not-branch-2-clause-ok c =
     let i = c.records.invariant in
     let none = rw c.if-not-branch-2.true at (c.in_ok-next_record-2.ensures i.left i.has) in
-    read_ok c.args.form c.args.limit c.args.table before c.args.bytes.now c.in-Ok.columns.items (before ++ map (told_by c.args.table) c.records.rows.items) i.columns (i.rest before same ∙ rw none refl)
+    record {
+      whole = i.whole;
+      kept = i.kept;
+      counted = i.counted;
+      told = λ before same.
+          read_ok c.args.form c.args.limit c.args.table before c.args.bytes.now c.in-Ok.columns.items (before ++ map (told_by c.args.table) i.whole) i.columns (i.rest before same ∙ rw none refl);
+    }
 
 pub returns-in-Err-read_entry-clause-fault : goal.returns-in-Err-read_entry-clause-fault
 returns-in-Err-read_entry-clause-fault c before same known =
@@ -86,7 +98,7 @@ returns-in-Err-read_entry-clause-fault c before same known =
     let (more, split, has) = rw c.if-not-branch-2.false at (c.in_ok-next_record-2.ensures i.left i.has) in
     let kind = known_kind c.in-Err-read_entry.kind c.fault_at-in-Err-read_entry.result c.fault_at-in-Err-read_entry.ensures.out_of_memory known in
     read_fault c.args.form c.args.limit c.args.table before c.args.bytes.now c.in-Ok.columns.items c.fault_at-in-Err-read_entry.result i.columns
-    (i.rest before same ∙ entry_fault c.args.form c.args.limit c.args.table c.in-Ok.columns.items c.records.number (before ++ map (told_by c.args.table) c.records.rows.items) (fields_of c.next_record-in-records.new.record) more i.left split
+    (i.rest before same ∙ entry_fault c.args.form c.args.limit c.args.table c.in-Ok.columns.items c.records.number (before ++ map (told_by c.args.table) i.whole) (fields_of c.next_record-in-records.new.record) more i.left split
     c.in-Err-read_entry.kind c.fault_at-in-Err-read_entry.result (rw c.deref.ensures.value at (c.in-Err-read_entry.ensures.fault c.args.table kind)) (c.fault_at-in-Err-read_entry.ensures.named kind))
 
 pub returns-in-Err-add_row-clause-fault : goal.returns-in-Err-add_row-clause-fault
@@ -95,12 +107,13 @@ returns-in-Err-add_row-clause-fault c before same known =
     let (more, split, has) = rw c.if-not-branch-2.false at (c.in_ok-next_record-2.ensures i.left i.has) in
     let kind = known_kind c.in-Err-add_row.kind c.fault_at-in-Err-add_row.result c.fault_at-in-Err-add_row.ensures.out_of_memory known in
     let table = c.args.table in
-    let told = map (told_by table) c.records.rows.items in
-    let row : Fragment = record { values = c.read_entry.new.values.items; period = c.in-Ok-read_entry.period } in
+    let told = map (told_by table) i.whole in
+    let of_record = c.in-Ok-read_entry.ensures.ok in
+    let row : Fragment = record { values = of_record.whole; period = c.in-Ok-read_entry.period } in
     let entry : Entry = told_by table row in
     let many : next_entries c.args.limit (before ++ told) entry ≡ Err TooManyEvents = next_many c.args.limit (before ++ told) entry (c.records.events + event_count entry)
     (omega (arith, told_count before told c.args.events.now c.records.events same i.counted)) (c.in-Err-add_row.ensures.many kind) in
     read_fault c.args.form c.args.limit table before c.args.bytes.now c.in-Ok.columns.items c.fault_at-in-Err-add_row.result i.columns
     (i.rest before same ∙ add_fault c.args.form c.args.limit table c.in-Ok.columns.items c.records.number (before ++ told) (fields_of c.next_record-in-records.new.record) more i.left split entry
-    c.in-Err-add_row.kind c.fault_at-in-Err-add_row.result (rw c.deref.ensures.value at (c.in-Ok-read_entry.ensures.ok table))
+    c.in-Err-add_row.kind c.fault_at-in-Err-add_row.result (rw c.deref.ensures.value at (of_record.told table))
     (many ∙ ap (λ (k : LoadFaultKind). let r : Result (List Entry) LoadFaultKind = Err k in r) (sym (c.in-Err-add_row.ensures.kind kind))) (c.fault_at-in-Err-add_row.ensures.named kind))

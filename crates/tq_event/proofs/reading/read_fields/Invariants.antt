@@ -1,7 +1,10 @@
--- What the columns and fields that are left make of the values so far is what all make, and there is room for these.
-use Rattle.std.proofs.Common.{◌≡◌, ◌≤◌, ◌+◌, [], drop, length}
+-- What the columns and fields that are left make of the whole values so far is what all make; these are kept as they are
+-- wanted, and there is room for them.
+use Rattle.std.proofs.Common.{◌≡◌, ◌≤◌, ◌+◌, List, [], drop, length}
 use Rattle.std.specs.Prelude.{vec_capacity, vec_len}
 use Rattle.csv.specs.Records.{fields_of}
+use Rattle.tq_base.specs.declared.value.Value.{Value}
+use Rattle.tq_event.specs.Keeping.{kept_values}
 use Rattle.tq_event.specs.Loading.{values_after}
 use Rattle.tq_event.proofs.reading.read_fields.Given as goal
 
@@ -9,5 +12,8 @@ abbrev pub invariant-columns : goal.invariant-columns
 invariant-columns l = record {
   room : vec_len l.values + length l.columns ≤ vec_capacity l.values + l.place;
   as_many : length l.values.items ≡ l.place;
-  rest : values_after [] l.columns (fields_of l.record) ≡ values_after l.values.items (drop l.place l.columns) (drop l.place (fields_of l.record));
+  whole : List Value;
+  many : length whole ≡ l.place;
+  kept : l.values.items ≡ kept_values l.wanted whole;
+  rest : values_after [] l.columns (fields_of l.record) ≡ values_after whole (drop l.place l.columns) (drop l.place (fields_of l.record));
 }

@@ -1,4 +1,4 @@
-use Rattle.std.proofs.Common.{◌≡◌, List, Ok, Err, Result, ℕ, zero, suc, true, false, subst, sym}
+use Rattle.std.proofs.Common.{◌≡◌, List, Ok, Err, Result, ℕ, zero, suc, Bool, true, false, subst, sym}
 use Rattle.std.specs.Prelude.{IfOk}
 use Rattle.std.proofs.lemmas.List.Elements.{All-cons}
 use Rattle.tq_base.specs.declared.form.Form.{Form}
@@ -8,7 +8,7 @@ use Rattle.tq_base.specs.RowLists.{RowList}
 use Rattle.tq_event.specs.declared.fault.LoadFaultKind.{LoadFaultKind}
 use Rattle.tq_event.specs.Loading.{csv_records}
 use Rattle.tq_loading.specs.Feeds.{AreClosed, ends_in_feed, may_be_open}
-use Rattle.tq_loading.specs.Parts.{EndsRecords, PartTells, TellRows}
+use Rattle.tq_loading.specs.Parts.{EndsRecords, PartTells, PartTellsKept, TellKept, TellRows}
 use Rattle.tq_loading.specs.Reading.{PassesHeader}
 use Rattle.tq_loading.proofs.FeedLemmas.{closed_ends}
 use Rattle.tq_loading.proofs.reading.read_part.Goals as goal
@@ -17,10 +17,10 @@ passed_told : (form : Form) (start : ℕ) (columns : List Column) (records more 
 passed_told form zero columns records more rows (header, shut, split) tell = subst (λ l. PartTells form zero columns l rows) (sym split) tell
 passed_told form (suc start) columns records more rows same tell = subst (λ l. TellRows form columns l rows) (sym same) tell
 
-all_told : (form : Form) (start : ℕ) (columns : List Column) (records more : List (List (List ℕ))) (r : Result RowList LoadFaultKind) → PassesHeader start records more → IfOk r (λ rows. TellRows form columns more rows.items)
-    → IfOk r (λ rows. PartTells form start columns records rows.items)
-all_told form start columns records more (Ok rows) passes tell = passed_told form start columns records more rows.items passes tell
-all_told form start columns records more (Err fault) passes tell = tt
+all_told : (form : Form) (start : ℕ) (columns : List Column) (wanted : List Bool) (records more : List (List (List ℕ))) (r : Result RowList LoadFaultKind) → PassesHeader start records more
+    → IfOk r (λ rows. TellKept form columns wanted more rows.items) → IfOk r (λ rows. PartTellsKept form start columns wanted records rows.items)
+all_told form start columns wanted records more (Ok rows) passes tell = record { whole = tell.whole; told = passed_told form start columns records more tell.whole passes tell.told; kept = tell.kept }
+all_told form start columns wanted records more (Err fault) passes tell = tt
 
 all_closed : (start : ℕ) (records more : List (List (List ℕ))) → PassesHeader start records more → AreClosed more → AreClosed records
 all_closed zero records more (header, shut, split) closed = subst AreClosed (sym split) (All-cons (λ fields. may_be_open fields ≡ false) header more shut closed)
@@ -39,7 +39,7 @@ read_rows-requires c =
 pub returns-clause-told : goal.returns-clause-told
 returns-clause-told c =
     let (more, passes, has) = c.in_ok-pass_header.ensures (csv_records c.args.bytes.now) c.record_reader-reader.ensures in
-    all_told c.args.form c.args.start c.args.columns.now (csv_records c.args.bytes.now) more c.read_rows.result passes (c.read_rows.ensures.told more has)
+    all_told c.args.form c.args.start c.args.columns.now c.args.wanted.now (csv_records c.args.bytes.now) more c.read_rows.result passes (c.read_rows.ensures.told more has)
 
 pub returns-clause-ends : goal.returns-clause-ends
 returns-clause-ends c =

@@ -1,13 +1,22 @@
-use Rattle.std.proofs.Common.{◌≡◌, ◌∙◌, ◌++◌, ◌∷◌, [], false, Result, ap, append-nil, append_assoc, subst, sym}
-use Rattle.std.proofs.lemmas.List.Elements.{All-push}
+use Rattle.std.proofs.Common.{◌≡◌, ◌∙◌, ◌++◌, ◌∷◌, [], false, Result, ap, append-nil, append_assoc, arith, refl, subst, sym}
+use Rattle.std.proofs.lemmas.List.Elements.{All-nil, All-push}
 use Rattle.csv.specs.Records.{fields_of}
 use Rattle.tq_base.specs.declared.fragment.Fragment.{Fragment}
 use Rattle.tq_event.specs.declared.fault.LoadFaultKind.{LoadFaultKind}
 use Rattle.tq_event.specs.Entries.{Entry}
 use Rattle.tq_loading.specs.Feeds.{AreClosed, may_be_open}
-use Rattle.tq_loading.specs.Parts.{TellRows}
+use Rattle.tq_loading.specs.Parts.{TellKept, TellRows}
+use Rattle.tq_event.proofs.KeptLemmas.{rows_push}
 use Rattle.tq_loading.proofs.PartLemmas.{tell_both}
 use Rattle.tq_loading.proofs.reading.read_rows.Goals as goal
+
+pub rows-init : goal.rows-init
+rows-init c = record {
+  wide = omega (arith, c.new-rows.ensures.width);
+  told = λ all has.
+      let none : TellKept c.args.form c.args.columns.now c.args.wanted.now [] c.new-rows.result.items = record { whole = []; told = λ table. refl; kept = c.new-rows.ensures.rows } in
+      ([], all, refl, has, none, All-nil (λ fields. may_be_open fields ≡ false));
+}
 
 pub next_record-requires : goal.next_record-requires
 next_record-requires c =
@@ -19,7 +28,7 @@ pub returns-then-not-branch-clause-told : goal.returns-then-not-branch-clause-to
 returns-then-not-branch-clause-told c all has =
     let (seen, left, split, after, tell, closed) = c.rows.invariant.told all has in
     let none = rw c.if-not-branch.true at (c.in_ok-next_record.ensures left after) in
-    subst (λ l. TellRows c.args.form c.args.columns.now l c.rows.rows.items) (sym (split ∙ ap (λ l. seen ++ l) none ∙ append-nil seen)) tell
+    subst (λ l. TellKept c.args.form c.args.columns.now c.args.wanted.now l c.rows.rows.items) (sym (split ∙ ap (λ l. seen ++ l) none ∙ append-nil seen)) tell
 
 pub returns-then-not-branch-clause-closed : goal.returns-then-not-branch-clause-closed
 returns-then-not-branch-clause-closed c all has =
@@ -30,19 +39,24 @@ returns-then-not-branch-clause-closed c all has =
 pub rows-preserved : goal.rows-preserved
 rows-preserved c =
     let columns = c.args.columns.now in
-    let row : Fragment = record { values = c.read_entry.new.values.items; period = c.in_ok-period.period } in
+    let of_record = c.in_ok-period.ensures.ok in
+    let row : Fragment = record { values = of_record.whole; period = c.in_ok-period.period } in
     record {
       wide = c.push.ensures.width ∙ c.rows.invariant.wide;
       told = λ all has.
           let (seen, left, split, after, tell, closed) = c.rows.invariant.told all has in
           let (more, first, rest) = rw c.if-not-branch.false at (c.in_ok-next_record.ensures left after) in
           let fields = fields_of c.next_record.new.record in
-          let one : TellRows c.args.form columns (fields ∷ []) (row ∷ []) = λ table. ap (λ (r : Result Entry LoadFaultKind). r ∷ []) (c.in_ok-period.ensures.ok table) in (
+          let one : TellRows c.args.form columns (fields ∷ []) (row ∷ []) = λ table. ap (λ (r : Result Entry LoadFaultKind). r ∷ []) (of_record.told table) in (
             seen ++ fields ∷ [],
             more,
             split ∙ ap (λ l. seen ++ l) first ∙ sym (append_assoc seen (fields ∷ []) more),
             rest,
-            subst (λ l. TellRows c.args.form columns (seen ++ fields ∷ []) l) (sym c.in_ok-push.ensures.pushed) (tell_both c.args.form columns seen (fields ∷ []) c.rows.rows.items (row ∷ []) tell one),
+            record {
+              whole = tell.whole ++ row ∷ [];
+              told = tell_both c.args.form columns seen (fields ∷ []) tell.whole (row ∷ []) tell.told one;
+              kept = rows_push c.args.wanted.now tell.whole c.rows.rows.items c.push.new.self.items c.read_entry.new.values.items of_record.whole c.in_ok-period.period tell.kept of_record.kept c.in_ok-push.ensures.pushed;
+            },
             All-push (λ fields. may_be_open fields ≡ false) seen fields closed (sym c.may_be_open.ensures ∙ c.if-may_be_open.false),
           );
     }

@@ -15,8 +15,8 @@ parts-preserved c =
     let is = ap (λ l. c.parts.yielded ++ l) (sym c.in-Some.ensures.steps.0) ∙ c.parts.invariant.reads in
     record {
       reads = append_assoc c.parts.yielded (c.in-Some.part ∷ []) (into_iter_items c.next.new.self) ∙ is;
-      all = λ form files schemas are.
-          let read = middle_holds (λ (one : Option PartRows). IfSome one (IsRead form files schemas)) c.parts.yielded c.in-Some.part (into_iter_items c.next.new.self)
-          (subst (All (λ (one : Option PartRows). IfSome one (IsRead form files schemas))) (sym is) are) in
-          c.in_ok-add.ensures form files schemas (c.parts.invariant.all form files schemas are) (subst (λ (one : Option PartRows). IfSome one (IsRead form files schemas)) c.in-Some-part.is read);
+      all = λ form files wanted schemas are.
+          let read = middle_holds (λ (one : Option PartRows). IfSome one (IsRead form files wanted schemas)) c.parts.yielded c.in-Some.part (into_iter_items c.next.new.self)
+          (subst (All (λ (one : Option PartRows). IfSome one (IsRead form files wanted schemas))) (sym is) are) in
+          c.in_ok-add.ensures form files wanted schemas (c.parts.invariant.all form files wanted schemas are) (subst (λ (one : Option PartRows). IfSome one (IsRead form files wanted schemas)) c.in-Some-part.is read);
     }

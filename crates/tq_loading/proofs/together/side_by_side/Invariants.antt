@@ -1,5 +1,5 @@
 -- The parts so far were put together, and whatever they all are the rows put together are too.
-use Rattle.std.proofs.Common.{◌≡◌, ◌++◌, List}
+use Rattle.std.proofs.Common.{◌≡◌, ◌++◌, Bool, List}
 use Rattle.std.specs.Prelude.{All, IfSome}
 use Rattle.std.specs.Vec.Iter.{into_iter_items}
 use Rattle.tq_base.specs.declared.form.Form.{Form}
@@ -11,5 +11,5 @@ use Rattle.tq_loading.proofs.together.side_by_side.Given as goal
 abbrev pub invariant-parts : goal.invariant-parts
 invariant-parts l = record {
   reads : l.yielded ++ into_iter_items l.part-iterator ≡ l.fn.parts.items;
-  all : (form : Form) (files : List TableFile) (schemas : List Schema) → All (λ one. IfSome one (IsRead form files schemas)) l.fn.parts.items → All (IsRead form files schemas) l.all.items;
+  all : (form : Form) (files : List TableFile) (wanted : List (List Bool)) (schemas : List Schema) → All (λ one. IfSome one (IsRead form files wanted schemas)) l.fn.parts.items → All (IsRead form files wanted schemas) l.all.items;
 }

@@ -4,7 +4,8 @@ use Rattle.std.specs.Vec.Iter.{into_iter_items}
 use Rattle.std.proofs.lemmas.List.Elements.{All-head, All-tail}
 use Rattle.std.proofs.lemmas.Option.{none-some, slice_get_read}
 use Rattle.tq_event.specs.declared.file.TableFile.{TableFile}
-use Rattle.tq_loading.specs.Parts.{AreRowsOfTable, IsRead}
+use Rattle.tq_event.specs.Keeping.{kept_rows, wanted_of}
+use Rattle.tq_loading.specs.Parts.{AreKeptOfTable, IsRead}
 use Rattle.tq_loading.specs.Together.{IsWhole}
 use Rattle.tq_loading.proofs.PartLemmas.{whole_read}
 use Rattle.tq_loading.proofs.Pushed.{pushed_at}
@@ -15,8 +16,8 @@ parts-init c =
     let given : into_iter_items c.into_iter-part-iterator.result ≡ c.args.parts.items = c.into_iter-part-iterator.ensures.into_iter_gives.0 in
     rw c.in_ok-tables.ensures.items (record {
       many = omega (arith, ap length given, c.len.ensures, c.if-len-files.false, c.args.parts.ok.0);
-      left = λ form schemas all. subst (All (IsRead form c.args.files.now schemas)) (sym given) all;
-      told = λ form schemas all table rows is. absurd (none-some rows is);
+      left = λ form wanted schemas all. subst (All (IsRead form c.args.files.now wanted schemas)) (sym given) all;
+      told = λ form wanted schemas all table rows is. absurd (none-some rows is);
     })
 
 pub parts-preserved : goal.parts-preserved
@@ -34,22 +35,27 @@ parts-preserved c =
     let file_at : slice_get files c.len-table.result ≡ Some c.index-files-table.result = slice_get_read files (length files) c.len-table.result c.index-files-table.result refl here c.index-files-table.is in
     record {
       many = omega (arith, ap length grown, length-append tables (part.rows ∷ []), ap length split, i.many);
-      left = λ form schemas all. All-tail (IsRead form files schemas) part rest (subst (All (IsRead form files schemas)) split (i.left form schemas all));
-      told = λ form schemas all table rows is file schema is_file is_schema.
-          let read = All-head (IsRead form files schemas) part rest (subst (All (IsRead form files schemas)) split (i.left form schemas all)) in
+      left = λ form wanted schemas all. All-tail (IsRead form files wanted schemas) part rest (subst (All (IsRead form files wanted schemas)) split (i.left form wanted schemas all));
+      told = λ form wanted schemas all table rows is file schema is_file is_schema.
+          let read = All-head (IsRead form files wanted schemas) part rest (subst (All (IsRead form files wanted schemas)) split (i.left form wanted schemas all)) in
           elim (pushed_at tables part.rows table rows (rw grown at is)) [
-            | inl before ↦ i.told form schemas all table rows before.1 file schema is_file is_schema
+            | inl before ↦ i.told form wanted schemas all table rows before.1 file schema is_file is_schema
             | inr last ↦
                 let at : part.part.table ≡ table = whole.same ∙ place ∙ sym last.0 in
                 let found : Some c.index-files-table.result ≡ Some file = sym file_at ∙ ap (slice_get files) (place ∙ sym last.0) ∙ is_file in
                 let same : c.index-files-table.result ≡ file = cc found in
                 let end : part.part.end ≡ length file.bytes = whole.last ∙ ap length (c.get.ensures ∙ ap (λ (f : TableFile). f.bytes) (sym c.index-files-table.is ∙ same)) in
-                subst (AreRowsOfTable form schema.columns file.bytes) last.1
-                (whole_read form schema.columns file.bytes part.part part.rows whole.first end (read file schema (ap (slice_get files) at ∙ is_file) (ap (slice_get schemas) at ∙ is_schema)))
+                let one = read file schema (ap (slice_get files) at ∙ is_file) (ap (slice_get schemas) at ∙ is_schema) in
+                subst (AreKeptOfTable form schema.columns (wanted_of wanted table) file.bytes) last.1
+                (record {
+                  whole = one.whole;
+                  of_table = whole_read form schema.columns file.bytes part.part one.whole whole.first end one.of_part;
+                  kept = subst (λ t. part.rows ≡ kept_rows (wanted_of wanted t) one.whole) at one.kept;
+                })
           ];
     }
 
 pub returns : goal.returns
-returns c form schemas all =
+returns c form wanted schemas all =
     let none : length (into_iter_items c.parts.part-iterator) ≡ 0 = sym c.parts.part-iterator.rest.ok.0 ∙ c.in-None.ensures.steps.0 in
-    record { many = omega (arith, none, c.parts.invariant.many); each = c.parts.invariant.told form schemas all }
+    record { many = omega (arith, none, c.parts.invariant.many); each = c.parts.invariant.told form wanted schemas all }

@@ -3,9 +3,10 @@ use Rattle.std.specs.Prelude.{slice_range}
 use Rattle.std.proofs.lemmas.Option.{slice_get_read}
 use Rattle.tq_base.specs.declared.catalogue.Schema.{Schema}
 use Rattle.tq_event.specs.declared.file.TableFile.{TableFile}
+use Rattle.tq_event.specs.Keeping.{wanted_lists, wanted_of}
 use Rattle.tq_event.specs.Loading.{csv_records}
 use Rattle.tq_loading.specs.Feeds.{ends_in_feed}
-use Rattle.tq_loading.specs.Parts.{EndsRecords, IsPart, PartTells}
+use Rattle.tq_loading.specs.Parts.{EndsRecords, IsPart, PartTellsKept}
 use Rattle.tq_loading.proofs.PartLemmas.{part_ends}
 use Rattle.tq_loading.proofs.work.part_rows.Goals as goal
 
@@ -25,12 +26,18 @@ returns-in-Some c file schema is_file is_schema =
     let like : c.index-schemas-part.result ≡ schema = cc other in
     let bytes : c.get-bytes.result.now ≡ file.bytes = c.get-bytes.ensures ∙ ap (λ (f : TableFile). f.bytes) (sym c.index-files-part.is ∙ same) in
     let columns : c.get-columns.result.now ≡ schema.columns = c.get-columns.ensures ∙ ap (λ (s : Schema). s.columns) (sym c.index-schemas-part.is ∙ like) in
-    let read : c.read_part.result ≡ Ok rows = rw c.in-Some.is at c.in_ok-rows.ensures.found in
-    let ends : ends_in_feed (slice_range file.bytes part.start part.end) ≡ true → EndsRecords (slice_range file.bytes part.start part.end) = rw (read, bytes) at c.read_part.ensures.ends in
-    let told : PartTells c.args.form part.start schema.columns (csv_records (slice_range file.bytes part.start part.end)) rows.items = rw (read, columns, bytes) at c.read_part.ensures.told in
+    let wanted : c.wanted_columns-wanted.result.now ≡ wanted_of (wanted_lists c.args.wanted.now) part.table = c.wanted_columns-wanted.ensures in
+    let read : c.read_part-read.result ≡ Ok rows = rw c.in-Some.is at c.in_ok-rows.ensures.found in
+    let ends : ends_in_feed (slice_range file.bytes part.start part.end) ≡ true → EndsRecords (slice_range file.bytes part.start part.end) = rw (read, bytes) at c.read_part-read.ensures.ends in
+    let told : PartTellsKept c.args.form part.start schema.columns (wanted_of (wanted_lists c.args.wanted.now) part.table) (csv_records (slice_range file.bytes part.start part.end)) rows.items =
+    rw (read, columns, wanted, bytes) at c.read_part-read.ensures.told in
     record {
-      part_of = own;
-      wide = rw (read, columns) at c.read_part.ensures.wide;
-      told = told;
-      ends = part_ends file.bytes part.start part.end own.ordered ends;
+      whole = record { width = rows.width; items = told.whole };
+      of_part = record {
+        part_of = own;
+        wide = rw (read, columns) at c.read_part-read.ensures.wide;
+        told = told.told;
+        ends = part_ends file.bytes part.start part.end own.ordered ends;
+      };
+      kept = λ i. record { width = rows.width; items = told.kept i };
     }

@@ -1,0 +1,81 @@
+-- Answers over tables of which texts were left out that the statement does not name.
+use Rattle.std.proofs.Common.{◌≡◌, ℕ, Bool, List, length, get_or, Result, Ok, Err, sym, ap, ◌∙◌, subst}
+use Rattle.tq_base.specs.declared.catalogue.Catalogue.{Catalogue}
+use Rattle.tq_base.specs.declared.form.Form.{Form}
+use Rattle.tq_event.specs.declared.file.TableFile.{TableFile}
+use Rattle.tq_event.specs.declared.file.Tables.{Tables}
+use Rattle.tq_event.specs.Laws.{LoadedIsHistory}
+use Rattle.tq_event.specs.Keeping.{AreWantedTables}
+use Rattle.tq_event.specs.Tables.{lists_of, AreLoaded, TablesAreLoaded}
+use Rattle.tq_sql.specs.declared.statement.Statement.{Statement}
+use Rattle.tq_sql.specs.Laws.{StatementsAreUnique}
+use Rattle.tq_sql.specs.Reading.{Makes}
+use Rattle.tq_loading.specs.Laws.{HeadersAreCatalogue}
+use Rattle.tq_loading.specs.Parts.{AreHeaded}
+use Rattle.tq_plan.specs.Plans.{plan_of}
+use Rattle.tq_plan.specs.Standing.{QueriesStand}
+use Rattle.tq_plan.specs.declared.plans.Plan.{Plan}
+use Rattle.tq_eval.specs.Answers.{tables_read, IsTablesAnswer}
+use Rattle.tq_eval.specs.Fitting.{AreAllFitting, HeldRowsFit}
+use Rattle.tq_eval.specs.Named.{KeptTablesAnswer, Serve}
+use Rattle.tq_eval.specs.TableAnswers.{TablesAnswer}
+use Rattle.tq_table.specs.declared.table.Table.{Table}
+use Rattle.tq_engine.specs.Answers.{HasAnswer, IsAsked, ServesAsked}
+use Rattle.tq_engine.proofs.UniqueLemmas.{same_catalogue, same_statement}
+
+-- what answers a plan of the statement over the tables is the answer
+pub answers_asked : TablesAnswer → (form : Form) (files : List TableFile) (bytes : List ℕ) (tables : Tables) (statement : Statement) (plan : Plan) (table : Table) → IsAsked form files bytes tables statement
+    → plan_of form tables.catalogue statement ≡ Ok plan → IsTablesAnswer (lists_of tables.rows) plan table → HasAnswer form files bytes table
+answers_asked tables_answer form files bytes tables statement plan table asked planned is =
+    let of : AreLoaded form files 16777216 asked.whole = asked.loaded in
+    let over : plan_of form of.loaded.catalogue statement ≡ Ok plan = subst (λ (catalogue : Catalogue). plan_of form catalogue statement ≡ Ok plan) (asked.catalogue ∙ sym of.catalogue) planned in
+    record {
+      loaded = of.loaded;
+      is_loaded = of.is_loaded;
+      statement = statement;
+      makes = asked.makes;
+      is_answer = record {
+        plan = plan;
+        planned = over;
+        is_answer = tables_answer (lists_of asked.whole.rows) of.loaded.events (length of.loaded.events) plan table
+            (record { form = form; catalogue = of.loaded.catalogue; statement = statement; planned = over })
+            (λ k d less. of.hold (get_or (tables_read plan) k d))
+            (asked.same plan table planned is);
+      };
+    }
+
+-- the tables that were loaded, and the statement that was read, are what is asked
+pub is_asked : TablesAreLoaded → QueriesStand → KeptTablesAnswer → (form : Form) (files : List TableFile) (bytes : List ℕ) (wanted : List (List Bool)) (tables : Tables) (statement : Statement)
+    → ServesAsked form files bytes wanted → (of : AreWantedTables form files 16777216 wanted tables) → AreAllFitting of.whole.catalogue (lists_of of.whole.rows) → Makes bytes statement → IsAsked form files bytes tables statement
+is_asked are_loaded stand kept_answer form files bytes wanted tables statement serves of fit makes = record {
+  whole = of.whole;
+  loaded = are_loaded form files 16777216 of.whole of.of_files;
+  catalogue = of.kept.catalogue;
+  makes = makes;
+  same = λ plan table planned is.
+      let over : plan_of form of.whole.catalogue statement ≡ Ok plan = subst (λ (catalogue : Catalogue). plan_of form catalogue statement ≡ Ok plan) of.kept.catalogue planned in
+      kept_answer wanted of.whole.catalogue (lists_of of.whole.rows) (lists_of tables.rows) plan table of.kept.rows fit
+      (stand of.whole.catalogue plan (record { form = form; statement = statement; planned = over }))
+      (serves of.of_files.contents of.whole.catalogue statement plan of.of_files.is_contents of.of_files.catalogue makes over) is;
+}
+
+-- rows of whole tables fit the tables of the files
+pub whole_fit : HeldRowsFit → LoadedIsHistory → (form : Form) (files : List TableFile) (whole : Tables) → AreLoaded form files 16777216 whole → AreAllFitting whole.catalogue (lists_of whole.rows)
+whole_fit held is_history form files whole of =
+    subst (λ (catalogue : Catalogue). AreAllFitting catalogue (lists_of whole.rows)) of.catalogue
+    (held of.loaded.catalogue (lists_of whole.rows) of.loaded.events (length of.loaded.events) (is_history form files 16777216 of.loaded of.is_loaded) of.hold)
+
+-- a result is one value
+abbrev ok_or : {A E : Type 0} → A → Result A E → A
+ok_or other (Ok value) = value
+ok_or other (Err fault) = other
+
+-- the columns that a plan names over the headers' tables are those that are wanted of whatever the files hold
+pub serves_found : HeadersAreCatalogue → StatementsAreUnique → (form : Form) (files : List TableFile) (bytes : List ℕ) (wanted : List (List Bool)) (catalogue : Catalogue) (statement : Statement) (plan : Plan)
+    → AreHeaded files catalogue.tables → Makes bytes statement → plan_of form catalogue statement ≡ Ok plan → Serve wanted plan → ServesAsked form files bytes wanted
+serves_found headers once form files bytes wanted catalogue statement plan headed makes planned serve contents other asked over is tables makes_asked planned_over named =
+    let same : other ≡ catalogue = same_catalogue other catalogue (tables ∙ headers form files 16777216 catalogue.tables contents headed is) in
+    let one : asked ≡ statement = same_statement once bytes asked statement makes_asked makes in
+    let both : plan_of form other asked ≡ plan_of form catalogue statement = λ i. plan_of form (same i) (one i) in
+    let plans : over ≡ plan = ap (ok_or over) (sym planned_over ∙ both ∙ planned) in
+    subst (Serve wanted) (sym plans) serve
