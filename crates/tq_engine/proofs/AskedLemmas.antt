@@ -28,7 +28,7 @@ pub answers_asked : TablesAnswer → (form : Form) (files : List TableFile) (byt
     → plan_of form tables.catalogue statement ≡ Ok plan → IsTablesAnswer (lists_of tables.rows) plan table → HasAnswer form files bytes table
 answers_asked tables_answer form files bytes tables statement plan table asked planned is =
     let of : AreLoaded form files 16777216 asked.whole = asked.loaded in
-    let over : plan_of form of.loaded.catalogue statement ≡ Ok plan = subst (λ (catalogue : Catalogue). plan_of form catalogue statement ≡ Ok plan) (asked.catalogue ∙ sym of.catalogue) planned in
+    let over : plan_of form of.loaded.catalogue statement ≡ Ok plan = subst (λ (catalogue : Catalogue). plan_of form catalogue statement ≡ Ok plan) (asked.kept.catalogue ∙ sym of.catalogue) planned in
     record {
       loaded = of.loaded;
       is_loaded = of.is_loaded;
@@ -50,7 +50,8 @@ pub is_asked : TablesAreLoaded → QueriesStand → KeptTablesAnswer → (form :
 is_asked are_loaded stand kept_answer form files bytes wanted tables statement serves of fit makes = record {
   whole = of.whole;
   loaded = are_loaded form files 16777216 of.whole of.of_files;
-  catalogue = of.kept.catalogue;
+  wanted = wanted;
+  kept = of.kept;
   makes = makes;
   same = λ plan table planned is.
       let over : plan_of form of.whole.catalogue statement ≡ Ok plan = subst (λ (catalogue : Catalogue). plan_of form catalogue statement ≡ Ok plan) of.kept.catalogue planned in

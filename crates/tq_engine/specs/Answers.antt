@@ -8,6 +8,7 @@ use Rattle.tq_base.specs.declared.catalogue.Catalogue.{Catalogue}
 use Rattle.tq_event.specs.declared.file.Loaded.{Loaded}
 use Rattle.tq_event.specs.declared.file.TableFile.{TableFile}
 use Rattle.tq_event.specs.declared.file.Tables.{Tables}
+use Rattle.tq_event.specs.Keeping.{AreKept}
 use Rattle.tq_event.specs.Loading.{Contents, IsLoaded, contents_of}
 use Rattle.tq_event.specs.Tables.{AreLoaded, lists_of}
 use Rattle.tq_eval.specs.Answers.{IsAnswer, IsTablesAnswer}
@@ -30,12 +31,13 @@ pub record HasAnswer (form : Form) (files : List TableFile) (bytes : List ℕ) (
   pub makes : Makes bytes statement
   pub is_answer : IsAnswer form loaded.catalogue statement loaded.events (length loaded.events) table
 
--- the statement is the one that the bytes make, and the tables are those of the files, of which texts may be left out that it does
--- not name: what answers a plan of it over these tables answers it over the whole ones
+-- the statement is the one that the bytes make, and the tables are those of the files, row by row, of which texts may be left out that
+-- it does not name: what answers a plan of it over these tables answers it over the whole ones
 pub record IsAsked (form : Form) (files : List TableFile) (bytes : List ℕ) (tables : Tables) (statement : Statement) : Type 0 where
   pub whole : Tables
   pub loaded : AreLoaded form files 16777216 whole
-  pub catalogue : tables.catalogue ≡ whole.catalogue
+  pub wanted : List (List Bool)
+  pub kept : AreKept wanted whole tables
   pub makes : Makes bytes statement
   pub same : (plan : Plan) (table : Table) → plan_of form tables.catalogue statement ≡ Ok plan → IsTablesAnswer (lists_of tables.rows) plan table → IsTablesAnswer (lists_of whole.rows) plan table
 

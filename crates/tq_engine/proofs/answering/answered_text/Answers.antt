@@ -28,5 +28,5 @@ returns-clause-fault g c files bytes asked =
     let statement = c.args.question.now.statement in
     IfErr-weaker c.statement_text.result _ _
     (λ fault is. statement_fault c.args.form files bytes of.loaded statement fault of.is_loaded asked.makes
-    (subst (λ (catalogue : Catalogue). IsStatementFault c.args.form catalogue statement fault) (asked.catalogue ∙ sym of.catalogue) is))
+    (subst (λ (catalogue : Catalogue). IsStatementFault c.args.form catalogue statement fault) (asked.kept.catalogue ∙ sym of.catalogue) is))
     c.statement_text.ensures.fault
