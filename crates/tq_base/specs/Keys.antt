@@ -1,6 +1,6 @@
 -- Rows as they are sorted: by the rank of the first value that is compared, by the values that this does not tell, and
 -- by their start. This project's own.
-use Rattle.std.specs.Prelude.{◌≡◌, ◌≢◌, ◌<◌, ℕ, ◌+◌, ◌^◌, ◌%◌, Bool, true, false, nat_lt, ◌&&◌, ◌||◌, cond, if◌then◌else◌, List, [], ◌∷◌, length, map, drop, filter, pos, refl, slice_index_or, Option, Some, None, All, AllPairs}
+use Rattle.std.specs.Prelude.{◌≡◌, ◌≢◌, ◌<◌, ℕ, ◌+◌, ◌^◌, ◌%◌, Bool, true, false, nat_lt, ◌&&◌, cond, if◌then◌else◌, List, [], ◌∷◌, length, map, drop, filter, pos, refl, slice_index_or, Option, Some, None, All, AllPairs}
 use Rattle.std.specs.Ordering.{is_ne, nat_cmp, on, then_cmp}
 use Rattle.std.specs.declared.cmp.Ordering.{Ordering}
 use Rattle.std.specs.declared.cmp.Ordering.TheVariants.{Greater}

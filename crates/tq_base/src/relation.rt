@@ -169,14 +169,15 @@ fn periods_of<'a>(parts: &'a [Part<'_>], periods: &'a Periods) -> &'a [Period]
     }
 }
 
-// The periods of these numbers.
+// The periods of these numbers. They may lie apart from one another, and reads in a short loop of their own wait for
+// memory together.
 fn periods_at(alloc: Global, periods: &[Period], numbers: &[u32]) -> Result<Vec<Period>, AllocError>
     requires { All (λ number. number < length periods.now) numbers.now }
     ensures { IfOk result (λ chosen. chosen.items ≡ map (λ number. slice_index_or periods.now number no_row.period) numbers.now) }
 {
     let mut chosen = Vec::with_capacity(alloc, numbers.len())?;
     'numbers: for number in numbers {
-        chosen.push(periods[*number as usize])?;
+        chosen.push_reserved(periods[*number as usize]);
     }
     Ok(chosen)
 }
@@ -343,7 +344,34 @@ impl<'a> Relation<'a> {
         Ok(out)
     }
 
-    /// The rows of these numbers, in their order, lent. `AllocError` where a growth was refused, or where there are
+    // The rows of these numbers take the place of the rows, each at its own period. Where a growth was refused the rows
+    // are no longer of use.
+    fn set_numbers(&mut self, alloc: Global, numbers: &[u32]) -> Result<(), AllocError>
+        requires few { length numbers.now ≤ 4294967295 }
+        requires within { All (λ number. number < length self.old.items) numbers.now }
+        ensures width { self.new.width ≡ self.old.width }
+        ensures rows { OnOk result (self.new.items ≡ map (row_at self.old.items) numbers.now) }
+    {
+        self.periods = Periods::Own(periods_at(alloc, self.periods(), numbers)?);
+        renumber(alloc, &mut self.parts, numbers)
+    }
+
+    /// The rows of these numbers, in their order. `AllocError` where a growth was refused, or where there are 2^32
+    /// numbers or more.
+    pub fn keep(self, alloc: Global, numbers: &[u32]) -> Result<Relation<'a>, AllocError>
+        requires { All (λ number. number < length self.items) numbers.now }
+        ensures width { IfOk result (λ out. out.width ≡ self.entry.width) }
+        ensures rows { IfOk result (λ out. out.items ≡ map (row_at self.entry.items) numbers.now) }
+    {
+        if numbers.len() > MAX_ROWS {
+            return Err(AllocError);
+        }
+        let mut out = self;
+        out.set_numbers(alloc, numbers)?;
+        Ok(out)
+    }
+
+    /// The same rows, lent. `AllocError` where a growth was refused, or where there are
     /// 2^32 numbers or more.
     pub fn picked(&self, alloc: Global, numbers: &[u32]) -> Result<Relation<'_>, AllocError>
         requires { All (λ number. number < length self.now.items) numbers.now }

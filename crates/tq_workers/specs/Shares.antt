@@ -4,10 +4,7 @@ use Rattle.std.specs.Global.{Vec}
 use Rattle.std.proofs.Props.{props}
 use Rattle.tq_base.specs.declared.form.Form.{Form}
 use Rattle.tq_base.specs.declared.fragment.Fragment.{Fragment}
-use Rattle.tq_base.specs.declared.period.Period.{Period}
-use Rattle.tq_base.specs.declared.relation.Line.{Line}
 use Rattle.tq_base.specs.declared.value.Value.{Value}
-use Rattle.tq_base.specs.Keys.{no_row}
 use Rattle.tq_base.specs.Layers.{IsLayers}
 use Rattle.tq_base.specs.Ranks.{value_rank}
 use Rattle.tq_event.specs.Tables.{rows_in}
@@ -18,10 +15,6 @@ use Rattle.tq_eval.specs.Shares.{Columns, in_share}
 use Rattle.tq_table.specs.Sink.{bytes_of}
 use Rattle.tq_table.specs.Text.{rows_text}
 use Rattle.tq_workers.specs.declared.ranges.RangeText.{RangeText}
-
--- the row of this number at its period, one of these
-abbrev pub line_at : List Period → ℕ → Line
-line_at periods number = record { row = number; period = slice_index_or periods number no_row.period }
 
 -- the share of a value: as many of the ranks as are not above its own
 abbrev pub share_of : List ℕ → Value → ℕ

@@ -1,21 +1,19 @@
 // A share of the rows of tables.
 
-ghost use Rattle.std.specs.Prelude.{◌≡◌, ◌<◌, ◌≤◌, ◌==◌, ℕ, All, IfOk, filter, length, map, Some};
+ghost use Rattle.std.specs.Prelude.{◌≡◌, ◌≤◌, ◌==◌, ℕ, IfOk, filter, length, map, Some};
 ghost use Rattle.std.proofs.Props.{props};
 ghost use Rattle.tq_base.specs.declared.fragment.Fragment.{Fragment};
-ghost use Rattle.tq_base.specs.declared.relation.Line.{Line as AnyLine};
-ghost use Rattle.tq_base.specs.Relations.{line_of};
 ghost use Rattle.tq_event.specs.Tables.{lists_of, rows_in as table_of};
 ghost use Rattle.tq_ops.specs.Conditions.{value_at};
 ghost use Rattle.tq_eval.specs.Answers.{in_tables};
 ghost use Rattle.tq_eval.specs.Shares.{in_share};
 ghost use Rattle.memchr.specs.Find.{is_byte, places};
-ghost use Rattle.tq_workers.specs.Shares.{columns_in, line_at, share_of, AreTold, are_told_prop};
+ghost use Rattle.tq_workers.specs.Shares.{columns_in, share_of, AreTold, are_told_prop};
 
 use crate::columns::column_in;
 use memchr::memchr_iter;
 use std::alloc::{AllocError, Global};
-use tq_base::{KeyRange, Line, Period, Relation, Rows};
+use tq_base::{KeyRange, Period, Relation, Rows};
 use tq_eval::{Snapshot, TablesOfRows};
 
 // The rows of the tables that go to the share of this number, where it is told of each row of the tables that are
@@ -42,33 +40,6 @@ fn numbers_in(alloc: Global, told: &[u8], number: u8) -> Result<Vec<u32>, AllocE
     Ok(numbers)
 }
 
-// The rows of these numbers, each at its period. They lie apart from one another, and reads in a short loop of their own
-// wait for memory together.
-fn lines_at(alloc: Global, periods: &[Period], numbers: &[u32]) -> Result<Vec<Line>, AllocError>
-    requires { All (λ number. number < length periods.now) numbers.now }
-    ensures { IfOk result (λ lines. lines.items ≡ map (line_at periods.now) numbers.now) }
-{
-    let mut lines = Vec::with_capacity(alloc, numbers.len())?;
-    'numbers: for number in numbers {
-        lines.push_reserved(Line {
-            row: *number,
-            period: periods[*number as usize],
-        });
-    }
-    Ok(lines)
-}
-
-// The rows that go to the share of this number.
-fn lines_in(alloc: Global, rows: &Rows, told: &[u8], number: u8) -> Result<Vec<Line>, AllocError>
-    requires { length told.now ≡ length rows.now.items }
-    ensures within { IfOk result (λ lines. All (λ (line : AnyLine). line.row < length rows.now.items) lines.items) }
-    ensures rows { (share : Fragment → ℕ) → told.now ≡ map share rows.now.items → IfOk result (λ lines. map (line_of rows.now.items) lines.items ≡ filter (λ (row : Fragment). share row == number) rows.now.items) }
-{
-    rows.len();
-    let numbers = numbers_in(alloc, told, number)?;
-    lines_at(alloc, rows.periods(), &numbers)
-}
-
 // The rows of the table that go to the share.
 fn rows_in<'a>(
     alloc: Global,
@@ -79,8 +50,9 @@ fn rows_in<'a>(
     requires { length told.now ≡ length rows.now.items }
     ensures { (share : Fragment → ℕ) → told.now ≡ map share rows.now.items → IfOk result (λ relation. relation.items ≡ filter (λ (row : Fragment). share row == number) rows.now.items) }
 {
-    let lines = lines_in(alloc, rows, told, number)?;
-    Relation::of(alloc, rows)?.pick(alloc, &lines)
+    rows.len();
+    let numbers = numbers_in(alloc, told, number)?;
+    Relation::of(alloc, rows)?.keep(alloc, &numbers)
 }
 
 // The rows of the table, parted by the column, that go to the share.
