@@ -1,10 +1,11 @@
 -- How many events rows make.
-use Rattle.std.proofs.Common.{◌≡◌, ◌+◌, ◌<◌, ◌++◌, ◌∷◌, ℕ, List, [], length, map, sum_by, take, refl, sym, ap, ◌∙◌, arith}
+use Rattle.std.proofs.Common.{◌≡◌, ◌+◌, ◌<◌, ◌≤◌, ◌*◌, if◌then◌else◌, Bool, true, false, ◌==◌, ◌++◌, ◌∷◌, ℕ, List, [], length, map, sum_by, take, refl, sym, ap, ◌∙◌, arith}
 use Rattle.std.proofs.lemmas.List.{length-take-le, take_more}
 use Rattle.std.proofs.lemmas.List.Sums.{sum_by-append, sum_by-cons, sum_by_push}
 use Rattle.std.specs.Prelude.{slice_index_or}
 use Rattle.tq_base.specs.declared.fragment.Fragment.{Fragment}
 use Rattle.tq_base.specs.declared.period.Period.{Period}
+use Rattle.tq_base.specs.declared.period.TheConstants.{FOREVER}
 use Rattle.tq_base.specs.RowLists.{RowList}
 use Rattle.tq_event.specs.Loading.{event_count}
 use Rattle.tq_event.specs.Tables.{entries_from, told_by}
@@ -18,6 +19,16 @@ told_events table (row ∷ rows) =
     sum_by-cons event_count (told_by table row) (map (told_by table) rows)
     ∙ ap (λ n. event_count (told_by table row) + n) (told_events table rows)
     ∙ sym (sum_by-cons period_events row.period (map (λ (r : Fragment). r.period) rows))
+
+one_or_two : (b : Bool) → (if b then 1 else 2) ≤ 2
+one_or_two true = omega arith
+one_or_two false = omega arith
+
+-- a row makes at most two events
+pub few_events : (table : ℕ) (rows : List Fragment) → sum_by event_count (map (told_by table) rows) ≤ 2 * length rows
+few_events table [] = omega arith
+few_events table (row ∷ rows) =
+    omega (arith, sum_by-cons event_count (told_by table row) (map (told_by table) rows), few_events table rows, one_or_two (row.period.end == FOREVER))
 
 -- one period more
 pub one_more_period : (periods : List Period) (place : ℕ) (period : Period) → place < length periods → period ≡ slice_index_or periods place period

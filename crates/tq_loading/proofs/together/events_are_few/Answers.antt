@@ -1,7 +1,7 @@
 use Rattle.std.proofs.Common.{arith}
 use Rattle.tq_event.specs.Tables.{entries_from}
 use Rattle.tq_loading.proofs.EventLemmas.{one_more_table}
-use Rattle.tq_loading.proofs.together.is_within.Goals as goal
+use Rattle.tq_loading.proofs.together.events_are_few.Goals as goal
 
 pub tables-init : goal.tables-init
 unfolding entries_from
