@@ -6,9 +6,11 @@
 The address space of a run is limited, from the least in which the program starts with words as long upwards in steps,
 until it answers in several steps one after another; the stack of all of them has 256 KiB. Each run ends with its answer or with the line
 that tells of no memory, and no signal ends it. On that stack it also sorts rows that take all ranks that a sort takes to be
-told apart. Each failed run has one line; the last line is 'N passed, M failed'.
+told apart. A session takes no more of its stack than it took at its start, since that may be refused where no memory is
+left. Each failed run has one line; the last line is 'N passed, M failed'.
 """
 
+import re
 import resource
 import subprocess
 import sys
@@ -142,6 +144,35 @@ def faults_of_late_rows(program, workers, room):
         yield f"rows that part late, by {workers} workers: status {status}, {out[:80]!r}, {err[:80]!r}"
 
 
+def stack_of(process):
+    """How much of its stack a process has so far, in KiB."""
+    status = Path(f"/proc/{process.pid}/status").read_text()
+    return int(re.search(r"^VmStk:\s*(\d+) kB$", status, re.MULTILINE)[1])
+
+
+def faults_of_stack(program, room):
+    """What is wrong with a session that takes more of the stack later than it did before it read its first line."""
+    name, table, words, _, taken = list(questions())[-1]
+    pipe = subprocess.PIPE
+    process = subprocess.Popen([program, *words, "--table", table], cwd=room, stdin=pipe, stdout=pipe)
+    with process:
+        stacks = []
+        for lines in (b"publish\n", taken + b"publish\n"):
+            process.stdin.write(lines)
+            process.stdin.flush()
+            published = lines.count(b"publish\n")
+            while published:
+                line = process.stdout.readline()
+                if not line:
+                    yield f"{name}: it ended"
+                    return
+                published -= line.startswith(b"published ")
+            stacks.append(stack_of(process))
+        process.stdin.close()
+    if stacks[0] != stacks[1]:
+        yield f"{name}: a stack of {stacks[0]} KiB at first, and of {stacks[1]} KiB after its questions"
+
+
 def main():
     program = str(Path(sys.argv[1]).resolve())
     with tempfile.TemporaryDirectory(prefix="tq-") as room:
@@ -151,6 +182,7 @@ def main():
             faults_of(program, name, [words[0], "--table", table, *words[1:]], more, taken, room)
             for name, table, words, more, taken in questions()
         ]
+        parts.append(faults_of_stack(program, room))
         return report([*parts, *(faults_of_late_rows(program, workers, room) for workers in ("1", "4"))])
 
 
