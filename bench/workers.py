@@ -3,10 +3,15 @@
     --tq PROGRAM      the program to measure (bin/tq)
     --rows N ..       the sizes of each table (10000 1000000)
     --workers W ..    the numbers of workers beside one (2 4)
+    --tries N         how often each is asked (5)
 
 The questions of versus.py are asked of a payroll, and of tables whose rows have all not ended, by one worker and by more
-in turn. The bytes have to be equal. The least of five runs counts: seconds from start to end, loading and output
+in turn. The bytes have to be equal. The least of all tries counts: seconds from start to end, loading and output
 included, as ratios to those of one worker, and the greatest peak memory, as a ratio too.
+
+What the machine itself can do at the time is told beside it: as many processes of one worker each at once as there are
+workers, and how many times as long the last of them takes as one alone. On a quiet machine with a core for each that is
+little more than 1; where it is more, the cores have other work, and the ratios of workers stand above what they would be.
 """
 
 import argparse
@@ -15,9 +20,13 @@ import os
 import subprocess
 import sys
 import tempfile
+import time
 
 from measuring import HERE, run
 from versus import QUESTIONS, TRIES, files_read
+
+# The question that processes at once are asked.
+ALONE = "counts"
 
 OPEN = {name: QUESTIONS[name] for name in ("name", "counts", "sums")}
 
@@ -27,6 +36,7 @@ def read_options():
     parser.add_argument("--tq", default=os.path.join(HERE, "..", "bin", "tq"))
     parser.add_argument("--rows", type=int, nargs="+", default=[10_000, 1_000_000])
     parser.add_argument("--workers", type=int, nargs="+", default=[2, 4])
+    parser.add_argument("--tries", type=int, default=TRIES)
     return parser.parse_args()
 
 
@@ -51,9 +61,31 @@ def write_open(folder, rows):
     return tables
 
 
-def ask(program, tables, statement, workers, output):
+def command(program, tables, statement, workers):
     words = [f"--table={name}={path}" for name, path in files_read(tables, statement).items()]
-    return run([program, "ask", *words, f"--workers={workers}", statement], output)
+    return [program, "ask", *words, f"--workers={workers}", statement]
+
+
+def ask(program, tables, statement, workers, output):
+    return run(command(program, tables, statement, workers), output)
+
+
+def seconds_at_once(program, tables, count):
+    """The seconds of so many processes of one worker at once, from the start of the first to the end of the last."""
+    begin = time.perf_counter()
+    words = command(program, tables, QUESTIONS[ALONE], 1)
+    running = [subprocess.Popen(words, stdout=subprocess.DEVNULL) for _ in range(count)]
+    if any([child.wait() for child in running]):
+        sys.exit(f"{' '.join(words)} failed")
+    return time.perf_counter() - begin
+
+
+def tell_machine(options, tables, rows):
+    """Prints what the machine can do: the least of all tries of processes of one worker, alone and at once."""
+    counts = [1, *options.workers]
+    seconds = {count: min(seconds_at_once(options.tq, tables, count) for _ in range(options.tries)) for count in counts}
+    said = ", ".join(f"{count} at once {seconds[count] / seconds[1]:.2f} times as long as one" for count in options.workers)
+    print(f"{rows} rows, processes of one worker, {ALONE}: {said}", flush=True)
 
 
 def measure(options, tables, statement, folder):
@@ -61,7 +93,7 @@ def measure(options, tables, statement, folder):
     numbers = [1, *options.workers]
     outputs = {number: os.path.join(folder, f"answer-{number}") for number in numbers}
     seconds, peaks = {number: [] for number in numbers}, {number: [] for number in numbers}
-    for _ in range(TRIES):
+    for _ in range(options.tries):
         for number in numbers:
             took, peak = ask(options.tq, tables, statement, number, outputs[number])
             seconds[number].append(took)
@@ -76,7 +108,9 @@ def main():
     options = read_options()
     for rows in options.rows:
         with tempfile.TemporaryDirectory(prefix="tq-") as folder:
-            for kind, tables, questions in (("payroll", write_payroll(folder, rows), QUESTIONS), ("open", write_open(folder, rows), OPEN)):
+            payroll = write_payroll(folder, rows)
+            tell_machine(options, payroll, rows)
+            for kind, tables, questions in (("payroll", payroll, QUESTIONS), ("open", write_open(folder, rows), OPEN)):
                 for name, statement in questions.items():
                     seconds, peaks = measure(options, tables, statement, folder)
                     said = ", ".join(

@@ -210,6 +210,24 @@ def paths():
     yield Case("files are read before any is loaded", ["ask", *bad, "#"], err=b"tq: cannot read ROOM/none.csv\n", status=1, files={"bad.csv": b""})
 
 
+def side_by_side():
+    """Files that two threads read, and tables that they may not, since one of these can be read once only."""
+    both = "VALIDTIME SELECT a.k, b.v FROM a, b WHERE a.k = b.k"
+    files = {"a.csv": b"k:int,from,to\n1,0,9\n2,3,5\n", "b.csv": SMALL + b"2,x,4,8\n1,y,2,forever\n"}
+    answer = b"k,v,from,to\n1,y,2,9\n2,x,4,5\n"
+    for workers in ("2", "16"):
+        ending = ["--workers", workers, both]
+        for front, back, taken in (("ROOM/a.csv", "ROOM/b.csv", b""), ("-", "ROOM/b.csv", files["a.csv"]), ("ROOM/a.csv", "-", files["b.csv"])):
+            words = ["ask", "--table", f"a={front}", "--table", f"b={back}", *ending]
+            yield Case(f"{front} and {back} by {workers} workers", words, out=answer, files=files, taken=taken)
+        for paths, first in ((("none.csv", "b.csv"), "none.csv"), (("a.csv", "none.csv"), "none.csv"), (("none.csv", "nor.csv"), "none.csv")):
+            words = ["ask", "--table", f"a=ROOM/{paths[0]}", "--table", f"b=ROOM/{paths[1]}", *ending]
+            err = b"tq: cannot read ROOM/" + first.encode() + b"\n"
+            yield Case(f"the first of {paths} that cannot be read, by {workers} workers", words, err=err, status=1, files=files)
+    for n in (0, 7, 14):
+        yield ask(f"table {n} of 15 by 3 workers", numbered(15), f"VALIDTIME SELECT k FROM t{n}", ["--workers", "3"], out=b"k,from,to\n%d,%d,%d\n" % (n, n, n + 1))
+
+
 def large():
     """Row i is valid from i to i + 10, so that ten rows are valid from 9 on, until the last ones end."""
     count = 200_000
@@ -876,5 +894,5 @@ def outputs_that_fail():
 
 def table():
     """All cases."""
-    makers = (files_at_fault, statements_at_fault, command_lines, words_of_all_lengths, paths, large, among_threads, named_columns, sessions, pictures, checks, dates, explanations, long_statements, explained_answers, explained_files, further_faults, each_fault, unread_files, outputs_that_fail)
+    makers = (files_at_fault, statements_at_fault, command_lines, words_of_all_lengths, paths, side_by_side, large, among_threads, named_columns, sessions, pictures, checks, dates, explanations, long_statements, explained_answers, explained_files, further_faults, each_fault, unread_files, outputs_that_fail)
     return [case for maker in makers for case in maker()]

@@ -5,13 +5,15 @@ ghost use Rattle.tq.specs.declared.command_line.TableOption.{TableOption as AnyO
 ghost use Rattle.tq_event.specs.declared.file.TableFile.{TableFile as AnyFile};
 
 use crate::command_line::TableOption;
+use crate::kept::is_read_once;
 use crate::progress::{Counted, Progress};
 use crate::report::{Refusal, Told};
 use crate::unread::{file_len, reason};
 use std::alloc::{AllocError, Global};
 use std::io::{ErrorKind, Input};
 use std::rt::Files;
-use std::{fs, str};
+use std::thread::Threads;
+use std::{fs, str, thread};
 use tq_base::Items;
 use tq_engine::{FileFault, Source, read_file};
 use tq_event::TableFile;
@@ -63,8 +65,8 @@ fn expect_files<R: Files>(rt: &R, options: &[TableOption], progress: &Progress) 
     }
 }
 
-// The tables in the order of their options.
-fn read_tables<R: Files + AllocGlobal + Input>(
+// The tables in the order of their options, read one after the other.
+fn read_in_turn<R: Files + AllocGlobal + Input>(
     rt: &R,
     options: Vec<TableOption>,
     progress: &Progress,
@@ -72,7 +74,6 @@ fn read_tables<R: Files + AllocGlobal + Input>(
     ensures { IfOk result (λ tables. map (λ (t : AnyFile). t.name) tables.items ≡ map (λ (o : AnyOption). o.name.items) options.items) }
 {
     let mut tables = Vec::new(rt.alloc());
-    expect_files(rt, &options, progress);
     'options: for option in options {
         tables
             .push(read_table(rt, option, progress)?)
@@ -81,17 +82,71 @@ fn read_tables<R: Files + AllocGlobal + Input>(
     Ok(tables)
 }
 
-/// The tables in the order of their options, or the refusal, which is explained where that is asked for.
-pub fn read_explained<R: Files + AllocGlobal + Input>(
+// Whether none of the tables can be read once only, so that no reading of one takes bytes from another.
+fn stay_all<R: Files>(rt: &R, options: &[TableOption]) -> bool {
+    'options: for option in options {
+        if is_read_once(rt, &option.path) {
+            return false;
+        }
+    }
+    true
+}
+
+// The tables in the order of their options, read by two threads, the first half of them and the others.
+fn read_side_by_side<
+    R: Files<File: Send, Dir: Send> + AllocGlobal + Input<Reader: Send> + Threads + Sync,
+>(rt: &R, options: Vec<TableOption>, progress: &Progress) -> Result<Vec<TableFile>, Refusal>
+    ensures { IfOk result (λ tables. map (λ (t : AnyFile). t.name) tables.items ≡ map (λ (o : AnyOption). o.name.items) options.items) }
+{
+    let mut front = options;
+    let back = front.split_off(front.len() / 2)?;
+    let read_front = || -> Result<Vec<TableFile>, Refusal>
+        ensures { IfOk result (λ tables. map (λ (t : AnyFile). t.name) tables.items ≡ map (λ (o : AnyOption). o.name.items) front.items) }
+    { read_in_turn(rt, front, progress) };
+    let read_back = || -> Result<Vec<TableFile>, Refusal>
+        ensures { IfOk result (λ tables. map (λ (t : AnyFile). t.name) tables.items ≡ map (λ (o : AnyOption). o.name.items) back.items) }
+    { read_in_turn(rt, back, progress) };
+    let (more, tables) = thread::join(rt, read_back, read_front);
+    let mut tables = tables?;
+    let mut more = more?;
+    tables.append(&mut more)?;
+    Ok(tables)
+}
+
+// The tables in the order of their options, read side by side where there are several workers.
+fn read_tables<
+    R: Files<File: Send, Dir: Send> + AllocGlobal + Input<Reader: Send> + Threads + Sync,
+>(
     rt: &R,
     options: Vec<TableOption>,
+    workers: u32,
+    progress: &Progress,
+) -> Result<Vec<TableFile>, Refusal>
+    ensures { IfOk result (λ tables. map (λ (t : AnyFile). t.name) tables.items ≡ map (λ (o : AnyOption). o.name.items) options.items) }
+{
+    expect_files(rt, &options, progress);
+    if workers > 1 && options.len() > 1 && stay_all(rt, &options) {
+        read_side_by_side(rt, options, progress)
+    } else {
+        read_in_turn(rt, options, progress)
+    }
+}
+
+/// The tables in the order of their options, or the refusal, which is explained where that is asked for. Where there are
+/// several workers, two read files side by side, unless one of these can be read once only.
+pub fn read_explained<
+    R: Files<File: Send, Dir: Send> + AllocGlobal + Input<Reader: Send> + Threads + Sync,
+>(
+    rt: &R,
+    options: Vec<TableOption>,
+    workers: u32,
     explain: bool,
     progress: &Progress,
 ) -> Result<Vec<TableFile>, Told>
     ensures tables { IfOk result (λ tables. map (λ (t : AnyFile). t.name) tables.items ≡ map (λ (o : AnyOption). o.name.items) options.items) }
     ensures silent { explain ≡ false → IfErr result (λ told. told.detail ≡ None) }
 {
-    match read_tables(rt, options, progress) {
+    match read_tables(rt, options, workers, progress) {
         Ok(tables) => Ok(tables),
         Err(Refusal::CannotRead(path)) if explain => {
             let reason = reason(rt, &path);

@@ -52,12 +52,16 @@ use words::read_words;
 
 // Answers a request on standard output, once all files are read. What a refusal is about is explained where a person
 // sees it, or where that was asked for; how it was answered is told where that was asked for.
-fn ask<R: Files + AllocGlobal + Clock + Input + Print + Threads + Wait + Sync>(
-    rt: &R,
-    request: AskRequest,
-    seen: bool,
-    progress: &Progress,
-) -> Result<(), Told> {
+fn ask<
+    R: Files<File: Send, Dir: Send>
+        + AllocGlobal
+        + Clock
+        + Input<Reader: Send>
+        + Print
+        + Threads
+        + Wait
+        + Sync,
+>(rt: &R, request: AskRequest, seen: bool, progress: &Progress) -> Result<(), Told> {
     let AskRequest {
         tables: options,
         workers,
@@ -67,7 +71,7 @@ fn ask<R: Files + AllocGlobal + Clock + Input + Print + Threads + Wait + Sync>(
     } = request;
     let explain = is_told || seen;
     let paths = paths_of(rt.alloc(), &options)?;
-    let tables = read_explained(rt, options, explain, progress)?;
+    let tables = read_explained(rt, options, workers, explain, progress)?;
     let heads = heads_where(rt.alloc(), &tables, explain);
     progress.load();
     match ask_watched(rt, tables, &statement, workers, form, progress, is_told) {
@@ -79,12 +83,15 @@ fn ask<R: Files + AllocGlobal + Clock + Input + Print + Threads + Wait + Sync>(
 }
 
 // Draws the answer of a request on standard output, once all files are read.
-fn draw_answer<R: Files + AllocGlobal + Input + Print + Threads + Wait + Sync>(
-    rt: &R,
-    request: DrawRequest,
-    seen: bool,
-    progress: &Progress,
-) -> Result<(), Told> {
+fn draw_answer<
+    R: Files<File: Send, Dir: Send>
+        + AllocGlobal
+        + Input<Reader: Send>
+        + Print
+        + Threads
+        + Wait
+        + Sync,
+>(rt: &R, request: DrawRequest, seen: bool, progress: &Progress) -> Result<(), Told> {
     let DrawRequest { ask, width, svg } = request;
     let AskRequest {
         tables: options,
@@ -95,7 +102,7 @@ fn draw_answer<R: Files + AllocGlobal + Input + Print + Threads + Wait + Sync>(
     } = ask;
     let explain = explain || seen;
     let paths = paths_of(rt.alloc(), &options)?;
-    let tables = read_explained(rt, options, explain, progress)?;
+    let tables = read_explained(rt, options, workers, explain, progress)?;
     let heads = heads_where(rt.alloc(), &tables, explain);
     progress.load();
     match answer(rt, rt.alloc(), tables, &statement, workers, form) {
@@ -146,19 +153,22 @@ fn list_faults<R: Files + AllocGlobal + Input + Print + Wait>(
 
 // Tells on standard output what the tables are, once all files are read; where records are at fault, these. A file that is
 // refused is explained where a person sees it.
-fn check_tables<R: Files + AllocGlobal + Input + Print + Threads + Wait + Sync>(
-    rt: &R,
-    request: CheckRequest,
-    seen: bool,
-    progress: &Progress,
-) -> Result<(), Told> {
+fn check_tables<
+    R: Files<File: Send, Dir: Send>
+        + AllocGlobal
+        + Input<Reader: Send>
+        + Print
+        + Threads
+        + Wait
+        + Sync,
+>(rt: &R, request: CheckRequest, seen: bool, progress: &Progress) -> Result<(), Told> {
     let CheckRequest {
         tables: options,
         workers,
         form,
     } = request;
     let paths = paths_of(rt.alloc(), &options)?;
-    let tables = read_explained(rt, options, seen, progress)?;
+    let tables = read_explained(rt, options, workers, seen, progress)?;
     let kept = keep_all(rt, &tables, &paths)?;
     progress.load();
     match check(rt, rt.alloc(), tables, workers, form) {
@@ -179,7 +189,16 @@ fn check_tables<R: Files + AllocGlobal + Input + Print + Threads + Wait + Sync>(
 
 // Answers the lines of standard input on standard output, once all files are read, each after a prompt where there is
 // somewhere to print it.
-fn converse<R: Files + AllocGlobal + Input + Print + Threads + Wait + Sync, W: Write + Drop>(
+fn converse<
+    R: Files<File: Send, Dir: Send>
+        + AllocGlobal
+        + Input<Reader: Send>
+        + Print
+        + Threads
+        + Wait
+        + Sync,
+    W: Write + Drop,
+>(
     rt: &R,
     request: SessionRequest,
     seen: bool,
@@ -191,7 +210,7 @@ fn converse<R: Files + AllocGlobal + Input + Print + Threads + Wait + Sync, W: W
         form,
     } = request;
     let paths = paths_of(rt.alloc(), &options)?;
-    let tables = read_explained(rt, options, seen, progress)?;
+    let tables = read_explained(rt, options, 1, seen, progress)?;
     progress.end(rt);
     let reader = rt.reader();
     let mut source = Source::over(Prompted { reader, prompts });
@@ -215,7 +234,14 @@ fn print_bytes<R: Print>(rt: &R, bytes: &[u8]) -> Result<(), Refusal> {
 
 // Does what a request asks.
 fn carry_out<
-    R: Files + AllocGlobal + Clock + Input + Print + Threads + Wait + Sync,
+    R: Files<File: Send, Dir: Send>
+        + AllocGlobal
+        + Clock
+        + Input<Reader: Send>
+        + Print
+        + Threads
+        + Wait
+        + Sync,
     W: Write + Drop,
 >(
     rt: &R,
@@ -235,7 +261,14 @@ fn carry_out<
 
 // The same, while a person is shown how far it has come.
 fn carry_out_seen<
-    R: Files + AllocGlobal + Clock + Input + Print + Threads + Wait + Sync,
+    R: Files<File: Send, Dir: Send>
+        + AllocGlobal
+        + Clock
+        + Input<Reader: Send>
+        + Print
+        + Threads
+        + Wait
+        + Sync,
     W: Write + Drop,
 >(rt: &R, request: Request, prompts: Option<W>, progress: &Progress) -> Result<(), Told> {
     let work = || {
@@ -248,7 +281,15 @@ fn carry_out_seen<
 
 // Does what the command line asks.
 fn run<
-    R: Files + AllocGlobal + Clock + Env + Input + Print + Threads + Wait + Sync,
+    R: Files<File: Send, Dir: Send>
+        + AllocGlobal
+        + Clock
+        + Env
+        + Input<Reader: Send>
+        + Print
+        + Threads
+        + Wait
+        + Sync,
     W: Write + Drop,
 >(rt: &R, seen: bool, prompts: Option<W>, progress: &Progress) -> Result<(), Told> {
     let words = read_words(rt)?;

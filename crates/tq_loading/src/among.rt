@@ -7,7 +7,7 @@ ghost use Rattle.tq_event.specs.Tables.{AreRead, AreTables};
 
 use crate::cut::{cut, part_len};
 use crate::headers::read_schemas;
-use crate::together::{is_within, side_by_side, whole_tables};
+use crate::together::{is_within, side_by_side_among, whole_tables};
 use crate::well::well;
 use crate::work::read_parts;
 use std::alloc::{AllocError, Global};
@@ -45,7 +45,7 @@ fn tables_of_parts<R: Threads + Sync, G: Gate + Sync>(
     let read = read_parts(
         rt, alloc, limit, files, wanted, &schemas, &parts, workers, gate, form,
     )?;
-    let Some(read) = side_by_side(alloc, read)? else {
+    let Some(read) = side_by_side_among(rt, alloc, files.len(), workers, read)? else {
         return Ok(None);
     };
     let Some(rows) = whole_tables(alloc, files, read)? else {

@@ -11,6 +11,8 @@ ghost use Rattle.tq_loading.specs.Together.{IsWhole, LeadsTo, period_events};
 
 use crate::part::{Part, PartRows};
 use std::alloc::{AllocError, Global};
+use std::thread;
+use std::thread::Threads;
 use tq_base::{FOREVER, Period, Rows};
 use tq_event::TableFile;
 
@@ -54,8 +56,8 @@ fn add(all: &mut Vec<PartRows>, next: PartRows) -> Result<(), AllocError>
     Ok(())
 }
 
-/// The rows of the parts, those of parts that follow on one another side by side; `None` where one is amiss.
-pub fn side_by_side(
+// The rows of the parts, those of parts that follow on one another side by side; `None` where one is amiss.
+fn side_by_side(
     alloc: Global,
     parts: Vec<Option<PartRows>>,
 ) -> Result<Option<Vec<PartRows>>, AllocError>
@@ -69,6 +71,61 @@ pub fn side_by_side(
         add(&mut all, part)?;
     }
     Ok(Some(all))
+}
+
+// The place of the first part of the latter half of the tables, of which there are so many.
+fn latter_half(parts: &[Option<PartRows>], tables: usize) -> usize
+    ensures { result ≤ length parts.now }
+{
+    'parts: for (place, part) in parts.iter().enumerate() {
+        if let Some(read) = part
+            && read.part.table as usize >= tables / 2
+        {
+            return place;
+        }
+    }
+    parts.len()
+}
+
+// The rows of both lists, the ones behind the others; `None` where there is none of one.
+fn chained(
+    front: Option<Vec<PartRows>>,
+    back: Option<Vec<PartRows>>,
+) -> Result<Option<Vec<PartRows>>, AllocError>
+    ensures { (form : AnyForm) (files : List File) (wanted : List (List Bool)) (schemas : List Heading) → IfSome front (λ all. All (IsRead form files wanted schemas) all.items) → IfSome back (λ all. All (IsRead form files wanted schemas) all.items) → IfOk result (λ found. IfSome found (λ all. All (IsRead form files wanted schemas) all.items)) }
+{
+    let (Some(mut all), Some(mut more)) = (front, back) else {
+        return Ok(None);
+    };
+    all.append(&mut more)?;
+    Ok(Some(all))
+}
+
+/// What `side_by_side` gives of the parts of so many tables. Where there are several workers, two threads put the rows
+/// together, those of the one half of the tables and those of the other.
+pub fn side_by_side_among<R: Threads>(
+    rt: &R,
+    alloc: Global,
+    tables: usize,
+    workers: u32,
+    parts: Vec<Option<PartRows>>,
+) -> Result<Option<Vec<PartRows>>, AllocError>
+    ensures { (form : AnyForm) (files : List File) (wanted : List (List Bool)) (schemas : List Heading) → All (λ one. IfSome one (IsRead form files wanted schemas)) parts.items → IfOk result (λ found. IfSome found (λ all. All (IsRead form files wanted schemas) all.items)) }
+{
+    if workers < 2 || tables < 2 {
+        return side_by_side(alloc, parts);
+    }
+    let mut front = parts;
+    let place = latter_half(&front, tables);
+    let back = front.split_off(place)?;
+    let put_front = || -> Result<Option<Vec<PartRows>>, AllocError>
+        ensures { (form : AnyForm) (files : List File) (wanted : List (List Bool)) (schemas : List Heading) → All (λ one. IfSome one (IsRead form files wanted schemas)) front.items → IfOk result (λ found. IfSome found (λ all. All (IsRead form files wanted schemas) all.items)) }
+    { side_by_side(alloc, front) };
+    let put_back = || -> Result<Option<Vec<PartRows>>, AllocError>
+        ensures { (form : AnyForm) (files : List File) (wanted : List (List Bool)) (schemas : List Heading) → All (λ one. IfSome one (IsRead form files wanted schemas)) back.items → IfOk result (λ found. IfSome found (λ all. All (IsRead form files wanted schemas) all.items)) }
+    { side_by_side(alloc, back) };
+    let (back, front) = thread::join(rt, put_back, put_front);
+    chained(front?, back?)
 }
 
 // Whether the rows are those of the whole file of this table.

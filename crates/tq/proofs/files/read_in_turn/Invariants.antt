@@ -2,7 +2,7 @@
 use Rattle.std.proofs.Common.{◌≡◌, map}
 use Rattle.tq.specs.declared.command_line.TableOption.{TableOption}
 use Rattle.tq_event.specs.declared.file.TableFile.{TableFile}
-use Rattle.tq.proofs.files.read_tables.Given as goal
+use Rattle.tq.proofs.files.read_in_turn.Given as goal
 
 abbrev pub invariant-options : goal.invariant-options
 invariant-options g l = map (λ (t : TableFile). t.name) l.tables.items ≡ map (λ (o : TableOption). o.name.items) l.yielded
