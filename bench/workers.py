@@ -83,7 +83,8 @@ def seconds_at_once(program, tables, count):
 def tell_machine(options, tables, rows):
     """Prints what the machine can do: the least of all tries of processes of one worker, alone and at once."""
     counts = [1, *options.workers]
-    seconds = {count: min(seconds_at_once(options.tq, tables, count) for _ in range(options.tries)) for count in counts}
+    tries = [{count: seconds_at_once(options.tq, tables, count) for count in counts} for _ in range(options.tries)]
+    seconds = {count: min(one[count] for one in tries) for count in counts}
     said = ", ".join(f"{count} at once {seconds[count] / seconds[1]:.2f} times as long as one" for count in options.workers)
     print(f"{rows} rows, processes of one worker, {ALONE}: {said}", flush=True)
 

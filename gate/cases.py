@@ -224,6 +224,9 @@ def side_by_side():
             words = ["ask", "--table", f"a=ROOM/{paths[0]}", "--table", f"b=ROOM/{paths[1]}", *ending]
             err = b"tq: cannot read ROOM/" + first.encode() + b"\n"
             yield Case(f"the first of {paths} that cannot be read, by {workers} workers", words, err=err, status=1, files=files)
+        words = ["ask", "--table", "a=/dev/stdin", "--table", "b=/dev/stdin", *ending]
+        err = b"tq: load BadHeader table 1 record 1\n"
+        yield Case(f"a pipe of which the first table takes all, by {workers} workers", words, err=err, status=1, taken=EMP)
     for n in (0, 7, 14):
         yield ask(f"table {n} of 15 by 3 workers", numbered(15), f"VALIDTIME SELECT k FROM t{n}", ["--workers", "3"], out=b"k,from,to\n%d,%d,%d\n" % (n, n, n + 1))
 

@@ -183,8 +183,16 @@ def faults_of_runs(command, every):
         yield f"{command.name}: no run had too little memory"
 
 
+def over_several_files(page):
+    """The questions of a page over several files, but for those whose answers go through other programs."""
+    found = [case for case in cases_of_page(page) if case.words.count("--table") > 1 and "|" not in case.words]
+    if not found:
+        raise SystemExit(f"FAILED: {page.name} asks no question over several files")
+    return found
+
+
 def commands(malloc, program):
-    """The commands of README.md and the session of its own page; questions by several workers too."""
+    """The commands of README.md and the session of its own page; questions by several workers too, and those over several files."""
     for page in ("README.md", "examples/session.md"):
         for case in cases_of_page(ROOT / page):
             if case.words[0] == "session":
@@ -193,6 +201,8 @@ def commands(malloc, program):
                 yield Command(malloc, [program, *case.words], case)
                 if case.words[0] == "ask":
                     yield Command(malloc, [program, "ask", "--workers", "3", *case.words[1:]], case)
+    for case in over_several_files(ROOT / "docs" / "recipes.md"):
+        yield Command(malloc, [program, "ask", "--workers", "3", *case.words[1:]], case)
 
 
 def report(parts):
