@@ -3,7 +3,7 @@
     --tq PROGRAM      the program to measure (bin/tq)
     --rows N ..       the sizes of each table (10000 1000000)
     --workers W ..    the numbers of workers beside one (2 4)
-    --tries N         how often each is asked (5)
+    --tries N         how often each is asked (15)
 
 The questions of versus.py are asked of a payroll, and of tables whose rows have all not ended, by one worker and by more
 in turn. The bytes have to be equal. The least of all tries counts: seconds from start to end, loading and output
@@ -23,10 +23,13 @@ import tempfile
 import time
 
 from measuring import HERE, run
-from versus import QUESTIONS, TRIES, files_read
+from versus import QUESTIONS, files_read
 
 # The question that processes at once are asked.
 ALONE = "counts"
+
+# On a host that has other work a core is quiet for a moment only, and several at once are more seldom.
+TRIES = 15
 
 OPEN = {name: QUESTIONS[name] for name in ("name", "counts", "sums")}
 
