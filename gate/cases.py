@@ -215,6 +215,8 @@ def side_by_side():
     both = "VALIDTIME SELECT a.k, b.v FROM a, b WHERE a.k = b.k"
     files = {"a.csv": b"k:int,from,to\n1,0,9\n2,3,5\n", "b.csv": SMALL + b"2,x,4,8\n1,y,2,forever\n"}
     answer = b"k,v,from,to\n1,y,2,9\n2,x,4,5\n"
+    # A thread that reads this first comes to the pipe late.
+    long = SMALL + 16_000 * (b"1," + 999 * b"x" + b",0,1\n")
     for workers in ("2", "16"):
         ending = ["--workers", workers, both]
         for front, back, taken in (("ROOM/a.csv", "ROOM/b.csv", b""), ("-", "ROOM/b.csv", files["a.csv"]), ("ROOM/a.csv", "-", files["b.csv"])):
@@ -224,9 +226,10 @@ def side_by_side():
             words = ["ask", "--table", f"a=ROOM/{paths[0]}", "--table", f"b=ROOM/{paths[1]}", *ending]
             err = b"tq: cannot read ROOM/" + first.encode() + b"\n"
             yield Case(f"the first of {paths} that cannot be read, by {workers} workers", words, err=err, status=1, files=files)
-        words = ["ask", "--table", "a=/dev/stdin", "--table", "b=/dev/stdin", *ending]
-        err = b"tq: load BadHeader table 1 record 1\n"
-        yield Case(f"a pipe of which the first table takes all, by {workers} workers", words, err=err, status=1, taken=EMP)
+        paths = ("ROOM/long.csv", "/dev/stdin", "/dev/stdin", "ROOM/a.csv")
+        words = ["ask", *(f"--table=t{n}={path}" for n, path in enumerate(paths)), *ending]
+        err = b"tq: load BadHeader table 2 record 1\n"
+        yield Case(f"a pipe of which the first table takes all, by {workers} workers", words, err=err, status=1, files={**files, "long.csv": long}, taken=EMP)
     for n in (0, 7, 14):
         yield ask(f"table {n} of 15 by 3 workers", numbered(15), f"VALIDTIME SELECT k FROM t{n}", ["--workers", "3"], out=b"k,from,to\n%d,%d,%d\n" % (n, n, n + 1))
 
