@@ -1,8 +1,10 @@
 -- Periods cut to a window.
-use Rattle.std.specs.Prelude.{◌≡◌, ℕ, ◌<◌, ◌≤◌, ◌&&◌, min, max, nat_le, nat_lt}
-use Rattle.std.proofs.Common.{ap, ◌∙◌, arith}
+use Rattle.std.specs.Prelude.{◌≡◌, ℕ, ◌<◌, ◌≤◌, ◌&&◌, min, max, nat_le, nat_lt, List, length, map}
+use Rattle.std.proofs.Common.{ap, ◌∙◌, arith, get_or}
+use Rattle.std.proofs.lemmas.List.{get_or-map}
 use Rattle.std.proofs.lemmas.Bool.Decides.{nat_tests}
 use Rattle.tq_base.specs.declared.period.Period.{Period}
+use Rattle.tq_base.specs.declared.fragment.Fragment.{Fragment}
 use Rattle.tq_base.specs.Periods.{holds, IsOverlap}
 
 holds_both : (a b c d t : ℕ) → (nat_le (max a c) t && nat_lt t (min b d)) ≡ ((nat_le a t && nat_lt t b) && (nat_le c t && nat_lt t d))
@@ -17,3 +19,8 @@ overlap_within p q both is =
     let ordered : both.start < both.end = both.ordered in
     let before : q.start < q.end = q.ordered in
     (omega (arith, is.0), omega (arith, is.0, is.1), omega (arith, is.0, is.1), omega (arith, is.1))
+
+-- an item of the list of periods is the period of the row there
+pub period_at : (rows : List Fragment) (periods : List Period) (i : ℕ) (period : Period) → periods ≡ map (λ (row : Fragment). row.period) rows → i < length rows → period ≡ get_or periods i period
+    → (d : Fragment) → period ≡ (get_or rows i d).period
+period_at rows periods i period are less is d = is ∙ ap (λ l. get_or l i period) are ∙ get_or-map (λ (row : Fragment). row.period) rows i d period less

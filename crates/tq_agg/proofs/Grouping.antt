@@ -152,7 +152,7 @@ none_shown key [] v = refl
 none_shown key (s ∷ summands) v = refl
 
 -- rows of one key are no rows of another
-other_shown : (key : List Value) (n : ℕ) (totals : List ℤ) (v : List Value) → length key ≡ n → key ≢ take n v → shown_copies key totals v ≡ 0
+pub other_shown : (key : List Value) (n : ℕ) (totals : List ℤ) (v : List Value) → length key ≡ n → key ≢ take n v → shown_copies key totals v ≡ 0
 other_shown key n totals v long differ =
     ap (λ b. cond (has_rows totals) (one_if b) 0) (not_equal (key ++ map Int totals) v (λ same. differ (sym (take_at key (map Int totals) n long) ∙ ap (take n) same))) ∙ nothing (has_rows totals)
 

@@ -1,4 +1,6 @@
 pub mod Adding
+pub mod BucketRows
+pub mod Buckets
 pub mod Changing
 pub mod Cutting
 pub mod Gathering
@@ -8,8 +10,10 @@ pub mod Instants
 pub mod Maps
 pub mod Runs
 pub mod Summable
+pub mod Tallies
 pub mod Totals
 pub mod Starts
 pub mod Moving
+pub mod OneRank
 pub mod Shown
 pub mod Weighing

@@ -1,5 +1,5 @@
 -- The sweep over starts and ends, one bound after another: what holds between two bounds.
-use Rattle.std.proofs.Common.{◌≡◌, ℕ, ◌+◌, ◌-◌, ◌<◌, ◌≤◌, pos, ◌-ℤ◌, inl, inr, ◌&&◌, cond, nat_le, nat_lt, List, [], ◌∷◌, length, take, drop, get_or, refl, sym, subst, ap, ◌∙◌, arith, length-drop, length-take}
+use Rattle.std.proofs.Common.{◌≡◌, ℕ, ◌+◌, ◌-◌, ◌<◌, ◌≤◌, pos, ◌-ℤ◌, inl, inr, Bool, ◌&&◌, cond, nat_le, nat_lt, List, [], ◌∷◌, length, take, drop, get_or, refl, sym, subst, ap, ◌∙◌, arith, length-drop, length-take}
 use Rattle.std.specs.Prelude.{All}
 use Rattle.std.proofs.Math.Seq.{take-add}
 use Rattle.std.proofs.lemmas.Bool.{cases_lt}
@@ -14,8 +14,7 @@ use Rattle.tq_base.specs.declared.fragment.Fragment.{Fragment}
 use Rattle.tq_base.specs.Periods.{holds}
 use Rattle.tq_base.specs.Fragments.{copies}
 use Rattle.tq_base.specs.Sweep.{upto, upto-cons, upto_none, all_after, Rises}
-use Rattle.tq_agg.specs.Edges.{AreEdges, IsAtFront}
-use Rattle.tq_agg.specs.Totals.{row_copies}
+use Rattle.tq_agg.specs.Edges.{count_copies, AreEdges, IsAtFront}
 
 -- the rows up to a bound, and those of the totals from there to a later one
 pub extended : (from since to t x y : ℕ) → from ≤ since → since ≤ to → (since ≤ t → t < to → x ≡ y)
@@ -96,8 +95,8 @@ module _ (window : Period) (bounds : List ℕ) (edges : AreInOrder window bounds
     }
 
 -- of a count, how many have begun and not ended
-abbrev pub counts_shown : ℕ → ℕ → List Value → ℕ
-counts_shown begun ended v = row_copies [] ((pos begun -ℤ pos ended) ∷ []) v
+abbrev pub counts_shown : Bool → List Value → ℕ → ℕ → List Value → ℕ
+counts_shown is_none_shown key begun ended v = count_copies is_none_shown key (pos begun -ℤ pos ended) v
 
 -- ---- both lists
 

@@ -1,4 +1,5 @@
 pub mod Bounds
+pub mod Buckets
 pub mod Edges
 pub mod GroupKeys
 pub mod Grouping

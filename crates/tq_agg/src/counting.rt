@@ -16,6 +16,7 @@ ghost use Rattle.tq_agg.specs.Totals.{shown_copies, totals_held, HaveSmall, Have
 
 use crate::bounds::{End, fill_ends};
 use crate::edges::{Edges, edges_of, sweep_edges};
+use crate::few::count_few;
 use crate::summands::{Summand, summands_of, weights_of};
 use crate::sweeping::{Group, Head, SweepRoom, sweep, sweep_room};
 use std::alloc::{AllocError, Global};
@@ -96,6 +97,11 @@ pub fn group_count_sum(
         (λ t v. occurrences (grouped_rows keys.now sums.now (at rows.now.items t)) v)) }
     ensures outside { IfOk result (λ out. IsEmptyOutside window.now out.items) }
 {
+    if keys.len() == 1 && sums.is_empty() {
+        if let Some(out) = count_few(alloc, rows, window, keys[0])? {
+            return Ok(out);
+        }
+    }
     let summands = summands_of(alloc, sums)?;
     let sides = Sides {
         left: &*rows,
@@ -129,7 +135,12 @@ pub fn count_all(alloc: Global, rows: &Relation<'_>, window: &Period) -> Result<
     ensures outside { IfOk result (λ out. IsEmptyOutside window.now out.items) }
 {
     let Edges { starts, ends } = edges_of(alloc, rows, window)?;
+    let row = rows.row(0);
+    let head = Head {
+        row: &row,
+        keys: &[],
+    };
     let mut out = Rows::new(alloc, 1);
-    sweep_edges(alloc, &starts, &ends, window, &mut out)?;
+    sweep_edges(alloc, &head, true, &starts, &ends, window, &mut out)?;
     Ok(out)
 }

@@ -1,15 +1,17 @@
 //! How many rows are valid: where they begin and where they end is all that this needs to know of them.
 
-ghost use Rattle.std.specs.Prelude.{◌≡◌, ◌+◌, ◌-ℤ◌, ◌<◌, ◌≤◌, ◌&&◌, ℕ, nat_le, nat_lt, pos, [], ◌∷◌, All, IfOk, IfSome, List, OnOk, drop, if◌then◌else◌, length, slice_index_or, take};
+ghost use Rattle.std.specs.Ordering.{nat_cmp};
+ghost use Rattle.std.specs.Prelude.{◌≡◌, ◌+◌, ◌++◌, ◌-ℤ◌, ◌<◌, ◌≤◌, ◌&&◌, ℕ, nat_le, nat_lt, pos, [], ◌∷◌, All, IfOk, IfSome, IsPermutation, IsSorted, List, OnOk, if◌then◌else◌, length, slice_index_or, take};
 ghost use Rattle.tq_base.specs.declared.value.Value.{Value};
 ghost use Rattle.tq_base.specs.Fragments.{copies};
 ghost use Rattle.tq_base.specs.Periods.{holds};
 ghost use Rattle.tq_agg.specs.declared.summands.Summand.TheVariants.{One};
-ghost use Rattle.tq_agg.specs.Edges.{count_upto, AreEdges, IsAtFront};
-ghost use Rattle.tq_agg.specs.Totals.{added, held_weight, row_copies};
+ghost use Rattle.tq_agg.specs.Edges.{count_copies, count_upto, AreEdges, IsAtFront};
+ghost use Rattle.tq_agg.specs.Totals.{added, held_weight};
+ghost use Rattle.tq_ops.specs.Ordinary.{projection};
 
 use crate::bounds::bound_at;
-use crate::sweeping::add_totals;
+use crate::sweeping::{Head, add_row, add_shown};
 use std::alloc::{AllocError, Global};
 use tq_base::{Bound, Period, Relation, Rows, Value};
 
@@ -18,6 +20,50 @@ use tq_base::{Bound, Period, Relation, Rows, Value};
 pub(crate) struct Edges {
     pub(crate) starts: Vec<Bound>,
     pub(crate) ends: Vec<Bound>,
+}
+
+impl Edges {
+    // No bounds.
+    pub(crate) fn none(alloc: Global) -> Edges
+        ensures starts { result.starts.items ≡ [] }
+        ensures ends { result.ends.items ≡ [] }
+    {
+        Edges {
+            starts: Vec::new(alloc),
+            ends: Vec::new(alloc),
+        }
+    }
+
+    // Where the period begins and ends goes to the ends of the lists.
+    pub(crate) fn add(&mut self, period: &Period) -> Result<(), AllocError>
+        ensures starts { OnOk result (self.new.starts.items ≡ self.old.starts.items ++ period.now.start ∷ []) }
+        ensures ends { OnOk result (self.new.ends.items ≡ self.old.ends.items ++ period.now.end ∷ []) }
+    {
+        self.starts.push(bound_at(period.start))?;
+        self.ends.push(period.end)?;
+        Ok(())
+    }
+
+    // The bounds of the other go to the ends of the lists.
+    pub(crate) fn add_all(&mut self, other: &Edges) -> Result<(), AllocError>
+        ensures starts { OnOk result (self.new.starts.items ≡ self.old.starts.items ++ other.now.starts.items) }
+        ensures ends { OnOk result (self.new.ends.items ≡ self.old.ends.items ++ other.now.ends.items) }
+    {
+        self.starts.extend_from_slice(&other.starts)?;
+        self.ends.extend_from_slice(&other.ends)?;
+        Ok(())
+    }
+
+    // Puts both lists in order.
+    pub(crate) fn sort(&mut self)
+        ensures starts { IsPermutation self.old.starts.items self.new.starts.items }
+        ensures starts_sorted { IsSorted nat_cmp self.new.starts.items }
+        ensures ends { IsPermutation self.old.ends.items self.new.ends.items }
+        ensures ends_sorted { IsSorted nat_cmp self.new.ends.items }
+    {
+        self.starts.sort_unstable();
+        self.ends.sort_unstable();
+    }
 }
 
 // Where the rows, cut to the window, begin and end, in order.
@@ -30,18 +76,15 @@ pub(crate) fn edges_of(
     ensures starts { IfOk result (λ edges. AreEdges window.now edges.starts.items) }
     ensures ends { IfOk result (λ edges. AreEdges window.now edges.ends.items) }
 {
-    let mut starts = Vec::new(alloc);
-    let mut ends = Vec::new(alloc);
+    let mut edges = Edges::none(alloc);
     'rows: for period in rows.periods() {
         let Some(shared) = period.overlap(window) else {
             continue;
         };
-        starts.push(bound_at(shared.start))?;
-        ends.push(shared.end)?;
+        edges.add(&shared)?;
     }
-    starts.sort_unstable();
-    ends.sort_unstable();
-    Ok(Edges { starts, ends })
+    edges.sort();
+    Ok(edges)
 }
 
 // The first bound of two lists in order.
@@ -79,10 +122,12 @@ fn left(begun: usize, ended: usize) -> i128
     begun as i128 - ended as i128
 }
 
-// A row of this number from the one bound to the other, if there are instants between, goes to the end of
-// the list.
+// A row of the head and this number from the one bound to the other, if there are instants between, goes to
+// the end of the list; none of the number 0 where that is not shown.
 fn add_count(
     alloc: Global,
+    head: &Head<'_>,
+    is_none_shown: bool,
     begun: usize,
     ended: usize,
     since: Bound,
@@ -91,18 +136,26 @@ fn add_count(
     out: &mut Rows,
 ) -> Result<(), AllocError>
     requires empty { room.old.items ≡ [] }
-    requires width { out.old.width ≡ 1 }
+    requires width { out.old.width ≡ length head.now.keys.now + 1 }
     ensures emptied { OnOk result (room.new.items ≡ []) }
-    ensures width { out.new.width ≡ 1 }
+    ensures width { out.new.width ≡ out.old.width }
     ensures rows { OnOk result ((t : ℕ) (v : List Value) → copies out.new.items v t ≡ copies out.old.items v t
-        + (if nat_le since t && nat_lt t until then row_copies [] ((pos begun -ℤ pos ended) ∷ []) v else 0)) }
+        + (if nat_le since t && nat_lt t until then count_copies is_none_shown (projection head.now.keys.now head.now.row.now) (pos begun -ℤ pos ended) v else 0)) }
 {
-    add_totals(alloc, &[left(begun, ended)], since, until, room, out)
+    let totals = [left(begun, ended)];
+    if is_none_shown {
+        add_row(alloc, head, &totals, since, until, room, out)
+    } else {
+        add_shown(alloc, head, &totals, since, until, room, out)
+    }
 }
 
-// How many rows are valid at each instant of the window, as rows of one number, goes to the end of the list.
+// How many rows are valid at each instant of the window, as rows of the head and one number, goes to the end
+// of the list; the number 0 where it is shown.
 pub(crate) fn sweep_edges(
     alloc: Global,
+    head: &Head<'_>,
+    is_none_shown: bool,
     starts: &[Bound],
     ends: &[Bound],
     window: &Period,
@@ -110,10 +163,10 @@ pub(crate) fn sweep_edges(
 ) -> Result<(), AllocError>
     requires starts { AreEdges window.now starts.now }
     requires ends { AreEdges window.now ends.now }
-    requires width { out.old.width ≡ 1 }
-    ensures width { out.new.width ≡ 1 }
+    requires width { out.old.width ≡ length head.now.keys.now + 1 }
+    ensures width { out.new.width ≡ out.old.width }
     ensures rows { OnOk result ((t : ℕ) (v : List Value) → copies out.new.items v t ≡ copies out.old.items v t
-        + (if holds window.now t then row_copies [] (count_upto starts.now ends.now t ∷ []) v else 0)) }
+        + (if holds window.now t then count_copies is_none_shown (projection head.now.keys.now head.now.row.now) (count_upto starts.now ends.now t) v else 0)) }
 {
     let mut room = Vec::new(alloc);
     let mut since = bound_at(window.start);
@@ -123,11 +176,31 @@ pub(crate) fn sweep_edges(
         let begin = len_by(&starts[begun..], at);
         let end = len_by(&ends[ended..], at);
         if begin != end {
-            add_count(alloc, begun, ended, since, at, &mut room, out)?;
+            add_count(
+                alloc,
+                head,
+                is_none_shown,
+                begun,
+                ended,
+                since,
+                at,
+                &mut room,
+                out,
+            )?;
             since = at;
         }
         begun += begin;
         ended += end;
     }
-    add_count(alloc, begun, ended, since, window.end, &mut room, out)
+    add_count(
+        alloc,
+        head,
+        is_none_shown,
+        begun,
+        ended,
+        since,
+        window.end,
+        &mut room,
+        out,
+    )
 }

@@ -4,13 +4,18 @@
 //! the ordinary grouping, or the ordinary count, makes of the rows then valid in what went in. Outside
 //! the window nothing is valid. No instant is evaluated by itself: the rows are sorted by their keys, so
 //! that equal ones stand together, and each group is swept once over its starts and ends in order of time,
-//! with a running count and running sums.
+//! with a running count and running sums. Rows that are only counted, by one column of few values, go into
+//! a bucket for each value in place of being sorted; stretch by stretch, where several workers do so.
 #![tactic(auto)]
 
 mod bounds;
 mod counting;
 mod edges;
+mod few;
+mod stretches;
 mod summands;
 mod sweeping;
 
 pub use counting::{count_all, group_count_sum};
+pub use few::{Tally, tally_rows};
+pub use stretches::{are_whole, count_share, ranks_of};

@@ -210,7 +210,7 @@ fn has_rows(totals: &[i128]) -> bool
 
 // A row of the values in the room, then the totals, from the one bound to the other, if there are instants
 // between, goes to the end of the list. The room is empty after.
-pub(crate) fn add_totals(
+fn add_totals(
     alloc: Global,
     totals: &[i128],
     since: Bound,
@@ -238,7 +238,7 @@ pub(crate) fn add_totals(
 
 // A row of the key and the totals from the one bound to the other, if there are instants between, goes to the
 // end of the list. The room is empty before and after.
-fn add_row(
+pub(crate) fn add_row(
     alloc: Global,
     head: &Head<'_>,
     totals: &[i128],
@@ -259,7 +259,7 @@ fn add_row(
 }
 
 // The same where the totals count any row.
-fn add_shown(
+pub(crate) fn add_shown(
     alloc: Global,
     head: &Head<'_>,
     totals: &[i128],

@@ -95,8 +95,8 @@ fn has_boxed(column: &Option<ColumnView<'_>>, row: u32) -> bool {
     }
 }
 
-// Whether a rank tells its value wholly.
-pub(crate) fn rank_tells(rank: u128) -> bool
+/// Whether a rank tells its value wholly: two values of this rank are the same.
+pub fn rank_tells(rank: u128) -> bool
     ensures { result ≡ rank_tells rank }
 {
     if rank < TEXT_RANK {

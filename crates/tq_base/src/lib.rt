@@ -40,6 +40,7 @@ pub use form::{Form, put_instant, read_bound, read_instant};
 pub use fragment::Fragment;
 pub use items::Items;
 pub use key_range::KeyRange;
+pub use keys::rank_tells;
 pub use name::{MAX_NAME, Name, RESERVED, fold_name, is_name, is_reserved, is_same_word};
 pub use number::{read_int, read_natural};
 pub use period::{Bound, FOREVER, Instant, Period};

@@ -8,9 +8,14 @@ use crate::period::Period;
 use crate::value::Value;
 use std::alloc::{AllocError, Global};
 use std::marker::Model;
+use std::thread;
+use std::thread::Threads;
 
 /// The most rows of one list, so that a row's number has 32 bits.
 pub(crate) const MAX_ROWS: usize = 4_294_967_295;
+
+// So many rows are moved by one thread sooner than by two.
+const FEW_ROWS: usize = 8_192;
 
 // Copies of the values go to the end of the list, or some of them where a growth was refused.
 fn push_copies(values: &mut Vec<Value>, row: &[Value]) -> Result<(), AllocError>
@@ -34,6 +39,16 @@ fn add_copies(values: &mut Vec<Value>, row: &[Value]) -> Result<(), AllocError>
         values.truncate(len);
     }
     added
+}
+
+// The items of both lists, the ones behind the others.
+fn joined<T: Drop>(list: Vec<T>, other: Vec<T>) -> Result<Vec<T>, AllocError>
+    ensures { IfOk result (λ all. all.items ≡ list.items ++ other.items) }
+{
+    let mut all = list;
+    let mut more = other;
+    all.append(&mut more)?;
+    Ok(all)
 }
 
 /// Rows of one width in the order of the pushes, each with the period at which it is valid; seen as their
@@ -188,22 +203,52 @@ impl Rows {
         if other.periods.len() > MAX_ROWS - self.periods.len() {
             return Err(AllocError);
         }
-        let Rows {
-            width,
-            mut values,
-            mut periods,
-        } = self;
-        let Rows {
-            width: _,
-            values: mut more_values,
-            periods: mut more_periods,
-        } = other;
-        values.append(&mut more_values)?;
-        periods.append(&mut more_periods)?;
         Ok(Rows {
+            width: self.width,
+            values: joined(self.values, other.values)?,
+            periods: joined(self.periods, other.periods)?,
+        })
+    }
+
+    /// What `followed_by` gives. Where there are several workers and the other has many rows, one thread moves their
+    /// values and another their periods.
+    pub fn followed_by_among<R: Threads>(
+        self,
+        rt: &R,
+        workers: u32,
+        other: Rows,
+    ) -> Result<Rows, AllocError>
+        requires { other.width ≡ self.width }
+        ensures width { IfOk result (λ rows. rows.width ≡ self.width) }
+        ensures rows { IfOk result (λ rows. rows.items ≡ self.items ++ other.items) }
+    {
+        if other.periods.len() > MAX_ROWS - self.periods.len() {
+            return Err(AllocError);
+        }
+        if workers < 2 || other.periods.len() < FEW_ROWS {
+            return self.followed_by(other);
+        }
+        let Rows {
             width,
             values,
             periods,
+        } = self;
+        let Rows {
+            width: _,
+            values: more_values,
+            periods: more_periods,
+        } = other;
+        let move_values = || -> Result<Vec<Value>, AllocError>
+            ensures { IfOk result (λ all. all.items ≡ values.items ++ more_values.items) }
+        { joined(values, more_values) };
+        let move_periods = || -> Result<Vec<Period>, AllocError>
+            ensures { IfOk result (λ all. all.items ≡ periods.items ++ more_periods.items) }
+        { joined(periods, more_periods) };
+        let (periods, values) = thread::join(rt, move_periods, move_values);
+        Ok(Rows {
+            width,
+            values: values?,
+            periods: periods?,
         })
     }
 }

@@ -16,7 +16,7 @@ mod sources;
 
 pub use answering::{answer_over, answer_tables, detached, rows_within};
 pub use as_of::{AsOf, answer};
-pub use gathering::{group_columns, groups_of, rows_to_group};
+pub use gathering::{counted_column, group_columns, groups_of, rows_of_counts, rows_to_group};
 pub use named::named_columns;
 pub use snapshot::{Snapshot, TablesOfRows};
 pub use sources::passing_rows;

@@ -25,8 +25,13 @@ fn leads_to(read: &PartRows, other: &PartRows) -> bool
         && read.rows.width() == other.rows.width()
 }
 
-// The rows of both parts, of which the other follows on this one.
-fn both(read: PartRows, other: PartRows) -> Result<PartRows, AllocError>
+// The rows of both parts, of which the other follows on this one, by so many workers.
+fn both<R: Threads>(
+    rt: &R,
+    workers: u32,
+    read: PartRows,
+    other: PartRows,
+) -> Result<PartRows, AllocError>
     requires { LeadsTo read other }
     ensures { (form : AnyForm) (files : List File) (wanted : List (List Bool)) (schemas : List Heading) → IsRead form files wanted schemas read → IsRead form files wanted schemas other → IfOk result (IsRead form files wanted schemas) }
 {
@@ -35,12 +40,17 @@ fn both(read: PartRows, other: PartRows) -> Result<PartRows, AllocError>
         start: read.part.start,
         end: other.part.end,
     };
-    let rows = read.rows.followed_by(other.rows)?;
+    let rows = read.rows.followed_by_among(rt, workers, other.rows)?;
     Ok(PartRows { part, rows })
 }
 
 // The rows go to the end of the list, into the last of it where they follow on that.
-fn add(all: &mut Vec<PartRows>, next: PartRows) -> Result<(), AllocError>
+fn add<R: Threads>(
+    rt: &R,
+    workers: u32,
+    all: &mut Vec<PartRows>,
+    next: PartRows,
+) -> Result<(), AllocError>
     ensures { (form : AnyForm) (files : List File) (wanted : List (List Bool)) (schemas : List Heading) → All (IsRead form files wanted schemas) all.old.items → IsRead form files wanted schemas next → OnOk result (All (IsRead form files wanted schemas) all.new.items) }
 {
     let Some(last) = all.pop() else {
@@ -48,7 +58,7 @@ fn add(all: &mut Vec<PartRows>, next: PartRows) -> Result<(), AllocError>
         return Ok(());
     };
     if leads_to(&last, &next) {
-        all.push(both(last, next)?)?;
+        all.push(both(rt, workers, last, next)?)?;
     } else {
         all.push(last)?;
         all.push(next)?;
@@ -56,9 +66,12 @@ fn add(all: &mut Vec<PartRows>, next: PartRows) -> Result<(), AllocError>
     Ok(())
 }
 
-// The rows of the parts, those of parts that follow on one another side by side; `None` where one is amiss.
-fn side_by_side(
+// The rows of the parts, those of parts that follow on one another side by side, by so many workers; `None` where one
+// is amiss.
+fn side_by_side<R: Threads>(
+    rt: &R,
     alloc: Global,
+    workers: u32,
     parts: Vec<Option<PartRows>>,
 ) -> Result<Option<Vec<PartRows>>, AllocError>
     ensures { (form : AnyForm) (files : List File) (wanted : List (List Bool)) (schemas : List Heading) → All (λ one. IfSome one (IsRead form files wanted schemas)) parts.items → IfOk result (λ found. IfSome found (λ all. All (IsRead form files wanted schemas) all.items)) }
@@ -68,7 +81,7 @@ fn side_by_side(
         let Some(part) = part else {
             return Ok(None);
         };
-        add(&mut all, part)?;
+        add(rt, workers, &mut all, part)?;
     }
     Ok(Some(all))
 }
@@ -102,8 +115,8 @@ fn chained(
 }
 
 /// What `side_by_side` gives of the parts of so many tables. Where there are several workers, two threads put the rows
-/// together, those of the one half of the tables and those of the other.
-pub fn side_by_side_among<R: Threads>(
+/// together, those of the one half of the tables and those of the other, and each of them has half the workers.
+pub fn side_by_side_among<R: Threads + Sync>(
     rt: &R,
     alloc: Global,
     tables: usize,
@@ -113,17 +126,17 @@ pub fn side_by_side_among<R: Threads>(
     ensures { (form : AnyForm) (files : List File) (wanted : List (List Bool)) (schemas : List Heading) → All (λ one. IfSome one (IsRead form files wanted schemas)) parts.items → IfOk result (λ found. IfSome found (λ all. All (IsRead form files wanted schemas) all.items)) }
 {
     if workers < 2 || tables < 2 {
-        return side_by_side(alloc, parts);
+        return side_by_side(rt, alloc, workers, parts);
     }
     let mut front = parts;
     let place = latter_half(&front, tables);
     let back = front.split_off(place)?;
     let put_front = || -> Result<Option<Vec<PartRows>>, AllocError>
         ensures { (form : AnyForm) (files : List File) (wanted : List (List Bool)) (schemas : List Heading) → All (λ one. IfSome one (IsRead form files wanted schemas)) front.items → IfOk result (λ found. IfSome found (λ all. All (IsRead form files wanted schemas) all.items)) }
-    { side_by_side(alloc, front) };
+    { side_by_side(rt, alloc, workers / 2, front) };
     let put_back = || -> Result<Option<Vec<PartRows>>, AllocError>
         ensures { (form : AnyForm) (files : List File) (wanted : List (List Bool)) (schemas : List Heading) → All (λ one. IfSome one (IsRead form files wanted schemas)) back.items → IfOk result (λ found. IfSome found (λ all. All (IsRead form files wanted schemas) all.items)) }
-    { side_by_side(alloc, back) };
+    { side_by_side(rt, alloc, workers / 2, back) };
     let (back, front) = thread::join(rt, put_back, put_front);
     chained(front?, back?)
 }

@@ -1,4 +1,5 @@
 pub mod ColumnLemmas
+pub mod CountLemmas
 pub mod FetchLemmas
 pub mod GroupLemmas
 pub mod PassingLemmas

@@ -9,11 +9,14 @@
 //! by a value, it parts the tables by that into shares, over each of which the plan has the answer's rows of some values,
 //! and their text; else it parts a long answer into ranges of values, whose lines and text are pieces of work too. Rows
 //! of joined tables that are grouped by something else are found in shares, and then grouped in shares of the groups.
+//! Rows of one table that are counted by a column of few values are put into buckets, stretch by stretch, and counted
+//! value by value.
 #![tactic(auto)]
 
 mod among;
 mod asked;
 mod columns;
+mod counted;
 mod edges;
 mod fetched;
 mod fetching;

@@ -14,7 +14,7 @@ use tq_base::{Rows, Value, rank_of};
 use tq_run::{Gate, Work, run_with};
 
 // The rows of a piece.
-const STRETCH: usize = 65_536;
+pub(crate) const STRETCH: usize = 65_536;
 
 // About as many rows are looked at for each share, so that finding the cuts costs next to nothing.
 const LOOKED_AT: usize = 64;
@@ -66,7 +66,7 @@ pub(crate) fn shares_at(
 }
 
 // Where a stretch begins, of so many rows.
-fn start_of(len: usize, stretch: u32) -> usize
+pub(crate) fn start_of(len: usize, stretch: u32) -> usize
     ensures { result ≡ stretch_start len stretch }
 {
     (stretch as usize * STRETCH).min(len)

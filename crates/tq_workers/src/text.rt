@@ -1,6 +1,6 @@
 // The text of the answer of a plan over tables of rows, worked out by several workers.
 
-ghost use Rattle.std.specs.Prelude.{◌≡◌, ◌≤◌, ◌++◌, IfOk, List, ℕ};
+ghost use Rattle.std.specs.Prelude.{◌≡◌, ◌≤◌, ◌++◌, IfOk, IfSome, List, ℕ};
 ghost use Rattle.tq_agg.specs.Grouping.{Row};
 ghost use Rattle.tq_base.specs.declared.fragment.Fragment.{Fragment};
 ghost use Rattle.tq_base.specs.Fragments.{copies};
@@ -11,8 +11,10 @@ ghost use Rattle.tq_eval.specs.Fitting.{AreAllFitting};
 ghost use Rattle.tq_plan.specs.Standing.{AreQueriesOver, IsPlanOver};
 ghost use Rattle.tq_table.specs.Text.{rows_text, IsTextOf};
 ghost use Rattle.tq_table.specs.Sink.{bytes_of};
+ghost use Rattle.tq_workers.specs.Shares.{HaveAnswer};
 
 use crate::among::pieces_of;
+use crate::counted::count_texts;
 use crate::edges::table_edges;
 use crate::joined::joined_groups;
 use crate::ranges::range_texts;
@@ -152,6 +154,28 @@ fn rows_answered<R: Threads + Sync, G: Gate + Sync>(
     }
 }
 
+// The texts of the plan's answer, value by value or share by share, made by these workers; none where it does not fall apart
+// by a value, or where most rows have values that no rank tells apart.
+fn parted_texts<'p, R: Threads + Sync, G: Gate + Sync>(
+    rt: &R,
+    alloc: Global,
+    all: TablesOfRows<'p>,
+    plan: &'p Plan,
+    workers: u32,
+    gate: &G,
+    form: Form,
+) -> Result<Option<Vec<Vec<u8>>>, AllocError>
+    requires over { AreQueriesOver all.catalogue.now plan.now }
+    requires some { 1 ≤ workers }
+    requires at_most { workers ≤ 16 }
+    ensures { IfOk result (λ made. IfSome made (λ texts. HaveAnswer form (in_tables (lists_of all.entry.tables.now)) plan.now texts.items)) }
+{
+    if let Some(texts) = count_texts(rt, alloc, all, plan, workers, gate, form)? {
+        return Ok(Some(texts));
+    }
+    share_texts(rt, alloc, all, plan, workers, gate, form)
+}
+
 /// The same as `text_among`, with ranges of values from `few` rows on in place of 8,192.
 pub fn text_by_ranges<R: Threads + Sync, G: Gate + Sync>(
     rt: &R,
@@ -174,7 +198,7 @@ pub fn text_by_ranges<R: Threads + Sync, G: Gate + Sync>(
     let header = header_text(alloc, plan.columns())?;
     let snapshot = TablesOfRows { catalogue, tables };
     if are_worth_shares(tables, workers, few)
-        && let Some(texts) = share_texts(rt, alloc, snapshot, plan, workers, gate, form)?
+        && let Some(texts) = parted_texts(rt, alloc, snapshot, plan, workers, gate, form)?
     {
         return joined(alloc, header, texts);
     }
@@ -183,11 +207,12 @@ pub fn text_by_ranges<R: Threads + Sync, G: Gate + Sync>(
 }
 
 /// The text, in the form, of the answer of a statement's plan over tables of rows, worked out by 1 to 16 workers, the
-/// calling thread among them: the same for every number of them. The gate is told of each piece before it is run. Several workers
-/// tell where the plan falls apart by a value, table by table, the share of each row, and then make the lines and the
-/// text of each share. Else they make up to three: the plan's rows in periods of the window, unless they are those of one
-/// table; to which range of values each row belongs; and the lines and the text of each range. `AllocError` where a
-/// growth was refused.
+/// calling thread among them: the same for every number of them. The gate is told of each piece before it is run. Several
+/// workers tell where the plan falls apart by a value, table by table, the share of each row, and then make the lines and
+/// the text of each share; where it counts the rows of one table by a column of few values, they put the rows of each
+/// stretch into buckets, and then make the lines and the text of each value. Else they make up to three: the plan's rows in
+/// periods of the window, unless they are those of one table; to which range of values each row belongs; and the lines and
+/// the text of each range. `AllocError` where a growth was refused.
 pub fn text_among<R: Threads + Sync, G: Gate + Sync>(
     rt: &R,
     alloc: Global,

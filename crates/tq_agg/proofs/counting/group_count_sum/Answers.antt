@@ -1,6 +1,7 @@
-use Rattle.std.proofs.Common.{◌≡◌, ◌≢◌, ℕ, ◌+◌, ◌-◌, ◌<◌, ◌≤◌, pos, Bool, true, false, ◌&&◌, cond, List, ◌∷◌, length, take, drop, map, get_or, refl, sym, subst, ap, ◌∙◌, arith, length-drop, length-take}
-use Rattle.std.specs.Prelude.{All, IsPermutation}
+use Rattle.std.proofs.Common.{◌≡◌, ◌≢◌, ℕ, ◌+◌, ◌-◌, ◌<◌, ◌≤◌, pos, nat_eq, Bool, true, false, ◌&&◌, cond, List, [], ◌∷◌, length, take, drop, map, get_or, refl, sym, subst, ap, ◌∙◌, arith, length-drop, length-take}
+use Rattle.std.specs.Prelude.{All, IfSome, IsPermutation, Option, Some}
 use Rattle.std.specs.List.Sorted.{IsNonDecreasingBy}
+use Rattle.std.proofs.lemmas.Bool.Decides.{nat_tests}
 use Rattle.std.proofs.lemmas.List.{length-map, take_all, take_rest}
 use Rattle.std.proofs.lemmas.List.Elements.{All-drop, All-take}
 use Rattle.tq_base.specs.declared.value.Value.{Value}
@@ -10,7 +11,9 @@ use Rattle.tq_base.specs.declared.sides.Key.{Key}
 use Rattle.tq_base.specs.Periods.{holds}
 use Rattle.tq_base.specs.Fragments.{at, copies, occurrences}
 use Rattle.tq_base.specs.KeyLaws.{marks_rest}
+use Rattle.tq_base.specs.RowLists.{RowList}
 use Rattle.tq_base.specs.Keys.{key_row, key_values, overlapping, AreMarked, IsKey}
+use Rattle.tq_ops.specs.Ordinary.{HasInside}
 use Rattle.tq_agg.specs.declared.summands.Summand.{Summand}
 use Rattle.tq_agg.specs.declared.summands.Summand.TheVariants.{Column, One}
 use Rattle.tq_agg.specs.Grouping.{grouped_rows, AreSummable}
@@ -166,3 +169,27 @@ returns-clause-outside c =
     (all_counted c.args.window.now c.args.keys.now c.args.sums.now c.in_ok-summands.summands.items rows (map (key_row (groups_state rows c.args.keys.now)) sorted) c.groups.start c.groups.out.items c.in_ok-summands.ensures
     (rows_same rows c.args.keys.now c.args.window.now c.new-sorted.result.items c.add_keys.new.keys.items sorted c.new-sorted.ensures.items c.in_ok-add_keys.ensures.rows c.in_ok-sort.ensures.rows)
     (omega (arith, c.groups-test.false, c.len-in-groups.ensures, c.sort.new.keys.ok.0, length-map sorted (key_row (groups_state rows c.args.keys.now)))) c.groups.invariant.grouping)
+
+-- a list of one element
+only_one : (l : List ℕ) → length l ≡ 1 → l ≡ get_or l 0 0 ∷ []
+only_one [] long = absurd (omega (arith, long))
+only_one (x ∷ []) long = refl
+only_one (x ∷ y ∷ l) long = absurd (omega (arith, long))
+
+-- a list of none
+no_element : (l : List ℕ) → true ≡ nat_eq (length l) 0 → l ≡ []
+no_element [] is = refl
+no_element (x ∷ l) is = let long : length (x ∷ l) ≡ 0 = grind (arith, nat_tests) in absurd (omega (arith, long))
+
+-- what is made for one key and no sums
+of_one : (window : Period) (rows : List Fragment) (keys sums : List ℕ) (found : Option RowList) (out : RowList) → found ≡ Some out → length keys ≡ 1 → true ≡ nat_eq (length sums) 0
+    → IfSome found (λ (out : RowList). HasInside window out.items (λ t v. occurrences (grouped_rows (get_or keys 0 0 ∷ []) [] (at rows t)) v))
+    → HasInside window out.items (λ t v. occurrences (grouped_rows keys sums (at rows t)) v)
+of_one window rows keys sums found out is one none inside =
+    subst (λ k. HasInside window out.items (λ t v. occurrences (grouped_rows k sums (at rows t)) v)) (sym (only_one keys one))
+    (subst (λ k. HasInside window out.items (λ t v. occurrences (grouped_rows (get_or keys 0 0 ∷ []) k (at rows t)) v)) (sym (no_element sums none))
+    (subst (λ found. IfSome found (λ (out : RowList). HasInside window out.items (λ t v. occurrences (grouped_rows (get_or keys 0 0 ∷ []) [] (at rows t)) v))) is inside))
+
+pub returns-in-Some-clause-inside : goal.returns-in-Some-clause-inside
+returns-in-Some-clause-inside c =
+    of_one c.args.window.now c.args.rows.now.items c.args.keys.now c.args.sums.now c.in_ok-out.field-0 c.in-Some.out c.in-Some.is c.if-keys-eq1.true (c.if-is_empty.ensures) c.in_ok-out.ensures.inside

@@ -8,7 +8,7 @@ use Rattle.tq_agg.proofs.edges.edges_of.Given as goal
 
 abbrev pub invariant-rows : goal.invariant-rows
 invariant-rows l = record {
-  counts : (t : ℕ) → count_upto l.starts.items l.ends.items t ≡ added (held_weight One l.window t) (take l.period-index l.fn.rows.items);
-  starts : All (λ b. (l.window.start ≤ b) × (b ≤ l.window.end)) l.starts.items;
-  ends : All (λ b. (l.window.start ≤ b) × (b ≤ l.window.end)) l.ends.items;
+  counts : (t : ℕ) → count_upto l.edges.starts.items l.edges.ends.items t ≡ added (held_weight One l.window t) (take l.period-index l.fn.rows.items);
+  starts : All (λ b. (l.window.start ≤ b) × (b ≤ l.window.end)) l.edges.starts.items;
+  ends : All (λ b. (l.window.start ≤ b) × (b ≤ l.window.end)) l.edges.ends.items;
 }

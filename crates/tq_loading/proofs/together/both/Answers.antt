@@ -6,7 +6,7 @@ use Rattle.tq_loading.proofs.PartLemmas.{both_kept, both_read}
 use Rattle.tq_loading.proofs.together.both.Goals as goal
 
 pub returns : goal.returns
-returns c form files wanted schemas is_first is_second file schema is_file is_schema =
+returns g c form files wanted schemas is_first is_second file schema is_file is_schema =
     let first = c.args.read.part in
     let second = c.args.other.part in
     let part : Part = record { table = first.table; start = first.start; end = second.end } in

@@ -11,7 +11,7 @@ middle_holds P [] x rest all = All-head P x rest all
 middle_holds P (y ∷ front) x rest all = middle_holds P front x rest (All-tail P y (front ++ x ∷ rest) all)
 
 pub parts-preserved : goal.parts-preserved
-parts-preserved c =
+parts-preserved g c =
     let is = ap (λ l. c.parts.yielded ++ l) (sym c.in-Some.ensures.steps.0) ∙ c.parts.invariant.reads in
     record {
       reads = append_assoc c.parts.yielded (c.in-Some.part ∷ []) (into_iter_items c.next.new.self) ∙ is;

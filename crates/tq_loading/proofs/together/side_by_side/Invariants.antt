@@ -9,7 +9,7 @@ use Rattle.tq_loading.specs.Parts.{IsRead}
 use Rattle.tq_loading.proofs.together.side_by_side.Given as goal
 
 abbrev pub invariant-parts : goal.invariant-parts
-invariant-parts l = record {
+invariant-parts g l = record {
   reads : l.yielded ++ into_iter_items l.part-iterator ≡ l.fn.parts.items;
   all : (form : Form) (files : List TableFile) (wanted : List (List Bool)) (schemas : List Schema) → All (λ one. IfSome one (IsRead form files wanted schemas)) l.fn.parts.items → All (IsRead form files wanted schemas) l.all.items;
 }

@@ -8,8 +8,8 @@ use Rattle.tq_table.specs.Text.{header_text, rows_text}
 use Rattle.tq_workers.specs.Shares.{HaveAnswer}
 use Rattle.tq_workers.proofs.text.text_by_ranges.Goals as goal
 
-pub share_texts-requires-clause-over : goal.share_texts-requires-clause-over
-share_texts-requires-clause-over g c κs within = c.queries_stand.ensures c.args.catalogue.now c.args.plan.now c.requires.plan
+pub parted_texts-requires-clause-over : goal.parted_texts-requires-clause-over
+parted_texts-requires-clause-over g c κs within = c.queries_stand.ensures c.args.catalogue.now c.args.plan.now c.requires.plan
 
 pub returns : goal.returns
 returns g c =

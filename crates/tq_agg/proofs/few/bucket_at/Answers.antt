@@ -1,0 +1,54 @@
+use Rattle.std.proofs.Common.{◌≡◌, ◌≢◌, ◌<◌, List, length, get_or, sym, subst, ap, ◌∙◌, arith}
+use Rattle.std.specs.List.{insert}
+use Rattle.std.proofs.lemmas.List.{get_or_default}
+use Rattle.tq_base.specs.Keys.{rank_tells, value_at}
+use Rattle.tq_base.specs.Ranks.{value_rank, HasBytes}
+use Rattle.tq_agg.specs.declared.few.Bucket.{Bucket}
+use Rattle.tq_agg.specs.Buckets.{counted, AreCut, AreRanked, IsTold}
+use Rattle.tq_agg.proofs.Buckets.{below, empty_adds, empty_is_cut, one_more, value_there}
+use Rattle.tq_agg.proofs.few.bucket_at.Goals as goal
+use Rattle.tq_agg.proofs.few.bucket_at.Goals.{else-place-len-via-then-place-len+else-index-rank, else-place-len-via-else-place-len}
+
+pub returns-then-index-rank-clause-value : goal.returns-then-index-rank-clause-value
+returns-then-index-rank-clause-value c d =
+    let column = c.args.column.now in
+    let ranks = c.args.buckets.now.ranks.items in
+    let buckets = c.args.buckets.now.list.items in
+    let place = c.place_of-place.result in
+    let rank = c.rank_of-rank.result in
+    let inside : place < length ranks = omega (arith, c.if-place-len.true, c.len.ensures, c.args.buckets.now.ranks.ok.0) in
+    let is : rank ≡ get_or ranks place rank = subst (λ n. n ≡ get_or ranks place n) c.if-index-rank.true c.index.ensures in
+    value_there column ranks buckets c.requires place inside rank (value_at column c.args.row) is
+    (c.rank_of-rank.ensures.rank ∙ ap value_rank c.at.ensures) (subst HasBytes c.at.ensures c.rank_of-rank.ensures.bytes) d
+
+pub returns-clause-ranked : goal.returns-clause-ranked
+returns-clause-ranked c =
+    let column = c.args.column.now in
+    let ranks = c.args.buckets.now.ranks.items in
+    let buckets = c.args.buckets.now.list.items in
+    let place = c.place_of-place.result in
+    let rank = c.rank_of-rank.result in
+    let b : Bucket = record { row = c.args.row; edges = c.none.result } in
+    let of : rank ≡ value_rank (value_at column c.args.row) = c.rank_of-rank.ensures.rank ∙ ap value_rank c.at.ensures in
+    let told : IsTold (value_at column c.args.row) =
+    (subst HasBytes c.at.ensures c.rank_of-rank.ensures.bytes, ap rank_tells (sym of) ∙ sym c.rank_tells.ensures ∙ c.if-not-rank_tells.false) in
+    let there : place ≡ below rank ranks = c.place_of-place.ensures ∙ ap (below rank) c.deref.ensures.value in
+    let differs : place < length ranks → get_or ranks place 0 ≢ rank = λ lt same.
+    elim c.else-place-len.branch [
+      | else-place-len-via-then-place-len+else-index-rank w ↦ w.if-index-rank.false (w.index.ensures ∙ get_or_default ranks place w.index.result.now 0 lt ∙ same)
+      | else-place-len-via-else-place-len w ↦ absurd (omega (arith, lt, w.if-place-len.false, c.len.ensures, c.args.buckets.now.ranks.ok.0))
+    ] in
+    let are = one_more column ranks buckets c.requires place rank b there of told differs in
+    subst (λ l. AreRanked column l c.insert-2.new.self.items) (sym c.in_ok-insert.ensures.items)
+    (subst (λ l. AreRanked column (insert ranks place rank) l) (sym c.in_ok-insert-2.ensures.items) are)
+
+pub returns-clause-cut : goal.returns-clause-cut
+returns-clause-cut c window cut =
+    let b : Bucket = record { row = c.args.row; edges = c.none.result } in
+    subst (AreCut window) (sym {A = List Bucket} c.in_ok-insert-2.ensures.items) (empty_is_cut window c.args.buckets.now.list.items c.place_of-place.result b c.none.ensures.starts c.none.ensures.ends cut)
+
+pub returns-clause-counts : goal.returns-clause-counts
+returns-clause-counts c t key =
+    let b : Bucket = record { row = c.args.row; edges = c.none.result } in
+    ap (counted c.args.column.now t key) c.in_ok-insert-2.ensures.items
+    ∙ empty_adds c.args.column.now t key c.args.buckets.now.list.items c.place_of-place.result b c.none.ensures.starts c.none.ensures.ends
