@@ -3,7 +3,7 @@
 
     gate/limits.py PROGRAM
 
-The address space of a run is limited, from the least in which the program starts with words as long upwards in steps,
+The address space of a run is limited, from the least in which the program always starts with words as long upwards in steps,
 until it answers in several steps one after another; the stack of all of them has 256 KiB. Each run ends with its answer or with the line
 that tells of no memory, and no signal ends it. On that stack it also sorts rows that take all ranks that a sort takes to be
 told apart. A session takes no more of its stack than it took at its start, since that may be refused where no memory is
@@ -26,6 +26,8 @@ STEP = 64 * 1024
 # The most memory that a run is given, and how many runs in a row have to answer.
 MOST = 512 * 1024 * 1024
 IN_A_ROW = 3
+# The program has to start so many times in what it is given at first.
+STARTS = 64
 # Rows that part late: so many columns of texts, in each of which so many rows part one after another, each behind as many
 # bytes more as a rank tells.
 COLUMNS = 15
@@ -53,14 +55,19 @@ def run(program, words, taken, memory, room):
     return ran.returncode, ran.stdout, ran.stderr
 
 
-def least(program, more, room):
-    """The least memory in which the program starts with these words, which lie in that memory too."""
+def starts(program, words, memory, room):
+    """Whether the program starts in so much memory with these words, which lie in that memory too."""
+    try:
+        status, _, err = run(program, ["nothing", *words], b"", memory, room)
+    except (OSError, subprocess.SubprocessError):
+        return False
+    return status in (1, 2) and err.startswith(b"tq: ")
+
+
+def least(program, words, room):
+    """The least memory in which the program starts each time: chance decides where its stack begins, and so what it takes."""
     for memory in range(STEP, MOST, STEP):
-        try:
-            status, _, err = run(program, ["nothing", *more], b"", memory, room)
-        except (OSError, subprocess.SubprocessError):
-            continue
-        if status in (1, 2) and err.startswith(b"tq: "):
+        if all(starts(program, words, memory, room) for _ in range(STARTS)):
             return memory
     raise SystemExit("the program does not start")
 
@@ -117,7 +124,7 @@ def is_right(said, whole, is_session):
 def faults_of(program, name, words, more, taken, room):
     """What is wrong with the runs of a question, in ever more memory."""
     words = [*words, *more]
-    first = least(program, more, room)
+    first = least(program, words[1:], room)
     status, whole, err = run(program, words, taken, None, room)
     if status != 0:
         yield f"{name}: status {status} with all memory, {err[:80]!r}"
