@@ -36,7 +36,7 @@ none_counted column t key (b ∷ buckets) apart =
 
 module _ (column : List Value) (window : Period) (ranks : List ℕ) (buckets : List Bucket) (are : AreRanked column ranks buckets) (i : ℕ) (lt : i < length buckets) (b : Bucket) (is : b ≡ get_or buckets i b) where
   -- no bucket before has the value
-  others_before : All (λ x. value_of column x ∷ [] ≢ value_of column b ∷ []) (take i buckets)
+  pub others_before : All (λ x. value_of column x ∷ [] ≢ value_of column b ∷ []) (take i buckets)
   others_before k d below same =
       let before : k < i = omega (arith, below, length-take i buckets) in
       let rank : Bucket → ℕ = λ x. value_rank (value_of column x) in

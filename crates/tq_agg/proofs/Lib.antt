@@ -1,6 +1,8 @@
 pub mod Adding
 pub mod BucketRows
+pub mod BucketSums
 pub mod Buckets
+pub mod ChangeSweeps
 pub mod Changing
 pub mod Cutting
 pub mod Gathering
@@ -16,4 +18,5 @@ pub mod Starts
 pub mod Moving
 pub mod OneRank
 pub mod Shown
+pub mod WeighedBuckets
 pub mod Weighing

@@ -122,7 +122,7 @@ none_added at w (x ∷ xs) t later =
     not_yet : (b : ℕ) (n : ℤ) → t < b → cond (nat_le b t) n (pos 0) ≡ pos 0
     not_yet b n lt = grind (arith, ints, nat_tests)
 
-upto_added : {X : Type 0} (at : X → ℕ) (w : X → ℤ) (xs : List X) (t : ℕ) → Rises (map at xs) → added w (take (upto (map at xs) t) xs) ≡ added (λ x. cond (nat_le (at x) t) (w x) (pos 0)) xs
+pub upto_added : {X : Type 0} (at : X → ℕ) (w : X → ℤ) (xs : List X) (t : ℕ) → Rises (map at xs) → added w (take (upto (map at xs) t) xs) ≡ added (λ x. cond (nat_le (at x) t) (w x) (pos 0)) xs
 upto_added at w [] t rise = refl
 upto_added {X} at w (x ∷ xs) t rise = elim (cases_lt t (at x)) [
   | inl before ↦

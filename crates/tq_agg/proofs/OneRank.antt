@@ -96,7 +96,7 @@ both_counted column rank t key old found new is told of row starts ends = by is
         )
 
     same : value_of column new ≡ value_of column found
-    same = ap (λ n. value_of column (record { row = n; edges = new.edges })) row
+    same = ap (λ n. value_of column (record { row = n; edges = new.edges; changes = new.changes })) row
 
     nothing : (s : Bool) → cond s (pos 0) (pos 0) ≡ pos 0
     nothing true = refl

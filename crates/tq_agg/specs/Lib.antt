@@ -1,5 +1,6 @@
 pub mod Bounds
 pub mod Buckets
+pub mod Changes
 pub mod Edges
 pub mod GroupKeys
 pub mod Grouping

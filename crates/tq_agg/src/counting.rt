@@ -19,6 +19,7 @@ use crate::edges::{Edges, edges_of, sweep_edges};
 use crate::few::count_few;
 use crate::summands::{Summand, summands_of, weights_of};
 use crate::sweeping::{Group, Head, SweepRoom, sweep, sweep_room};
+use crate::weighed::sum_few;
 use std::alloc::{AllocError, Global};
 use tq_base::{Key, Period, Relation, Rows, Side, Sides};
 
@@ -99,6 +100,11 @@ pub fn group_count_sum(
 {
     if keys.len() == 1 && sums.is_empty() {
         if let Some(out) = count_few(alloc, rows, window, keys[0])? {
+            return Ok(out);
+        }
+    }
+    if keys.len() == 1 && sums.len() == 1 {
+        if let Some(out) = sum_few(alloc, rows, window, keys[0], sums[0])? {
             return Ok(out);
         }
     }

@@ -1,7 +1,7 @@
 //! Counts of the rows of each value of one column, where it has few values and their ranks tell them: the rows
 //! are not sorted, but each goes into the bucket of its rank.
 
-ghost use Rattle.std.specs.Prelude.{◌≡◌, ◌+◌, ◌+ℤ◌, ◌<◌, ◌≤◌, ◌&&◌, ℕ, pos, true, [], ◌∷◌, All, IfOk, IfSome, List, OnOk, if◌then◌else◌, length, nat_lt, slice_index_or};
+ghost use Rattle.std.specs.Prelude.{◌≡◌, ◌+◌, ◌+ℤ◌, ◌<◌, ◌≤◌, ◌&&◌, ℕ, ℤ, pos, true, [], ◌∷◌, All, IfOk, IfSome, List, OnOk, if◌then◌else◌, length, nat_lt, slice_index_or};
 ghost use Rattle.std.specs.List.{count_by};
 ghost use Rattle.tq_base.specs.declared.period.Period.{Period};
 ghost use Rattle.tq_base.specs.declared.value.Value.{Value};
@@ -12,10 +12,12 @@ ghost use Rattle.tq_base.specs.Relations.{column_of};
 ghost use Rattle.tq_ops.specs.Ordinary.{HasInside, IsEmptyOutside};
 ghost use Rattle.tq_agg.specs.declared.few.Bucket.{Bucket};
 ghost use Rattle.tq_agg.specs.Buckets.{counted, value_of, AreCut, AreRanked, IsTally};
+ghost use Rattle.tq_agg.specs.Changes.{weighed, AreChangesCut};
 ghost use Rattle.tq_agg.specs.Edges.{count_upto, AreInside};
 ghost use Rattle.tq_agg.specs.Grouping.{grouped_rows, same_row};
 ghost use Rattle.tq_agg.specs.Totals.{shown_copies};
 
+use crate::changes::Changes;
 use crate::edges::{Edges, sweep_edges};
 use crate::sweeping::Head;
 use std::alloc::{AllocError, Global};
@@ -24,11 +26,13 @@ use tq_base::{ColumnView, Period, Relation, Rows, rank_of, rank_tells};
 // No more values than these: the rank of each row is compared with the ranks of all.
 const MOST: usize = 64;
 
-// The rows of one value: the number of one of them, and where all begin and end.
+// The rows of one value: the number of one of them, and where all begin and end. Where they are only counted, that is in
+// the edges, and where they are summed, in the changes, with what each of them adds.
 #[derive(Drop)]
 pub(crate) struct Bucket {
     pub(crate) row: u32,
     pub(crate) edges: Edges,
+    pub(crate) changes: Changes,
 }
 
 /// Rows in the buckets of their values, and the ranks of these, in the order of the ranks.
@@ -53,7 +57,7 @@ pub(crate) fn place_of(ranks: &[u128], rank: u128) -> usize
 
 // The place of the bucket of the row's value, a new one where there is none yet; `None` where there would be too
 // many, or the rank does not tell the value.
-fn bucket_at(
+pub(crate) fn bucket_at(
     alloc: Global,
     column: &ColumnView<'_>,
     row: u32,
@@ -65,6 +69,8 @@ fn bucket_at(
     ensures within { IfOk result (λ found. IfSome found (λ place. place < length buckets.new.list.items)) }
     ensures value { (d : Bucket) → IfOk result (λ found. IfSome found (λ place. value_of column.now (slice_index_or buckets.new.list.items place d) ≡ value_at column.now row)) }
     ensures counts { IfOk result (λ found. IfSome found (λ _. (t : ℕ) (key : List Value) → counted column.now t key buckets.new.list.items ≡ counted column.now t key buckets.old.list.items)) }
+    ensures changes_cut { (window : Period) → AreChangesCut window buckets.old.list.items → IfOk result (λ found. IfSome found (λ _. AreChangesCut window buckets.new.list.items)) }
+    ensures weights { IfOk result (λ found. IfSome found (λ _. (f : ℤ → ℤ) (t : ℕ) (key : List Value) → weighed f column.now t key buckets.new.list.items ≡ weighed f column.now t key buckets.old.list.items)) }
 {
     let rank = rank_of(column.at(row));
     let place = place_of(&buckets.ranks, rank);
@@ -80,6 +86,7 @@ fn bucket_at(
         Bucket {
             row,
             edges: Edges::none(alloc),
+            changes: Changes::none(alloc),
         },
     )?;
     Ok(Some(place))

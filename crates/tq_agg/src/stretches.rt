@@ -8,11 +8,11 @@ ghost use Rattle.tq_base.specs.Fragments.{at, occurrences};
 ghost use Rattle.tq_base.specs.Relations.{column_of};
 ghost use Rattle.tq_ops.specs.Conditions.{value_at};
 ghost use Rattle.tq_ops.specs.Ordinary.{HasInside, IsEmptyOutside};
-ghost use Rattle.tq_agg.specs.declared.few.Bucket.{Bucket as AnyBucket};
 ghost use Rattle.tq_agg.specs.declared.few.Tally.{Tally as AnyTally};
 ghost use Rattle.tq_agg.specs.Buckets.{bucket_count, counted_at, counted_in, rank_share, AreCut, AreRanked, AreRanksOf, AreTallies, IsAmong, IsFound, IsInside};
 ghost use Rattle.tq_agg.specs.Grouping.{grouped_rows};
 
+use crate::changes::Changes;
 use crate::edges::Edges;
 use crate::few::{Bucket, Tally, place_of, sweep_bucket};
 use std::alloc::{AllocError, Global};
@@ -45,6 +45,7 @@ fn rows_of_rank(alloc: Global, tallies: &[Tally], rank: u128) -> Result<Bucket, 
     let mut bucket = Bucket {
         row: 0,
         edges: Edges::none(alloc),
+        changes: Changes::none(alloc),
     };
     'tallies: for buckets in tallies {
         add_rank(buckets, rank, &mut bucket)?;

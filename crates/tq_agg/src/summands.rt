@@ -16,7 +16,8 @@ pub(crate) enum Summand {
     Column(u32),
 }
 
-fn number_of(value: &Value) -> i128
+// The number that the value is, 0 for a text.
+pub(crate) fn number_of(value: &Value) -> i128
     ensures { result ≡ number_of value.now }
 {
     match value.seen() {

@@ -193,3 +193,16 @@ of_one window rows keys sums found out is one none inside =
 pub returns-in-Some-clause-inside : goal.returns-in-Some-clause-inside
 returns-in-Some-clause-inside c =
     of_one c.args.window.now c.args.rows.now.items c.args.keys.now c.args.sums.now c.in_ok-out.field-0 c.in-Some.out c.in-Some.is c.if-keys-eq1.true (c.if-is_empty.ensures) c.in_ok-out.ensures.inside
+
+-- what is made for one key and one sum
+of_both : (window : Period) (rows : List Fragment) (keys sums : List ℕ) (found : Option RowList) (out : RowList) → found ≡ Some out → length keys ≡ 1 → length sums ≡ 1
+    → IfSome found (λ (out : RowList). HasInside window out.items (λ t v. occurrences (grouped_rows (get_or keys 0 0 ∷ []) (get_or sums 0 0 ∷ []) (at rows t)) v))
+    → HasInside window out.items (λ t v. occurrences (grouped_rows keys sums (at rows t)) v)
+of_both window rows keys sums found out is one one_sum inside =
+    subst (λ k. HasInside window out.items (λ t v. occurrences (grouped_rows k sums (at rows t)) v)) (sym (only_one keys one))
+    (subst (λ k. HasInside window out.items (λ t v. occurrences (grouped_rows (get_or keys 0 0 ∷ []) k (at rows t)) v)) (sym (only_one sums one_sum))
+    (subst (λ found. IfSome found (λ (out : RowList). HasInside window out.items (λ t v. occurrences (grouped_rows (get_or keys 0 0 ∷ []) (get_or sums 0 0 ∷ []) (at rows t)) v))) is inside))
+
+pub returns-in-Some-2-clause-inside : goal.returns-in-Some-2-clause-inside
+returns-in-Some-2-clause-inside c =
+    of_both c.args.window.now c.args.rows.now.items c.args.keys.now c.args.sums.now c.in_ok-out-2.field-0 c.in-Some-2.out c.in-Some-2.is c.if-keys-eq1-2.true c.if-sums-eq1.true c.in_ok-out-2.ensures.inside

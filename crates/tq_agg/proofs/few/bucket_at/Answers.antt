@@ -5,7 +5,9 @@ use Rattle.tq_base.specs.Keys.{rank_tells, value_at}
 use Rattle.tq_base.specs.Ranks.{value_rank, HasBytes}
 use Rattle.tq_agg.specs.declared.few.Bucket.{Bucket}
 use Rattle.tq_agg.specs.Buckets.{counted, AreCut, AreRanked, IsTold}
+use Rattle.tq_agg.specs.Changes.{weighed, AreChangesCut}
 use Rattle.tq_agg.proofs.Buckets.{below, empty_adds, empty_is_cut, one_more, value_there}
+use Rattle.tq_agg.proofs.WeighedBuckets.{unchanged_adds, unchanged_is_cut}
 use Rattle.tq_agg.proofs.few.bucket_at.Goals as goal
 use Rattle.tq_agg.proofs.few.bucket_at.Goals.{else-place-len-via-then-place-len+else-index-rank, else-place-len-via-else-place-len}
 
@@ -28,7 +30,7 @@ returns-clause-ranked c =
     let buckets = c.args.buckets.now.list.items in
     let place = c.place_of-place.result in
     let rank = c.rank_of-rank.result in
-    let b : Bucket = record { row = c.args.row; edges = c.none.result } in
+    let b : Bucket = record { row = c.args.row; edges = c.none.result; changes = c.none-2.result } in
     let of : rank ≡ value_rank (value_at column c.args.row) = c.rank_of-rank.ensures.rank ∙ ap value_rank c.at.ensures in
     let told : IsTold (value_at column c.args.row) =
     (subst HasBytes c.at.ensures c.rank_of-rank.ensures.bytes, ap rank_tells (sym of) ∙ sym c.rank_tells.ensures ∙ c.if-not-rank_tells.false) in
@@ -44,11 +46,22 @@ returns-clause-ranked c =
 
 pub returns-clause-cut : goal.returns-clause-cut
 returns-clause-cut c window cut =
-    let b : Bucket = record { row = c.args.row; edges = c.none.result } in
+    let b : Bucket = record { row = c.args.row; edges = c.none.result; changes = c.none-2.result } in
     subst (AreCut window) (sym {A = List Bucket} c.in_ok-insert-2.ensures.items) (empty_is_cut window c.args.buckets.now.list.items c.place_of-place.result b c.none.ensures.starts c.none.ensures.ends cut)
 
 pub returns-clause-counts : goal.returns-clause-counts
 returns-clause-counts c t key =
-    let b : Bucket = record { row = c.args.row; edges = c.none.result } in
+    let b : Bucket = record { row = c.args.row; edges = c.none.result; changes = c.none-2.result } in
     ap (counted c.args.column.now t key) c.in_ok-insert-2.ensures.items
     ∙ empty_adds c.args.column.now t key c.args.buckets.now.list.items c.place_of-place.result b c.none.ensures.starts c.none.ensures.ends
+
+pub returns-clause-changes_cut : goal.returns-clause-changes_cut
+returns-clause-changes_cut c window cut =
+    let b : Bucket = record { row = c.args.row; edges = c.none.result; changes = c.none-2.result } in
+    subst (AreChangesCut window) (sym {A = List Bucket} c.in_ok-insert-2.ensures.items) (unchanged_is_cut window c.args.buckets.now.list.items c.place_of-place.result b c.none-2.ensures.starts c.none-2.ensures.ends cut)
+
+pub returns-clause-weights : goal.returns-clause-weights
+returns-clause-weights c f t key =
+    let b : Bucket = record { row = c.args.row; edges = c.none.result; changes = c.none-2.result } in
+    ap (weighed f c.args.column.now t key) c.in_ok-insert-2.ensures.items
+    ∙ unchanged_adds f c.args.column.now t key c.args.buckets.now.list.items c.place_of-place.result b c.none-2.ensures.starts c.none-2.ensures.ends

@@ -27,7 +27,7 @@ module _ (c : goal.In_ok-add) where
   old = c.index_mut.result.now
 
   abbrev new : Bucket
-  new = record { row = c.index_mut.result.now.row; edges = c.add.new.self }
+  new = record { row = c.index_mut.result.now.row; edges = c.add.new.self; changes = c.index_mut.result.now.changes }
 
   pub ranked : AreRanked column c.bucket_at.new.buckets.ranks.items buckets
   ranked = subst (λ found. IfSome found (λ (_ : ℕ). AreRanked column c.bucket_at.new.buckets.ranks.items buckets)) c.in-Some-2.is c.in_ok-place.ensures.ranked

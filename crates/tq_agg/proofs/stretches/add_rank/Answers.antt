@@ -59,7 +59,7 @@ returns-in_ok-add_all-clause-found c column are _ = inr (told c column are, of c
 
 pub returns-in_ok-add_all-clause-counts : goal.returns-in_ok-add_all-clause-counts
 returns-in_ok-add_all-clause-counts c column are is_found t key =
-    let new : Bucket = record { row = (found c).row; edges = c.add_all.new.self } in
+    let new : Bucket = record { row = (found c).row; edges = c.add_all.new.self; changes = c.args.bucket.now.changes } in
     both_counted column c.args.rank t key c.args.bucket.now (found c) new is_found (told c column are) (of c column are) refl c.in_ok-add_all.ensures.starts c.in_ok-add_all.ensures.ends
     ∙ ap (λ n. bucket_count column t key c.args.bucket.now +ℤ n)
     (ap (bucket_count column t key) (there c) ∙ sym (one_counted column (ranks c) (buckets c) are c.args.rank (place c) t key (in_ranks c) (is c) (found c)))

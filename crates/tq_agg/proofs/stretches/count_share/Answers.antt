@@ -14,7 +14,7 @@ use Rattle.tq_agg.proofs.Buckets.{as_many}
 use Rattle.tq_agg.proofs.Instants.{inside_from_counts, outside_from_counts}
 use Rattle.tq_agg.proofs.Tallies.{share_shown, value_shown}
 use Rattle.tq_agg.proofs.stretches.count_share.Goals as goal
-use Rattle.tq_agg.proofs.stretches.count_share.Goals.{After-drop-bucket-3}
+use Rattle.tq_agg.proofs.stretches.count_share.Goals.{After-drop-bucket-5}
 
 pub rows_of_rank-requires : goal.rows_of_rank-requires
 rows_of_rank-requires c k d lt =
@@ -25,7 +25,7 @@ none_before : (n : ℕ) → 0 + n ≡ n
 none_before n = omega arith
 
 -- what stands in the list at the end
-module _ (c : After-drop-bucket-3) where
+module _ (c : After-drop-bucket-5) where
   abbrev rows : List Fragment
   rows = c.args.rows.now.items
 

@@ -1,11 +1,12 @@
-use Rattle.std.proofs.Common.{◌≡◌, ◌<◌, ◌≤◌, ◌+ℤ◌, ℕ, ℤ, inl, Bool, true, false, cond, List, [], ◌∷◌, pos, length, refl, sym, subst, ap, ◌∙◌, arith}
+use Rattle.std.proofs.Common.{◌≡◌, ◌<◌, ◌≤◌, ◌+ℤ◌, ℕ, inl, Bool, true, false, cond, List, [], ◌∷◌, pos, length, refl, sym, subst, ap, ◌∙◌, arith}
 use Rattle.std.specs.Prelude.{All}
 use Rattle.std.proofs.lemmas.Int.{ints}
+use Rattle.std.proofs.lemmas.List.{take_all}
 use Rattle.std.proofs.lemmas.List.Elements.{All-nil}
 use Rattle.tq_base.specs.declared.value.Value.{Value}
 use Rattle.tq_agg.specs.declared.few.Bucket.{Bucket}
 use Rattle.tq_agg.specs.declared.few.Tally.{Tally}
-use Rattle.tq_agg.specs.Buckets.{bucket_count, counted_at, value_of, AreCut, AreRanked}
+use Rattle.tq_agg.specs.Buckets.{bucket_count, counted_at, counted_in, value_of, AreCut, AreRanked}
 use Rattle.tq_agg.specs.Edges.{count_upto, AreInside}
 use Rattle.tq_agg.specs.Grouping.{same_row}
 use Rattle.tq_agg.proofs.Adding.{added-step}
@@ -23,7 +24,7 @@ nothing column t key b no_starts no_ends =
 
 pub tallies-init : goal.tallies-init
 tallies-init c =
-    let empty : Bucket = record { row = 0; edges = c.none.result } in
+    let empty : Bucket = record { row = 0; edges = c.none.result; changes = c.none-2.result } in
     record {
       inside = λ window all. (
         subst (AreInside window) (sym c.none.ensures.starts) (All-nil (λ b. (window.start ≤ b) × (b ≤ window.end))),
@@ -50,3 +51,7 @@ tallies-preserved c =
           ∙ ap (λ n. n +ℤ counted_at column c.args.rank t key item.list.items) (c.tallies.invariant.counts column are t key)
           ∙ sym (added-step (λ (b : Tally). counted_at column c.args.rank t key b.list.items) tallies i item lt c.buckets-item.is);
     }
+
+pub returns-clause-counts : goal.returns-clause-counts
+returns-clause-counts c column are t key =
+    c.tallies.invariant.counts column are t key ∙ ap (counted_in column c.args.rank t key) (take_all c.tallies.buckets-index c.args.tallies.now c.tallies-test.false)
