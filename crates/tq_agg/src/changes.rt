@@ -2,7 +2,7 @@
 //! this needs to know of them.
 
 ghost use Rattle.std.specs.Ordering.{nat_cmp};
-ghost use Rattle.std.specs.Prelude.{None, ◌≡◌, ◌+◌, ◌++◌, ◌-ℤ◌, ◌≤ℤ◌, ◌<◌, ◌≤◌, ◌*◌, ◌^◌, ℕ, neg_ℤ, pos, [], ◌∷◌, All, IfSome, IsPermutation, IsSorted, List, OnOk, if◌then◌else◌, length, slice_index_or, take};
+ghost use Rattle.std.specs.Prelude.{None, ◌≡◌, ◌+◌, ◌++◌, ◌≤ℤ◌, ◌<◌, ◌≤◌, ◌*◌, ◌^◌, ℕ, neg_ℤ, pos, [], ◌∷◌, All, IfSome, IsPermutation, IsSorted, List, OnOk, if◌then◌else◌, length, slice_index_or, take};
 ghost use Rattle.tq_base.specs.declared.value.Value.{Value};
 ghost use Rattle.tq_base.specs.Fragments.{copies};
 ghost use Rattle.tq_base.specs.Periods.{holds};
@@ -13,6 +13,7 @@ ghost use Rattle.tq_agg.specs.Totals.{added, shown_copies};
 ghost use Rattle.tq_ops.specs.Ordinary.{projection};
 
 use crate::bounds::bound_at;
+use crate::edges::left;
 use crate::sweeping::{Head, add_shown};
 use std::alloc::{AllocError, Global};
 use tq_base::{Bound, Period, Rows};
@@ -110,13 +111,6 @@ fn weight_in(changes: &[Change]) -> i128
         weight += i128::from(change.weight);
     }
     weight
-}
-
-// How many rows are valid after so many began and so many ended.
-fn left(begun: usize, ended: usize) -> i128
-    ensures { result ≡ pos begun -ℤ pos ended }
-{
-    begun as i128 - ended as i128
 }
 
 // How many rows are valid at each instant of the window, while there are any, and what they add up to, as rows of the head

@@ -116,7 +116,7 @@ fn len_by(bounds: &[Bound], at: Bound) -> usize
 }
 
 // How many rows are valid after so many began and so many ended.
-fn left(begun: usize, ended: usize) -> i128
+pub(crate) fn left(begun: usize, ended: usize) -> i128
     ensures { result ≡ pos begun -ℤ pos ended }
 {
     begun as i128 - ended as i128
