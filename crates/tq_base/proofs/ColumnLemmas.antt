@@ -1,9 +1,9 @@
--- One column of rows that lie one behind the other in one list of values.
-use Rattle.std.proofs.Common.{inl, inr, suc, zero, ◌≡◌, ◌≤◌, ◌<◌, ◌+◌, ◌*◌, ℕ, List, [], ◌∷◌, length, map, get_or, drop, take, sym, refl, ap, ◌∙◌, arith}
+-- One column of rows, the values of which stand at places of a list that are so many apart.
+use Rattle.std.proofs.Common.{inl, inr, cond, suc, zero, ◌≡◌, ◌≤◌, ◌<◌, ◌+◌, ◌*◌, ℕ, List, [], ◌∷◌, length, map, get_or, sym, refl, ap, ◌∙◌, arith}
 use Rattle.std.specs.List.{range_with_len}
 use Rattle.std.specs.Prelude.{All, Option, pos}
-use Rattle.std.proofs.lemmas.Bool.{cases_lt}
-use Rattle.std.proofs.lemmas.List.{get_or-drop, get_or-take, get_or_default, get_or_past}
+use Rattle.std.proofs.lemmas.Bool.{cases_lt, le-ltb, lt-ltb}
+use Rattle.std.proofs.lemmas.List.{get_or_default, get_or_past}
 use Rattle.std.proofs.lemmas.List.FromFn.{get_or-map-range_with_len, length-map-range_with_len}
 use Rattle.std.proofs.lemmas.Simd.{map-map}
 use Rattle.tq_base.specs.declared.value.Value.{Value}
@@ -18,37 +18,35 @@ use Rattle.tq_base.specs.Parts.{cell, chosen_column, column_cells, number_in, ro
 use Rattle.tq_base.specs.Relations.{column_of, values_at_number}
 use Rattle.tq_base.proofs.RelationLemmas.{column_value}
 
--- a row that is not there has no value
-pub value_past : (values : List Value) (width column rows number : ℕ) → length values ≡ rows * width → rows ≤ number → value_there values width column number ≡ Int (pos 0)
-value_past values width column rows number fill past =
-    let behind : rows * width ≤ number * width = grind (arith, past) in
-    get_or_past values (number * width + column) (Int (pos 0)) (omega (arith, behind, fill))
+-- the value of a row that is there, and of one that is not
+value_here : (rows : ℕ) (values : List Value) (step place number : ℕ) → number < rows → value_there rows values step place number ≡ value_at values (number * step + place)
+value_here rows values step place number less = ap (λ b. cond b (value_at values (number * step + place)) (Int (pos 0))) (lt-ltb number rows less)
 
--- the value stands so many places behind the first one of its row
-pub value_inside : (items : List Fragment) (values : List Value) (width column number : ℕ) → length values ≡ length items * width → column < width
-    → ((k : ℕ) (d : Fragment) → k < length items → (get_or items k d).values ≡ take width (drop (k * width) values))
-    → value_there values width column number ≡ value_at (values_at_number items number) column
-value_inside items values width column number fill inside rows = elim (cases_lt number (length items)) [
-  | inl less ↦
-      sym (ap (λ l. value_at l column) (rows number no_row less)
-      ∙ get_or-take width (drop (number * width) values) column (Int (pos 0)) inside
-      ∙ get_or-drop (number * width) values column (Int (pos 0)))
+pub value_past : (rows : ℕ) (values : List Value) (step place number : ℕ) → rows ≤ number → value_there rows values step place number ≡ Int (pos 0)
+value_past rows values step place number past = ap (λ b. cond b (value_at values (number * step + place)) (Int (pos 0))) (le-ltb number rows past)
+
+-- the value of a column in the row of this number, where the values of the column stand there
+pub value_found : (items : List Fragment) (rows : ℕ) (values : List Value) (step place column number : ℕ) → rows ≡ length items
+    → ((k : ℕ) (d : Fragment) → k < length items → value_at (get_or items k d).values column ≡ value_at values (k * step + place))
+    → value_there rows values step place number ≡ value_at (values_at_number items number) column
+value_found items rows values step place column number many found = elim (cases_lt number (length items)) [
+  | inl less ↦ value_here rows values step place number (omega (arith, many, less)) ∙ sym (found number no_row less)
   | inr past ↦
-      value_past values width column (length items) number fill past
+      value_past rows values step place number (omega (arith, many, past))
       ∙ sym (ap (λ (row : Fragment). value_at row.values column) (get_or_past items number no_row past))
 ]
 
 -- the value at a place, and where there is no such place
-pub read_there : (values : List Value) (width column : ℕ) (numbers : Option (List ℕ)) (len row : ℕ) → row < len
-    → value_at (values_there values width column numbers len) row ≡ value_there values width column (number_in numbers row)
-read_there values width column numbers len row less =
-    get_or-map-range_with_len (λ place. value_there values width column (number_in numbers place)) 0 len row row (Int (pos 0)) less (omega arith)
+pub read_there : (rows : ℕ) (values : List Value) (step column : ℕ) (numbers : Option (List ℕ)) (len row : ℕ) → row < len
+    → value_at (values_there rows values step column numbers len) row ≡ value_there rows values step column (number_in numbers row)
+read_there rows values step column numbers len row less =
+    get_or-map-range_with_len (λ place. value_there rows values step column (number_in numbers place)) 0 len row row (Int (pos 0)) less (omega arith)
 
-pub read_past : (values : List Value) (width column : ℕ) (numbers : Option (List ℕ)) (len row : ℕ) → len ≤ row
-    → value_at (values_there values width column numbers len) row ≡ Int (pos 0)
-read_past values width column numbers len row past =
-    get_or_past (values_there values width column numbers len) row (Int (pos 0))
-    (let short : length (values_there values width column numbers len) ≤ row = omega (arith, past, length-map-range_with_len (λ place. value_there values width column (number_in numbers place)) 0 len) in short)
+pub read_past : (rows : ℕ) (values : List Value) (step column : ℕ) (numbers : Option (List ℕ)) (len row : ℕ) → len ≤ row
+    → value_at (values_there rows values step column numbers len) row ≡ Int (pos 0)
+read_past rows values step column numbers len row past =
+    get_or_past (values_there rows values step column numbers len) row (Int (pos 0))
+    (let short : length (values_there rows values step column numbers len) ≤ row = omega (arith, past, length-map-range_with_len (λ place. value_there rows values step column (number_in numbers place)) 0 len) in short)
 
 -- a column in one row after the other is that of the rows
 columned_from : (parts : List Part) (columns : List (Option Place)) (column place : ℕ) (periods : List Period)

@@ -8,6 +8,7 @@ pub mod NumberLemmas
 pub mod RelationLemmas
 pub mod RowListLemmas
 pub mod Runs
+pub mod SlotLemmas
 pub mod TellingLemmas
 pub mod Unique
 pub mod UntoldLemmas

@@ -1,16 +1,15 @@
 -- The text of a date, and the date of a text.
-use Rattle.std.proofs.Common.{◌≡◌, ℕ, ◌+◌, ◌-◌, ◌*◌, ◌/◌, ◌%◌, ◌<◌, ◌≤◌, ◌∙◌, Bool, true, false, cond, ◌&&◌, nat_le, List, [], ◌∷◌, decimal, Option, Some, None, refl, sym, ap, arith, pos, codes, inl, inr}
+use Rattle.std.proofs.Common.{◌≡◌, ℕ, ◌+◌, ◌*◌, ◌/◌, ◌%◌, ◌<◌, ◌≤◌, ◌∙◌, Bool, true, false, cond, ◌&&◌, nat_le, List, [], ◌∷◌, decimal, Option, Some, None, refl, sym, ap, arith, pos, codes, inl, inr}
 use Rattle.std.specs.Char.{is_ascii_digit, digit_value}
 use Rattle.std.specs.Str.{str_eq_ignore_ascii_case}
 use Rattle.std.proofs.lemmas.Bool.Decides.{nat_tests}
-use Rattle.jiff_core.specs.Calendar.{days_in_month}
 use Rattle.jiff_core.proofs.CalendarLemmas.{days_in_month_bounds}
 use Rattle.tq_base.specs.Dates.{CivilDate, date_in, date_of, date_text, day_of, days_before, digit, is_date, is_date_text}
 use Rattle.tq_base.specs.Numbers.{DatesAreTold, IsDated, bound_of, instant_of, instant_text}
 use Rattle.tq_base.specs.declared.period.TheConstants.{FOREVER}
 use Rattle.tq_base.specs.declared.form.Form.TheVariants.{Dates}
 use Rattle.tq_base.proofs.NumberLemmas.{digit_is}
-use Rattle.tq_base.proofs.DateLemmas.{InCalendar, IsSpelled, date_of_day, date_of_is, day_of_date, day_of_none, day_of_some, is_date_is, spelled_if, spelled_is, year_within}
+use Rattle.tq_base.proofs.DateLemmas.{InCalendar, IsSpelled, date_of_day, date_of_is, day_of_date, day_of_some, is_date_is, spelled_if, spelled_is, year_within}
 
 is_digit : (d : ℕ) → d < 10 → is_ascii_digit (48 + d) ≡ true
 is_digit d small = grind (arith, nat_tests)

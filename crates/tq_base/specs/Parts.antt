@@ -1,5 +1,5 @@
 -- How relations keep their rows: in which source and which column there each value stands. This project's own.
-use Rattle.std.specs.Prelude.{ℕ, ◌+◌, ◌*◌, ◌<◌, suc, pos, List, [], ◌∷◌, map, slice_index_or, Option, Some, None}
+use Rattle.std.specs.Prelude.{ℕ, ◌+◌, ◌*◌, ◌<◌, suc, pos, cond, nat_lt, List, [], ◌∷◌, length, map, slice_index_or, Option, Some, None}
 use Rattle.std.specs.Global.{Vec}
 use Rattle.std.specs.List.{range_with_len}
 use Rattle.tq_base.specs.declared.value.Value.{Value}
@@ -31,13 +31,18 @@ abbrev pub number_in : Option (List ℕ) → ℕ → ℕ
 number_in None place = place
 number_in (Some numbers) place = slice_index_or numbers place 0
 
--- of rows of one width, which lie one behind the other in one list, the value of the column in the row of this number
-abbrev pub value_there : List Value → ℕ → ℕ → ℕ → Value
-value_there values width column number = value_at values (number * width + column)
+-- of so many rows, each of which has the value so many steps behind the one before it, that of the row of this number; a
+-- row that is not there has the number 0
+abbrev pub value_there : ℕ → List Value → ℕ → ℕ → ℕ → Value
+value_there rows values step place number = cond (nat_lt number rows) (value_at values (number * step + place)) (Int (pos 0))
 
--- the values of the column in the rows of the numbers at the first so many places
-abbrev pub values_there : List Value → ℕ → ℕ → Option (List ℕ) → ℕ → List Value
-values_there values width column numbers len = map (λ place. value_there values width column (number_in numbers place)) (range_with_len 0 len)
+-- those of the rows of the numbers at the first so many places
+abbrev pub values_there : ℕ → List Value → ℕ → ℕ → Option (List ℕ) → ℕ → List Value
+values_there rows values step place numbers len = map (λ k. value_there rows values step place (number_in numbers k)) (range_with_len 0 len)
+
+-- each of so many rows has a value there
+abbrev pub StandThere : ℕ → List Value → ℕ → ℕ → Type 0
+StandThere rows values step place = (number : ℕ) → number < rows → number * step + place < length values
 
 -- the values of a part's row at the place
 abbrev pub part_values : Part → ℕ → List Value

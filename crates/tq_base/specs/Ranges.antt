@@ -1,6 +1,6 @@
 -- Lists of rows one after the other, where the values of each list are below those of every later one: layers of
 -- ranges of values are together the layers of all. This project's own.
-use Rattle.std.specs.Prelude.{◌≡◌, ℕ, zero, suc, ◌+◌, ◌<◌, List, [], ◌∷◌, ◌++◌, length, slice_index_or, sum_by, refl, All, IsSorted}
+use Rattle.std.specs.Prelude.{◌≡◌, ℕ, suc, ◌+◌, ◌<◌, List, [], ◌∷◌, ◌++◌, length, slice_index_or, sum_by, refl, All}
 use Rattle.std.specs.List.{flat_map, range_with_len}
 use Rattle.std.proofs.Common.{ap, sym, ◌∙◌, arith, get_or}
 use Rattle.std.specs.Ordering.{is_lt}
@@ -10,7 +10,7 @@ use Rattle.std.proofs.lemmas.List.Sums.{sum_by-cons}
 use Rattle.tq_base.specs.declared.value.Value.{Value}
 use Rattle.tq_base.specs.declared.fragment.Fragment.{Fragment}
 use Rattle.tq_base.specs.Copies.{copies-append}
-use Rattle.tq_base.specs.Fragments.{copies, fragment_cmp}
+use Rattle.tq_base.specs.Fragments.{fragment_cmp}
 use Rattle.tq_base.specs.Groups.{below_differs, not_less, sorted-append, Below}
 use Rattle.tq_base.specs.Layers.{IsCoalesced, IsLayers, TakesIn}
 

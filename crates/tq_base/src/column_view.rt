@@ -6,7 +6,7 @@ ghost use Rattle.std.specs.Option.{option_copied};
 ghost use Rattle.tq_base.specs.Contents.{Int};
 ghost use Rattle.tq_base.specs.KeyRanges.{is_number_in};
 ghost use Rattle.tq_base.specs.Keys.{value_at};
-ghost use Rattle.tq_base.specs.Parts.{column_cells, number_in, part_values, value_there};
+ghost use Rattle.tq_base.specs.Parts.{column_cells, number_in, part_values, value_there, StandThere};
 
 use crate::key_range::KeyRange;
 use crate::looks::{LOOKS, Looks};
@@ -20,8 +20,8 @@ use std::marker::Model;
 #[derive(Drop)]
 pub struct ColumnView<'a> {
     values: &'a [Value],
-    width: usize,
-    column: usize,
+    step: usize,
+    place: usize,
     rows: usize,
     numbers: Option<&'a [u32]>,
     len: usize,
@@ -29,17 +29,17 @@ pub struct ColumnView<'a> {
 }
 
 impl<'a> Model for ColumnView<'a> {
-    ghost use Rattle.std.specs.Prelude.{◌≡◌, ◌<◌, ◌*◌, List, length, pos};
+    ghost use Rattle.std.specs.Prelude.{◌≡◌, List, pos};
     ghost use Rattle.std.specs.Option.{option_copied};
     ghost use Rattle.tq_base.specs.declared.value.Value.{Value as OneValue};
     ghost use Rattle.tq_base.specs.Contents.{Int};
-    ghost use Rattle.tq_base.specs.Parts.{values_there};
+    ghost use Rattle.tq_base.specs.Parts.{values_there, StandThere};
 
     ghost Value = { List OneValue };
 
-    ghost view = { λ v. values_there v.values.now v.width v.column (option_copied v.numbers) v.len };
+    ghost view = { λ v. values_there v.rows v.values.now v.step v.place (option_copied v.numbers) v.len };
 
-    ghost invariant = { λ v. (v.zero.now ≡ Int (pos 0)) × (length v.values.now ≡ v.rows * v.width) × (v.column < v.width) };
+    ghost invariant = { λ v. (v.zero.now ≡ Int (pos 0)) × StandThere v.rows v.values.now v.step v.place };
 }
 
 // So many rows that do not have the column.
@@ -49,8 +49,8 @@ fn nowhere<'a>(len: usize, zero: &'a Value) -> ColumnView<'a>
 {
     ColumnView {
         values: &[],
-        width: 1,
-        column: 0,
+        step: 0,
+        place: 0,
         rows: 0,
         numbers: None,
         len,
@@ -64,14 +64,13 @@ fn in_part<'a>(part: &'a Part<'a>, column: u32, len: usize, zero: &'a Value) -> 
     ensures { result ≡ map (λ place. value_at (part_values part.now place) column) (range_with_len 0 len) }
 {
     let rows = part.source.rows();
-    let column = column as usize;
-    if column >= rows.width() {
+    let Some(found) = rows.column(column) else {
         return nowhere(len, zero);
-    }
+    };
     ColumnView {
-        values: rows.all_values(),
-        width: rows.width(),
-        column,
+        values: found.values,
+        step: found.step,
+        place: found.place,
         rows: rows.len(),
         numbers: part.numbers(),
         len,
@@ -90,26 +89,25 @@ fn number_in(numbers: Option<&[u32]>, place: usize) -> usize
     }
 }
 
-// The value of the column in the row of this number, where so many rows lie one behind the other; a row that is not
-// there has the number 0.
+// The value in the row of this number, of so many rows, which stands so many steps behind that in the row before; a row
+// that is not there has the number 0.
 #[inline]
 fn value_there<'a>(
     values: &'a [Value],
     rows: usize,
-    width: usize,
-    column: usize,
+    step: usize,
+    place: usize,
     number: usize,
     zero: &'a Value,
 ) -> &'a Value
-    requires fill { length values.now ≡ rows * width }
-    requires inside { column < width }
+    requires stand { StandThere rows values.now step place }
     requires zero { zero.now ≡ Int (pos 0) }
-    ensures { result.now ≡ value_there values.now width column number }
+    ensures { result.now ≡ value_there rows values.now step place number }
 {
     if number >= rows {
         return zero;
     }
-    &values[number * width + column]
+    &values[number * step + place]
 }
 
 impl<'a> ColumnView<'a> {
@@ -150,8 +148,8 @@ impl<'a> ColumnView<'a> {
         value_there(
             self.values,
             self.rows,
-            self.width,
-            self.column,
+            self.step,
+            self.place,
             number_in(self.numbers, row),
             self.zero,
         )
@@ -174,8 +172,8 @@ impl<'a> ColumnView<'a> {
             let value = value_there(
                 self.values,
                 self.rows,
-                self.width,
-                self.column,
+                self.step,
+                self.place,
                 number_in(self.numbers, row),
                 self.zero,
             );
@@ -191,8 +189,8 @@ impl<'a> ColumnView<'a> {
             let value = value_there(
                 self.values,
                 self.rows,
-                self.width,
-                self.column,
+                self.step,
+                self.place,
                 number_in(self.numbers, row),
                 self.zero,
             );

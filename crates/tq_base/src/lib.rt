@@ -10,6 +10,7 @@
 mod catalogue;
 mod column_view;
 mod dates;
+mod dense;
 mod form;
 mod fragment;
 mod items;

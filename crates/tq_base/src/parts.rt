@@ -3,6 +3,7 @@
 ghost use Rattle.std.specs.Prelude.{◌≡◌, ◌<◌, ℕ, IfOk, OnOk, length, map, pos, slice_index_or};
 ghost use Rattle.std.specs.Option.{option_copied};
 ghost use Rattle.tq_base.specs.Contents.{Int};
+ghost use Rattle.tq_base.specs.Keys.{value_at};
 ghost use Rattle.tq_base.specs.Parts.{cell, number_at, number_in, part_values, rows_at, source_list};
 ghost use Rattle.tq_base.specs.Relations.{values_at_number};
 
@@ -31,16 +32,16 @@ pub(crate) struct Place {
     pub(crate) column: u32,
 }
 
-// The values of the row, none where there is no such row.
-fn values_in(rows: &Rows, number: u32) -> &[Value]
-    ensures { result.now ≡ values_at_number rows.now.items number }
+// The value of the column in the row of this number; where there is no such row, or it has no such column, the number 0.
+fn value_of<'a>(rows: &'a Rows, number: u32, column: u32, zero: &'a Value) -> &'a Value
+    requires { zero.now ≡ Int (pos 0) }
+    ensures { result.now ≡ value_at (values_at_number rows.now.items number) column }
 {
     let number = number as usize;
-    if number < rows.len() {
-        rows.values(number)
-    } else {
-        &[]
+    if number >= rows.len() {
+        return zero;
     }
+    rows.value(number, column).unwrap_or(zero)
 }
 
 // The numbers at these places, 0 where there is none.
@@ -101,11 +102,12 @@ impl Part<'_> {
         }
     }
 
-    // The values of the row at the place.
-    pub(crate) fn values(&self, place: u32) -> &[Value]
-        ensures { result.now ≡ part_values self.now place }
+    // The value of the column in the row at the place.
+    fn value<'a>(&'a self, place: u32, column: u32, zero: &'a Value) -> &'a Value
+        requires { zero.now ≡ Int (pos 0) }
+        ensures { result.now ≡ value_at (part_values self.now place) column }
     {
-        values_in(self.source.rows(), self.number(place))
+        value_of(self.source.rows(), self.number(place), column, zero)
     }
 
     // The rows at these places take the place of the rows. Where a growth was refused they stay.
@@ -143,5 +145,5 @@ pub(crate) fn value_in<'a>(
     let Some(part) = parts.get(at.part as usize) else {
         return zero;
     };
-    part.values(place).get(at.column as usize).unwrap_or(zero)
+    part.value(place, at.column, zero)
 }

@@ -8,10 +8,11 @@ ghost use Rattle.tq_base.specs.Parts.{chosen_column, first_column, first_periods
 ghost use Rattle.tq_base.specs.Relations.{column_of, line_of, pair_of, projected, row_at, values_at_number};
 
 use crate::column_view::{ColumnView, push_values};
+use crate::dense::MAX_ROWS;
 use crate::parts::{Part, Place, Source};
 use crate::period::Period;
 use crate::row::Row;
-use crate::rows::{MAX_ROWS, Rows};
+use crate::rows::Rows;
 use crate::value::Value;
 use std::alloc::{AllocError, Global};
 use std::marker::Model;
@@ -494,7 +495,7 @@ impl<'a> Relation<'a> {
         let _few = self.len();
         let values = self.copied_values(alloc)?;
         let periods = self.periods().to_vec(alloc)?;
-        Ok(Rows::of_values(self.width(), values, periods))
+        Ok(Rows::of_values(alloc, self.width(), values, periods))
     }
 
     /// The same rows, their values copied, so that nothing is lent. `AllocError` where a growth was refused.

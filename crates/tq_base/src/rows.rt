@@ -1,100 +1,260 @@
-//! Rows of one width, side by side in one list of values, each with the period at which it is valid.
+//! Rows of one width, each with the period at which it is valid. Of each row all values are kept, or those of some of its
+//! columns, where the others have the same value in each row.
 
-ghost use Rattle.std.specs.Prelude.{◌≡◌, ◌++◌, ◌∷◌, [], ◌<◌, ◌≤◌, ◌*◌, ℕ, List, All, IfOk, OnErr, OnOk, drop, length, map, slice_index_or, take};
+ghost use Rattle.std.specs.Prelude.{◌≡◌, ◌≢◌, false, ◌++◌, ◌∷◌, [], ◌<◌, ◌≤◌, ◌+◌, ◌*◌, ℕ, List, None, pos, All, IfOk, IfSome, IsTrue, OnErr, OnOk, if◌then◌else◌, length, map, slice_index_or, take};
 ghost use Rattle.tq_base.specs.declared.fragment.Fragment.{Fragment};
+ghost use Rattle.tq_base.specs.declared.rows.Slot.{Slot as AnySlot};
+ghost use Rattle.tq_base.specs.declared.value.Value.{Value as AnyValue};
+ghost use Rattle.tq_base.specs.Keys.{value_at};
+ghost use Rattle.tq_base.specs.Contents.{Int, Text};
+ghost use Rattle.tq_base.specs.Parts.{StandThere};
 ghost use Rattle.tq_base.specs.RowLists.{rows_from};
+ghost use Rattle.tq_base.specs.Slots.{seen_values, slot_value, AreLeftOut, AreNumbered, AreSlots, IsLeftOut, IsText};
 
+use crate::catalogue::{Column, Kind};
+use crate::dense::{DenseRows, push_copies};
 use crate::period::Period;
-use crate::value::Value;
+use crate::value::{Seen, Value};
 use std::alloc::{AllocError, Global};
 use std::marker::Model;
-use std::thread;
 use std::thread::Threads;
 
-/// The most rows of one list, so that a row's number has 32 bits.
-pub(crate) const MAX_ROWS: usize = 4_294_967_295;
-
-// So many rows are moved by one thread sooner than by two.
-const FEW_ROWS: usize = 8_192;
-
-// Copies of the values go to the end of the list, or some of them where a growth was refused.
-fn push_copies(values: &mut Vec<Value>, row: &[Value]) -> Result<(), AllocError>
-    ensures added { OnOk result (values.new.items ≡ values.old.items ++ row.now) }
-    ensures kept { take (length values.old.items) values.new.items ≡ values.old.items }
-{
-    'row: for value in row {
-        values.push(value.try_copy()?)?;
-    }
-    Ok(())
-}
-
-// Copies of the values go to the end of the list. Where a growth was refused it is as before.
-fn add_copies(values: &mut Vec<Value>, row: &[Value]) -> Result<(), AllocError>
-    ensures added { OnOk result (values.new.items ≡ values.old.items ++ row.now) }
-    ensures err { OnErr result (values.new.items ≡ values.old.items) }
-{
-    let len = values.len();
-    let added = push_copies(values, row);
-    if added.is_err() {
-        values.truncate(len);
-    }
-    added
-}
-
-// The items of both lists, the ones behind the others.
-fn joined<T: Drop>(list: Vec<T>, other: Vec<T>) -> Result<Vec<T>, AllocError>
-    ensures { IfOk result (λ all. all.items ≡ list.items ++ other.items) }
-{
-    let mut all = list;
-    let mut more = other;
-    all.append(&mut more)?;
-    Ok(all)
+// Where the value of a column stands: at this place of those that are kept of each row, or nowhere, since it is the number
+// 0 or the empty text in each row.
+#[derive(Clone, Copy, Debug)]
+pub(crate) enum Slot {
+    Kept(u32),
+    Zero,
+    Empty,
 }
 
 /// Rows of one width in the order of the pushes, each with the period at which it is valid; seen as their
 /// width and their list.
 #[derive(Drop, Debug)]
 pub struct Rows {
-    width: usize,
-    values: Vec<Value>,
-    periods: Vec<Period>,
+    dense: DenseRows,
+    // Of each column where its value stands; none where all values are kept, one behind the other.
+    slots: Vec<Slot>,
+    // The empty text, where there are slots.
+    texts: Vec<Value>,
 }
 
 impl Model for Rows {
-    ghost use Rattle.std.specs.Prelude.{◌≡◌, ◌≤◌, ◌*◌, length};
-    ghost use Rattle.tq_base.specs.RowLists.{RowList, rows_from};
+    ghost use Rattle.std.specs.Prelude.{map};
+    ghost use Rattle.tq_base.specs.RowLists.{RowList};
+    ghost use Rattle.tq_base.specs.Slots.{seen_row, seen_width, AreSlots};
 
     ghost Value = { RowList };
 
-    ghost view = { λ r. record { width = r.width; items = rows_from r.width r.values.items r.periods.items } };
+    ghost view = { λ r. record { width = seen_width r.slots.items r.dense.width; items = map (seen_row r.slots.items) r.dense.items } };
 
-    ghost invariant = { λ r. (length r.values.items ≡ length r.periods.items * r.width) × (length r.periods.items ≤ 4294967295) };
+    ghost invariant = { λ r. AreSlots r.slots.items r.dense.width r.texts.items };
+}
+
+// Whether all values are kept.
+fn keep_all(slots: &[Slot]) -> bool
+    ensures all { IsTrue result → slots.now ≡ [] }
+    ensures some { result ≡ false → slots.now ≢ [] }
+{
+    slots.is_empty()
+}
+
+// The slot of the column; one that the rows do not have is the number 0.
+fn slot_of(slots: &[Slot], column: u32) -> Slot
+    ensures value { (kept : List AnyValue) → slot_value kept result ≡ value_at (seen_values slots.now kept) column }
+    ensures text { (width : ℕ) (texts : List AnyValue) → AreSlots slots.now width texts → IsText result texts }
+{
+    if keep_all(slots) {
+        return Slot::Kept(column);
+    }
+    slots.get(column as usize).copied().unwrap_or(Slot::Zero)
+}
+
+// The value that stands in the slot, where these are kept of its row; `None` where that is the number 0 in each row.
+fn value_in<'a>(slot: Slot, kept: &'a [Value], texts: &'a [Value]) -> Option<&'a Value>
+    requires { IsText slot texts.now }
+    ensures some { IfSome result (λ value. value.now ≡ slot_value kept.now slot) }
+    ensures none { result ≡ None → slot_value kept.now slot ≡ Int (pos 0) }
+{
+    match slot {
+        Slot::Kept(place) => kept.get(place as usize),
+        Slot::Zero => None,
+        Slot::Empty => texts.first(),
+    }
+}
+
+// The slot of a column of this kind, behind so many that are kept.
+fn next_slot(kind: Kind, is_kept: bool, kept: u32) -> Slot
+    ensures { (slots : List AnySlot) → AreNumbered 0 slots kept → AreNumbered 0 (slots ++ result ∷ []) (if is_kept then kept + 1 else kept) }
+{
+    match (is_kept, kind) {
+        (true, _) => Slot::Kept(kept),
+        (false, Kind::Int) => Slot::Zero,
+        (false, Kind::Text) => Slot::Empty,
+    }
+}
+
+// The slots of the columns, of which some are kept, and how many these are.
+fn slots_of(
+    alloc: Global,
+    columns: &[Column],
+    kept: &[bool],
+) -> Result<(Vec<Slot>, u32), AllocError>
+    ensures many { IfOk result (λ made. length made.0.items ≡ length columns.now) }
+    ensures numbered { IfOk result (λ made. AreNumbered 0 made.0.items made.1) }
+{
+    let mut slots = Vec::with_capacity(alloc, columns.len())?;
+    let mut count: u32 = 0;
+    'columns: for (place, column) in columns.iter().enumerate() {
+        let is_kept = kept.get(place).copied().unwrap_or(true);
+        if is_kept && count == u32::MAX {
+            return Err(AllocError);
+        }
+        slots.push(next_slot(column.kind, is_kept, count))?;
+        if is_kept {
+            count += 1;
+        }
+    }
+    Ok((slots, count))
+}
+
+// Whether the value is the one that the column has in each row, where it is not kept.
+fn is_left_out(slot: Slot, value: &Value) -> bool
+    ensures { IsTrue result → IsLeftOut slot value.now }
+{
+    match (slot, value.seen()) {
+        (Slot::Kept(_), _) => true,
+        (Slot::Zero, Seen::Int(number)) => number == 0,
+        (Slot::Empty, Seen::Text(text)) => text.is_empty(),
+        _ => false,
+    }
+}
+
+// The same of all values of a row.
+fn are_left_out(slots: &[Slot], row: &[Value]) -> bool
+    requires { length row.now ≡ length slots.now }
+    ensures { IsTrue result → AreLeftOut slots.now row.now }
+{
+    'slots: for (place, slot) in slots.iter().enumerate() {
+        if !is_left_out(*slot, &row[place]) {
+            return false;
+        }
+    }
+    true
+}
+
+fn is_same(slot: Slot, other: Slot) -> bool
+    ensures { IsTrue result → slot ≡ other }
+{
+    match (slot, other) {
+        (Slot::Kept(place), Slot::Kept(other)) => place == other,
+        (Slot::Zero, Slot::Zero) => true,
+        (Slot::Empty, Slot::Empty) => true,
+        _ => false,
+    }
+}
+
+fn are_same(slots: &[Slot], others: &[Slot]) -> bool
+    ensures { IsTrue result → slots.now ≡ others.now }
+{
+    if slots.len() != others.len() {
+        return false;
+    }
+    'slots: for place in 0..slots.len() {
+        if !is_same(slots[place], others[place]) {
+            return false;
+        }
+    }
+    true
+}
+
+// A copy of the value that stands in the slot.
+fn copied_in(slot: Slot, kept: &[Value], texts: &[Value]) -> Result<Value, AllocError>
+    requires { IsText slot texts.now }
+    ensures { IfOk result (λ copy. copy ≡ slot_value kept.now slot) }
+{
+    match value_in(slot, kept, texts) {
+        Some(value) => value.try_copy(),
+        None => Ok(Value::int(0)),
+    }
+}
+
+// Copies of the values that stand in the slots go to the end of the list, or some of them where a growth was refused.
+fn push_shown(
+    slots: &[Slot],
+    kept: &[Value],
+    texts: &[Value],
+    room: &mut Vec<Value>,
+) -> Result<(), AllocError>
+    requires { texts.now ≡ Text [] ∷ [] }
+    ensures { OnOk result (room.new.items ≡ room.old.items ++ map (slot_value kept.now) slots.now) }
+{
+    'slots: for slot in slots {
+        room.push(copied_in(*slot, kept, texts)?)?;
+    }
+    Ok(())
+}
+
+// The values of a column, lent: that of the first row stands at the place, and that of each other so many steps behind the
+// one before.
+#[derive(Clone, Copy)]
+pub(crate) struct ColumnValues<'a> {
+    pub(crate) values: &'a [Value],
+    pub(crate) step: usize,
+    pub(crate) place: usize,
 }
 
 impl Rows {
+    // The rows as they stand, of which all values are kept.
+    fn whole(alloc: Global, dense: DenseRows) -> Rows
+        ensures { result ≡ dense }
+    {
+        Rows {
+            dense,
+            slots: Vec::new(alloc),
+            texts: Vec::new(alloc),
+        }
+    }
+
     /// No rows.
     pub fn new(alloc: Global, width: usize) -> Rows
         ensures width { result.width ≡ width }
         ensures rows { result.items ≡ [] }
     {
-        Rows {
-            width,
-            values: Vec::new(alloc),
-            periods: Vec::new(alloc),
+        Rows::whole(alloc, DenseRows::new(alloc, width))
+    }
+
+    /// No rows, which take only such as have the number 0 or the empty text in the columns that are not kept: for these no
+    /// memory is taken. Columns behind the end of the list are kept. `AllocError` where a growth was refused.
+    pub fn keeping(alloc: Global, columns: &[Column], kept: &[bool]) -> Result<Rows, AllocError>
+        ensures width { IfOk result (λ rows. rows.width ≡ length columns.now) }
+        ensures rows { IfOk result (λ rows. rows.items ≡ []) }
+    {
+        let (slots, count) = slots_of(alloc, columns, kept)?;
+        if count as usize == columns.len() {
+            return Ok(Rows::new(alloc, columns.len()));
         }
+        let mut texts = Vec::with_capacity(alloc, 1)?;
+        texts.push(Value::empty())?;
+        Ok(Rows {
+            dense: DenseRows::new(alloc, count as usize),
+            slots,
+            texts,
+        })
     }
 
     // The rows of these values, one row behind the other, with these periods.
-    pub(crate) fn of_values(width: usize, values: Vec<Value>, periods: Vec<Period>) -> Rows
+    pub(crate) fn of_values(
+        alloc: Global,
+        width: usize,
+        values: Vec<Value>,
+        periods: Vec<Period>,
+    ) -> Rows
         requires fill { length values.items ≡ length periods.items * width }
         requires few { length periods.items ≤ 4294967295 }
         ensures { result ≡ record { width = width; items = rows_from width values.items periods.items } }
     {
-        Rows {
-            width,
-            values,
-            periods,
-        }
+        Rows::whole(alloc, DenseRows::of_values(width, values, periods))
     }
 
     /// How many values each row has.
@@ -102,7 +262,11 @@ impl Rows {
         ensures width { result ≡ self.now.width }
         ensures rows { All (λ (row : Fragment). length row.values ≡ self.now.width) self.now.items }
     {
-        self.width
+        let kept = self.dense.width();
+        if keep_all(&self.slots) {
+            return kept;
+        }
+        self.slots.len()
     }
 
     /// How many rows there are.
@@ -110,14 +274,14 @@ impl Rows {
         ensures len { result ≡ length self.now.items }
         ensures few { result ≤ 4294967295 }
     {
-        self.periods.len()
+        self.dense.len()
     }
 
     /// The periods of the rows.
     pub fn periods(&self) -> &[Period]
         ensures { result.now ≡ map (λ (row : Fragment). row.period) self.now.items }
     {
-        self.periods.as_slice()
+        self.dense.periods()
     }
 
     /// When the row is valid.
@@ -128,26 +292,54 @@ impl Rows {
         self.periods()[row]
     }
 
-    /// The values of the row.
-    pub fn values(&self, row: usize) -> &[Value]
+    /// The value of the row in the column; `None` where each row has the number 0 there, so too where the rows do not have
+    /// the column.
+    pub fn value(&self, row: usize, column: u32) -> Option<&Value>
         requires { row < length self.now.items }
-        ensures { (d : Fragment) → result.now ≡ (slice_index_or self.now.items row d).values }
+        ensures some { IfSome result (λ value. (d : Fragment) → value.now ≡ value_at (slice_index_or self.now.items row d).values column) }
+        ensures none { result ≡ None → (d : Fragment) → value_at (slice_index_or self.now.items row d).values column ≡ Int (pos 0) }
     {
-        let values = self.values.as_slice();
-        let start = row * self.width;
-        &values[start..start + self.width]
+        let slot = slot_of(&self.slots, column);
+        value_in(slot, self.dense.values(row), &self.texts)
     }
 
-    // The values of all rows, one row behind the other.
-    pub(crate) fn all_values(&self) -> &[Value]
-        ensures len { length result.now ≡ length self.now.items * self.now.width }
-        ensures rows { (k : ℕ) (d : Fragment) → k < length self.now.items → (slice_index_or self.now.items k d).values ≡ take self.now.width (drop (k * self.now.width) result.now) }
+    /// Copies of the row's values go to the end of the list, or some of them where a growth was refused.
+    pub fn show(&self, row: usize, room: &mut Vec<Value>) -> Result<(), AllocError>
+        requires { row < length self.now.items }
+        ensures { (d : Fragment) → OnOk result (room.new.items ≡ room.old.items ++ (slice_index_or self.now.items row d).values) }
     {
-        self.values.as_slice()
+        let kept = self.dense.values(row);
+        if keep_all(&self.slots) {
+            return push_copies(room, kept);
+        }
+        push_shown(&self.slots, kept, &self.texts, room)
+    }
+
+    // The values of the column; `None` where each row has the number 0 there.
+    pub(crate) fn column(&self, column: u32) -> Option<ColumnValues<'_>>
+        ensures stand { IfSome result (λ found. StandThere (length self.now.items) found.values.now found.step found.place) }
+        ensures found { IfSome result (λ found. (k : ℕ) (d : Fragment) → k < length self.now.items → value_at (slice_index_or self.now.items k d).values column ≡ value_at found.values.now (k * found.step + found.place)) }
+        ensures none { result ≡ None → (k : ℕ) (d : Fragment) → k < length self.now.items → value_at (slice_index_or self.now.items k d).values column ≡ Int (pos 0) }
+    {
+        match slot_of(&self.slots, column) {
+            Slot::Kept(place) if (place as usize) < self.dense.width() => Some(ColumnValues {
+                values: self.dense.all_values(),
+                step: self.dense.width(),
+                place: place as usize,
+            }),
+            Slot::Kept(_) => None,
+            Slot::Zero => None,
+            Slot::Empty => Some(ColumnValues {
+                values: self.texts.as_slice(),
+                step: 0,
+                place: 0,
+            }),
+        }
     }
 
     /// Adds a row of these values, which are moved out of their list. `AllocError` where a growth was
-    /// refused or there are 2^32 - 1 rows: then all is as before.
+    /// refused, where there are 2^32 - 1 rows, or where a column that is not kept has another value: then all is as
+    /// before.
     pub fn push(&mut self, row: &mut Vec<Value>, period: Period) -> Result<(), AllocError>
         requires { length row.old.items ≡ self.old.width }
         ensures width { self.new.width ≡ self.old.width }
@@ -156,30 +348,42 @@ impl Rows {
         ensures err { OnErr result (self.new ≡ self.old) }
         ensures kept { OnErr result (row.new.items ≡ row.old.items) }
     {
-        if self.periods.len() >= MAX_ROWS {
+        if keep_all(&self.slots) {
+            return self.dense.push(row, period);
+        }
+        if !are_left_out(&self.slots, row) {
             return Err(AllocError);
         }
-        self.periods.reserve(1)?;
-        self.values.append(row)?;
-        self.periods.push_reserved(period);
-        Ok(())
+        self.dense.push_kept(&self.slots, row, period)
     }
 
-    /// Adds a row of copies of these values. `AllocError` where a growth was refused or there are 2^32 - 1
-    /// rows: then all is as before.
+    /// Adds a row of copies of these values to rows of which all values are kept. `AllocError` where a growth was refused,
+    /// where there are 2^32 - 1 rows, or where not all values are kept: then all is as before.
     pub fn push_copy(&mut self, row: &[Value], period: Period) -> Result<(), AllocError>
         requires { length row.now ≡ self.old.width }
         ensures width { self.new.width ≡ self.old.width }
         ensures pushed { OnOk result (self.new.items ≡ self.old.items ++ record { values = row.now; period = period } ∷ []) }
         ensures err { OnErr result (self.new ≡ self.old) }
     {
-        if self.periods.len() >= MAX_ROWS {
+        if !keep_all(&self.slots) {
             return Err(AllocError);
         }
-        self.periods.reserve(1)?;
-        add_copies(&mut self.values, row)?;
-        self.periods.push_reserved(period);
-        Ok(())
+        self.dense.push_copy(row, period)
+    }
+
+    /// Adds a copy of a row of rows that keep the same columns. `AllocError` where a growth was refused, where there are
+    /// 2^32 - 1 rows, or where both do not keep the same columns: then all is as before.
+    pub fn push_row(&mut self, rows: &Rows, row: usize) -> Result<(), AllocError>
+        requires { row < length rows.now.items }
+        ensures width { self.new.width ≡ self.old.width }
+        ensures pushed { (d : Fragment) → OnOk result (self.new.items ≡ self.old.items ++ slice_index_or rows.now.items row d ∷ []) }
+        ensures err { OnErr result (self.new ≡ self.old) }
+    {
+        if !are_same(&self.slots, &rows.slots) || self.dense.width() != rows.dense.width() {
+            return Err(AllocError);
+        }
+        let period = rows.dense.period(row);
+        self.dense.push_copy(rows.dense.values(row), period)
     }
 
     /// Keeps the first rows, so many; all of them where there are no more.
@@ -187,26 +391,23 @@ impl Rows {
         ensures width { self.new.width ≡ self.old.width }
         ensures rows { self.new.items ≡ take len self.old.items }
     {
-        if len < self.periods.len() {
-            self.periods.truncate(len);
-            self.values.truncate(len * self.width);
-        }
+        self.dense.truncate(len);
     }
 
-    /// The rows, then those of the other, as wide. No value is copied. `AllocError` where a growth was refused, or
-    /// where there are 2^32 rows or more.
+    /// The rows, then those of the other, as wide. No value is copied. `AllocError` where a growth was refused,
+    /// where there are 2^32 rows or more, or where both do not keep the same columns.
     pub fn followed_by(self, other: Rows) -> Result<Rows, AllocError>
         requires { other.width ≡ self.width }
         ensures width { IfOk result (λ rows. rows.width ≡ self.width) }
         ensures rows { IfOk result (λ rows. rows.items ≡ self.items ++ other.items) }
     {
-        if other.periods.len() > MAX_ROWS - self.periods.len() {
+        if !are_same(&self.slots, &other.slots) || self.dense.width() != other.dense.width() {
             return Err(AllocError);
         }
         Ok(Rows {
-            width: self.width,
-            values: joined(self.values, other.values)?,
-            periods: joined(self.periods, other.periods)?,
+            dense: self.dense.followed_by(other.dense)?,
+            slots: self.slots,
+            texts: self.texts,
         })
     }
 
@@ -222,33 +423,13 @@ impl Rows {
         ensures width { IfOk result (λ rows. rows.width ≡ self.width) }
         ensures rows { IfOk result (λ rows. rows.items ≡ self.items ++ other.items) }
     {
-        if other.periods.len() > MAX_ROWS - self.periods.len() {
+        if !are_same(&self.slots, &other.slots) || self.dense.width() != other.dense.width() {
             return Err(AllocError);
         }
-        if workers < 2 || other.periods.len() < FEW_ROWS {
-            return self.followed_by(other);
-        }
-        let Rows {
-            width,
-            values,
-            periods,
-        } = self;
-        let Rows {
-            width: _,
-            values: more_values,
-            periods: more_periods,
-        } = other;
-        let move_values = || -> Result<Vec<Value>, AllocError>
-            ensures { IfOk result (λ all. all.items ≡ values.items ++ more_values.items) }
-        { joined(values, more_values) };
-        let move_periods = || -> Result<Vec<Period>, AllocError>
-            ensures { IfOk result (λ all. all.items ≡ periods.items ++ more_periods.items) }
-        { joined(periods, more_periods) };
-        let (periods, values) = thread::join(rt, move_periods, move_values);
         Ok(Rows {
-            width,
-            values: values?,
-            periods: periods?,
+            dense: self.dense.followed_by_among(rt, workers, other.dense)?,
+            slots: self.slots,
+            texts: self.texts,
         })
     }
 }

@@ -105,7 +105,7 @@ pub(crate) struct Question {
     pub(crate) statement: Statement,
 }
 
-// What the files, which these workers load, and the bytes ask. Of the tables no texts are kept but those of columns that
+// What the files, which these workers load, and the bytes ask. Of the tables no values are kept but those of columns that
 // the statement names. The files' bytes are let go once they are loaded. The gate is told of each part of the files.
 pub(crate) fn asked<R: Threads + Sync, G: Gate + Sync>(
     rt: &R,

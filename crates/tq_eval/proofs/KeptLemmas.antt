@@ -1,4 +1,4 @@
--- Rows of which only wanted texts are kept fit the tables that they fitted, and are valid when they were.
+-- Rows of which only wanted values are kept fit the tables that they fitted, and are valid when they were.
 use Rattle.std.proofs.Common.{◌≡◌, ◌≢◌, ℕ, Bool, true, false, List, [], ◌∷◌, map, Option, Some, None, refl, sym, ap, ◌∙◌, subst, arith}
 use Rattle.std.specs.Prelude.{All, IsSomeAnd, slice_get}
 use Rattle.std.proofs.lemmas.List.Elements.{All-map, All-weaker}
@@ -22,6 +22,7 @@ use Rattle.tq_plan.specs.declared.plans.Plan.{Plan}
 use Rattle.tq_plan.specs.Standing.{AreQueriesOver}
 use Rattle.tq_eval.specs.Fitting.{AreFitting}
 use Rattle.tq_eval.proofs.HeldRows as held
+use Rattle.tq_eval.proofs.NumberLemmas.{zero_fits}
 use Rattle.tq_eval.specs.Answers.{in_tables, times_at, ValidRows}
 use Rattle.tq_eval.specs.Named.{AllColumnsTell, KeptRowsFit, KeptTablesAnswer, KeptTablesFit, KeptTablesHold, NamedColumnsTell, Serve, kept_in}
 
@@ -47,7 +48,7 @@ all_tell valid plan v t = ap (λ (rows : ValidRows). times_at rows plan v t) (al
 
 kept_kind : (k : Kind) (w : Bool) (v : Value) → IsOfKind k v → IsOfKind k (kept_value w v)
 kept_kind k true v is = is
-kept_kind kind.Int false (Int n) is = is
+kept_kind kind.Int false (Int n) is = zero_fits
 kept_kind kind.Int false (Text t) is = absurd is
 kept_kind kind.Text false (Int n) is = absurd is
 kept_kind kind.Text false (Text t) is = omega arith

@@ -103,7 +103,7 @@ module _ (places : ℕ → Bool) where
   kept_same true v is = refl
   kept_same false v is = cc is
 
-  -- a row of which the texts at these places are kept
+  -- a row of which the values at these places are kept
   kept_agrees : (wanted : List Bool) (begin : ℕ) (row : Row) → ((column : ℕ) → column < length row → places (begin + column) ≡ true → is_wanted wanted column ≡ true) → AgreeFrom begin row (kept_values wanted row)
   unfolding kept_values
   kept_agrees [] begin [] wants = tt

@@ -59,7 +59,7 @@ none_of P k d less = absurd (omega (arith, less))
 
 -- ---- rows that fit their tables
 
-zero_fits : FitsSigned w64 (pos 0)
+pub zero_fits : FitsSigned w64 (pos 0)
 zero_fits = fits_signed_from_abs w64 (pos 0) (omega arith)
 
 of_kind : (k : Kind) (value : Value) → IsOfKind k value → IsNumber value

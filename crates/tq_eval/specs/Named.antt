@@ -51,7 +51,7 @@ pub record Serves (wanted : List (List Bool)) (query : QueryPlan) : Type 0 where
 abbrev pub Serve : List (List Bool) → Plan → Type 0
 Serve wanted plan = Serves wanted plan.left × ((query : QueryPlan) → plan.right ≡ Some query → Serves wanted query)
 
--- ---- rows of which only wanted texts are kept
+-- ---- rows of which only wanted values are kept
 
 -- what is valid
 abbrev pub kept_in : List (List Bool) → ValidRows → ValidRows
@@ -63,12 +63,12 @@ AreKeptLists wanted tables kept = (table : ℕ) → rows_in kept table ≡ map (
 
 -- ---- laws
 
--- where the wanted columns are those that a plan names, the texts of the others change nothing of its answer
+-- where the wanted columns are those that a plan names, the values of the others change nothing of its answer
 abbrev pub NamedColumnsTell : Type 0
 NamedColumnsTell = (wanted : List (List Bool)) (catalogue : Catalogue) (valid : ValidRows) (plan : Plan) → AreFitting catalogue valid → AreQueriesOver catalogue plan → Serve wanted plan
     → (v : Row) (t : ℕ) → times_at (kept_in wanted valid) plan v t ≡ times_at valid plan v t
 
--- where nothing is told of any table, every text is kept
+-- where nothing is told of any table, every value is kept
 abbrev pub AllColumnsTell : Type 0
 AllColumnsTell = (valid : ValidRows) (plan : Plan) (v : Row) (t : ℕ) → times_at (kept_in [] valid) plan v t ≡ times_at valid plan v t
 
@@ -85,6 +85,6 @@ abbrev pub KeptTablesAnswer : Type 0
 KeptTablesAnswer = (wanted : List (List Bool)) (catalogue : Catalogue) (tables kept : List (List Fragment)) (plan : Plan) (table : Table) → AreKeptLists wanted tables kept → AreAllFitting catalogue tables → AreQueriesOver catalogue plan → (wanted ≢ [] → Serve wanted plan)
     → IsTablesAnswer kept plan table → IsTablesAnswer tables plan table
 
--- in which at each instant those rows are valid that were, of which only wanted texts are kept
+-- in which at each instant those rows are valid that were, of which only wanted values are kept
 abbrev pub KeptTablesHold : Type 0
 KeptTablesHold = (wanted : List (List Bool)) (tables kept : List (List Fragment)) → AreKeptLists wanted tables kept → (table t : ℕ) → in_tables kept table t ≡ kept_in wanted (in_tables tables) table t

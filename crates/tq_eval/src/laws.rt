@@ -85,12 +85,12 @@ pub fn named_columns_tell()
     ensures { NamedColumnsTell }
 {}
 
-/// Where nothing is told of the columns of any table, no text is left out.
+/// Where nothing is told of the columns of any table, no value is left out.
 pub fn all_columns_tell()
     ensures { AllColumnsTell }
 {}
 
-/// Rows of which texts are left out fit the tables that they fitted, and those of tables are valid when they were.
+/// Rows of which values are left out fit the tables that they fitted, and those of tables are valid when they were.
 pub fn kept_rows_fit()
     ensures rows { KeptRowsFit }
     ensures tables { KeptTablesFit }

@@ -1,5 +1,5 @@
 -- The times of events that were loaded from dates have dates.
-use Rattle.std.proofs.Common.{◌≡◌, ◌≢◌, ℕ, ◌+◌, ◌<◌, ◌≤◌, ◌==◌, Bool, true, false, cond, not, if◌then◌else◌, List, [], ◌∷◌, ◌++◌, Option, Some, None, Result, Ok, Err, length, drop, inl, inr, nat_lt, slice_get, refl, sym, ap, subst, ◌∙◌, arith}
+use Rattle.std.proofs.Common.{◌≡◌, ◌≢◌, ℕ, ◌+◌, ◌≤◌, ◌==◌, Bool, true, false, not, if◌then◌else◌, List, [], ◌∷◌, ◌++◌, Option, Some, None, Result, Ok, Err, length, drop, inl, inr, nat_lt, slice_get, refl, ap, subst, ◌∙◌, arith}
 use Rattle.std.specs.Prelude.{All, IsSomeAnd}
 use Rattle.std.specs.List.{AllZip}
 use Rattle.std.proofs.lemmas.Bool.Decides.{nat_tests}
@@ -21,7 +21,7 @@ use Rattle.tq_event.specs.declared.file.TableFile.{TableFile}
 use Rattle.tq_event.specs.declared.mark.Mark.{Mark}
 use Rattle.tq_event.specs.History.{time_of}
 use Rattle.tq_event.specs.Laws.{LoadedAreDated}
-use Rattle.tq_event.specs.Loading.{AreEventsOf, Contents, IsEventAt, at_record, columns_of, contents_after, contents_of, csv_records, entries_after, entry_of, event_at, make_period, marks_from, marks_of_entry, next_contents, next_name, period_fields, period_of, table_contents, value_fields, values_after}
+use Rattle.tq_event.specs.Loading.{Contents, IsEventAt, at_record, columns_of, contents_after, csv_records, entries_after, entry_of, event_at, make_period, marks_from, marks_of_entry, next_contents, next_name, period_fields, period_of, table_contents, value_fields, values_after}
 use Rattle.tq_event.proofs.LoadedLemmas.{all_entries, passed}
 
 -- the entry begins at a day that has a date, and ends at one or never

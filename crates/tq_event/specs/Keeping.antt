@@ -1,5 +1,5 @@
--- Rows of which only wanted texts are kept. This project's own.
-use Rattle.std.specs.Prelude.{◌≡◌, ℕ, ◌+◌, Bool, true, false, List, [], ◌∷◌, ◌++◌, Ok, map, slice_get, slice_index_or, sum_by, unwrap_or}
+-- Rows of which only wanted values are kept. This project's own.
+use Rattle.std.specs.Prelude.{◌≡◌, ℕ, ◌+◌, pos, Bool, true, false, List, [], ◌∷◌, ◌++◌, Ok, map, slice_get, slice_index_or, sum_by, unwrap_or}
 use Rattle.std.specs.Global.{Vec}
 use Rattle.tq_base.specs.declared.value.Value.{Value}
 use Rattle.tq_base.specs.declared.catalogue.Column.{Column}
@@ -18,12 +18,12 @@ use Rattle.tq_event.specs.Tables.{AreTables, entries_from, lists_of, rows_in, to
 
 -- ---- values
 
--- the value, with the empty text in place of a text
+-- the number 0 in place of a number, and the empty text in place of a text
 abbrev pub blank : Value → Value
-blank (Int n) = Int n
+blank (Int n) = Int (pos 0)
 blank (Text t) = Text []
 
--- the value where it is wanted; else no text of it is kept
+-- the value where it is wanted; else nothing of it is kept
 abbrev pub kept_value : Bool → Value → Value
 kept_value true value = value
 kept_value false value = blank value
@@ -63,12 +63,12 @@ unfoldable pub kept_from : List (List Bool) → ℕ → List RowList → List Ro
 kept_from wanted table [] = []
 kept_from wanted table (rows ∷ tables) = kept_rows (wanted_of wanted table) rows ∷ kept_from wanted (table + 1) tables
 
--- the tables are these whole ones, of which only wanted texts are kept
+-- the tables are these whole ones, of which only wanted values are kept
 pub record AreKept (wanted : List (List Bool)) (whole tables : Tables) : Type 0 where
   pub catalogue : tables.catalogue ≡ whole.catalogue
   pub rows : (table : ℕ) → rows_in (lists_of tables.rows) table ≡ map (kept_row (wanted_of wanted table)) (rows_in (lists_of whole.rows) table)
 
--- the tables of the files, of which only wanted texts are kept
+-- the tables of the files, of which only wanted values are kept
 pub record AreWantedTables (form : Form) (files : List TableFile) (limit : ℕ) (wanted : List (List Bool)) (tables : Tables) : Type 0 where
   pub whole : Tables
   pub of_files : AreTables form files limit whole
@@ -82,19 +82,19 @@ pub record IsKeptValue (kind : Kind) (wanted : Bool) (field : List ℕ) (value :
   pub told : value_of kind field ≡ Ok whole
   pub kept : value ≡ kept_value wanted whole
 
--- the values are those that the fields hold, of which only wanted texts are kept
+-- the values are those that the fields hold, of which only wanted values are kept
 pub record AreKeptValues (columns : List Column) (wanted : List Bool) (fields : List (List ℕ)) (values : List Value) : Type 0 where
   pub whole : List Value
   pub told : values_after [] columns fields ≡ Ok whole
   pub kept : values ≡ kept_values wanted whole
 
--- the values and the period are those that a record tells, whatever its table, and only wanted texts are kept
+-- the values and the period are those that a record tells, whatever its table, and only wanted values are kept
 pub record IsKeptEntry (form : Form) (columns : List Column) (wanted : List Bool) (fields : List (List ℕ)) (values : List Value) (period : Period) : Type 0 where
   pub whole : List Value
   pub told : (table : ℕ) → entry_of form table columns fields ≡ Ok (told_by table (record { values = whole; period = period }))
   pub kept : values ≡ kept_values wanted whole
 
--- the columns and the rows are those of a table's bytes, with only wanted texts kept, and their events were added
+-- the columns and the rows are those of a table's bytes, with only wanted values kept, and their events were added
 -- to as many
 pub record IsKeptTable (form : Form) (limit table : ℕ) (wanted : List Bool) (bytes : List ℕ) (old new : ℕ) (columns : List Column) (rows : List Fragment) : Type 0 where
   pub whole : List Fragment
@@ -108,7 +108,7 @@ pub record IsKeptAfter (form : Form) (limit : ℕ) (wanted : List (List Bool)) (
   pub kept : tables ≡ kept_from wanted 0 whole
   pub told : next_contents form limit (record { tables = before; entries = entries_from 0 rows }) file ≡ Ok (record { tables = schemas; entries = entries_from 0 whole })
 
--- the schemas and the rows are those of files, with only wanted texts kept
+-- the schemas and the rows are those of files, with only wanted values kept
 pub record AreKeptFiles (form : Form) (files : List TableFile) (limit : ℕ) (wanted : List (List Bool)) (schemas : List Schema) (tables : List RowList) : Type 0 where
   pub whole : List RowList
   pub kept : tables ≡ kept_from wanted 0 whole

@@ -1,7 +1,7 @@
 -- Versions of a history: event number i, counted from 0, leads from version i to version i + 1. How many events
 -- stand by an instant, and which events start and end each row. After Becker, Gschwind, Ohler, Seeger and
 -- Widmayer 1996; that a version is a count of events is this project's own.
-use Rattle.std.specs.Prelude.{◌≡◌, ℕ, ◌+◌, List, [], ◌∷◌, take, count_by, if◌then◌else◌, ◌==◌, ◌&&◌, nat_le, slice_get, Option, Some, None}
+use Rattle.std.specs.Prelude.{ℕ, ◌+◌, List, [], ◌∷◌, take, count_by, if◌then◌else◌, ◌==◌, ◌&&◌, nat_le, slice_get, Option, Some, None}
 use Rattle.std.specs.Option.{option_map_or}
 use Rattle.tq_base.specs.declared.value.Value.{Value}
 use Rattle.tq_event.specs.declared.event.Event.{Event}

@@ -1,11 +1,12 @@
 // A row as a record of a file tells it.
 
-ghost use Rattle.std.specs.Prelude.{◌≡◌, ◌≤◌, ◌++◌, IfOk, OnOk, length, map};
+ghost use Rattle.std.specs.Prelude.{◌≡◌, ◌<◌, ◌≤◌, ◌++◌, IfOk, OnOk, length, map, slice_index_or};
+ghost use Rattle.tq_base.specs.declared.fragment.Fragment.{Fragment};
 ghost use Rattle.tq_event.specs.Entries.{entry_in};
 ghost use Rattle.tq_event.specs.Tables.{entries_from, told_by};
 
 use std::alloc::{AllocError, Global};
-use tq_base::{Bound, Instant, Rows, Value, Values};
+use tq_base::{Bound, Instant, Rows, Values};
 
 /// What stands beside the values of an entry: its table's number, and from when until when it is valid.
 #[derive(Clone, Copy, Debug)]
@@ -18,14 +19,13 @@ pub struct Validity {
 /// A row as a record of a file tells it: its values, and what stands beside them.
 pub type Entry = (Values, Validity);
 
-// A copy of the values.
-fn copied(alloc: Global, values: &[Value]) -> Result<Values, AllocError>
-    ensures { IfOk result (λ copy. copy ≡ values.now) }
+// A copy of the values of the row.
+fn copied(alloc: Global, rows: &Rows, row: usize) -> Result<Values, AllocError>
+    requires { row < length rows.now.items }
+    ensures { (d : Fragment) → IfOk result (λ copy. copy ≡ (slice_index_or rows.now.items row d).values) }
 {
-    let mut copies = Vec::with_capacity(alloc, values.len())?;
-    'values: for value in values {
-        copies.push(value.try_copy()?)?;
-    }
+    let mut copies = Vec::with_capacity(alloc, rows.width())?;
+    rows.show(row, &mut copies)?;
     Ok(Values::of(copies))
 }
 
@@ -39,7 +39,7 @@ fn add_entries(
     ensures { OnOk result (map entry_in entries.new.items ≡ map entry_in entries.old.items ++ map (told_by table) rows.now.items) }
 {
     'rows: for (number, period) in rows.periods().iter().enumerate() {
-        let values = copied(alloc, rows.values(number))?;
+        let values = copied(alloc, rows, number)?;
         let (from, to) = (period.start, period.end);
         entries.push((values, Validity { table, from, to }))?;
     }

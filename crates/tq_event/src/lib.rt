@@ -3,7 +3,7 @@
 //! `load` reads a file of CSV and gives the catalogue and the one list of events that its records
 //! make, ordered by time, or the first fault in the order of tables, records and checks. `load_tables`
 //! gives the catalogue and, for each table, its rows with their periods in the order of their records,
-//! or that same fault; `load_wanted` keeps of these rows no texts but those of wanted columns. `read_values`
+//! or that same fault; `load_wanted` keeps of these rows no values but those of wanted columns. `read_values`
 //! reads the values of a row that are written as one record. `History` takes events one by one, each just where
 //! it may follow. What a history means, the rows of a table as of
 //! its first n events and the values valid at an instant, stands in `specs/`. `steps` has the steps of

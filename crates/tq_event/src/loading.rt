@@ -79,7 +79,7 @@ fn add_row(
 }
 
 // The columns that a table's bytes name, and the rows of its records, whose events are added to those
-// before; only wanted texts are kept. Not inlined, so that the reader's buffers leave the stack with it.
+// before; only wanted values are kept. Not inlined, so that the reader's buffers leave the stack with it.
 #[inline(never)]
 fn read_table(
     alloc: Global,
@@ -112,7 +112,7 @@ fn read_table(
         Err(kind) => return Err(fault_at(table, 1, kind)),
     };
     let mut values = Vec::new(alloc);
-    let mut rows = Rows::new(alloc, columns.len());
+    let mut rows = Rows::keeping(alloc, &columns, wanted)?;
     'records: for number in 2..u32::MAX {
         if !next_record(&mut reader, &mut record)? {
             return Ok((columns, rows));
@@ -153,7 +153,7 @@ pub fn read_name(alloc: Global, tables: &[Schema], name: &[u8]) -> Result<Name, 
     Ok(name)
 }
 
-// Adds the table of a file, and its rows, to those before. Only wanted texts are kept.
+// Adds the table of a file, and its rows, to those before. Only wanted values are kept.
 fn load_file(
     alloc: Global,
     limit: u32,
@@ -195,7 +195,7 @@ fn load_file(
     Ok(())
 }
 
-// The tables of files, and the rows of their records, of which only wanted texts are kept. A file's bytes are let go once
+// The tables of files, and the rows of their records, of which only wanted values are kept. A file's bytes are let go once
 // its rows are read.
 fn read_files(
     alloc: Global,
@@ -230,7 +230,7 @@ fn read_files(
     Ok((tables, rows))
 }
 
-// The tables of files, and the rows of their records, of which all texts are kept.
+// The tables of files, and the rows of their records, of which all values are kept.
 fn read_whole_files(
     alloc: Global,
     files: Vec<TableFile>,
@@ -297,10 +297,10 @@ pub fn load_tables(
     })
 }
 
-/// Loads files into their tables as `load_tables` does, and keeps of their rows only texts that are wanted. The lists
+/// Loads files into their tables as `load_tables` does, and keeps of their rows only values that are wanted. The lists
 /// stand for the tables in their order, and each tells of a table's columns, from the first on, which are wanted; columns
 /// and tables behind the end of a list are. Each field is read and refused all the same: of a column that is not wanted
-/// the empty text stands in place of a text, for which no memory is taken. Numbers and periods are always kept.
+/// the number 0 or the empty text stands in each row, for which no memory is taken. Periods are always kept.
 pub fn load_wanted(
     alloc: Global,
     files: Vec<TableFile>,

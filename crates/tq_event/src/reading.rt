@@ -3,7 +3,8 @@
 ghost use Rattle.std.specs.Prelude.{◌≡◌, ◌≢◌, ℕ, ◌+◌, ◌≤◌, [], Err, IfErr, IfOk, IfSome, IsTrue, OnOk, Ok, length};
 ghost use Rattle.std.specs.Str.{IsAscii, IsUtf8};
 ghost use Rattle.csv.specs.Records.{fields_of};
-ghost use Rattle.tq_event.specs.Keeping.{AreKeptValues, IsKeptEntry, IsKeptValue};
+ghost use Rattle.tq_base.specs.Contents.{Int};
+ghost use Rattle.tq_event.specs.Keeping.{kept_value, AreKeptValues, IsKeptEntry, IsKeptValue};
 ghost use Rattle.tq_event.specs.Loading.{entry_of, make_period, period_fields, period_of, value_fields, value_of, values_after};
 
 use crate::fault::LoadFaultKind;
@@ -56,14 +57,21 @@ fn read_text(alloc: Global, wanted: bool, field: &[u8]) -> Result<Value, LoadFau
     Ok(Value::text(alloc, text)?)
 }
 
-// The value that a field holds, of which no text is kept where it is not wanted.
+// The number where it is wanted, else 0.
+fn kept_int(wanted: bool, number: i64) -> Value
+    ensures { result ≡ kept_value wanted (Int number) }
+{
+    Value::int(if wanted { number } else { 0 })
+}
+
+// The value that a field holds, of which nothing is kept where it is not wanted.
 fn read_value(alloc: Global, kind: Kind, wanted: bool, field: &[u8]) -> Result<Value, LoadFaultKind>
     ensures ok { IfOk result (IsKeptValue kind wanted field.now) }
     ensures fault { IfErr result (λ fault. fault ≢ LoadFaultKind.OutOfMemory → value_of kind field.now ≡ Err fault) }
 {
     match kind {
         Kind::Int => match read_int(field) {
-            Some(number) => Ok(Value::int(number)),
+            Some(number) => Ok(kept_int(wanted, number)),
             None => Err(LoadFaultKind::BadInt),
         },
         Kind::Text => read_text(alloc, wanted, field),
@@ -71,7 +79,7 @@ fn read_value(alloc: Global, kind: Kind, wanted: bool, field: &[u8]) -> Result<V
 }
 
 /// The values that the first fields of the record hold, one for each column, in place of those in the list. Of a column
-/// that is not wanted no text is kept.
+/// that is not wanted nothing is kept: in its place stands the number 0 or the empty text.
 pub fn read_fields(
     alloc: Global,
     columns: &[Column],
@@ -123,8 +131,8 @@ fn read_period(record: &ByteRecord, form: Form) -> Result<Period, LoadFaultKind>
 }
 
 /// The row that a record of a table of these columns tells: its period; its values come to stand in the list. Of a
-/// column that is not wanted each field is read and no text is kept: the empty one stands in its place, for which no
-/// memory is taken. Columns behind the end of the list of wanted ones are wanted.
+/// column that is not wanted each field is read and nothing is kept: the number 0 or the empty text stands in its place.
+/// Columns behind the end of the list of wanted ones are wanted.
 pub fn read_entry(
     alloc: Global,
     columns: &[Column],

@@ -16,7 +16,7 @@ ghost use Rattle.std.specs.Option.{option_copied};
 use crate::groups::groups_of;
 use crate::steps::{StepFigures, query_steps};
 use std::alloc::{AllocError, Global};
-use tq_base::{Catalogue, Items, KeyRange, Period, Rows, Seen, Value};
+use tq_base::{Catalogue, Items, KeyRange, Period, Rows, Seen};
 use tq_eval::{Snapshot, TablesOfRows, answer_tables, passing_rows};
 use tq_plan::laws::queries_stand;
 use tq_plan::{Plan, QueryPlan, QuerySource};
@@ -48,11 +48,12 @@ pub(crate) struct Figures {
     pub(crate) rows: usize,
 }
 
-// The key of a row of these values: the first one where it is a number, else 0.
-fn key_of(values: &[Value]) -> i128
-    ensures { result ≡ key_of values.now }
+// The key of the row: the first value where that is a number, else 0.
+fn key_of(rows: &Rows, row: usize) -> i128
+    requires { row < length rows.now.items }
+    ensures { (d : Fragment) → result ≡ key_of (slice_index_or rows.now.items row d).values }
 {
-    match values.first() {
+    match rows.value(row, 0) {
         Some(value) => match value.seen() {
             Seen::Int(number) => number,
             Seen::Text(_) => 0,
@@ -83,7 +84,7 @@ fn is_kept(rows: &Rows, row: usize, window: &Period, keys: Option<KeyRange>) -> 
     requires { row < length rows.now.items }
     ensures { (d : Fragment) → result ≡ is_kept window.now keys (slice_index_or rows.now.items row d) }
 {
-    is_overlap(&rows.period(row), window) && is_in_range(keys, key_of(rows.values(row)))
+    is_overlap(&rows.period(row), window) && is_in_range(keys, key_of(rows, row))
 }
 
 // 1 where the row is kept, else 0.

@@ -123,7 +123,7 @@ as_wide form files schemas tables headed told = all_wide schemas tables (told.ma
     let (file, is_file) = item_at files t (omega (arith, slice_get_within tables t r is_rows, told.many)) in
     (told.each t r is_rows file s is_file is_schema).wide)
 
--- ---- kept texts
+-- ---- kept values
 
 -- whole tables of which each is known by its number, from those that were kept
 gathered : (wanted : List (List Bool)) (holds : ℕ → RowList → Type 0) (number : ℕ) (tables : List RowList)

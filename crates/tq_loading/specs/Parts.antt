@@ -51,7 +51,7 @@ pub record IsPartOf (files : List TableFile) (part : Part) : Type 0 where
 abbrev pub TellRows : Form → List Column → List (List (List ℕ)) → List Fragment → Type 0
 TellRows form columns records rows = (table : ℕ) → map (entry_of form table columns) records ≡ map (λ row. Ok (told_by table row)) rows
 
--- the records tell rows, one each, of which only wanted texts are kept
+-- the records tell rows, one each, of which only wanted values are kept
 pub record TellKept (form : Form) (columns : List Column) (wanted : List Bool) (records : List (List (List ℕ))) (rows : List Fragment) : Type 0 where
   pub whole : List Fragment
   pub told : TellRows form columns records whole
@@ -63,7 +63,7 @@ PartTells form zero columns [] rows = ⊥
 PartTells form zero columns (header ∷ records) rows = TellRows form columns records rows
 PartTells form (suc start) columns records rows = TellRows form columns records rows
 
--- they tell rows of which only wanted texts are kept
+-- they tell rows of which only wanted values are kept
 pub record PartTellsKept (form : Form) (start : ℕ) (columns : List Column) (wanted : List Bool) (records : List (List (List ℕ))) (rows : List Fragment) : Type 0 where
   pub whole : List Fragment
   pub told : PartTells form start columns records whole
@@ -76,7 +76,7 @@ pub record AreRowsOfPart (form : Form) (columns : List Column) (bytes : List ℕ
   pub told : PartTells form part.start columns (csv_records (slice_range bytes part.start part.end)) rows.items
   pub ends : ends_in_feed (take part.end bytes) ≡ true → EndsRecords (slice_range bytes part.start part.end)
 
--- the rows are those of a part, of which only wanted texts are kept
+-- the rows are those of a part, of which only wanted values are kept
 pub record AreKeptOfPart (form : Form) (columns : List Column) (wanted : List Bool) (bytes : List ℕ) (part : Part) (rows : RowList) : Type 0 where
   pub whole : RowList
   pub of_part : AreRowsOfPart form columns bytes part whole
@@ -86,7 +86,7 @@ pub record AreKeptOfPart (form : Form) (columns : List Column) (wanted : List Bo
 abbrev pub HoldsAt : List TableFile → List Schema → ℕ → (TableFile → Schema → Type 0) → Type 0
 HoldsAt files schemas table holds = (file : TableFile) (schema : Schema) → slice_get files table ≡ Some file → slice_get schemas table ≡ Some schema → holds file schema
 
--- the rows are those of their part, of which only texts are kept that are wanted of its table
+-- the rows are those of their part, of which only values are kept that are wanted of its table
 abbrev pub IsRead : Form → List TableFile → List (List Bool) → List Schema → PartRows → Type 0
 IsRead form files wanted schemas read = HoldsAt files schemas read.part.table (λ file schema. AreKeptOfPart form schema.columns (wanted_of wanted read.part.table) file.bytes read.part read.rows)
 
@@ -101,7 +101,7 @@ pub record AreRowsOfTable (form : Form) (columns : List Column) (bytes : List �
   pub wide : rows.width ≡ length columns
   pub told : TellRows form columns (drop 1 (csv_records bytes)) rows.items
 
--- the same, of which only wanted texts are kept
+-- the same, of which only wanted values are kept
 pub record AreKeptOfTable (form : Form) (columns : List Column) (wanted : List Bool) (bytes : List ℕ) (rows : RowList) : Type 0 where
   pub whole : RowList
   pub of_table : AreRowsOfTable form columns bytes whole
@@ -112,7 +112,7 @@ pub record AreTold (form : Form) (files : List TableFile) (schemas : List Schema
   pub many : length tables ≡ length files
   pub each : (table : ℕ) (rows : RowList) → slice_get tables table ≡ Some rows → HoldsAt files schemas table (λ file schema. AreRowsOfTable form schema.columns file.bytes rows)
 
--- the same, of which only wanted texts are kept
+-- the same, of which only wanted values are kept
 pub record AreKeptTold (form : Form) (files : List TableFile) (wanted : List (List Bool)) (schemas : List Schema) (tables : List RowList) : Type 0 where
   pub many : length tables ≡ length files
   pub each : (table : ℕ) (rows : RowList) → slice_get tables table ≡ Some rows

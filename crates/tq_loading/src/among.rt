@@ -19,7 +19,7 @@ use tq_run::Gate;
 // No part is made shorter, so that a small file stays whole.
 const LEAST_PART: usize = 65_536;
 
-// The tables of the files, of which only wanted texts are kept, and whose parts of at least this length these workers read;
+// The tables of the files, of which only wanted values are kept, and whose parts of at least this length these workers read;
 // `None` where something is amiss.
 fn tables_of_parts<R: Threads + Sync, G: Gate + Sync>(
     rt: &R,

@@ -10,7 +10,7 @@
 //! Only the good case is worked out so. Where anything is amiss, a name, a header, a record, a cut or too many events,
 //! the files are loaded again by one worker, who tells the first fault. So `load_tables_among` promises what
 //! `load_tables` does, word for word, for every number of workers and every gate. `load_wanted_among` promises so what
-//! `load_wanted` does: of the rows only wanted texts are kept. `read_schemas` tells what the names and headers of files
+//! `load_wanted` does: of the rows only wanted values are kept. `read_schemas` tells what the names and headers of files
 //! make, which are their tables where the files are well (the law `headers_are_catalogue`).
 #![tactic(auto)]
 

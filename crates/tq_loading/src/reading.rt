@@ -55,7 +55,7 @@ fn pass_header(alloc: Global, reader: &mut Reader<&[u8]>, start: usize) -> Resul
     }
 }
 
-// The rows that the records of the reader tell, at most so many and one, of which only wanted texts are kept; or a fault
+// The rows that the records of the reader tell, at most so many and one, of which only wanted values are kept; or a fault
 // where one of these may be open.
 fn read_rows(
     alloc: Global,
@@ -72,7 +72,7 @@ fn read_rows(
 {
     let mut row = ByteRecord::new(alloc);
     let mut values = Vec::new(alloc);
-    let mut rows = Rows::new(alloc, columns.len());
+    let mut rows = Rows::keeping(alloc, columns, wanted)?;
     'rows: for _ in 0..=limit {
         if !next_record(reader, &mut row)? {
             return Ok(rows);
@@ -86,7 +86,7 @@ fn read_rows(
     Err(LoadFaultKind::TooManyEvents)
 }
 
-/// The rows that the records of a part tell, which begins at this place of a file of these columns; only wanted texts
+/// The rows that the records of a part tell, which begins at this place of a file of these columns; only wanted values
 /// are kept. Or a fault of the part, as that it has more records than the limit, or that a line feed at its end may stand
 /// within quotes. Not inlined, so that the reader's buffers leave the stack with it.
 #[inline(never)]

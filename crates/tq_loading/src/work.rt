@@ -15,7 +15,7 @@ use tq_event::TableFile;
 use tq_event::steps::wanted_columns;
 use tq_run::{Gate, Work, run_with};
 
-// The rows of a part, of which only wanted texts are kept, or `None` where something is amiss with it.
+// The rows of a part, of which only wanted values are kept, or `None` where something is amiss with it.
 fn part_rows(
     alloc: Global,
     limit: u32,
@@ -79,7 +79,7 @@ impl Work for Parts<'_> {
     }
 }
 
-/// The rows of the parts in their order, read by these workers. Only wanted texts are kept.
+/// The rows of the parts in their order, read by these workers. Only wanted values are kept.
 pub fn read_parts<'p, R: Threads + Sync, G: Gate + Sync>(
     rt: &R,
     alloc: Global,

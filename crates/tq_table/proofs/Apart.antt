@@ -1,12 +1,11 @@
 -- Rows of equal values that stand apart from each other are their own layers.
-use Rattle.std.proofs.Common.{◌≡◌, ⊎_elim, ◌++◌, ◌∷◌, [], ℕ, zero, suc, ◌+◌, ◌<◌, ◌≤◌, false, List, get_or, length, map, refl, sym, ap, ◌∙◌, subst, arith}
-use Rattle.std.specs.Prelude.{All, IsSorted}
+use Rattle.std.proofs.Common.{◌≡◌, ⊎_elim, ◌++◌, ℕ, zero, suc, ◌+◌, ◌<◌, ◌≤◌, false, List, get_or, length, map, refl, sym, ap, subst, arith}
+use Rattle.std.specs.Prelude.{IsSorted}
 use Rattle.std.specs.Cmp.{nat_cmp_is}
 use Rattle.std.specs.Ordering.{is_lt, nat_cmp, ordering_then}
 use Rattle.std.specs.declared.cmp.Ordering.TheVariants.{Greater}
 use Rattle.std.proofs.lemmas.Bool.{cases_eq, cases_lt}
 use Rattle.std.proofs.lemmas.List.{get_or-map, length-map}
-use Rattle.std.proofs.lemmas.List.Elements.{All-head, All-tail}
 use Rattle.tq_base.specs.declared.value.Value.{Value}
 use Rattle.tq_base.specs.declared.period.Period.{Period}
 use Rattle.tq_base.specs.declared.fragment.Fragment.{Fragment}
@@ -80,18 +79,11 @@ module _ (v : List Value) (group : List Fragment) (apart : AreApart group) where
       ascends : (p q : Period) → p.start < q.start → is_lt (period_cmp q p) ≡ false
       ascends p q before = ap (λ o. is_lt (ordering_then o (nat_cmp q.end p.end))) (sym (nat_cmp_is q.start p.start Greater before))
 
-  rows : (fs : List Fragment) → All (λ f. f.values ≡ v) fs → fs ≡ rows_of v (map (λ (f : Fragment). f.period) fs)
-  rows [] all = refl
-  rows (f ∷ fs) all =
-      let first : f.values ≡ v = All-head (λ f. f.values ≡ v) f fs all in
-      let row = λ (u : List Value). let g : Fragment = record { values = u; period = f.period } in g in
-      ap (λ u. row u ∷ fs) first ∙ ap (λ l. row v ∷ l) (rows fs (All-tail (λ f. f.values ≡ v) f fs all))
-
-  -- they go into the table as they stand
-  pub adds_apart : All (λ f. f.values ≡ v) group → (old new : List Fragment) → new ≡ old ++ group → AddsLayers v group old new
-  adds_apart alike old new is = record {
+  -- their periods go into the table as they stand
+  pub adds_apart : (old new : List Fragment) → new ≡ old ++ rows_of v periods → AddsLayers v group old new
+  adds_apart old new is = record {
     layering = periods;
     is_layering = record { nested = nested; held_alike = λ t. refl };
     in_order = in_order;
-    added = is ∙ ap (λ l. old ++ l) (rows group alike);
+    added = is;
   }

@@ -1,4 +1,5 @@
 pub mod Apart
+pub mod Groups
 pub mod Sink
 pub mod Text
 pub mod Writing

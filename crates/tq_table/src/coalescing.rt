@@ -1,6 +1,6 @@
 // Coalescing: the periods of each group of equal values are layered by themselves.
 
-ghost use Rattle.std.specs.Prelude.{◌≡◌, ◌<◌, All, IfOk, IsPermutation, List, OnOk, length, map, slice_index_or};
+ghost use Rattle.std.specs.Prelude.{◌≡◌, ◌<◌, ◌++◌, All, IfOk, IsPermutation, List, OnOk, length, map, slice_index_or};
 ghost use Rattle.std.specs.Bool.{OnTrue};
 ghost use Rattle.tq_base.specs.declared.value.Value.{Value};
 ghost use Rattle.tq_base.specs.declared.fragment.Fragment.{Fragment};
@@ -11,6 +11,7 @@ ghost use Rattle.tq_base.specs.Layers.{IsLayers};
 ghost use Rattle.tq_base.specs.Layering.{AddsLayers};
 ghost use Rattle.tq_base.specs.Relations.{line_of};
 ghost use Rattle.tq_table.specs.Apart.{AreApart};
+ghost use Rattle.tq_table.specs.Groups.{line_at};
 
 use crate::layering::layered;
 use crate::lines::Lines;
@@ -37,7 +38,21 @@ fn stand_apart(periods: &[Period]) -> bool
     periods.is_sorted_by(|one, next| one.end.number() < next.start.number())
 }
 
-// The layers of a group of rows that are alike, of these periods, go to the end of the table.
+// A line of the row at each of the periods goes to the end of the table.
+fn add_lines(row: u32, periods: &[Period], table: &mut Vec<Line>) -> Result<(), AllocError>
+    ensures { OnOk result (table.new.items ≡ table.old.items ++ map (line_at row) periods.now) }
+{
+    'periods: for period in periods {
+        table.push(Line {
+            row,
+            period: *period,
+        })?;
+    }
+    Ok(())
+}
+
+// The layers of a group of rows that are alike, of these periods, go to the end of the table, as lines of the first of
+// them: so what writes them reads the values of one row, and not of each.
 fn add_layers(
     alloc: Global,
     sides: &Sides<'_>,
@@ -45,6 +60,7 @@ fn add_layers(
     periods: &[Period],
     table: &mut Vec<Line>,
 ) -> Result<(), AllocError>
+    requires some { 0 < length group.now }
     requires periods { periods.now ≡ map (λ k. (key_row (state_of sides.now) k).period) group.now }
     requires left { All (λ k. k.side ≡ Side.Left) group.now }
     requires stand { All (λ k. k.row < length sides.now.left.now.items) group.now }
@@ -52,26 +68,12 @@ fn add_layers(
     ensures layers { OnOk result ((v : List Value) → All (λ k. (key_row (state_of sides.now) k).values ≡ v) group.now
         → AddsLayers v (map (key_row (state_of sides.now)) group.now) (map (line_of sides.now.left.now.items) table.old.items) (map (line_of sides.now.left.now.items) table.new.items)) }
 {
+    let row = group[0].row;
     if stand_apart(periods) {
-        'apart: for place in 0..group.len() {
-            table.push(Line {
-                row: group[place].row,
-                period: periods[place],
-            })?;
-        }
-        return Ok(());
+        return add_lines(row, periods, table);
     }
-    let Some(first) = group.first() else {
-        return Ok(());
-    };
     let layering = layered(alloc, periods)?;
-    'layers: for period in &layering {
-        table.push(Line {
-            row: first.row,
-            period: *period,
-        })?;
-    }
-    Ok(())
+    add_lines(row, &layering, table)
 }
 
 // The keys of the left rows, in the order of their values.

@@ -31,12 +31,15 @@
 //!     pairs LEFT RIGHT START END      pairs of rows, and of pairs, in columns that are turned round
 //!     pushed COUNT, empty COUNT       rows that were pushed; rows without values
 //!     copied TEXT                     a row of a text that is let go
+//!     kept COLUMNS OTHERS ROW..       rows of which some columns are kept, copied, moved, and put behind one another: N and T
+//!                                     stand for a number and a text that are kept, n and t for such that are left out
 //!
 //! A value is a number, or a text, which begins with ' where it looks like a number or is empty; \s is a blank, \c a
 //! comma, \0 the byte 0, and T^N is the text T, N times. Lines that begin with # say what follows.
 #![tactic(auto)]
 
 mod dates;
+mod keeping;
 mod lists;
 mod names;
 mod orders;

@@ -36,7 +36,9 @@ fn is_as_pushed(alloc: Global, rows: &Rows, number: usize) -> Result<bool, Alloc
     }
     let start = number as u64 / 2;
     let first = if number % 2 == 0 { start as i64 } else { -5 };
-    let same = rows.values(number) == numbers(alloc, first)?.as_slice();
+    let mut values = Vec::new(alloc);
+    rows.show(number, &mut values)?;
+    let same = values.as_slice() == numbers(alloc, first)?.as_slice();
     Ok(same && Some(rows.period(number)) == period_between(start, start.saturating_add(9)))
 }
 
@@ -96,7 +98,7 @@ pub(crate) fn tell_copied(alloc: Global, word: &str, out: &mut String) -> Result
     let rows = copied_text(alloc, word)?;
     for number in 0..rows.len() {
         out.push_str("    ")?;
-        if let Some(value) = rows.values(number).first() {
+        if let Some(value) = rows.value(number, 0) {
             push_value(value, out)?;
         }
         out.push('\n')?;

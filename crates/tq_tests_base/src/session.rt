@@ -1,6 +1,7 @@
 //! The lists of rows that a script makes, by their names, and what it asks.
 
 use crate::dates::{tell_date, tell_day, tell_days};
+use crate::keeping::tell_kept;
 use crate::lists::rows_of;
 use crate::names::{
     tell_count_name, tell_instant, tell_instants, tell_int, tell_name, tell_natural, tell_same,
@@ -106,6 +107,7 @@ fn tell_of_numbers(
         }
         ("many", [count]) => tell_many(alloc, count.parse().unwrap_or(0), out),
         ("pushed", [count]) => tell_pushed(alloc, count.parse().unwrap_or(0), out),
+        ("kept", [letters, others, rows @ ..]) => tell_kept(alloc, letters, others, rows, out),
         ("empty", [count]) => tell_empty(alloc, count.parse().unwrap_or(0), out),
         ("owned", [width, rows @ ..]) => {
             tell_owned(alloc, width.parse().unwrap_or(0), rows, out)

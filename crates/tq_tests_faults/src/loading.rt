@@ -19,22 +19,21 @@ fn is_no_memory(fault: &LoadFault) -> bool {
     matches!(fault.kind, LoadFaultKind::OutOfMemory)
 }
 
-// The values, a comma behind each.
-fn tell_values(values: &[Value], out: &mut String) -> Result<(), AllocError> {
-    for value in values {
-        match value.seen() {
-            Seen::Int(number) => write!(out, "{number},")?,
-            Seen::Text(text) => write!(out, "{text},")?,
-        }
+// The value, a comma behind it.
+fn tell_value(value: &Value, out: &mut String) -> Result<(), AllocError> {
+    match value.seen() {
+        Seen::Int(number) => write!(out, "{number},"),
+        Seen::Text(text) => write!(out, "{text},"),
     }
-    Ok(())
 }
 
 fn tell_event(event: &Event, out: &mut String) -> Result<(), AllocError> {
     match event {
         Event::Start { table, values, at } => {
             write!(out, "    start {table} ")?;
-            tell_values(values.get(), out)?;
+            for value in values.get() {
+                tell_value(value, out)?;
+            }
             writeln!(out, "{}", at.number())
         }
         Event::End { table, row, at } => { writeln!(out, "    end {table} {row} {}", at.number()) }
@@ -49,10 +48,15 @@ fn tell_events(events: &[Event], out: &mut String) -> Result<(), AllocError> {
 }
 
 fn tell_rows(rows: &Rows, out: &mut String) -> Result<(), AllocError> {
+    let zero = Value::int(0);
     writeln!(out, "    {} columns, {} rows", rows.width(), rows.len())?;
     for row in 0..rows.len() {
         out.push_str("    ")?;
-        tell_values(rows.values(row), out)?;
+        for column in 0..rows.width() {
+            if let Ok(column) = u32::try_from(column) {
+                tell_value(rows.value(row, column).unwrap_or(&zero), out)?;
+            }
+        }
         let period = rows.periods()[row];
         writeln!(out, "{},{}", period.start.number(), period.end.number())?;
     }

@@ -8,7 +8,7 @@ use std::sync::atomic::{AtomicBool, AtomicU64, Ordering};
 use std::test::Fail;
 use std::thread;
 use std::thread::Threads;
-use tq_base::{Form, Items, Rows, Seen};
+use tq_base::{Form, Items, Rows, Seen, Value};
 use tq_event::{LoadFault, MAX_EVENTS, TableFile, Tables, load_tables, load_wanted};
 use tq_loading::{load_tables_among, load_tables_by_parts, load_wanted_among};
 use tq_run::{Gate, Open};
@@ -29,11 +29,14 @@ fn files_of(alloc: Global, first: &str, second: &str) -> Result<Vec<TableFile>, 
 
 // A line for each row.
 fn tell_rows(lines: &mut String, rows: &Rows) -> Result<(), Fail> {
+    let zero = Value::int(0);
     for row in 0..rows.len() {
-        for value in rows.values(row) {
-            match value.seen() {
-                Seen::Int(number) => write!(lines, "{number},")?,
-                Seen::Text(text) => write!(lines, "{text},")?,
+        for column in 0..rows.width() {
+            if let Ok(column) = u32::try_from(column) {
+                match rows.value(row, column).unwrap_or(&zero).seen() {
+                    Seen::Int(number) => write!(lines, "{number},")?,
+                    Seen::Text(text) => write!(lines, "{text},")?,
+                }
             }
         }
         let period = rows.period(row);
@@ -346,9 +349,9 @@ fn two_workers_have_parts_of_a_file_with_quotes(rt: HostRuntime) -> Result<(), F
     Ok(())
 }
 
-// ---- texts that are not wanted
+// ---- values that are not wanted
 
-// Of two tables the texts of the first one's last column are not wanted.
+// Two tables: of the first one the values of its first and last column are not wanted.
 const TWO: (&str, &str) = (
     "k:int,v:text,w:text,from,to\n1,ann,more than fourteen bytes,10,20\n2,bob,cat,15,25\n",
     "k:int,v:text,from,to\n7,dan,1,2\n",
@@ -361,7 +364,7 @@ fn wanted_lists(alloc: Global) -> Result<Vec<Vec<bool>>, AllocError> {
     Ok(lists)
 }
 
-// What these workers load of the two tables with only wanted texts kept.
+// What these workers load of the two tables with only wanted values kept.
 fn told_wanted<R: Threads + Sync>(rt: &R, alloc: Global, workers: u32) -> Result<String, Fail>
     requires some { 1 ≤ workers }
     requires at_most { workers ≤ 16 }
@@ -382,8 +385,8 @@ fn told_wanted<R: Threads + Sync>(rt: &R, alloc: Global, workers: u32) -> Result
 }
 
 #[test]
-fn only_wanted_texts_are_kept(rt: HostRuntime) -> Result<(), Fail> {
-    let kept = "3 columns\n1,ann,,10,20\n2,bob,,15,25\n2 columns\n7,dan,1,2\n";
+fn only_wanted_values_are_kept(rt: HostRuntime) -> Result<(), Fail> {
+    let kept = "3 columns\n0,ann,,10,20\n0,bob,,15,25\n2 columns\n7,dan,1,2\n";
     let files = files_of(rt.alloc(), TWO.0, TWO.1)?;
     let wanted = wanted_lists(rt.alloc())?;
     let loaded = load_wanted(rt.alloc(), files, &wanted, MAX_EVENTS, Form::Numbers);

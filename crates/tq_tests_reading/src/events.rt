@@ -8,15 +8,20 @@ use tq_event::Event;
 /// The values, with a space before each; a line end in a text as \n.
 pub(crate) fn tell_values(values: &[Value], out: &mut String) -> Result<(), AllocError> {
     for value in values {
-        match value.seen() {
-            Seen::Int(number) => write!(out, " {number}")?,
-            Seen::Text(text) => {
-                out.push(' ')?;
-                tell_text(text, out)?;
-            }
-        }
+        tell_value(value, out)?;
     }
     Ok(())
+}
+
+// The value, with a space before it.
+fn tell_value(value: &Value, out: &mut String) -> Result<(), AllocError> {
+    match value.seen() {
+        Seen::Int(number) => write!(out, " {number}"),
+        Seen::Text(text) => {
+            out.push(' ')?;
+            tell_text(text, out)
+        }
+    }
 }
 
 fn tell_text(text: &str, out: &mut String) -> Result<(), AllocError> {
@@ -73,9 +78,14 @@ pub(crate) fn tell_copied(
 
 /// A line for each row of a table.
 pub(crate) fn tell_rows(table: usize, rows: &Rows, out: &mut String) -> Result<(), AllocError> {
+    let zero = Value::int(0);
     for row in 0..rows.len() {
         write!(out, "    row of {table}:")?;
-        tell_values(rows.values(row), out)?;
+        for column in 0..rows.width() {
+            if let Ok(column) = u32::try_from(column) {
+                tell_value(rows.value(row, column).unwrap_or(&zero), out)?;
+            }
+        }
         let period = rows.periods()[row];
         let start = period.start.number();
         let end = period.end.number();

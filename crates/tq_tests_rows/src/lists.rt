@@ -1,5 +1,7 @@
 //! Lists of rows, read and written.
 
+ghost use Rattle.std.specs.Prelude.{◌<◌, length};
+
 use crate::words::{period_between, period_of, push_value, value_of};
 use std::alloc::{AllocError, Global};
 use std::fmt::Write;
@@ -77,12 +79,12 @@ pub(crate) fn rising(alloc: Global, count: u32, length: u64) -> Result<Rows, All
     Ok(rows)
 }
 
-fn copies(alloc: Global, values: &[Value]) -> Result<Values, AllocError> {
-    let mut copied = Vec::new(alloc);
-    for value in values {
-        copied.push(value.try_copy()?)?;
-    }
-    Ok(Values::of(copied))
+fn shown(alloc: Global, rows: &Rows, number: usize) -> Result<Values, AllocError>
+    requires { number < length rows.now.items }
+{
+    let mut values = Vec::new(alloc);
+    rows.show(number, &mut values)?;
+    Ok(Values::of(values))
 }
 
 // The rows, one by one.
@@ -90,7 +92,7 @@ fn fragments_of(alloc: Global, rows: &Rows) -> Result<Vec<Fragment>, AllocError>
     let mut fragments = Vec::new(alloc);
     for number in 0..rows.len() {
         fragments.push(Fragment {
-            values: copies(alloc, rows.values(number))?,
+            values: shown(alloc, rows, number)?,
             period: rows.period(number),
         })?;
     }

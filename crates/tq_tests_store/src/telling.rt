@@ -12,17 +12,19 @@ pub(crate) fn tell_nothing(out: &mut String) -> Result<(), AllocError> {
     out.push_str("    not understood\n")
 }
 
-// The values, divided by commas, and the period.
-fn tell_valid(values: &[Value], period: &Period, out: &mut String) -> Result<(), AllocError> {
-    for (place, value) in values.iter().enumerate() {
-        if place > 0 {
-            out.push(',')?;
-        }
-        match value.seen() {
-            Seen::Int(number) => write!(out, "{number}")?,
-            Seen::Text(text) => out.push_str(text)?,
-        }
+// The value, a comma before it where others stand before.
+fn tell_value(place: usize, value: &Value, out: &mut String) -> Result<(), AllocError> {
+    if place > 0 {
+        out.push(',')?;
     }
+    match value.seen() {
+        Seen::Int(number) => write!(out, "{number}"),
+        Seen::Text(text) => out.push_str(text),
+    }
+}
+
+// The period, at the end of a line.
+fn tell_period(period: &Period, out: &mut String) -> Result<(), AllocError> {
     let start = period.start.number();
     let end = period.end.number();
     writeln!(out, " from {start} to {end}")
@@ -35,7 +37,10 @@ pub(crate) fn tell_rows(db: &Db, question: &Question, out: &mut String) -> Resul
         Some(rows) => {
             for row in &rows {
                 write!(out, "    row {}: ", row.row)?;
-                tell_valid(row.values.get(), &row.period, out)?;
+                for (place, value) in row.values.get().iter().enumerate() {
+                    tell_value(place, value, out)?;
+                }
+                tell_period(&row.period, out)?;
             }
             Ok(())
         }
@@ -70,10 +75,16 @@ pub(crate) fn tell_reads(db: &Db, n: i64, at: i64, out: &mut String) -> Result<(
 
 /// The list's width, and its rows.
 pub(crate) fn tell_list(rows: &Rows, out: &mut String) -> Result<(), AllocError> {
+    let zero = Value::int(0);
     writeln!(out, "    {} rows of width {}", rows.len(), rows.width())?;
     for row in 0..rows.len() {
         out.push_str("    ")?;
-        tell_valid(rows.values(row), &rows.period(row), out)?;
+        for place in 0..rows.width() {
+            if let Ok(column) = u32::try_from(place) {
+                tell_value(place, rows.value(row, column).unwrap_or(&zero), out)?;
+            }
+        }
+        tell_period(&rows.period(row), out)?;
     }
     Ok(())
 }

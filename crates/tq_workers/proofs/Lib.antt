@@ -7,3 +7,4 @@ pub mod PieceLemmas
 pub mod RangeLemmas
 pub mod ShareLemmas
 pub mod StretchLemmas
+pub mod SharedRows

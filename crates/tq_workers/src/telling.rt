@@ -1,6 +1,6 @@
 // Which share each row of a table goes to.
 
-ghost use Rattle.std.specs.Prelude.{◌≡◌, ◌≤◌, ◌<◌, ◌+◌, ◌/◌, ◌++◌, IfOk, length, map, take};
+ghost use Rattle.std.specs.Prelude.{◌≡◌, ◌≤◌, ◌<◌, ◌+◌, ◌/◌, ◌++◌, IfOk, length, map, slice_index_or, take};
 ghost use Rattle.tq_base.specs.declared.fragment.Fragment.{Fragment};
 ghost use Rattle.tq_event.specs.Tables.{lists_of, rows_in};
 ghost use Rattle.tq_ops.specs.Conditions.{value_at};
@@ -32,12 +32,13 @@ fn share_of(cuts: &[u128], value: &Value) -> u8
     share
 }
 
-// The share of the row of these values, by that in the column.
-fn share_at(cuts: &[u128], values: &[Value], column: u32) -> u8
-    requires { length cuts.now ≤ 63 }
-    ensures { result ≡ share_of cuts.now (value_at values.now column) }
+// The share of the row, by its value in the column.
+fn share_at(cuts: &[u128], rows: &Rows, row: usize, column: u32) -> u8
+    requires short { length cuts.now ≤ 63 }
+    requires within { row < length rows.now.items }
+    ensures { (d : Fragment) → result ≡ share_of cuts.now (value_at (slice_index_or rows.now.items row d).values column) }
 {
-    match values.get(column as usize) {
+    match rows.value(row, column) {
         Some(value) => share_of(cuts, value),
         None => share_of(cuts, &Value::int(0)),
     }
@@ -60,7 +61,7 @@ pub(crate) fn shares_at(
 {
     let mut told = Vec::with_capacity(alloc, end - start)?;
     'rows: for number in start..end {
-        told.push(share_at(cuts, rows.values(number), column))?;
+        told.push(share_at(cuts, rows, number, column))?;
     }
     Ok(told)
 }
@@ -192,8 +193,10 @@ pub(crate) fn told_of<R: Threads + Sync, G: Gate + Sync>(
 }
 
 // The rank of the row's value in the column.
-fn rank_at(values: &[Value], column: u32) -> u128 {
-    match values.get(column as usize) {
+fn rank_at(rows: &Rows, row: usize, column: u32) -> u128
+    requires { row < length rows.now.items }
+{
+    match rows.value(row, column) {
         Some(value) => rank_of(value),
         None => 0,
     }
@@ -209,7 +212,7 @@ pub(crate) fn some_ranks(
     let mut ranks = Vec::new(alloc);
     'rows: for number in (0..rows.len()).step_by(rows.len() / wanted.max(1) + 1) {
         if number < rows.len() {
-            ranks.push(rank_at(rows.values(number), column))?;
+            ranks.push(rank_at(rows, number, column))?;
         }
     }
     Ok(ranks)

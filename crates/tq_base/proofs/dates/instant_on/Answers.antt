@@ -1,4 +1,4 @@
-use Rattle.std.proofs.Common.{◌≡◌, ◌∙◌, ◌<◌, ◌-◌, ℕ, ap, arith, pos, Option, Some, None, sym, w8, w16}
+use Rattle.std.proofs.Common.{◌≡◌, ◌∙◌, ◌<◌, ℕ, ap, arith, Option, Some, None, sym, w8, w16}
 use Rattle.std.specs.Prelude.{IsSome, IfSome}
 use Rattle.std.proofs.lemmas.Int.{to_z_pos}
 use Rattle.tq_base.specs.Dates.{CivilDate}

@@ -1,4 +1,4 @@
-use Rattle.std.proofs.Common.{◌≡◌, ◌∙◌, ◌++◌, ◌∷◌, [], ◌<◌, ◌+◌, ap, sym, refl, arith, List, append_assoc, get_or, length, map, take}
+use Rattle.std.proofs.Common.{◌≡◌, ◌∙◌, ◌++◌, ◌∷◌, [], ◌<◌, ◌+◌, ap, sym, arith, List, append_assoc, get_or, length, map, take}
 use Rattle.std.proofs.lemmas.List.{length-map, map-append, take_more}
 use Rattle.std.proofs.lemmas.List.{get_or-map}
 use Rattle.tq_base.specs.declared.fragment.Fragment.{Fragment}
@@ -13,10 +13,10 @@ rows-preserved c =
     let rows = c.args.rows.now.items in
     let table = c.args.table in
     let i = c.rows.number in
-    let d : Fragment = record { values = c.values.result.now; period = c.period-item.result } in
+    let d : Fragment = record { values = []; period = c.period-item.result } in
     let seen : c.periods-period-items.result.now ≡ map (λ (row : Fragment). row.period) rows = c.periods-period-items.ensures in
     let less : i < length rows = omega (arith, c.rows-test.true, ap length seen, length-map rows (λ (row : Fragment). row.period)) in
-    let values : c.in_ok-values.values ≡ (get_or rows i d).values = c.in_ok-values.ensures ∙ c.values.ensures d in
+    let values : c.in_ok-values.values ≡ (get_or rows i d).values = c.in_ok-values.ensures d in
     let period : c.period-item.result ≡ (get_or rows i d).period =
     c.period-item.is ∙ ap (λ ps. get_or ps i c.period-item.result) seen ∙ get_or-map (λ (row : Fragment). row.period) rows i d c.period-item.result less in
     let told : entry_in (c.in_ok-values.values, record { table = table; from = c.period-item.result.start; to = c.period-item.result.end }) ≡ told_by table (get_or rows i d) =

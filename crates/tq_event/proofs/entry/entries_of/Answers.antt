@@ -1,8 +1,7 @@
-use Rattle.std.proofs.Common.{◌≡◌, ◌∙◌, ◌++◌, ◌∷◌, [], ◌<◌, ◌+◌, ap, sym, refl, arith, get_or, length, map, take}
+use Rattle.std.proofs.Common.{◌≡◌, ◌∙◌, ◌++◌, ◌∷◌, [], ◌+◌, ap, sym, refl, arith, length, take}
 use Rattle.std.proofs.lemmas.List.{length-take-le, take_more}
 use Rattle.tq_base.specs.RowLists.{RowList}
-use Rattle.tq_event.specs.Entries.{entry_in}
-use Rattle.tq_event.specs.Tables.{entries_from, told_by}
+use Rattle.tq_event.specs.Tables.{entries_from}
 use Rattle.tq_event.proofs.TableLemmas.{entries_from-push}
 use Rattle.tq_event.proofs.entry.entries_of.Goals as goal
 

@@ -1,4 +1,4 @@
-use Rattle.std.proofs.Common.{◌≡◌, sym, subst}
+use Rattle.std.proofs.Common.{sym, subst}
 use Rattle.tq_event.specs.Tables.{AreRead, AreRowsOf, entries_from, lists_of}
 use Rattle.tq_event.proofs.TableLemmas.{rows_are_told}
 use Rattle.tq_event.proofs.loading.load_tables.Goals as goal

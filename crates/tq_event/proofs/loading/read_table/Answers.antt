@@ -1,4 +1,5 @@
-use Rattle.std.proofs.Common.{◌≡◌, ◌∙◌, ◌+◌, ◌≤◌, ◌++◌, ◌∷◌, [], List, Result, Err, ℕ, drop, map, sum_by, sym, ap, refl, append_assoc, append-nil, arith}
+use Rattle.std.proofs.Common.{◌≡◌, ◌∙◌, ◌+◌, ◌≤◌, ◌++◌, ◌∷◌, [], List, Result, Err, ℕ, drop, length, map, sum_by, sym, ap, refl, append_assoc, append-nil, arith}
+use Rattle.std.proofs.lemmas.Result.{err_from_is_err_and}
 use Rattle.std.proofs.lemmas.List.{map-append}
 use Rattle.std.proofs.lemmas.List.Sums.{sum_by_push}
 use Rattle.csv.specs.Records.{fields_of}
@@ -38,9 +39,9 @@ records-init c =
     let (more, split, has) = rw c.if-not-branch.false at (c.in_ok-next_record.ensures (csv_records bytes) c.record_reader-reader.ensures) in
     record {
       columns = columns_first bytes (fields_of c.next_record.new.record) more (sym c.is_marked_twice.ensures ∙ c.if-is_marked_twice.false) split ∙ c.in-Ok.ensures.ok;
-      width = omega (arith, c.new-rows.ensures.width, c.len.ensures, c.in-Ok.columns.ok.0);
+      width = c.in_ok-rows.ensures.width ∙ ap length c.deref.ensures.value;
       whole = [];
-      kept = c.new-rows.ensures.rows;
+      kept = c.in_ok-rows.ensures.rows;
       counted = omega arith;
       within = c.requires.within;
       few = omega arith;
@@ -75,7 +76,7 @@ records-preserved c =
       has = has;
       rest = λ before same. i.rest before same
           ∙ add_ok c.args.form c.args.limit table c.in-Ok.columns.items c.records.number (before ++ told) (fields_of c.next_record-in-records.new.record) more i.left split entry ((before ++ told) ++ entry ∷ [])
-          (rw c.deref.ensures.value at (of_record.told table))
+          (rw c.deref-in-records.ensures.value at (of_record.told table))
           (next_ok c.args.limit (before ++ told) entry c.add_row.new.events (omega (arith, counted, told_count before told c.args.events.now c.records.events same i.counted)) c.in_default.ensures.within)
           ∙ ap (λ es. entries_after c.args.form c.args.limit table c.in-Ok.columns.items (c.records.number + 1) es more) (append_assoc before told (entry ∷ []) ∙ ap (λ es. before ++ es) (sym grown));
     }
@@ -99,7 +100,7 @@ returns-in-Err-read_entry-clause-fault c before same known =
     let kind = known_kind c.in-Err-read_entry.kind c.fault_at-in-Err-read_entry.result c.fault_at-in-Err-read_entry.ensures.out_of_memory known in
     read_fault c.args.form c.args.limit c.args.table before c.args.bytes.now c.in-Ok.columns.items c.fault_at-in-Err-read_entry.result i.columns
     (i.rest before same ∙ entry_fault c.args.form c.args.limit c.args.table c.in-Ok.columns.items c.records.number (before ++ map (told_by c.args.table) i.whole) (fields_of c.next_record-in-records.new.record) more i.left split
-    c.in-Err-read_entry.kind c.fault_at-in-Err-read_entry.result (rw c.deref.ensures.value at (c.in-Err-read_entry.ensures.fault c.args.table kind)) (c.fault_at-in-Err-read_entry.ensures.named kind))
+    c.in-Err-read_entry.kind c.fault_at-in-Err-read_entry.result (rw c.deref-in-records.ensures.value at (c.in-Err-read_entry.ensures.fault c.args.table kind)) (c.fault_at-in-Err-read_entry.ensures.named kind))
 
 pub returns-in-Err-add_row-clause-fault : goal.returns-in-Err-add_row-clause-fault
 returns-in-Err-add_row-clause-fault c before same known =
@@ -115,5 +116,10 @@ returns-in-Err-add_row-clause-fault c before same known =
     (omega (arith, told_count before told c.args.events.now c.records.events same i.counted)) (c.in-Err-add_row.ensures.many kind) in
     read_fault c.args.form c.args.limit table before c.args.bytes.now c.in-Ok.columns.items c.fault_at-in-Err-add_row.result i.columns
     (i.rest before same ∙ add_fault c.args.form c.args.limit table c.in-Ok.columns.items c.records.number (before ++ told) (fields_of c.next_record-in-records.new.record) more i.left split entry
-    c.in-Err-add_row.kind c.fault_at-in-Err-add_row.result (rw c.deref.ensures.value at (of_record.told table))
+    c.in-Err-add_row.kind c.fault_at-in-Err-add_row.result (rw c.deref-in-records.ensures.value at (of_record.told table))
     (many ∙ ap (λ (k : LoadFaultKind). let r : Result (List Entry) LoadFaultKind = Err k in r) (sym (c.in-Err-add_row.ensures.kind kind))) (c.fault_at-in-Err-add_row.ensures.named kind))
+
+pub returns-in_err-next_record-2-clause-fault : goal.returns-in_err-next_record-2-clause-fault
+returns-in_err-next_record-2-clause-fault c before same =
+    let p = err_from_is_err_and c.from_residual-in_err-next_record-2.result c.from_residual-in_err-next_record-2.ensures.1 in
+    rw (p.1, p.2) (λ known. absurd (known refl))

@@ -1,4 +1,4 @@
-use Rattle.std.proofs.Common.{◌≡◌, ◌∙◌, ◌++◌, ◌∷◌, [], false, Result, ap, append-nil, append_assoc, arith, refl, subst, sym}
+use Rattle.std.proofs.Common.{◌≡◌, ◌∙◌, ◌++◌, ◌∷◌, [], false, Result, ap, append-nil, append_assoc, refl, subst, sym}
 use Rattle.std.proofs.lemmas.List.Elements.{All-nil, All-push}
 use Rattle.csv.specs.Records.{fields_of}
 use Rattle.tq_base.specs.declared.fragment.Fragment.{Fragment}
@@ -12,9 +12,9 @@ use Rattle.tq_loading.proofs.reading.read_rows.Goals as goal
 
 pub rows-init : goal.rows-init
 rows-init c = record {
-  wide = omega (arith, c.new-rows.ensures.width);
+  wide = c.in_ok-rows.ensures.width;
   told = λ all has.
-      let none : TellKept c.args.form c.args.columns.now c.args.wanted.now [] c.new-rows.result.items = record { whole = []; told = λ table. refl; kept = c.new-rows.ensures.rows } in
+      let none : TellKept c.args.form c.args.columns.now c.args.wanted.now [] c.in_ok-rows.rows.items = record { whole = []; told = λ table. refl; kept = c.in_ok-rows.ensures.rows } in
       ([], all, refl, has, none, All-nil (λ fields. may_be_open fields ≡ false));
 }
 

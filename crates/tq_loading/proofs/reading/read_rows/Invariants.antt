@@ -1,4 +1,4 @@
--- The rows so far are those that the records so far tell, with only wanted texts kept, and none of these may be open.
+-- The rows so far are those that the records so far tell, with only wanted values kept, and none of these may be open.
 use Rattle.std.proofs.Common.{◌≡◌, ◌++◌, ℕ, List, length}
 use Rattle.tq_event.specs.Reading.{HasLeft}
 use Rattle.tq_loading.specs.Feeds.{AreClosed}

@@ -11,6 +11,7 @@ use Rattle.tq_eval.specs.Shares.{ArePartedBy}
 use Rattle.tq_run.specs.Results.{IsResultList}
 use Rattle.tq_workers.specs.declared.ranges.RangeText.{RangeText}
 use Rattle.tq_workers.specs.Shares.{HaveAnswer, IsShareText, columns_in}
+use Rattle.tq_workers.proofs.SharedRows.{lent}
 use Rattle.tq_workers.proofs.CountLemmas.{as_many_cuts}
 use Rattle.tq_workers.proofs.ShareLemmas.{have_answer, table_rows}
 use Rattle.tq_workers.proofs.counted.count_texts.Goals as goal
@@ -50,3 +51,7 @@ returns g c =
     subst (HaveAnswer c.args.form valid plan) (sym c.in_ok-texts_of.ensures)
     (have_answer c.shares_part_answers.ensures c.args.form all.catalogue.now valid plan (drop 1 ranks) columns values c.fit.ensures c.requires.over parted are
     (subst (λ (l : List RangeText). StandInOrder (map (λ (r : RangeText). r.lines) l)) c.deref-6.ensures.value (c.if-not-stand_in_order.ensures refl)))
+
+-- the work may be lent to several threads
+pub run_with-requires-sync-W : goal.run_with-requires-sync-W
+run_with-requires-sync-W g c κs within = search lent depth 30 fits 20000

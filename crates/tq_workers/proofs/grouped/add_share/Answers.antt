@@ -12,17 +12,14 @@ rows-init c =
     let are = c.into_iter-row-iterator.ensures.into_iter_gives ∙ c.memchr_iter-row-items.ensures.value in
     record {
       width = refl;
-      left = places_within c.args.number c.args.told.now c.into_iter-row-iterator.result (length items) are c.requires.told;
+      left = places_within c.args.number c.args.told.now c.into_iter-row-iterator.result (length items) are c.requires;
       rows = ap (λ l. c.args.out.now.items ++ map (row_at items) l) are;
     }
 
-pub push_copy-requires : goal.push_copy-requires
-push_copy-requires c =
+pub push_row-requires : goal.push_row-requires
+push_row-requires c =
     let items = c.args.rows.now.items in
-    let left = subst (All (λ k. k < length items)) c.in-Some.ensures.steps c.rows.invariant.left in
-    ap length (c.values.ensures no_row)
-    ∙ c.requires.wide c.in-Some.row no_row (All-head (λ k. k < length items) c.in-Some.row c.next.new.self left)
-    ∙ sym c.rows.invariant.width
+    All-head (λ k. k < length items) c.in-Some.row c.next.new.self (subst (All (λ k. k < length items)) c.in-Some.ensures.steps c.rows.invariant.left)
 
 pub rows-preserved : goal.rows-preserved
 rows-preserved c =
@@ -31,11 +28,10 @@ rows-preserved c =
     let rest = c.next.new.self in
     let left = subst (All (λ k. k < length items)) c.in-Some.ensures.steps c.rows.invariant.left in
     record {
-      width = c.in_ok-push_copy.ensures.width ∙ c.rows.invariant.width;
+      width = c.in_ok-push_row.ensures.width ∙ c.rows.invariant.width;
       left = All-tail (λ k. k < length items) row rest left;
-      rows = ap (λ l. l ++ map (row_at items) rest) c.in_ok-push_copy.ensures.pushed
-          ∙ append_assoc c.rows.out.items (record { values = c.values.result.now; period = c.period.result } ∷ []) (map (row_at items) rest)
-          ∙ (λ i. c.rows.out.items ++ record { values = c.values.ensures no_row i; period = c.period.ensures no_row i } ∷ map (row_at items) rest)
+      rows = ap (λ l. l ++ map (row_at items) rest) (c.in_ok-push_row.ensures.pushed no_row)
+          ∙ append_assoc c.rows.out.items (row_at items row ∷ []) (map (row_at items) rest)
           ∙ ap (λ l. c.rows.out.items ++ map (row_at items) l) (sym c.in-Some.ensures.steps)
           ∙ c.rows.invariant.rows;
     }

@@ -1,7 +1,6 @@
-use Rattle.std.proofs.Common.{◌∙◌, ◌++◌, ◌∷◌, [], List, ap, append_assoc, arith, get_or, map, sym, take}
+use Rattle.std.proofs.Common.{◌∙◌, ◌++◌, ◌∷◌, [], ap, append_assoc, arith, get_or, map, sym, take}
 use Rattle.std.proofs.lemmas.List.{map-append, take_more}
 use Rattle.tq_base.specs.declared.fragment.Fragment.{Fragment}
-use Rattle.tq_base.specs.declared.value.Value.{Value}
 use Rattle.tq_base.specs.Keys.{no_row}
 use Rattle.tq_ops.specs.Conditions.{value_at}
 use Rattle.tq_workers.specs.Shares.{share_of}
@@ -16,5 +15,5 @@ rows-preserved c =
     ap (λ l. before ++ l) c.in_ok-push.ensures.items
     ∙ sym (append_assoc before c.rows.told.items (c.share_at.result ∷ []))
     ∙ ap (λ l. l ++ c.share_at.result ∷ []) c.rows.invariant
-    ∙ ap (λ n. map share (take place rows) ++ n ∷ []) (c.share_at.ensures ∙ ap (λ (values : List Value). share_of c.args.cuts.now (value_at values c.args.column)) (c.values.ensures no_row))
+    ∙ ap (λ n. map share (take place rows) ++ n ∷ []) (c.share_at.ensures no_row)
     ∙ sym (ap (map share) (take_more rows place no_row (omega (arith, c.rows-test.true, c.requires.within))) ∙ map-append share (take place rows) (get_or rows place no_row ∷ []))

@@ -18,12 +18,12 @@ rows-preserved c =
     let values = c.args.self.now in
     let has = is_number_in c.args.range.now in
     let len : length values ≡ v.len =
-    sym (ap length c.self.view_is) ∙ length-map-range_with_len (λ place. value_there v.values.now v.width v.column (number_in (option_copied v.numbers) place)) 0 v.len in
+    sym (ap length c.self.view_is) ∙ length-map-range_with_len (λ place. value_there v.rows v.values.now v.step v.place (number_in (option_copied v.numbers) place)) 0 v.len in
     let inside : row < length values = omega (arith, len, c.rows-test.true) in
     let here : c.value_there-value.result.now ≡ get_or values row (Int (pos 0)) =
     c.value_there-value.ensures
-    ∙ ap (value_there v.values.now v.width v.column) c.number_in.ensures
-    ∙ sym (read_there v.values.now v.width v.column (option_copied v.numbers) v.len row c.rows-test.true)
+    ∙ ap (value_there v.rows v.values.now v.step v.place) c.number_in.ensures
+    ∙ sym (read_there v.rows v.values.now v.step v.place (option_copied v.numbers) v.len row c.rows-test.true)
     ∙ ap (λ l. value_at l row) c.self.view_is in
     (λ i. c.rows.invariant i && (c.is_number_in-are.ensures ∙ ap has here) i)
     ∙ sym (list_all_more has values row (Int (pos 0)) inside)
@@ -33,5 +33,5 @@ returns c =
     let v = c.self.inside in
     let values = c.args.self.now in
     let len : length values ≡ v.len =
-    sym (ap length c.self.view_is) ∙ length-map-range_with_len (λ place. value_there v.values.now v.width v.column (number_in (option_copied v.numbers) place)) 0 v.len in
+    sym (ap length c.self.view_is) ∙ length-map-range_with_len (λ place. value_there v.rows v.values.now v.step v.place (number_in (option_copied v.numbers) place)) 0 v.len in
     c.rows.invariant ∙ ap (list_all (is_number_in c.args.range.now)) (take_all c.rows.row values (omega (arith, len, c.rows-test.false)))

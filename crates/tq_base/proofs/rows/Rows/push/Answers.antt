@@ -1,11 +1,19 @@
-use Rattle.std.proofs.Common.{◌≡◌, ◌++◌, length, ap, sym, ◌∙◌}
-use Rattle.tq_base.specs.RowLists.{RowList}
-use Rattle.tq_base.proofs.RowListLemmas.{push-rows_from}
+use Rattle.std.proofs.Common.{◌≢◌, ◌++◌, ◌∷◌, [], ◌∙◌, List, ap, refl, subst}
+use Rattle.std.proofs.lemmas.Result.{on_ok_weaker}
+use Rattle.tq_base.specs.declared.fragment.Fragment.{Fragment}
+use Rattle.tq_base.specs.declared.rows.Slot.{Slot}
+use Rattle.tq_base.specs.Slots.{kept_of, AreLeftOut, AreNumbered}
+use Rattle.tq_base.proofs.SlotLemmas.{numbered_slots, pushed_seen}
 use Rattle.tq_base.proofs.rows.Rows.push.Goals as goal
 
 pub returns-clause-pushed : goal.returns-clause-pushed
 returns-clause-pushed c =
-    let fits : length c.args.row.now.items ≡ c.self.inside.width = c.requires ∙ ap (λ (v : RowList). v.width) (sym c.self.view_is) in
-    let values : c.append.new.self.items ≡ c.self.inside.values.items ++ c.args.row.now.items = (c.in_ok-append.ensures).items in
-    let periods : c.reserve.new.self.items ≡ c.self.inside.periods.items = c.reserve.ensures.items in
-    rw (values, c.push_reserved.ensures.items, periods, ← c.self.view_is) (push-rows_from _ _ _ _ _ c.self.invariant.0 fits)
+    let r = c.self.inside in
+    let row = c.args.row.now.items in
+    let some : r.slots.items ≢ [] = λ none. c.if-keep_all.ensures.some refl (c.deref.ensures.value ∙ none) in
+    let numbered : AreNumbered 0 r.slots.items r.dense.width = numbered_slots r.slots.items r.dense.width r.texts.items some c.self.invariant in
+    let out : AreLeftOut r.slots.items row = subst (λ (l : List Slot). AreLeftOut l row) c.deref-2.ensures.value (subst (AreLeftOut c.deref-2.result.now) c.deref-3.ensures.value (c.if-not-are_left_out.ensures refl)) in
+    on_ok_weaker c.push_kept.result
+    (λ pushed. pushed_seen r.slots.items r.dense.width r.dense.items c.push_kept.new.self.items c.args.self.now row c.args.period some c.self.view_is c.requires numbered out
+    (pushed ∙ ap (λ (l : List Slot). let all : List Fragment = r.dense.items ++ record { values = kept_of l row; period = c.args.period } ∷ [] in all) c.deref-4.ensures.value))
+    c.push_kept.ensures.pushed

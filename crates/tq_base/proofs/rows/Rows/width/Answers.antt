@@ -1,5 +1,16 @@
-use Rattle.tq_base.proofs.RowListLemmas.{widths-rows_from}
+use Rattle.std.proofs.Common.{◌≡◌, length, subst}
+use Rattle.std.specs.Prelude.{All}
+use Rattle.tq_base.specs.declared.fragment.Fragment.{Fragment}
+use Rattle.tq_base.specs.RowLists.{RowList}
+use Rattle.tq_base.proofs.SlotLemmas.{widths_seen}
 use Rattle.tq_base.proofs.rows.Rows.width.Goals as goal
 
+pub returns-then-keep_all-clause-rows : goal.returns-then-keep_all-clause-rows
+returns-then-keep_all-clause-rows c =
+    subst (λ (v : RowList). All (λ (row : Fragment). length row.values ≡ v.width) v.items) c.self.view_is
+    (widths_seen c.self.inside.slots.items c.self.inside.dense.width c.self.inside.dense.items c.width-kept.ensures.rows)
+
 pub returns-clause-rows : goal.returns-clause-rows
-returns-clause-rows c = rw (← c.self.view_is) (widths-rows_from _ _ _ c.self.invariant.0)
+returns-clause-rows c =
+    subst (λ (v : RowList). All (λ (row : Fragment). length row.values ≡ v.width) v.items) c.self.view_is
+    (widths_seen c.self.inside.slots.items c.self.inside.dense.width c.self.inside.dense.items c.width-kept.ensures.rows)

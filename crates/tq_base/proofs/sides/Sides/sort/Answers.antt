@@ -1,4 +1,4 @@
-use Rattle.std.proofs.Common.{false, get_or, map, subst}
+use Rattle.std.proofs.Common.{get_or, map, subst}
 use Rattle.std.specs.Prelude.{◌≡◌, [], All, IsSorted}
 use Rattle.std.proofs.lemmas.List.Sorted.{All-permutation, IsPermutation-map, IsPermutation-refl}
 use Rattle.tq_base.specs.declared.sides.Key.{Key}

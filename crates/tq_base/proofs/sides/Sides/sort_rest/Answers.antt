@@ -1,5 +1,5 @@
 use Rattle.std.proofs.Common.{◌≡◌, ◌≤◌, ◌∙◌, length, map, subst, sym, ap, arith}
-use Rattle.std.specs.Prelude.{IsPermutation, IsSorted}
+use Rattle.std.specs.Prelude.{IsPermutation}
 use Rattle.std.proofs.lemmas.List.Sorted.{All-permutation, IsPermutation-map}
 use Rattle.tq_base.specs.declared.sides.Key.{Key}
 use Rattle.tq_base.specs.declared.sides.Mark.TheVariants.{Unknown}
@@ -7,7 +7,7 @@ use Rattle.tq_base.specs.declared.sides.Side.{Side}
 use Rattle.tq_base.specs.declared.sides.Side.TheVariants.{Left, Right}
 use Rattle.tq_base.specs.KeySides.{state_of}
 use Rattle.tq_base.specs.Keys.{columns_on, AreMarked}
-use Rattle.tq_base.specs.Untold.{from_cmp, goes_on, unmarked, SameKeys}
+use Rattle.tq_base.specs.Untold.{unmarked}
 use Rattle.tq_base.proofs.UntoldLemmas.{going_on, marked_none, marked_sorted, order_same, unmarked_going_on}
 use Rattle.tq_base.proofs.sides.Sides.sort_rest.Goals as goal
 
