@@ -256,6 +256,42 @@ def large():
     )
 
 
+def pieces():
+    """Files of megabytes, which several threads read in pieces: each row tells its own number, so none may be lost or moved."""
+    count = 150_000
+    rows = [b"%d,v%06d,%d,%d\n" % (i, i, i, i + 3) for i in range(count)]
+    plain = b"".join(rows)
+    # Every record holds lines that look like records.
+    quoted = b"".join(b'%d,"v%06d\n7,x,1,2\n8,y",%d,%d\n' % (i, i, i, i + 3) for i in range(count))
+    said = b"v,from,to\n" + b"".join(b"v%06d,%d,%d\n" % (i, i, i + 3) for i in range(count))
+    said_quoted = b"v,from,to\n" + b"".join(b'"v%06d\n7,x,1,2\n8,y",%d,%d\n' % (i, i, i + 3) for i in range(count))
+    question = "VALIDTIME SELECT v FROM t"
+    for workers in ("1", "2", "3", "4", "16"):
+        more = ["--workers", workers]
+        files = (
+            ("plain", SMALL + plain, said),
+            ("ended by carriage returns and line feeds", (SMALL + plain).replace(b"\n", b"\r\n"), said),
+            ("marked", b"\xef\xbb\xbf" + SMALL + plain, said),
+            ("with an empty line in front", b"\n" + SMALL + plain, said),
+            ("without a last line end", (SMALL + plain)[:-1], said),
+            ("with lines within quotes", SMALL + quoted, said_quoted),
+        )
+        for kind, content, out in files:
+            yield ask(f"a long file {kind} by {workers} workers", [("t", content)], question, more, out=out)
+        both = "VALIDTIME SELECT a.v, b.v FROM a, b WHERE a.k = b.k"
+        pairs = b"v,v,from,to\n" + b"".join(b"v%06d,v%06d,%d,%d\n" % (i, i, i, i + 3) for i in range(count))
+        yield ask(f"two long files by {workers} workers", [("a", SMALL + plain), ("b", SMALL + b"".join(reversed(rows)))], both, more, out=pairs)
+        err = b"tq: load BadInt table 0 record %d\n"
+        for place in (0, count // 2, count - 1):
+            spoilt = SMALL + b"".join(rows[:place]) + b"x" + b"".join(rows[place:])
+            yield ask(f"record {place + 2} of a long file at fault, by {workers} workers", [("t", spoilt)], question, more, err=err % (place + 2), status=1)
+        missing = "VALIDTIME SELECT w FROM t"
+        yield ask(f"no such column of a long file, by {workers} workers", [("t", SMALL + plain)], missing, more, err=b"tq: plan UnknownColumn\n", status=1)
+    for workers in ("1", "4"):
+        words = ["ask", "--workers", workers, "--table", "t=ROOM/zeros", question]
+        yield Case(f"a file that is too large by {workers} workers", words, err=b"tq: cannot read ROOM/zeros\n", status=1, files={"zeros": 2**30 + 1})
+
+
 def changes_of(rows):
     """For each value the instants at which rows of it begin and end, in order, each with how many there are from then on."""
     changes = {}
@@ -900,5 +936,5 @@ def outputs_that_fail():
 
 def table():
     """All cases."""
-    makers = (files_at_fault, statements_at_fault, command_lines, words_of_all_lengths, paths, side_by_side, large, among_threads, named_columns, sessions, pictures, checks, dates, explanations, long_statements, explained_answers, explained_files, further_faults, each_fault, unread_files, outputs_that_fail)
+    makers = (files_at_fault, statements_at_fault, command_lines, words_of_all_lengths, paths, side_by_side, large, pieces, among_threads, named_columns, sessions, pictures, checks, dates, explanations, long_statements, explained_answers, explained_files, further_faults, each_fault, unread_files, outputs_that_fail)
     return [case for maker in makers for case in maker()]

@@ -7,7 +7,7 @@ use anyhow::anyhow;
 use std::alloc::Global;
 use tq_base::{Form, Instant, Items, Value, Values};
 use tq_event::laws::{loaded_is_history, loaded_is_within};
-use tq_event::{Event, Loaded, MAX_EVENTS, TableFile, load};
+use tq_event::{Event, FileBytes, Loaded, MAX_EVENTS, TableFile, load};
 use tq_store::Db;
 
 /// A table of a number and a text, and no event.
@@ -18,7 +18,7 @@ pub fn no_rows(alloc: Global) -> anyhow::Result<Loaded>
     let mut files = Vec::new(alloc);
     files.push(TableFile {
         name: Items::of(b"t".to_vec(alloc)?),
-        bytes: Items::of(b"k:int,v:text,from,to\n".to_vec(alloc)?),
+        bytes: FileBytes::of(b"k:int,v:text,from,to\n".to_vec(alloc)?),
     })?;
     loaded_is_history();
     loaded_is_within();

@@ -2,7 +2,7 @@
 
 use std::alloc::Global;
 use tq_base::{Form, Instant, Items, Value, Values};
-use tq_event::{Event, TableFile, load};
+use tq_event::{Event, FileBytes, TableFile, load};
 use tq_store::Db;
 
 /// How many rows a key has.
@@ -67,7 +67,7 @@ fn no_rows(alloc: Global) -> anyhow::Result<Db> {
     let mut files = Vec::new(alloc);
     files.push(TableFile {
         name: Items::of(b"rows".to_vec(alloc)?),
-        bytes: Items::of(b"key:int,number:int,from,to\n".to_vec(alloc)?),
+        bytes: FileBytes::of(b"key:int,number:int,from,to\n".to_vec(alloc)?),
     })?;
     let loaded = load(alloc, files, 0, Form::Numbers)?;
     Ok(Db::new(alloc, loaded.catalogue)?)

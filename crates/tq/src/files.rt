@@ -6,20 +6,33 @@ ghost use Rattle.tq_event.specs.declared.file.TableFile.{TableFile as AnyFile};
 
 use crate::command_line::TableOption;
 use crate::kept::is_read_once;
+use crate::pieces::read_pieces;
 use crate::progress::{Counted, Progress};
 use crate::report::{Refusal, Told};
 use crate::unread::{file_len, reason};
 use std::alloc::{AllocError, Global};
 use std::io::{ErrorKind, Input};
+use std::os::unix::fs::FileExt;
 use std::rt::Files;
 use std::thread::Threads;
 use std::{fs, str, thread};
 use tq_base::Items;
 use tq_engine::{FileFault, Source, read_file};
-use tq_event::TableFile;
+use tq_event::{FileBytes, TableFile};
 
-/// The bytes of the file at a path, or of standard input where the path is `-`. The standard library opens no path that
-/// is no UTF-8.
+// The file at a path, opened. The standard library opens no path that is no UTF-8.
+fn open<R: Files>(rt: &R, path: &[u8]) -> Result<R::File, FileFault> {
+    let Ok(path) = str::from_utf8(path) else {
+        return Err(FileFault::Read);
+    };
+    match fs::open(rt, path) {
+        Ok(file) => Ok(file),
+        Err(error) if error.kind() == ErrorKind::OutOfMemory => Err(FileFault::OutOfMemory),
+        Err(_) => Err(FileFault::Read),
+    }
+}
+
+/// The bytes of the file at a path, or of standard input where the path is `-`.
 pub fn read_path<R: Files + AllocGlobal + Input>(
     rt: &R,
     path: &[u8],
@@ -29,30 +42,48 @@ pub fn read_path<R: Files + AllocGlobal + Input>(
         let reader = rt.reader();
         return read_file(rt.alloc(), &mut Source::over(Counted { reader, progress }));
     }
-    let Ok(path) = str::from_utf8(path) else {
-        return Err(FileFault::Read);
-    };
-    match fs::open(rt, path) {
-        Ok(reader) => read_file(rt.alloc(), &mut Source::over(Counted { reader, progress })),
-        Err(error) if error.kind() == ErrorKind::OutOfMemory => Err(FileFault::OutOfMemory),
-        Err(_) => Err(FileFault::Read),
-    }
+    let reader = open(rt, path)?;
+    read_file(rt.alloc(), &mut Source::over(Counted { reader, progress }))
 }
 
-// A table's name, and the bytes of its file.
-fn read_table<R: Files + AllocGlobal + Input>(
-    rt: &R,
-    option: TableOption,
-    progress: &Progress,
-) -> Result<TableFile, Refusal>
+// The same, read in pieces by so many workers where it is a large file.
+fn read_bytes<
+    R: Files<File: FileExt + Send + Sync, Dir: Send>
+        + AllocGlobal
+        + Input<Reader: Send>
+        + Threads
+        + Sync,
+>(rt: &R, path: &[u8], workers: u32, progress: &Progress) -> Result<FileBytes, FileFault> {
+    if workers < 2 || path == b"-".as_slice() {
+        return Ok(FileBytes::of(read_path(rt, path, progress)?));
+    }
+    let file = open(rt, path)?;
+    if let Some(bytes) = read_pieces(rt, rt.alloc(), &file, workers, progress)? {
+        return Ok(bytes);
+    }
+    let mut source = Source::over(Counted {
+        reader: file,
+        progress,
+    });
+    Ok(FileBytes::of(read_file(rt.alloc(), &mut source)?))
+}
+
+// A table's name, and the bytes of its file, which so many workers read.
+fn read_table<
+    R: Files<File: FileExt + Send + Sync, Dir: Send>
+        + AllocGlobal
+        + Input<Reader: Send>
+        + Threads
+        + Sync,
+>(rt: &R, option: TableOption, workers: u32, progress: &Progress) -> Result<TableFile, Refusal>
     ensures name { IfOk result (λ file. file.name ≡ option.name.items) }
     ensures refused { IfErr result (λ refusal. refusal ≢ Refusal.OutOfMemory → refusal ≡ Refusal.CannotRead option.path) }
 {
     let TableOption { name, path } = option;
-    match read_path(rt, &path, progress) {
+    match read_bytes(rt, &path, workers, progress) {
         Ok(bytes) => Ok(TableFile {
             name: Items::of(name),
-            bytes: Items::of(bytes),
+            bytes,
         }),
         Err(fault) => Err(Refusal::of_file(fault, path)),
     }
@@ -65,10 +96,17 @@ fn expect_files<R: Files>(rt: &R, options: &[TableOption], progress: &Progress) 
     }
 }
 
-// The tables in the order of their options, read one after the other.
-fn read_in_turn<R: Files + AllocGlobal + Input>(
+// The tables in the order of their options, read one after the other, each by so many workers.
+fn read_in_turn<
+    R: Files<File: FileExt + Send + Sync, Dir: Send>
+        + AllocGlobal
+        + Input<Reader: Send>
+        + Threads
+        + Sync,
+>(
     rt: &R,
     options: Vec<TableOption>,
+    workers: u32,
     progress: &Progress,
 ) -> Result<Vec<TableFile>, Refusal>
     ensures { IfOk result (λ tables. map (λ (t : AnyFile). t.name) tables.items ≡ map (λ (o : AnyOption). o.name.items) options.items) }
@@ -76,7 +114,7 @@ fn read_in_turn<R: Files + AllocGlobal + Input>(
     let mut tables = Vec::new(rt.alloc());
     'options: for option in options {
         tables
-            .push(read_table(rt, option, progress)?)
+            .push(read_table(rt, option, workers, progress)?)
             .map_err(AllocError::from)?;
     }
     Ok(tables)
@@ -92,20 +130,30 @@ fn stay_all<R: Files>(rt: &R, options: &[TableOption]) -> bool {
     true
 }
 
-// The tables in the order of their options, read by two threads, the first half of them and the others.
+// The tables in the order of their options, read by two threads, the first half of them and the others, and each half by
+// half the workers.
 fn read_side_by_side<
-    R: Files<File: Send, Dir: Send> + AllocGlobal + Input<Reader: Send> + Threads + Sync,
->(rt: &R, options: Vec<TableOption>, progress: &Progress) -> Result<Vec<TableFile>, Refusal>
+    R: Files<File: FileExt + Send + Sync, Dir: Send>
+        + AllocGlobal
+        + Input<Reader: Send>
+        + Threads
+        + Sync,
+>(
+    rt: &R,
+    options: Vec<TableOption>,
+    workers: u32,
+    progress: &Progress,
+) -> Result<Vec<TableFile>, Refusal>
     ensures { IfOk result (λ tables. map (λ (t : AnyFile). t.name) tables.items ≡ map (λ (o : AnyOption). o.name.items) options.items) }
 {
     let mut front = options;
     let back = front.split_off(front.len() / 2)?;
     let read_front = || -> Result<Vec<TableFile>, Refusal>
         ensures { IfOk result (λ tables. map (λ (t : AnyFile). t.name) tables.items ≡ map (λ (o : AnyOption). o.name.items) front.items) }
-    { read_in_turn(rt, front, progress) };
+    { read_in_turn(rt, front, workers / 2, progress) };
     let read_back = || -> Result<Vec<TableFile>, Refusal>
         ensures { IfOk result (λ tables. map (λ (t : AnyFile). t.name) tables.items ≡ map (λ (o : AnyOption). o.name.items) back.items) }
-    { read_in_turn(rt, back, progress) };
+    { read_in_turn(rt, back, workers / 2, progress) };
     let (more, tables) = thread::join(rt, read_back, read_front);
     let mut tables = tables?;
     let mut more = more?;
@@ -115,7 +163,11 @@ fn read_side_by_side<
 
 // The tables in the order of their options, read side by side where there are several workers.
 fn read_tables<
-    R: Files<File: Send, Dir: Send> + AllocGlobal + Input<Reader: Send> + Threads + Sync,
+    R: Files<File: FileExt + Send + Sync, Dir: Send>
+        + AllocGlobal
+        + Input<Reader: Send>
+        + Threads
+        + Sync,
 >(
     rt: &R,
     options: Vec<TableOption>,
@@ -126,16 +178,21 @@ fn read_tables<
 {
     expect_files(rt, &options, progress);
     if workers > 1 && options.len() > 1 && stay_all(rt, &options) {
-        read_side_by_side(rt, options, progress)
+        read_side_by_side(rt, options, workers, progress)
     } else {
-        read_in_turn(rt, options, progress)
+        read_in_turn(rt, options, workers, progress)
     }
 }
 
 /// The tables in the order of their options, or the refusal, which is explained where that is asked for. Where there are
-/// several workers, two read files side by side, unless one of these can be read once only.
+/// several workers, two read files side by side, unless one of these can be read once only, and several read the pieces
+/// of a large file.
 pub fn read_explained<
-    R: Files<File: Send, Dir: Send> + AllocGlobal + Input<Reader: Send> + Threads + Sync,
+    R: Files<File: FileExt + Send + Sync, Dir: Send>
+        + AllocGlobal
+        + Input<Reader: Send>
+        + Threads
+        + Sync,
 >(
     rt: &R,
     options: Vec<TableOption>,

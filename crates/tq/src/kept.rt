@@ -21,7 +21,7 @@ pub fn is_read_once<R: Files>(rt: &R, path: &[u8]) -> bool {
 // What is kept of a file.
 fn keep<R: Files + AllocGlobal>(rt: &R, file: &TableFile, path: &[u8]) -> Result<Kept, AllocError> {
     let bytes = if is_read_once(rt, path) {
-        Some(file.bytes.get().to_vec(rt.alloc())?)
+        Some(file.bytes.to_vec(rt.alloc())?)
     } else {
         None
     };

@@ -16,6 +16,7 @@ mod explained;
 mod files;
 mod heads;
 mod kept;
+mod pieces;
 mod progress;
 mod prompt;
 mod refusing;
@@ -36,6 +37,7 @@ use report::{Refusal, Told};
 use std::alloc::AllocError;
 use std::env::Env;
 use std::io::{self, Input, IsTerminal, Write};
+use std::os::unix::fs::FileExt;
 use std::process::ExitCode;
 use std::rt::Files;
 use std::sync::Wait;
@@ -53,7 +55,7 @@ use words::read_words;
 // Answers a request on standard output, once all files are read. What a refusal is about is explained where a person
 // sees it, or where that was asked for; how it was answered is told where that was asked for.
 fn ask<
-    R: Files<File: Send, Dir: Send>
+    R: Files<File: FileExt + Send + Sync, Dir: Send>
         + AllocGlobal
         + Clock
         + Input<Reader: Send>
@@ -84,7 +86,7 @@ fn ask<
 
 // Draws the answer of a request on standard output, once all files are read.
 fn draw_answer<
-    R: Files<File: Send, Dir: Send>
+    R: Files<File: FileExt + Send + Sync, Dir: Send>
         + AllocGlobal
         + Input<Reader: Send>
         + Print
@@ -154,7 +156,7 @@ fn list_faults<R: Files + AllocGlobal + Input + Print + Wait>(
 // Tells on standard output what the tables are, once all files are read; where records are at fault, these. A file that is
 // refused is explained where a person sees it.
 fn check_tables<
-    R: Files<File: Send, Dir: Send>
+    R: Files<File: FileExt + Send + Sync, Dir: Send>
         + AllocGlobal
         + Input<Reader: Send>
         + Print
@@ -190,7 +192,7 @@ fn check_tables<
 // Answers the lines of standard input on standard output, once all files are read, each after a prompt where there is
 // somewhere to print it.
 fn converse<
-    R: Files<File: Send, Dir: Send>
+    R: Files<File: FileExt + Send + Sync, Dir: Send>
         + AllocGlobal
         + Input<Reader: Send>
         + Print
@@ -234,7 +236,7 @@ fn print_bytes<R: Print>(rt: &R, bytes: &[u8]) -> Result<(), Refusal> {
 
 // Does what a request asks.
 fn carry_out<
-    R: Files<File: Send, Dir: Send>
+    R: Files<File: FileExt + Send + Sync, Dir: Send>
         + AllocGlobal
         + Clock
         + Input<Reader: Send>
@@ -261,7 +263,7 @@ fn carry_out<
 
 // The same, while a person is shown how far it has come.
 fn carry_out_seen<
-    R: Files<File: Send, Dir: Send>
+    R: Files<File: FileExt + Send + Sync, Dir: Send>
         + AllocGlobal
         + Clock
         + Input<Reader: Send>
@@ -281,7 +283,7 @@ fn carry_out_seen<
 
 // Does what the command line asks.
 fn run<
-    R: Files<File: Send, Dir: Send>
+    R: Files<File: FileExt + Send + Sync, Dir: Send>
         + AllocGlobal
         + Clock
         + Env

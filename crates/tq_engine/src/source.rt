@@ -7,6 +7,7 @@ ghost use Rattle.std.specs.Io.{ReadsAtMost};
 ghost use Rattle.std.specs.Io.KnownBytes.{Consumes, IsAtEnd, Keeps};
 ghost use Rattle.tq_table.specs.Sink.{one_more};
 
+use std::alloc::AllocError;
 use std::io::Read;
 use std::marker::Model;
 use thiserror::Error;
@@ -21,6 +22,16 @@ pub enum FileFault {
     TooLarge = 2,
     #[error("out of memory")]
     OutOfMemory = 3,
+}
+
+impl From<AllocError> for FileFault {
+    ghost use Rattle.tq_engine.specs.declared.source.FileFault.TheVariants.{OutOfMemory};
+
+    ghost from_gives = { λ _ fault. fault ≡ OutOfMemory };
+
+    fn from(_error: AllocError) -> FileFault {
+        FileFault::OutOfMemory
+    }
 }
 
 /// A reader, with a count of its reads, and of those that failed.

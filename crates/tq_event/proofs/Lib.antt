@@ -3,6 +3,7 @@ pub mod CatalogueLemmas
 pub mod DatedLemmas
 pub mod FieldLemmas
 pub mod FieldUtf8
+pub mod FileBytesLemmas
 pub mod HistoryLemmas
 pub mod LoadLemmas
 pub mod LoadedLemmas

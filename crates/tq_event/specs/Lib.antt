@@ -1,4 +1,5 @@
 pub mod Entries
+pub mod FileBytes
 pub mod History
 pub mod Keeping
 pub mod Laws

@@ -1,5 +1,6 @@
 // What goes into a load and what comes out.
 
+use crate::bytes::FileBytes;
 use crate::event::Event;
 use tq_base::{Catalogue, Items, Rows};
 
@@ -7,7 +8,7 @@ use tq_base::{Catalogue, Items, Rows};
 #[derive(Drop, Debug)]
 pub struct TableFile {
     pub name: Items<u8>,
-    pub bytes: Items<u8>,
+    pub bytes: FileBytes,
 }
 
 /// The tables, and the events that the records of their files make, in order.

@@ -10,6 +10,7 @@
 //! loading for who takes them in another order.
 #![tactic(auto)]
 
+mod bytes;
 mod entry;
 mod event;
 mod fault;
@@ -27,6 +28,7 @@ mod records;
 mod starts;
 pub mod steps;
 
+pub use bytes::FileBytes;
 pub use event::Event;
 pub use fault::{LoadFault, LoadFaultKind};
 pub use file::{Loaded, TableFile, Tables};

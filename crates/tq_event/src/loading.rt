@@ -7,6 +7,7 @@ ghost use Rattle.tq_event.specs.Keeping.{AreKeptFiles, AreWantedTables, IsKeptAf
 ghost use Rattle.tq_event.specs.Loading.{IsLoaded, contents_of, event_count, has_table, next_contents, next_name, out_of_memory, table_contents};
 ghost use Rattle.tq_event.specs.Tables.{AreRead, AreTables, entries_from, told_by};
 
+use crate::bytes::FileBytes;
 use crate::entry::entries_of;
 use crate::fault::{LoadFault, LoadFaultKind};
 use crate::file::{Loaded, TableFile, Tables};
@@ -129,6 +130,32 @@ fn read_table(
     unreachable!()
 }
 
+// What `read_table` reads, out of bytes that may stand in several lists; then they are put into one.
+fn read_bytes(
+    alloc: Global,
+    limit: u32,
+    table: u32,
+    wanted: &[bool],
+    events: &mut u32,
+    bytes: &FileBytes,
+    form: Form,
+) -> Result<(Vec<Column>, Rows), LoadFault>
+    requires limit { limit ≤ MAX_EVENTS }
+    requires within { events.old ≤ limit }
+    ensures ok { IfOk result (λ read. IsKeptTable form limit table wanted.now bytes.now events.old events.new read.0.items read.1.items) }
+    ensures width { IfOk result (λ read. read.1.width ≡ length read.0.items) }
+    ensures within { OnOk result (events.new ≤ limit) }
+    ensures fault { (before : List Entry) → sum_by event_count before ≡ events.old → IfErr result (λ fault. fault.kind ≢ LoadFaultKind.OutOfMemory
+        → table_contents form limit table before bytes.now ≡ Err fault) }
+    ensures out_of_memory { IfErr result (λ fault. fault.kind ≡ LoadFaultKind.OutOfMemory → fault ≡ out_of_memory) }
+{
+    if let Some(whole) = bytes.whole() {
+        return read_table(alloc, limit, table, wanted, events, whole, form);
+    }
+    let whole = bytes.to_vec(alloc)?;
+    read_table(alloc, limit, table, wanted, events, &whole, form)
+}
+
 fn has_table(tables: &[Schema], name: &[u8]) -> bool
     ensures { result ≡ has_table tables.now name.now }
 {
@@ -185,8 +212,7 @@ fn load_file(
         Err(kind) => return Err(fault_at(number, 0, kind)),
     };
     let wanted = wanted_columns(wanted, number);
-    let bytes = file.bytes.get();
-    let (columns, read) = read_table(alloc, limit, number, wanted, events, bytes, form)?;
+    let (columns, read) = read_bytes(alloc, limit, number, wanted, events, &file.bytes, form)?;
     let columns = Items::of(columns);
     tables
         .push(Schema { name, columns })

@@ -4,5 +4,6 @@ pub mod StandingLemmas
 pub mod ChainLemmas
 pub mod FeedLemmas
 pub mod PartLemmas
+pub mod PieceLemmas
 pub mod Pushed
 pub mod ToldLemmas

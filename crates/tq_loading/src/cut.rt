@@ -1,14 +1,16 @@
 // Cutting files into parts.
 
-ghost use Rattle.std.specs.Prelude.{◌≡◌, ◌≤◌, ◌<◌, ◌+◌, All, IfOk, IfSome, OnOk, length, slice_index, take, true};
+ghost use Rattle.std.specs.Prelude.{◌≡◌, ◌≤◌, ◌<◌, ◌+◌, ◌++◌, ℕ, List, All, IfOk, IfSome, IsTrue, OnOk, drop, false, length, slice_index, take, true};
+ghost use Rattle.tq_event.specs.Loading.{begins_with_mark};
 ghost use Rattle.tq_loading.specs.Feeds.{ends_in_feed};
 ghost use Rattle.tq_loading.specs.Parts.{IsCut, IsPartOf};
 
 use crate::part::Part;
+use crate::reading::ends_in_feed;
 use memchr::memchr;
 use std::alloc::{AllocError, Global};
-use tq_event::TableFile;
 use tq_event::steps::begins_with_mark;
+use tq_event::{FileBytes, TableFile};
 
 // About so many parts fall to each worker.
 const PARTS_A_WORKER: usize = 16;
@@ -19,6 +21,9 @@ const LONG: usize = 65_536;
 // The most cuts of one file.
 const MOST_CUTS: usize = 4_096;
 
+// How many bytes a byte order mark has.
+const MARK_LEN: usize = 3;
+
 // So many lines are looked at for one at which to cut.
 const MOST_LINES: usize = 64;
 
@@ -28,7 +33,7 @@ pub fn part_len(files: &[TableFile], workers: u32, least: usize) -> usize
 {
     let mut all: usize = 0;
     'files: for file in files {
-        all = all.saturating_add(file.bytes.get().len());
+        all = all.saturating_add(file.bytes.len());
     }
     (all / PARTS_A_WORKER / workers as usize).max(least).max(1)
 }
@@ -55,8 +60,8 @@ fn first_feed(bytes: &[u8]) -> Option<usize>
     memchr(b'\n', bytes)
 }
 
-// The place just behind the next line feed from the place on.
-fn line_end(bytes: &[u8], from: usize) -> Option<usize>
+/// The place just behind the next line feed from the place on.
+pub fn line_end(bytes: &[u8], from: usize) -> Option<usize>
     requires { from ≤ length bytes.now }
     ensures after { IfSome result (λ place. from < place) }
     ensures within { IfSome result (λ place. place ≤ length bytes.now) }
@@ -87,26 +92,61 @@ fn looks_like_record(bytes: &[u8]) -> bool {
     false
 }
 
-// A place for the end of a part that begins there and has so many bytes or more: the next line that looks like a
-// record. Whether it is one is known once the part is read.
-fn next_cut(bytes: &[u8], start: usize, len: usize) -> Option<usize>
+/// Whether a part may begin with the bytes, and with whatever comes behind them: a line that looks like a record. Whether
+/// it is one is known once the part in front is read.
+pub fn may_begin(bytes: &[u8]) -> bool
+    ensures { IsTrue result → (more : List ℕ) → begins_with_mark (bytes.now ++ more) ≡ false }
+{
+    bytes.len() >= MARK_LEN && !begins_with_mark(bytes) && looks_like_record(bytes)
+}
+
+// A place in the bytes for the end of a part that begins with them and has so many of them or more.
+fn cut_within(bytes: &[u8], len: usize) -> Option<usize>
+    ensures within { IfSome result (λ place. place ≤ length bytes.now) }
+    ensures feed { IfSome result (λ place. ends_in_feed (take place bytes.now) ≡ true) }
+    ensures unmarked { (more : List ℕ) → IfSome result (λ place. begins_with_mark (drop place bytes.now ++ more) ≡ false) }
+{
+    if bytes.len() <= len {
+        return None;
+    }
+    let mut place = len;
+    'lines: for _ in 0..MOST_LINES {
+        place = line_end(bytes, place)?;
+        if may_begin(&bytes[place..]) {
+            return Some(place);
+        }
+    }
+    None
+}
+
+/// A place in the bytes of a file at which records seem to begin: just behind a line feed, where a line looks like a
+/// record. `None` where there is none near.
+pub fn first_cut(bytes: &[u8]) -> Option<usize>
+    ensures within { IfSome result (λ place. place ≤ length bytes.now) }
+    ensures feed { IfSome result (λ place. ends_in_feed (take place bytes.now) ≡ true) }
+{
+    cut_within(bytes, 0)
+}
+
+// A place for the end of a part that begins there and has so many bytes or more, or ends with the list in which it
+// begins; `None` where that is the end of all bytes, or no part can end there.
+fn next_cut(bytes: &FileBytes, start: usize, len: usize) -> Option<usize>
     requires { start ≤ length bytes.now }
     ensures after { IfSome result (λ place. start < place) }
     ensures within { IfSome result (λ place. place ≤ length bytes.now) }
     ensures cut { IfSome result (IsCut bytes.now) }
 {
-    if bytes.len() - start <= len {
-        return None;
+    let all = bytes.len();
+    let here = bytes.piece_from(start);
+    if let Some(place) = cut_within(here, len) {
+        return Some(start + place);
     }
-    let mut place = start + len;
-    'lines: for _ in 0..MOST_LINES {
-        place = line_end(bytes, place)?;
-        let rest = &bytes[place..];
-        if !begins_with_mark(rest) && looks_like_record(rest) {
-            return Some(place);
-        }
+    let end = start + here.len();
+    if end < all && ends_in_feed(here) && may_begin(bytes.piece_from(end)) {
+        Some(end)
+    } else {
+        None
     }
-    None
 }
 
 // The parts of a file go to the end of the list, each of about this length, and the first one longer where that serves
@@ -124,7 +164,7 @@ fn add_parts(
     ensures parts { OnOk result (All (IsPartOf files.now) parts.new.items) }
     ensures few { OnOk result (length parts.new.items ≤ length parts.old.items + 4097) }
 {
-    let bytes = files[table as usize].bytes.get();
+    let bytes = &files[table as usize].bytes;
     let first = first_len(bytes.len(), workers, len);
     let mut start = 0;
     'cuts: for _ in 0..MOST_CUTS {
@@ -140,7 +180,7 @@ fn add_parts(
 }
 
 /// The parts of the files, file by file, each of about this length; the first one of a long file is longer, as serves so
-/// many workers. A file is cut behind line feeds, where records seem to begin.
+/// many workers. A file is cut behind line feeds, where records seem to begin, and where its bytes go on in another list.
 pub fn cut(
     alloc: Global,
     files: &[TableFile],

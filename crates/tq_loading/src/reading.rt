@@ -14,8 +14,8 @@ use tq_base::{Column, Form, Rows};
 use tq_event::LoadFaultKind;
 use tq_event::steps::{next_record, read_entry, record_reader};
 
-// Whether the last of the bytes is a line feed.
-fn ends_in_feed(bytes: &[u8]) -> bool
+/// Whether the last of the bytes is a line feed.
+pub fn ends_in_feed(bytes: &[u8]) -> bool
     ensures { result ≡ ends_in_feed bytes.now }
 {
     match bytes.last() {
@@ -24,9 +24,9 @@ fn ends_in_feed(bytes: &[u8]) -> bool
     }
 }
 
-// Whether the last field of the record ends with a line feed. So it does where the bytes end with a line feed within
-// quotes, and no record begins behind it.
-fn may_be_open(record: &ByteRecord) -> bool
+/// Whether the last field of the record ends with a line feed. So it does where the bytes end with a line feed within
+/// quotes, and no record begins behind it.
+pub fn may_be_open(record: &ByteRecord) -> bool
     ensures { result ≡ may_be_open (fields_of record.now) }
 {
     let count = record.len();

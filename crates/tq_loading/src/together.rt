@@ -14,7 +14,7 @@ use std::alloc::{AllocError, Global};
 use std::thread;
 use std::thread::Threads;
 use tq_base::{FOREVER, Period, Rows};
-use tq_event::TableFile;
+use tq_event::{FileBytes, TableFile};
 
 // Whether the other part follows on this one, with rows as wide.
 fn leads_to(read: &PartRows, other: &PartRows) -> bool
@@ -142,7 +142,7 @@ pub fn side_by_side_among<R: Threads + Sync>(
 }
 
 // Whether the rows are those of the whole file of this table.
-fn is_whole(read: &PartRows, table: usize, bytes: &[u8]) -> bool
+fn is_whole(read: &PartRows, table: usize, bytes: &FileBytes) -> bool
     ensures { IsTrue result → IsWhole table bytes.now read.now.part }
 {
     read.part.table as usize == table && read.part.start == 0 && read.part.end == bytes.len()
@@ -162,7 +162,7 @@ pub fn whole_tables(
     let mut tables = Vec::with_capacity(alloc, parts.len())?;
     'parts: for part in parts {
         let table = tables.len();
-        if !is_whole(&part, table, files[table].bytes.get()) {
+        if !is_whole(&part, table, &files[table].bytes) {
             return Ok(None);
         }
         tables.push(part.rows)?;

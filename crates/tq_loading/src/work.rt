@@ -1,6 +1,6 @@
 // The parts of files as pieces of work.
 
-ghost use Rattle.std.specs.Prelude.{◌≡◌, ◌≤◌, All, IfOk, IfSome, length};
+ghost use Rattle.std.specs.Prelude.{◌≡◌, ◌≤◌, All, IfOk, IfSome, length, slice_range};
 ghost use Rattle.std.proofs.Props.{props};
 ghost use Rattle.tq_event.specs.Keeping.{wanted_lists};
 ghost use Rattle.tq_loading.specs.Parts.{IsPartOf, IsRead, part_of_prop};
@@ -11,9 +11,21 @@ use crate::well::well;
 use std::alloc::{AllocError, Global};
 use std::thread::Threads;
 use tq_base::{Form, Schema};
-use tq_event::TableFile;
 use tq_event::steps::wanted_columns;
+use tq_event::{FileBytes, TableFile};
 use tq_run::{Gate, Work, run_with};
+
+// The bytes from one place up to another, lent, where they stand in one list.
+fn bytes_between(bytes: &FileBytes, start: usize, end: usize) -> Option<&[u8]>
+    requires { start ≤ end }
+    ensures { IfSome result (λ found. found.now ≡ slice_range bytes.entry.now start end) }
+{
+    let here = bytes.piece_from(start);
+    if end - start > here.len() {
+        return None;
+    }
+    Some(&here[..end - start])
+}
 
 // The rows of a part, of which only wanted values are kept, or `None` where something is amiss with it.
 fn part_rows(
@@ -30,8 +42,10 @@ fn part_rows(
     ensures { IfOk result (λ read. IfSome read (IsRead form files.now (wanted_lists wanted.now) schemas.now)) }
 {
     let columns = schemas[part.table as usize].columns.get();
-    let bytes = files[part.table as usize].bytes.get();
-    let bytes = &bytes[part.start..part.end];
+    let bytes = &files[part.table as usize].bytes;
+    let Some(bytes) = bytes_between(bytes, part.start, part.end) else {
+        return Ok(None);
+    };
     let wanted = wanted_columns(wanted, part.table);
     let read = read_part(alloc, limit, columns, wanted, bytes, part.start, form);
     match well(read)? {

@@ -10,7 +10,7 @@ use std::alloc::Global;
 use std::test::Fail;
 use tq_base::{Catalogue, Form, Items};
 use tq_core::Oracle;
-use tq_event::{Event, MAX_EVENTS, TableFile, laws, load};
+use tq_event::{Event, FileBytes, MAX_EVENTS, TableFile, laws, load};
 use tq_plan::{Plan, plan};
 use tq_sql::read;
 use tq_table::table_text;
@@ -22,7 +22,7 @@ fn files(alloc: Global) -> Result<Vec<TableFile>, Fail> {
     let mut files = Vec::new(alloc);
     files.push(TableFile {
         name: Items::of(b"emp".to_vec(alloc)?),
-        bytes: Items::of(EMP.to_vec(alloc)?),
+        bytes: FileBytes::of(EMP.to_vec(alloc)?),
     })?;
     Ok(files)
 }

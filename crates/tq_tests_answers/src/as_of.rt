@@ -13,7 +13,7 @@ use std::alloc::{AllocError, Global};
 use std::fmt::Write;
 use tq_base::{Form, Instant, Items, Value, Values};
 use tq_eval::answer;
-use tq_event::{Event, MAX_EVENTS, TableFile};
+use tq_event::{Event, FileBytes, MAX_EVENTS, TableFile};
 use tq_plan::{Plan, plan};
 use tq_sql::read;
 use tq_store::Db;
@@ -33,7 +33,7 @@ fn headers(alloc: Global) -> Result<Vec<TableFile>, AllocError> {
     for name in [b"a", b"b", b"c"] {
         files.push(TableFile {
             name: Items::of(name.to_vec(alloc)?),
-            bytes: Items::of(HEADER.to_vec(alloc)?),
+            bytes: FileBytes::of(HEADER.to_vec(alloc)?),
         })?;
     }
     Ok(files)

@@ -10,7 +10,7 @@ use std::alloc::{AllocError, Global};
 use std::fmt::Write;
 use tq_base::{FOREVER, Items};
 use tq_eval::answer;
-use tq_event::TableFile;
+use tq_event::{FileBytes, TableFile};
 
 // A row of a key, a text and a number.
 fn push_row(text: &mut String, draws: &mut Draws) -> Result<(), AllocError> {
@@ -50,7 +50,7 @@ fn random_file(
     let text = random_text(alloc, draws, most)?;
     Ok(TableFile {
         name: Items::of(name.to_vec(alloc)?),
-        bytes: Items::of(text.as_bytes().to_vec(alloc)?),
+        bytes: FileBytes::of(text.as_bytes().to_vec(alloc)?),
     })
 }
 

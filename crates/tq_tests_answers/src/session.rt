@@ -11,7 +11,7 @@ use crate::telling::{tell_nothing, tell_text};
 use std::alloc::{AllocError, Global};
 use std::fmt::Write;
 use tq_base::Items;
-use tq_event::{MAX_EVENTS, TableFile};
+use tq_event::{FileBytes, MAX_EVENTS, TableFile};
 
 #[derive(Drop)]
 struct File {
@@ -99,7 +99,7 @@ impl Session {
         for file in &self.files {
             files.push(TableFile {
                 name: Items::of(file.name.as_slice().to_vec(alloc)?),
-                bytes: Items::of(file.bytes.as_slice().to_vec(alloc)?),
+                bytes: FileBytes::of(file.bytes.as_slice().to_vec(alloc)?),
             })?;
         }
         Ok(files)

@@ -8,7 +8,7 @@ use std::alloc::{AllocError, Global};
 use std::fmt::Write;
 use std::thread::Threads;
 use tq_base::{Form, Items};
-use tq_event::{MAX_EVENTS, TableFile};
+use tq_event::{FileBytes, MAX_EVENTS, TableFile};
 use tq_store::Db;
 
 #[derive(Drop)]
@@ -84,7 +84,7 @@ impl Session {
         for file in &self.files {
             files.push(TableFile {
                 name: Items::of(file.name.as_slice().to_vec(alloc)?),
-                bytes: Items::of(file.bytes.as_slice().to_vec(alloc)?),
+                bytes: FileBytes::of(file.bytes.as_slice().to_vec(alloc)?),
             })?;
         }
         Ok(files)

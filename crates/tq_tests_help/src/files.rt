@@ -3,7 +3,7 @@
 use std::alloc::{AllocError, Global};
 use std::fmt::Write;
 use tq_base::Items;
-use tq_event::TableFile;
+use tq_event::{FileBytes, TableFile};
 
 #[derive(Drop)]
 struct File {
@@ -37,7 +37,7 @@ impl Files {
         for file in &self.files {
             copies.push(TableFile {
                 name: Items::of(file.name.as_slice().to_vec(alloc)?),
-                bytes: Items::of(file.bytes.as_slice().to_vec(alloc)?),
+                bytes: FileBytes::of(file.bytes.as_slice().to_vec(alloc)?),
             })?;
         }
         Ok(copies)

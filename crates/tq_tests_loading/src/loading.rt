@@ -9,22 +9,44 @@ use std::test::Fail;
 use std::thread;
 use std::thread::Threads;
 use tq_base::{Form, Items, Rows, Seen, Value};
-use tq_event::{LoadFault, MAX_EVENTS, TableFile, Tables, load_tables, load_wanted};
-use tq_loading::{load_tables_among, load_tables_by_parts, load_wanted_among};
+use tq_event::{FileBytes, LoadFault, MAX_EVENTS, TableFile, Tables, load_tables, load_wanted};
+use tq_loading::{first_cut, load_tables_among, load_tables_by_parts, load_wanted_among};
 use tq_run::{Gate, Open};
 
-// The files of two tables, `a` and `b`, the second one where it has a text.
-fn files_of(alloc: Global, first: &str, second: &str) -> Result<Vec<TableFile>, AllocError> {
+// The bytes in lists of this length, or in one where that is 0.
+fn in_pieces(alloc: Global, bytes: &[u8], len: usize) -> Result<FileBytes, AllocError> {
+    if len == 0 || bytes.len() < len {
+        return Ok(FileBytes::of(bytes.to_vec(alloc)?));
+    }
+    let (front, behind) = bytes.split_at(len);
+    let mut pieces = Vec::new(alloc);
+    for piece in behind.chunks(len) {
+        pieces.push(piece.to_vec(alloc)?)?;
+    }
+    FileBytes::of_pieces(front.to_vec(alloc)?, pieces).ok_or(AllocError)
+}
+
+// The files of two tables, `a` and `b`, the second one where it has a text, with their bytes in lists of this length.
+fn files_in_pieces(
+    alloc: Global,
+    texts: (&str, &str),
+    len: usize,
+) -> Result<Vec<TableFile>, AllocError> {
     let mut files = Vec::new(alloc);
-    for (name, text) in [("a", first), ("b", second)] {
+    for (name, text) in [("a", texts.0), ("b", texts.1)] {
         if name == "a" || !text.is_empty() {
             files.push(TableFile {
                 name: Items::of(name.as_bytes().to_vec(alloc)?),
-                bytes: Items::of(text.as_bytes().to_vec(alloc)?),
+                bytes: in_pieces(alloc, text.as_bytes(), len)?,
             })?;
         }
     }
     Ok(files)
+}
+
+// The same with all bytes of a file in one list.
+fn files_of(alloc: Global, first: &str, second: &str) -> Result<Vec<TableFile>, AllocError> {
+    files_in_pieces(alloc, (first, second), 0)
 }
 
 // A line for each row.
@@ -60,7 +82,7 @@ fn told(alloc: Global, loaded: Result<Tables, LoadFault>) -> Result<String, Fail
     Ok(lines)
 }
 
-// Whether these workers load the files as `wanted` tells, in parts of at least this length.
+// Whether these workers load the files as `wanted` tells, in parts of at least this length, out of lists of that one.
 fn is_loaded<R: Threads + Sync>(
     rt: &R,
     alloc: Global,
@@ -68,13 +90,14 @@ fn is_loaded<R: Threads + Sync>(
     limit: u32,
     workers: u32,
     least: usize,
+    len: usize,
     wanted: &str,
 ) -> Result<bool, Fail>
     requires limit { limit ≤ MAX_EVENTS }
     requires some { 1 ≤ workers }
     requires at_most { workers ≤ 16 }
 {
-    let files = files_of(alloc, texts.0, texts.1)?;
+    let files = files_in_pieces(alloc, texts, len)?;
     let loaded = load_tables_by_parts(
         rt,
         alloc,
@@ -88,7 +111,7 @@ fn is_loaded<R: Threads + Sync>(
     Ok(told(alloc, loaded)?.as_str() == wanted)
 }
 
-// Whether any number of workers, with parts of any length, loads the files as one thread does.
+// Whether any number of workers, with parts and lists of any length, loads the files as one thread does.
 fn is_loaded_by_all<R: Threads + Sync>(
     rt: &R,
     alloc: Global,
@@ -106,8 +129,10 @@ fn is_loaded_by_all<R: Threads + Sync>(
     let wanted = told(alloc, here)?;
     for workers in [1, 2, 7, 16] {
         for least in [0, 1, 7, 50, 100_000] {
-            if !is_loaded(rt, alloc, texts, limit, workers, least, &wanted)? {
-                return Ok(false);
+            for len in [0, 1, 2, 16, 22, 37] {
+                if !is_loaded(rt, alloc, texts, limit, workers, least, len, &wanted)? {
+                    return Ok(false);
+                }
             }
         }
     }
@@ -346,6 +371,77 @@ fn two_workers_have_parts_of_a_file_with_quotes(rt: HostRuntime) -> Result<(), F
     assert!(rt; !gate.limit_met.load(Ordering::SeqCst));
     let parts = gate.count.load(Ordering::SeqCst);
     assert!(rt; 3 < parts && parts < 10, "{parts}");
+    Ok(())
+}
+
+// ---- bytes in several lists
+
+// How many parts two workers have of a file whose bytes stand in three lists; `None` where they do not load it as one
+// worker does.
+fn parts_of_lists<R: Threads + Sync>(
+    rt: &R,
+    alloc: Global,
+    lists: (&str, &str, &str),
+) -> Result<Option<u64>, Fail> {
+    let gate = Arrivals::new();
+    let (front, middle, back) = lists;
+    let mut text = String::new(alloc);
+    write!(text, "{front}{middle}{back}")?;
+    let mut pieces = Vec::new(alloc);
+    pieces.push(middle.as_bytes().to_vec(alloc)?)?;
+    pieces.push(back.as_bytes().to_vec(alloc)?)?;
+    let front = front.as_bytes().to_vec(alloc)?;
+    let mut files = Vec::new(alloc);
+    files.push(TableFile {
+        name: Items::of(b"a".to_vec(alloc)?),
+        bytes: FileBytes::of_pieces(front, pieces).ok_or(AllocError)?,
+    })?;
+    let among = load_tables_by_parts(
+        rt,
+        alloc,
+        files,
+        MAX_EVENTS,
+        2,
+        100_000,
+        &gate,
+        Form::Numbers,
+    );
+    let here = load_tables(
+        alloc,
+        files_of(alloc, &text, "")?,
+        MAX_EVENTS,
+        Form::Numbers,
+    );
+    let same = told(alloc, among)? == told(alloc, here)?;
+    let parts = gate.count.load(Ordering::SeqCst);
+    Ok(if same { Some(parts) } else { None })
+}
+
+#[test]
+fn parts_end_where_lists_end(rt: HostRuntime) -> Result<(), Fail> {
+    let first = "k:int,v:text,from,to\n1,ann,10,20\n";
+    let lists = (first, "2,bob,15,25\n", "3,cat,5,30\n4,dan,6,7\n");
+    assert_eq!(rt; parts_of_lists(&rt, rt.alloc(), lists)?, Some(3));
+    let lists = (first, "2,bob,15,25\n3,cat,5,30\n", "4,dan,6,7\n");
+    assert_eq!(rt; parts_of_lists(&rt, rt.alloc(), lists)?, Some(3));
+    let lists = (first, "", "2,bob,15,25\n");
+    assert_eq!(rt; parts_of_lists(&rt, rt.alloc(), lists)?, Some(2));
+    // A list that ends within a record is one part with what comes behind it, and the files are loaded again by one worker.
+    let lists = (first, "2,bob,15,25\n3", ",cat,5,30\n4,dan,6,7\n");
+    assert_eq!(rt; parts_of_lists(&rt, rt.alloc(), lists)?, Some(2));
+    // So they are, and no part is read, where the first list holds the header alone.
+    let lists = ("k:int,v:text,from,to\n", "1,ann,10,20\n", "2,bob,15,25\n");
+    assert_eq!(rt; parts_of_lists(&rt, rt.alloc(), lists)?, Some(0));
+    Ok(())
+}
+
+#[test]
+fn a_list_can_end_in_front_of_a_record(rt: HostRuntime) -> Result<(), Fail> {
+    assert_eq!(rt; first_cut(b"nn,10,20\n2,bob,15,25\n"), Some(9));
+    assert_eq!(rt; first_cut(b"a\nb\n\"-7\",x\n"), Some(4));
+    assert_eq!(rt; first_cut(b"a\nb,1\nc"), None);
+    assert_eq!(rt; first_cut(b"a\n\xef\xbb\xbf1,2\n"), None);
+    assert_eq!(rt; first_cut(b""), None);
     Ok(())
 }
 

@@ -6,7 +6,7 @@ ghost use Rattle.tq_core.specs.Counting.{start_count, starts_row};
 use std::alloc::{AllocError, Global};
 use tq_base::{Catalogue, Form, Items};
 use tq_core::{Oracle, World};
-use tq_event::{Event, LoadFault, TableFile, laws, load};
+use tq_event::{Event, FileBytes, LoadFault, TableFile, laws, load};
 
 const EMP: &[u8] = b"emp:int,name:text,dept:text,from,to
 1,ann,toys,10,20
@@ -59,7 +59,7 @@ pub(crate) fn world(alloc: Global, readers: u32) -> Result<World, LoadFault>
 {
     let file = TableFile {
         name: Items::of(Vec::from_slice(alloc, b"emp")?),
-        bytes: Items::of(Vec::from_slice(alloc, EMP)?),
+        bytes: FileBytes::of(Vec::from_slice(alloc, EMP)?),
     };
     let mut files = Vec::new(alloc);
     files.push(file).map_err(AllocError::from)?;

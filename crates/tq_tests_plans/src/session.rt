@@ -6,7 +6,7 @@ use std::alloc::{AllocError, Global};
 use std::fmt::Write;
 use std::mem;
 use tq_base::{Catalogue, Form, Items};
-use tq_event::{TableFile, load};
+use tq_event::{FileBytes, TableFile, load};
 
 #[derive(Drop)]
 struct File {
@@ -75,7 +75,7 @@ impl Session {
         for file in mem::replace(&mut self.files, Vec::new(alloc)) {
             files.push(TableFile {
                 name: Items::of(file.name),
-                bytes: Items::of(file.bytes),
+                bytes: FileBytes::of(file.bytes),
             })?;
         }
         match load(alloc, files, 1000, Form::Numbers) {

@@ -6,7 +6,7 @@ use crate::telling::{tell_load_faults, tell_nothing, tell_statement_faults};
 use crate::words::{bytes_of, number_and};
 use std::alloc::{AllocError, Global};
 use tq_base::Items;
-use tq_event::TableFile;
+use tq_event::{FileBytes, TableFile};
 
 #[derive(Drop)]
 struct File {
@@ -36,7 +36,7 @@ impl Session {
         for file in &self.files {
             files.push(TableFile {
                 name: Items::of(file.name.as_slice().to_vec(alloc)?),
-                bytes: Items::of(file.bytes.as_slice().to_vec(alloc)?),
+                bytes: FileBytes::of(file.bytes.as_slice().to_vec(alloc)?),
             })?;
         }
         Ok(files)

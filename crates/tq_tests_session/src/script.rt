@@ -6,7 +6,7 @@ use std::mem;
 use std::sync::Wait;
 use std::thread::Threads;
 use tq_base::{Form, Items};
-use tq_event::TableFile;
+use tq_event::{FileBytes, TableFile};
 
 /// The text of the table `emp`, how instants are written, and the input of the next session.
 #[derive(Drop)]
@@ -63,7 +63,7 @@ impl Script {
         let mut files = Vec::new(alloc);
         files.push(TableFile {
             name: Items::of(b"emp".to_vec(alloc)?),
-            bytes: Items::of(self.table.as_slice().to_vec(alloc)?),
+            bytes: FileBytes::of(self.table.as_slice().to_vec(alloc)?),
         })?;
         Ok(files)
     }

@@ -5,7 +5,7 @@ ghost use Rattle.std.specs.Prelude.{◌<◌, max};
 use std::alloc::{AllocError, Global};
 use std::fmt::Write;
 use tq_base::{Catalogue, Form, Instant, Items, Value, Values};
-use tq_event::{Event, MAX_EVENTS, TableFile, load};
+use tq_event::{Event, FileBytes, MAX_EVENTS, TableFile, load};
 use tq_store::Db;
 
 /// A row as its events tell it.
@@ -60,7 +60,7 @@ fn two_tables(alloc: Global) -> Result<Option<Catalogue>, AllocError> {
     for name in [b"a", b"b"] {
         files.push(TableFile {
             name: Items::of(name.to_vec(alloc)?),
-            bytes: Items::of(b"k:int,from,to\n".to_vec(alloc)?),
+            bytes: FileBytes::of(b"k:int,from,to\n".to_vec(alloc)?),
         })?;
     }
     Ok(

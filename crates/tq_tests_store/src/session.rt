@@ -8,7 +8,7 @@ use std::alloc::{AllocError, Global};
 use std::fmt::Write;
 use std::mem;
 use tq_base::{Catalogue, FOREVER, Form, Instant, Items, Value, Values};
-use tq_event::{Event, MAX_EVENTS, TableFile, load};
+use tq_event::{Event, FileBytes, MAX_EVENTS, TableFile, load};
 use tq_store::Db;
 
 /// A table file as far as its lines are known.
@@ -133,7 +133,7 @@ impl Session {
         for file in mem::replace(&mut self.files, Vec::new(alloc)) {
             files.push(TableFile {
                 name: Items::of(file.name),
-                bytes: Items::of(file.bytes),
+                bytes: FileBytes::of(file.bytes),
             })?;
         }
         match load(alloc, files, MAX_EVENTS, Form::Numbers) {

@@ -21,7 +21,7 @@ returns-in_err-columns-clause-fault c whole kept =
     let place : length tables ≡ number = omega (arith, c.len-number.ensures, c.args.tables.now.ok.0) in
     let counted = events_before (wanted_lists c.args.wanted.now) whole c.args.rows.now.items c.args.events.now kept c.requires.counted in
     rw (p.1, p.2) (λ known.
-    let contents = rw c.get-bytes.ensures at (c.in_err-columns.ensures.fault (entries_from 0 whole) counted known) in
+    let contents = c.in_err-columns.ensures.fault (entries_from 0 whole) counted known in
     rw (named, place, contents) refl)
 
 pub returns-clause-ok : goal.returns-clause-ok
@@ -42,7 +42,7 @@ returns-clause-ok c whole kept =
     let kept_read : read.items ≡ map (kept_row (wanted_of wanted number)) of_file.whole = rw c.wanted_columns-wanted.ensures at of_file.kept in
     let told : entries_from 0 (whole ++ whole_read ∷ []) ≡ entries ++ map (told_by number) of_file.whole = entries_put whole (whole ++ whole_read ∷ []) whole_read number refl as_many in
     let contents : table_contents c.args.form c.args.limit number entries c.args.file.now.bytes ≡ Ok (columns, entries ++ map (told_by number) of_file.whole) =
-    rw c.get-bytes.ensures at (of_file.told entries (events_before wanted whole rows c.args.events.now kept c.requires.counted)) in
+    of_file.told entries (events_before wanted whole rows c.args.events.now kept c.requires.counted) in
     let named : next_name tables c.args.file.now.name ≡ Ok c.in-Ok.name = rw (c.deref.ensures.value, c.get.ensures) at c.in-Ok.ensures.ok in
     let place : length tables ≡ number = omega (arith, c.len-number.ensures, c.args.tables.now.ok.0) in
     let fits : is_ok c.push.result ≡ true = search rules in

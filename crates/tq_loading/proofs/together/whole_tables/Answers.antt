@@ -1,5 +1,5 @@
 use Rattle.std.proofs.Common.{◌≡◌, ◌<◌, ◌++◌, ◌∷◌, [], Some, inl, inr, ap, ◌∙◌, arith, length, length-append, refl, slice_get, subst, sym}
-use Rattle.std.specs.Prelude.{All}
+use Rattle.std.specs.Prelude.{All, slice_index_or}
 use Rattle.std.specs.Vec.Iter.{into_iter_items}
 use Rattle.std.proofs.lemmas.List.Elements.{All-head, All-tail}
 use Rattle.std.proofs.lemmas.Option.{none-some, slice_get_read}
@@ -30,7 +30,7 @@ parts-preserved c =
     let split : into_iter_items c.parts.part-iterator ≡ part ∷ rest = c.in-Some.ensures.steps.0 in
     let grown : c.push.new.self.items ≡ tables ++ part.rows ∷ [] = c.in_ok-push.ensures.items in
     let place : c.len-table.result ≡ length tables = omega (arith, c.len-table.ensures, c.parts.tables.ok.0) in
-    let whole : IsWhole c.len-table.result c.get.result.now part.part = c.is_whole.ensures c.if-not-is_whole.false in
+    let whole : IsWhole c.len-table.result (slice_index_or files c.len-table.result c.index-files-table.result).bytes part.part = c.is_whole.ensures c.if-not-is_whole.false in
     let here : c.len-table.result < length files = omega (arith, place, i.many, ap length split) in
     let file_at : slice_get files c.len-table.result ≡ Some c.index-files-table.result = slice_get_read files (length files) c.len-table.result c.index-files-table.result refl here c.index-files-table.is in
     record {
@@ -44,7 +44,7 @@ parts-preserved c =
                 let at : part.part.table ≡ table = whole.same ∙ place ∙ sym last.0 in
                 let found : Some c.index-files-table.result ≡ Some file = sym file_at ∙ ap (slice_get files) (place ∙ sym last.0) ∙ is_file in
                 let same : c.index-files-table.result ≡ file = cc found in
-                let end : part.part.end ≡ length file.bytes = whole.last ∙ ap length (c.get.ensures ∙ ap (λ (f : TableFile). f.bytes) (sym c.index-files-table.is ∙ same)) in
+                let end : part.part.end ≡ length file.bytes = whole.last ∙ ap length (ap (λ (f : TableFile). f.bytes) (sym c.index-files-table.is ∙ same)) in
                 let one = read file schema (ap (slice_get files) at ∙ is_file) (ap (slice_get schemas) at ∙ is_schema) in
                 subst (AreKeptOfTable form schema.columns (wanted_of wanted table) file.bytes) last.1
                 (record {

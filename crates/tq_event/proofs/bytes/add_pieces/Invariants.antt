@@ -1,0 +1,7 @@
+-- The lists so far stand behind what was there.
+use Rattle.std.proofs.Common.{◌≡◌, ◌++◌, take}
+use Rattle.tq_event.specs.FileBytes.{bytes_in}
+use Rattle.tq_event.proofs.bytes.add_pieces.Given as goal
+
+abbrev pub invariant-pieces : goal.invariant-pieces
+invariant-pieces l = l.bytes.items ≡ l.fn.bytes.items ++ bytes_in (take l.piece-index l.pieces)

@@ -1,0 +1,13 @@
+-- The bytes of several lists, one behind the other. This project's own.
+use Rattle.std.specs.Prelude.{ℕ, List, [], Option, None, Some}
+use Rattle.std.specs.Global.{Vec}
+use Rattle.std.specs.List.{flat_map}
+
+-- all bytes of the lists
+abbrev pub bytes_in : List (Vec ℕ) → List ℕ
+bytes_in pieces = flat_map (λ (piece : Vec ℕ). piece.items) pieces
+
+-- the same, where there are lists
+abbrev pub bytes_behind : Option (Vec (Vec ℕ)) → List ℕ
+bytes_behind None = []
+bytes_behind (Some pieces) = bytes_in pieces.items
