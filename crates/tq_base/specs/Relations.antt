@@ -1,7 +1,8 @@
 -- Relations as they are seen: rows of other lists, by their numbers. This project's own.
-use Rattle.std.specs.Prelude.{ℕ, List, ◌++◌, map, slice_index_or}
+use Rattle.std.specs.Prelude.{◌≡◌, ℕ, List, ◌++◌, map, slice_index_or}
 use Rattle.tq_base.specs.declared.value.Value.{Value}
 use Rattle.tq_base.specs.declared.fragment.Fragment.{Fragment}
+use Rattle.tq_base.specs.declared.period.Period.{Period}
 use Rattle.tq_base.specs.declared.relation.Line.{Line}
 use Rattle.tq_base.specs.declared.relation.Pair.{Pair}
 use Rattle.tq_base.specs.Keys.{no_row, value_at}
@@ -21,6 +22,10 @@ column_of rows column = map (λ (row : Fragment). value_at row.values column) ro
 -- the values of the row of the line's number, at the line's period
 abbrev pub line_of : List Fragment → Line → Fragment
 line_of rows line = record { values = values_at_number rows line.row; period = line.period }
+
+-- the rows of these numbers, each at the period in its place
+abbrev pub AreLines : List Line → List ℕ → List Period → Type 0
+AreLines lines numbers periods = (map (λ (line : Line). line.row) lines ≡ numbers) × (map (λ (line : Line). line.period) lines ≡ periods)
 
 -- the values of the pair's left row, then those of its right one, at the pair's period
 abbrev pub pair_of : List Fragment → List Fragment → Pair → Fragment

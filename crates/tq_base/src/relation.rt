@@ -1,11 +1,11 @@
 //! Relations: rows by their numbers in other lists of rows, so that operators move no values.
 
-ghost use Rattle.std.specs.Prelude.{◌≡◌, ◌<◌, ◌≤◌, ◌+◌, ◌++◌, ℕ, All, IfOk, OnOk, length, map, slice_index_or};
+ghost use Rattle.std.specs.Prelude.{◌≡◌, ◌<◌, ◌≤◌, ◌+◌, ◌++◌, ℕ, All, IfOk, List, OnOk, length, map, slice_index_or};
 ghost use Rattle.std.specs.List.{flat_map, range_with_len};
 ghost use Rattle.tq_base.specs.declared.fragment.Fragment.{Fragment};
 ghost use Rattle.tq_base.specs.Keys.{no_row};
 ghost use Rattle.tq_base.specs.Parts.{chosen_column, first_column, first_periods, moved_column, periods_of, rows_at, source_list};
-ghost use Rattle.tq_base.specs.Relations.{column_of, line_of, pair_of, projected, row_at, values_at_number};
+ghost use Rattle.tq_base.specs.Relations.{column_of, line_of, pair_of, projected, row_at, values_at_number, AreLines};
 
 use crate::column_view::{ColumnView, push_values};
 use crate::dense::MAX_ROWS;
@@ -317,17 +317,41 @@ impl<'a> Relation<'a> {
         self.column_at(column as usize)
     }
 
-    // The rows of these numbers, each at the line's period, take the place of the rows. Where a growth was refused
+    // The rows of these numbers, each at the period in its place, take the place of the rows. Where a growth was refused
     // the rows are no longer of use.
-    fn set_lines(&mut self, alloc: Global, lines: &[Line]) -> Result<(), AllocError>
-        requires few { length lines.now ≤ 4294967295 }
-        requires within { All (λ (line : Line). line.row < length self.old.items) lines.now }
+    fn set_placed(
+        &mut self,
+        alloc: Global,
+        numbers: &[u32],
+        periods: Vec<Period>,
+    ) -> Result<(), AllocError>
+        requires few { length periods.items ≤ 4294967295 }
         ensures width { self.new.width ≡ self.old.width }
-        ensures rows { OnOk result (self.new.items ≡ map (line_of self.old.items) lines.now) }
+        ensures rows { (lines : List Line) → AreLines lines numbers.now periods.items → All (λ (line : Line). line.row < length self.old.items) lines
+            → OnOk result (self.new.items ≡ map (line_of self.old.items) lines) }
     {
-        let rows = rows_of(alloc, lines)?;
-        self.periods = Periods::Own(line_periods(alloc, lines)?);
-        renumber(alloc, &mut self.parts, &rows)
+        self.periods = Periods::Own(periods);
+        renumber(alloc, &mut self.parts, numbers)
+    }
+
+    /// The rows of these numbers, each at the period in its place. `AllocError` where a growth was refused, or where
+    /// there are 2^32 periods or more.
+    pub fn placed(
+        self,
+        alloc: Global,
+        numbers: &[u32],
+        periods: Vec<Period>,
+    ) -> Result<Relation<'a>, AllocError>
+        ensures width { IfOk result (λ out. out.width ≡ self.entry.width) }
+        ensures rows { (lines : List Line) → AreLines lines numbers.now periods.items → All (λ (line : Line). line.row < length self.entry.items) lines
+            → IfOk result (λ out. out.items ≡ map (line_of self.entry.items) lines) }
+    {
+        if periods.len() > MAX_ROWS {
+            return Err(AllocError);
+        }
+        let mut out = self;
+        out.set_placed(alloc, numbers, periods)?;
+        Ok(out)
     }
 
     /// The rows of these numbers, each at the line's period. `AllocError` where a growth was refused, or where
@@ -340,9 +364,9 @@ impl<'a> Relation<'a> {
         if lines.len() > MAX_ROWS {
             return Err(AllocError);
         }
-        let mut out = self;
-        out.set_lines(alloc, lines)?;
-        Ok(out)
+        let rows = rows_of(alloc, lines)?;
+        let periods = line_periods(alloc, lines)?;
+        self.placed(alloc, &rows, periods)
     }
 
     // The rows of these numbers take the place of the rows, each at its own period. Where a growth was refused the rows

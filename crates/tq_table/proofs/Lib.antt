@@ -1,3 +1,4 @@
+pub mod LineLists
 mod LentLemmas
 mod WritingLemmas
 pub mod Apart

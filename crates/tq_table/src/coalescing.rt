@@ -14,9 +14,10 @@ ghost use Rattle.tq_table.specs.Apart.{AreApart};
 ghost use Rattle.tq_table.specs.Groups.{line_at};
 
 use crate::layering::layered;
+use crate::line_list::LineList;
 use crate::lines::Lines;
 use std::alloc::{AllocError, Global};
-use tq_base::{Key, Line, Period, Relation, Side, Sides, all_columns};
+use tq_base::{Key, Period, Relation, Side, Sides, all_columns};
 
 // The periods of the rows that keys name, of all rows' periods. They are read in one short loop, since keys in order
 // name rows that lie anywhere, and such reads wait for memory together.
@@ -39,14 +40,11 @@ fn stand_apart(periods: &[Period]) -> bool
 }
 
 // A line of the row at each of the periods goes to the end of the table.
-fn add_lines(row: u32, periods: &[Period], table: &mut Vec<Line>) -> Result<(), AllocError>
-    ensures { OnOk result (table.new.items ≡ table.old.items ++ map (line_at row) periods.now) }
+fn add_lines(row: u32, periods: &[Period], table: &mut LineList) -> Result<(), AllocError>
+    ensures { OnOk result (table.new ≡ table.old ++ map (line_at row) periods.now) }
 {
     'periods: for period in periods {
-        table.push(Line {
-            row,
-            period: *period,
-        })?;
+        table.push(row, *period)?;
     }
     Ok(())
 }
@@ -58,15 +56,15 @@ fn add_layers(
     sides: &Sides<'_>,
     group: &[Key],
     periods: &[Period],
-    table: &mut Vec<Line>,
+    table: &mut LineList,
 ) -> Result<(), AllocError>
     requires some { 0 < length group.now }
     requires periods { periods.now ≡ map (λ k. (key_row (state_of sides.now) k).period) group.now }
     requires left { All (λ k. k.side ≡ Side.Left) group.now }
     requires stand { All (λ k. k.row < length sides.now.left.now.items) group.now }
-    ensures within { OnOk result (All (λ line. line.row < length sides.now.left.now.items) table.old.items → All (λ line. line.row < length sides.now.left.now.items) table.new.items) }
+    ensures within { OnOk result (All (λ line. line.row < length sides.now.left.now.items) table.old → All (λ line. line.row < length sides.now.left.now.items) table.new) }
     ensures layers { OnOk result ((v : List Value) → All (λ k. (key_row (state_of sides.now) k).values ≡ v) group.now
-        → AddsLayers v (map (key_row (state_of sides.now)) group.now) (map (line_of sides.now.left.now.items) table.old.items) (map (line_of sides.now.left.now.items) table.new.items)) }
+        → AddsLayers v (map (key_row (state_of sides.now)) group.now) (map (line_of sides.now.left.now.items) table.old) (map (line_of sides.now.left.now.items) table.new)) }
 {
     let row = group[0].row;
     if stand_apart(periods) {
@@ -91,9 +89,9 @@ fn sorted_keys(alloc: Global, sides: &Sides<'_>) -> Result<Vec<Key>, AllocError>
 }
 
 // The lines of the layers of the rows.
-fn lines_of(alloc: Global, rows: &Relation<'_>) -> Result<Vec<Line>, AllocError>
-    ensures within { IfOk result (λ lines. All (λ line. line.row < length rows.now.items) lines.items) }
-    ensures layers { IfOk result (λ lines. IsLayers (copies rows.now.items) (map (line_of rows.now.items) lines.items)) }
+fn lines_of(alloc: Global, rows: &Relation<'_>) -> Result<LineList, AllocError>
+    ensures within { IfOk result (λ lines. All (λ line. line.row < length rows.now.items) lines) }
+    ensures layers { IfOk result (λ lines. IsLayers (copies rows.now.items) (map (line_of rows.now.items) lines)) }
 {
     let columns = all_columns(alloc, rows.width())?;
     let sides = Sides {
@@ -104,7 +102,7 @@ fn lines_of(alloc: Global, rows: &Relation<'_>) -> Result<Vec<Line>, AllocError>
     };
     let keys = sorted_keys(alloc, &sides)?;
     let periods = periods_at(alloc, rows.periods(), &keys)?;
-    let mut table = Vec::with_capacity(alloc, keys.len())?;
+    let mut table = LineList::with_capacity(alloc, keys.len())?;
     let mut start = 0;
     'groups: while start < keys.len() {
         let end = start + sides.run_len(&keys[start..]);
@@ -129,7 +127,7 @@ pub fn coalesce<'a>(alloc: Global, rows: Relation<'a>) -> Result<Lines<'a>, Allo
     ensures width { IfOk result (λ lines. All (λ (row : Fragment). length row.values ≡ rows.entry.width) lines) }
 {
     let lines = lines_of(alloc, &rows)?;
-    let picked = rows.pick(alloc, &lines)?;
+    let picked = lines.pick_from(alloc, rows)?;
     picked.width();
     Ok(Lines::of(picked))
 }

@@ -9,6 +9,7 @@
 
 mod coalescing;
 mod layering;
+mod line_list;
 mod lines;
 mod merging;
 mod ranges;

@@ -51,8 +51,8 @@ pub returns-then-stand_apart-clause-within : goal.returns-then-stand_apart-claus
 returns-then-stand_apart-clause-within c =
     let group = c.args.group.now in
     let periods = c.args.periods.now in
-    let old = c.args.table.now.items in
-    let new = c.add_lines.new.table.items in
+    let old = c.args.table.now in
+    let new = c.add_lines.new.table in
     on_ok_weaker c.add_lines.result
     (λ put. lines_within c.args.sides.now.left.now.items (get_or group 0 end_key).row periods old new (c.requires.stand 0 end_key c.requires.some) (first_lines group _ periods old new c.requires.some put))
     c.add_lines.ensures
@@ -64,8 +64,8 @@ returns-then-stand_apart-clause-layers c =
     let group = c.args.group.now in
     let first = get_or group 0 end_key in
     let periods = c.args.periods.now in
-    let old = c.args.table.now.items in
-    let new = c.add_lines.new.table.items in
+    let old = c.args.table.now in
+    let new = c.add_lines.new.table in
     let given = c.requires.periods ∙ periods_are s group in
     on_ok_weaker c.add_lines.result
     (λ put v alike. adds_apart v (map (key_row s) group) (c.if-stand_apart.ensures (map (key_row s) group) given) (map (line_of rows) old) (map (line_of rows) new)
@@ -77,8 +77,8 @@ pub returns-clause-within : goal.returns-clause-within
 returns-clause-within c =
     let group = c.args.group.now in
     let periods = c.deref.result.now in
-    let old = c.args.table.now.items in
-    let new = c.add_lines-2.new.table.items in
+    let old = c.args.table.now in
+    let new = c.add_lines-2.new.table in
     on_ok_weaker c.add_lines-2.result
     (λ put. lines_within c.args.sides.now.left.now.items (get_or group 0 end_key).row periods old new (c.requires.stand 0 end_key c.requires.some) (first_lines group _ periods old new c.requires.some put))
     c.add_lines-2.ensures
@@ -89,8 +89,8 @@ returns-clause-layers c =
     let rows = c.args.sides.now.left.now.items in
     let group = c.args.group.now in
     let first = get_or group 0 end_key in
-    let old = c.args.table.now.items in
-    let new = c.add_lines-2.new.table.items in
+    let old = c.args.table.now in
+    let new = c.add_lines-2.new.table in
     let given = c.requires.periods ∙ periods_are s group in
     on_ok_weaker c.add_lines-2.result
     (λ put v alike. record {

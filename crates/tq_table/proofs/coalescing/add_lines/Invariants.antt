@@ -4,4 +4,4 @@ use Rattle.tq_table.specs.Groups.{line_at}
 use Rattle.tq_table.proofs.coalescing.add_lines.Given as goal
 
 abbrev pub invariant-periods : goal.invariant-periods
-invariant-periods l = l.table.items ≡ l.initial.table.items ++ map (line_at l.row) (take l.period-index l.periods)
+invariant-periods l = l.table ≡ l.initial.table ++ map (line_at l.row) (take l.period-index l.periods)

@@ -49,8 +49,8 @@ groups-init c =
     let are_whole : AreWhole s keys = all_whole s c.args.rows.now.width keys columns c.width.ensures.rows c.in_ok-keys.ensures.keys c.in_ok-keys.ensures.left in
     record {
       within = omega arith;
-      stand = rw c.in_ok-table.ensures.items (All-nil (λ (line : Line). line.row < length rows));
-      grouping = rw c.in_ok-table.ensures.items (grouping_starts s rows keys c.in_ok-keys.ensures.rows are_whole c.in_ok-keys.ensures.rises);
+      stand = rw c.in_ok-table.ensures (All-nil (λ (line : Line). line.row < length rows));
+      grouping = rw c.in_ok-table.ensures (grouping_starts s rows keys c.in_ok-keys.ensures.rows are_whole c.in_ok-keys.ensures.rises);
     }
 
 pub run_len-requires : goal.run_len-requires
@@ -105,8 +105,8 @@ groups-preserved c =
     let start = c.groups.start in
     let len = c.run_len.result in
     let rest = drop start keys in
-    let table = map (line_of rows) c.groups.table.items in
-    let new = map (line_of rows) c.add_layers.new.table.items in
+    let table = map (line_of rows) c.groups.table in
+    let new = map (line_of rows) c.add_layers.new.table in
     let run_within : len ≤ length rest = rw (c.deref-in-groups.ensures.value, take_rest keys start) at c.run_len.ensures.within in
     let alike : All (λ k. key_values s k ≡ key_values s (get_or rest 0 end_key)) (take len rest) = rw (c.deref-in-groups.ensures.value, take_rest keys start) at (c.run_len.ensures.alike end_key) in
     let ends : len < length rest → key_values s (get_or rest len end_key) ≢ key_values s (get_or rest 0 end_key) = rw (c.deref-in-groups.ensures.value, take_rest keys start) at (c.run_len.ensures.ends end_key) in
@@ -124,4 +124,4 @@ pub returns-clause-layers : goal.returns-clause-layers
 returns-clause-layers c =
     let keys = c.in_ok-keys.keys.items in
     let done : length keys ≤ c.groups.start = omega (arith, c.groups-test.false, c.len-in-groups.ensures) in
-    grouping_ends c.args.rows.now.items (map (line_of c.args.rows.now.items) c.groups.table.items) (rw (drop_all c.groups.start keys done) at c.groups.invariant.grouping)
+    grouping_ends c.args.rows.now.items (map (line_of c.args.rows.now.items) c.groups.table) (rw (drop_all c.groups.start keys done) at c.groups.invariant.grouping)

@@ -10,8 +10,8 @@ use Rattle.tq_table.proofs.coalescing.lines_of.Given as goal
 abbrev pub invariant-groups : goal.invariant-groups
 invariant-groups l = record {
   within : l.start ≤ length l.keys.items;
-  stand : All (λ (line : Line). line.row < length l.fn.rows.items) l.table.items;
-  grouping : Grouping l.fn.rows.items (map (key_row (state_of l.sides)) (drop l.start l.keys.items)) (map (line_of l.fn.rows.items) l.table.items);
+  stand : All (λ (line : Line). line.row < length l.fn.rows.items) l.table;
+  grouping : Grouping l.fn.rows.items (map (key_row (state_of l.sides)) (drop l.start l.keys.items)) (map (line_of l.fn.rows.items) l.table);
 }
 
 abbrev pub decreases-groups : goal.decreases-groups

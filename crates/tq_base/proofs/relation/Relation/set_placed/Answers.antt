@@ -6,23 +6,21 @@ use Rattle.tq_base.specs.Parts.{periods_of, rows_at, rows_by_number}
 use Rattle.tq_base.specs.Relations.{line_of}
 use Rattle.tq_base.specs.RowLists.{RowList}
 use Rattle.tq_base.proofs.RelationLemmas.{picked_rows}
-use Rattle.tq_base.proofs.relation.Relation.set_lines.Goals as goal
+use Rattle.tq_base.proofs.relation.Relation.set_placed.Goals as goal
 
 pub returns-clause-rows : goal.returns-clause-rows
-returns-clause-rows c =
+returns-clause-rows c lines are inside =
     let r = c.self.inside in
     let periods = periods_of r.parts.items r.periods in
-    let lines = c.args.lines.now in
     let places = map (λ (line : Line). line.row) lines in
     let new = c.renumber.new.parts.items in
-    let numbers : c.deref.result.now ≡ places = c.deref.ensures.value ∙ c.in_ok-rows.ensures in
     let within : All (λ (line : Line). line.row < length (rows_by_number r.parts.items r.columns.items 0 periods)) lines =
-    subst (λ (v : RowList). All (λ (line : Line). line.row < length v.items) lines) (sym c.self.view_is) c.requires.within in
+    subst (λ (v : RowList). All (λ (line : Line). line.row < length v.items) lines) (sym c.self.view_is) inside in
     on_ok_weaker c.renumber.result
     (λ same.
-    ap (rows_by_number new r.columns.items 0) c.in_ok-line_periods.ensures
+    ap (rows_by_number new r.columns.items 0) (sym are.1)
     ∙ picked_rows r.parts.items new r.columns.items periods lines
-    (subst (λ l. (k : ℕ) → k < length l → rows_at new k ≡ rows_at r.parts.items (get_or l k 0)) numbers same)
+    (subst (λ l. (k : ℕ) → k < length l → rows_at new k ≡ rows_at r.parts.items (get_or l k 0)) (sym are.0) same)
     within
     ∙ ap (λ (v : RowList). map (line_of v.items) lines) c.self.view_is)
     c.renumber.ensures.rows
