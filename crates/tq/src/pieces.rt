@@ -12,7 +12,7 @@ use tq_engine::{FILE_LIMIT, FileFault, Source, read_file};
 use tq_event::FileBytes;
 use tq_loading::first_cut;
 
-// A piece has so many bytes or more.
+// A piece has about so many bytes or more.
 const LEAST_PIECE: u64 = 1_048_576;
 
 // The most pieces of one file.

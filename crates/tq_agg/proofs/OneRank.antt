@@ -49,9 +49,6 @@ module _ {X : Type 0} (f : X → ℕ) (w : X → ℤ) (rank : ℕ) where
 -- ---- the bucket of a rank
 
 module _ (column : List Value) (ranks : List ℕ) (buckets : List Bucket) (are : AreRanked column ranks buckets) (rank place : ℕ) (t : ℕ) (key : List Value) where
-  rank_in : Bucket → ℕ
-  rank_in b = value_rank (value_of column b)
-
   -- the rank of the bucket at the place
   pub rank_there : place < length ranks → get_or ranks place 0 ≡ rank → (d : Bucket) → value_rank (value_of column (get_or buckets place d)) ≡ rank
   rank_there lt is d = sym (get_or-map (λ b. value_rank (value_of column b)) buckets place d 0 (omega (arith, lt, as_many column ranks buckets are 0))) ∙ ap (λ l. get_or l place 0) (sym are.0) ∙ is

@@ -1,16 +1,11 @@
 -- Lists of what rows add.
 use Rattle.std.proofs.Common.{◌≡◌, ◌+◌, ◌<◌, ◌++◌, ◌∷◌, [], ℕ, ℤ, pos, Bool, true, false, List, get_or, length, nat_lt, refl, sym, ap, ◌∙◌, subst, arith, length-append}
-use Rattle.std.proofs.lemmas.List.{get_or-map, get_or_append_left, get_or_push}
+use Rattle.std.proofs.lemmas.List.{get_or_append_left, get_or_push}
 use Rattle.std.proofs.lemmas.Bool.Decides.{nat_tests}
 use Rattle.tq_base.specs.declared.fragment.Fragment.{Fragment}
-use Rattle.tq_base.specs.Keys.{no_row, value_at}
-use Rattle.tq_base.specs.Relations.{column_of, values_at_number}
+use Rattle.tq_base.specs.Relations.{values_at_number}
 use Rattle.tq_agg.specs.declared.summands.Summand.{Summand}
 use Rattle.tq_agg.specs.Totals.{weight_of, AreWeights}
-
--- the value in the column of a row
-pub in_column : (rows : List Fragment) (column row : ℕ) → row < length rows → value_at (column_of rows column) row ≡ value_at (values_at_number rows row) column
-in_column rows column row lt = get_or-map (λ (r : Fragment). value_at r.values column) rows row no_row _ lt
 
 -- one more row
 pub weights_more : (rows : List Fragment) (s : Summand) (weights : List ℤ) (weight : ℤ) (place : ℕ) → length weights ≡ place → AreWeights rows s weights → weight ≡ weight_of s (values_at_number rows place)

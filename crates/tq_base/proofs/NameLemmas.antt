@@ -1,8 +1,7 @@
 -- A folded name is one that may be shown.
-use Rattle.std.proofs.Common.{◌≡◌, ℕ, true, ◌&&◌, not, List, [], ◌∷◌, length, nat_le, refl, ap, arith}
+use Rattle.std.proofs.Common.{◌≡◌, ℕ, true, ◌&&◌, not, List, [], ◌∷◌, length, nat_le, refl, arith}
 use Rattle.std.specs.Char.{is_ascii_uppercase, to_ascii_lowercase}
 use Rattle.std.specs.List.{list_all}
-use Rattle.std.specs.Str.{str_eq_ignore_ascii_case, bytes_eq, str_to_ascii_lowercase}
 use Rattle.std.proofs.lemmas.Bool.{and_parts}
 use Rattle.std.proofs.lemmas.Bool.Decides.{nat_tests}
 use Rattle.tq_base.specs.Names.{folded, has_name_form, is_name, is_name_byte, is_name_start, is_reserved, is_shown_name}
@@ -38,9 +37,6 @@ all_lower (b ∷ bs) = rw (lower b, all_lower bs) refl
 folded_twice : (bytes : List ℕ) → folded (folded bytes) ≡ folded bytes
 folded_twice [] = refl
 folded_twice (b ∷ bs) = rw (lower_twice b, folded_twice bs) refl
-
-same_word : (word bytes : List ℕ) → str_eq_ignore_ascii_case word (folded bytes) ≡ str_eq_ignore_ascii_case word bytes
-same_word word bytes = ap (bytes_eq (str_to_ascii_lowercase word)) (folded_twice bytes)
 
 same_reserved : (bytes : List ℕ) → is_reserved (folded bytes) ≡ is_reserved bytes
 unfolding is_reserved

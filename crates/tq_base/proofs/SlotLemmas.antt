@@ -52,11 +52,6 @@ pub text_slots : (slots : List Slot) (kept : ℕ) (texts : List Value) → (slot
 text_slots [] kept texts some are = absurd (some refl)
 text_slots (slot ∷ slots) kept texts some are = are.1
 
--- slots of numbered columns
-pub are_slots : (slots : List Slot) (kept : ℕ) (texts : List Value) → AreNumbered 0 slots kept → texts ≡ Text [] ∷ [] → AreSlots slots kept texts
-are_slots [] kept texts numbered text = tt
-are_slots (slot ∷ slots) kept texts numbered text = (numbered, text)
-
 pub width_numbered : (slots : List Slot) (kept : ℕ) → AreNumbered 0 slots kept → seen_width slots kept ≡ length slots
 unfolding AreNumbered
 width_numbered [] kept numbered = sym numbered

@@ -320,14 +320,6 @@ first_marked s xs ys same others marks i d less =
     let tells : TellsRight s (get_or xs i d) (get_or ys (i + 1) d) = subst (TellsRight s (get_or xs i d)) (sym next) (marks i d (omega (arith, less, long))) in
     (λ begins alike. tells.0 begins (sym here ∙ alike), λ goes. here ∙ tells.1 goes)
 
-pub mark_same : (keys : List Key) (first : Key) → map unmarked (set keys 0 (record { rank = (get_or keys 0 first).rank; start = (get_or keys 0 first).start; row = (get_or keys 0 first).row; side = (get_or keys 0 first).side; mark = Begins })) ≡ map unmarked keys
-mark_same [] first = refl
-mark_same (k ∷ keys) first = refl
-
-pub mark_others : (keys : List Key) (first : Key) → drop 1 (set keys 0 first) ≡ drop 1 keys
-mark_others [] first = refl
-mark_others (k ∷ keys) first = refl
-
 -- keys of other ranks have other values
 pub ranks_differ : (s : SidesState) (place offset : ℕ) (a b : Key) → IsRanked s place offset a → IsRanked s place offset b → a.rank < b.rank → key_values s a ≢ key_values s b
 ranks_differ s place offset a b a_is b_is lt same =

@@ -1,5 +1,5 @@
 -- A pass over groups of rows of equal values: what holds between two groups, and that each group keeps it.
-use Rattle.std.proofs.Common.{append_assoc, append-nil, length, ◌<◌, ◌-◌, inl, inr, length-append, ◌≡◌, ◌≢◌, ℕ, ◌+◌, Bool, true, false, cond, List, [], ◌∷◌, ◌++◌, get_or, map, sym, refl, ap, ◌∙◌, subst, arith, IfSome, slice_get}
+use Rattle.std.proofs.Common.{append-nil, length, ◌<◌, ◌-◌, inl, inr, length-append, ◌≡◌, ◌≢◌, ℕ, ◌+◌, Bool, true, false, cond, List, [], ◌∷◌, ◌++◌, get_or, map, sym, refl, ap, ◌∙◌, subst, arith, IfSome, slice_get}
 use Rattle.std.specs.Prelude.{All, AllPairs, IsSorted, IsPermutation}
 use Rattle.std.specs.Ordering.{eq_by_cmp, is_lt, ordering_reverse, ordering_then, nat_cmp}
 use Rattle.std.specs.declared.cmp.Ordering.{Ordering}
@@ -25,10 +25,6 @@ use Rattle.tq_base.specs.Layering.{rows_of, AddsLayers, period_cmp}
 use Rattle.tq_base.specs.Sweep.{pairs_head, pairs_tail, held-cons}
 
 -- ---- lists
-
-all_left : {X : Type 0} (P : X → Type 0) (xs ys : List X) → All P (xs ++ ys) → All P xs
-all_left P [] ys h = All-nil P
-all_left P (x ∷ xs) ys h = All-cons P x xs (All-head P x (xs ++ ys) h) (all_left P xs ys (All-tail P x (xs ++ ys) h))
 
 all_right : {X : Type 0} (P : X → Type 0) (xs ys : List X) → All P (xs ++ ys) → All P ys
 all_right P [] ys h = h
@@ -264,7 +260,3 @@ closes_group rows (x ∷ group) others table new v w alike differs adds =
     (subst (λ u. All (λ f. f.values ≡ u) (x ∷ group)) (sym same) alike)
     (subst (λ u. IfSome (slice_get others 0) (λ f. f.values ≢ u)) (sym same) differs)
     (subst (λ u. AddsLayers u (x ∷ group) table new) (sym same) adds)
-
--- the next row goes to the group
-pub joins_group : (rows group rest table : List Fragment) (row : Fragment) → Grouping rows (group ++ row ∷ rest) table → Grouping rows ((group ++ row ∷ []) ++ rest) table
-joins_group rows group rest table row w = subst (λ l. Grouping rows l table) (sym (append_assoc group (row ∷ []) rest)) w

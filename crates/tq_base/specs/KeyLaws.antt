@@ -1,6 +1,6 @@
 -- Keys stand to each other as the values of their rows do.
 use Rattle.std.specs.List.{range_with_len}
-use Rattle.std.specs.Prelude.{zero, suc, ◌++◌, map, ◌≡◌, ◌≢◌, ◌^◌, ◌%◌, ◌<◌, ◌≤◌, ◌+◌, ◌*◌, ◌-◌, ℕ, min, Bool, true, false, nat_lt, nat_le, cond, List, [], ◌∷◌, length, drop, pos, negsuc, refl, All, IsSorted}
+use Rattle.std.specs.Prelude.{zero, suc, ◌++◌, map, ◌≡◌, ◌^◌, ◌%◌, ◌<◌, ◌≤◌, ◌+◌, ◌*◌, ◌-◌, ℕ, min, Bool, true, false, nat_lt, nat_le, cond, List, [], ◌∷◌, length, drop, pos, negsuc, refl, All, IsSorted}
 use Rattle.std.specs.Ordering.{is_lt, nat_cmp, ordering_reverse, ordering_then}
 use Rattle.std.specs.Cmp.{IsTotalOrder, nat_cmp_total, on_total, ranked, then_total, tied_itself}
 use Rattle.std.specs.declared.cmp.Ordering.{Ordering}
@@ -125,10 +125,6 @@ told s a b a_is b_is equal = values_same (key_values s a) (key_values s b) (sym 
 pub alike : (s : SidesState) (a b : Key) → IsKey s a → IsKey s b → key_values s a ≡ key_values s b → value_key_cmp s a b ≡ Equal
 alike s a b a_is b_is same =
     as_values s a b a_is b_is ∙ subst (λ v. values_cmp (key_values s a) v ≡ Equal) same (tied_itself values_total (key_values s a))
-
--- a key that is not above another is of values that are not above its values
-pub in_order : (s : SidesState) (a b : Key) → IsKey s a → IsKey s b → value_key_cmp s a b ≢ Greater → values_cmp (key_values s a) (key_values s b) ≢ Greater
-in_order s a b a_is b_is not_above above = not_above (as_values s a b a_is b_is ∙ above)
 
 -- ---- sorted keys
 

@@ -361,9 +361,6 @@ impl<'a> Relation<'a> {
         ensures width { IfOk result (λ out. out.width ≡ self.entry.width) }
         ensures rows { IfOk result (λ out. out.items ≡ map (line_of self.entry.items) lines.now) }
     {
-        if lines.len() > MAX_ROWS {
-            return Err(AllocError);
-        }
         let rows = rows_of(alloc, lines)?;
         let periods = line_periods(alloc, lines)?;
         self.placed(alloc, &rows, periods)

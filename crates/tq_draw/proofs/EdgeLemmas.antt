@@ -42,9 +42,6 @@ edge_grows scale is cell =
     let shares = share_grows cell (scale.last - scale.first) scale.cells is.some is.no_more in
     omega (arith, shares)
 
-pub edge_within : (scale : Scale) → IsScale scale → (cell : ℕ) → cell ≤ scale.cells → edge scale cell ≤ scale.last
-edge_within scale is cell within = omega (arith, edge_rises scale is cell scale.cells within, edge_last scale is)
-
 -- an instant before the edge of a cell lies in a cell before it
 find_cell : (scale : Scale) (instant : ℕ) → scale.first ≤ instant → (n : ℕ) → instant < edge scale n
     → (cell : ℕ) × (cell < n) × Covers scale cell instant

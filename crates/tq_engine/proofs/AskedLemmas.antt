@@ -1,4 +1,4 @@
--- Answers over tables of which texts were left out that the statement does not name.
+-- Answers over tables of which values were left out that the statement does not name.
 use Rattle.std.proofs.Common.{◌≡◌, ℕ, Bool, List, length, get_or, Result, Ok, Err, sym, ap, ◌∙◌, subst}
 use Rattle.tq_base.specs.declared.catalogue.Catalogue.{Catalogue}
 use Rattle.tq_base.specs.declared.form.Form.{Form}

@@ -31,7 +31,7 @@ pub record HasAnswer (form : Form) (files : List TableFile) (bytes : List ℕ) (
   pub makes : Makes bytes statement
   pub is_answer : IsAnswer form loaded.catalogue statement loaded.events (length loaded.events) table
 
--- the statement is the one that the bytes make, and the tables are those of the files, row by row, of which texts may be left out that
+-- the statement is the one that the bytes make, and the tables are those of the files, row by row, of which values may be left out that
 -- it does not name: what answers a plan of it over these tables answers it over the whole ones
 pub record IsAsked (form : Form) (files : List TableFile) (bytes : List ℕ) (tables : Tables) (statement : Statement) : Type 0 where
   pub whole : Tables

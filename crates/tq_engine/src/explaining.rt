@@ -35,7 +35,7 @@ impl Watch for Open {
     fn answered(&self) {}
 }
 
-/// A question that was answered: the tables of its files, but for texts of columns that its statement does not name, and
+/// A question that was answered: the tables of its files, but for values of columns that its statement does not name, and
 /// the plan of the statement.
 #[derive(Drop)]
 pub struct Explained {
@@ -49,7 +49,7 @@ pub struct Explained {
 /// the answer is whole; after `Write` a prefix of it went out. Files are loaded and the answer is worked out by 1 to
 /// 16 workers, the calling thread among them, and all is the same for every number of them. Who watches is told of each
 /// piece of work before it is run, and of the files that are loaded and the answer that is found. Where it is answered,
-/// the tables, but for texts of columns that the statement does not name, and the plan are handed out.
+/// the tables, but for values of columns that the statement does not name, and the plan are handed out.
 pub fn answer_explained<R: Threads + Sync, W: Write, G: Watch + Sync>(
     rt: &R,
     alloc: Global,

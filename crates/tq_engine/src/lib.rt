@@ -2,7 +2,7 @@
 //! first fault.
 //!
 //! The bytes of a file come through a `Source`, which counts its reads and those that failed, and which
-//! `read_file` reads to its end. `answer` loads the tables of all files (`tq_loading`) but for texts of columns that
+//! `read_file` reads to its end. `answer` loads the tables of all files (`tq_loading`) but for values of columns that
 //! the statement does not name, reads the statement (`tq_sql`), plans it (`tq_plan`) and evaluates its plan
 //! (`tq_eval`); `answer_explained` has the text of that answer sent through a `Sink` (`tq_table`), while somebody
 //! watches, and hands out the tables and the plan. Its contract is the first promise: what `Ok` appends is the text

@@ -18,12 +18,6 @@ use Rattle.tq_eval.specs.Ordinary.{groups, ordinary, output_value}
 use Rattle.tq_plan.specs.Standing.{is_aggregate, no_group}
 use Rattle.tq_eval.specs.Running.{output_place}
 
--- ---- what holds where a call succeeds
-
-pub if_ok_each : {A E T : Type 0} (r : Result A E) (P : T → A → Type 0) → ((t : T) → IfOk r (P t)) → IfOk r (λ a. (t : T) → P t a)
-if_ok_each (Ok a) P each = each
-if_ok_each (Err e) P each = tt
-
 -- ---- queries with no group, count or sum
 
 row_alone : (row : Row) (outputs : List Output) → list_any is_aggregate outputs ≡ false → map (output_value (row ∷ [])) outputs ≡ projection (map output_place outputs) row

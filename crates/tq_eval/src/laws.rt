@@ -80,7 +80,7 @@ pub fn shares_part_groups()
     ensures { SharesPartGroups }
 {}
 
-/// The answer of a plan depends on the columns that it names, and on no others: the texts of the others may be left out.
+/// The answer of a plan depends on the columns that it names, and on no others: the values of the others may be left out.
 pub fn named_columns_tell()
     ensures { NamedColumnsTell }
 {}
@@ -97,7 +97,7 @@ pub fn kept_rows_fit()
     ensures valid { KeptTablesHold }
 {}
 
-/// Tables of which only the texts of those columns are kept that a plan names give it the answer that the whole tables
+/// Tables of which only the values of those columns are kept that a plan names give it the answer that the whole tables
 /// give it; and so do tables of which nothing is left out.
 pub fn kept_tables_answer()
     ensures { KeptTablesAnswer }

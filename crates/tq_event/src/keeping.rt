@@ -1,4 +1,4 @@
-// Which texts of a table's rows are wanted.
+// Which columns of a table are wanted.
 
 ghost use Rattle.std.specs.Prelude.{◌≡◌};
 ghost use Rattle.tq_event.specs.Keeping.{is_wanted, wanted_lists, wanted_of};

@@ -28,9 +28,6 @@ has_later y x xs is = (suc is.0, omega (arith, is.1), is.2)
 abbrev one_if : Bool → ℕ
 one_if b = cond b 1 0
 
-is_it : Row → Row → ℕ
-is_it v row = one_if (eq_by_cmp values_cmp row v)
-
 from_times : (rows : List Row) (v : Row) → 0 < occurrences rows v → Contains rows v
 from_times [] v some = absurd (omega (arith, some))
 from_times (u ∷ rows) v some = by (from_times rows v) (eq_by_cmp values_cmp u v) refl

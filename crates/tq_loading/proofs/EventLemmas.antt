@@ -1,10 +1,9 @@
 -- How many events rows make.
 use Rattle.std.proofs.Common.{◌≡◌, ◌+◌, ◌<◌, ◌≤◌, ◌*◌, if◌then◌else◌, Bool, true, false, ◌==◌, ◌++◌, ◌∷◌, ℕ, List, [], length, map, sum_by, take, refl, sym, ap, ◌∙◌, arith}
 use Rattle.std.proofs.lemmas.List.{length-take-le, take_more}
-use Rattle.std.proofs.lemmas.List.Sums.{sum_by-append, sum_by-cons, sum_by_push}
+use Rattle.std.proofs.lemmas.List.Sums.{sum_by-append, sum_by-cons}
 use Rattle.std.specs.Prelude.{slice_index_or}
 use Rattle.tq_base.specs.declared.fragment.Fragment.{Fragment}
-use Rattle.tq_base.specs.declared.period.Period.{Period}
 use Rattle.tq_base.specs.declared.period.TheConstants.{FOREVER}
 use Rattle.tq_base.specs.RowLists.{RowList}
 use Rattle.tq_event.specs.Loading.{event_count}
@@ -29,12 +28,6 @@ pub few_events : (table : ℕ) (rows : List Fragment) → sum_by event_count (ma
 few_events table [] = omega arith
 few_events table (row ∷ rows) =
     omega (arith, sum_by-cons event_count (told_by table row) (map (told_by table) rows), few_events table rows, one_or_two (row.period.end == FOREVER))
-
--- one period more
-pub one_more_period : (periods : List Period) (place : ℕ) (period : Period) → place < length periods → period ≡ slice_index_or periods place period
-    → sum_by period_events (take (place + 1) periods) ≡ sum_by period_events (take place periods) + period_events period
-one_more_period periods place period here is =
-    ap (sum_by period_events) (take_more periods place period here ∙ ap (λ (p : Period). take place periods ++ p ∷ []) (sym is)) ∙ sum_by_push period_events (take place periods) period
 
 -- one table more
 pub one_more_table : (tables : List RowList) (place : ℕ) (rows : RowList) → place < length tables → rows ≡ slice_index_or tables place rows

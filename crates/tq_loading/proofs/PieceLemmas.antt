@@ -14,13 +14,6 @@ use Rattle.tq_loading.proofs.PartLemmas.{ranges, taken}
 
 -- ---- byte order marks
 
--- three bytes tell whether there is one
-pub mark_apart : (bytes more : List ℕ) → 3 ≤ length bytes → begins_with_mark (bytes ++ more) ≡ begins_with_mark bytes
-mark_apart [] more long = absurd (omega (arith, long))
-mark_apart (a ∷ []) more long = absurd (omega (arith, long))
-mark_apart (a ∷ b ∷ []) more long = absurd (omega (arith, long))
-mark_apart (a ∷ b ∷ c ∷ bytes) more long = refl
-
 -- six tell whether there are two
 pub marks_apart : (bytes more : List ℕ) → 6 ≤ length bytes → is_marked_twice (bytes ++ more) ≡ is_marked_twice bytes
 unfolding strip_bom

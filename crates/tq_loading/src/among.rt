@@ -135,10 +135,10 @@ pub fn load_tables_among<R: Threads + Sync, G: Gate + Sync>(
     load_tables_by_parts(rt, alloc, files, limit, workers, LEAST_PART, gate, form)
 }
 
-/// Loads files into their tables by 1 to 16 workers as `load_tables_among` does, and keeps of their rows only texts that
-/// are wanted: what `load_wanted` answers. The lists stand for the tables in their order, and each tells of a table's
-/// columns, from the first on, which are wanted; columns and tables behind the end of a list are. Numbers and periods are
-/// always kept, and the files are refused all the same. The gate is told what `load_tables_among` tells it.
+/// Loads files into their tables by 1 to 16 workers as `load_tables_among` does, and keeps of their rows only values
+/// that are wanted: what `load_wanted` answers. The lists stand for the tables in their order, and each tells of a table's
+/// columns, from the first on, which are wanted; columns and tables behind the end of a list are. Periods are always
+/// kept, and the files are refused all the same. The gate is told what `load_tables_among` tells it.
 pub fn load_wanted_among<R: Threads + Sync, G: Gate + Sync>(
     rt: &R,
     alloc: Global,

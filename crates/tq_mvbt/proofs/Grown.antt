@@ -11,9 +11,6 @@ use Rattle.tq_mvbt.specs.Steps.{edited, retired, Changes}
 use Rattle.tq_mvbt.specs.Loose.{IsGrown, Grows}
 use Rattle.tq_mvbt.proofs.Places.{at_set_same, at_set_other, at_left}
 
-pub grows_same : (version level : ℕ) (nodes : List NodeState) → Grows version level nodes nodes
-grows_same version level nodes i n e = record { later = n; stands = e; level_is = refl; low = refl; high = refl; born = refl; died = inl refl; kept = λ h. refl }
-
 -- one node changes
 pub grows_set : (version level : ℕ) (nodes : List NodeState) (i : ℕ) (n m : NodeState) → slice_get nodes i ≡ Some n → m.level ≡ n.level → m.low ≡ n.low → m.high ≡ n.high → m.born ≡ n.born → (m.died ≡ n.died) ⊎ ((n.died ≡ now) × (m.died ≡ version)) → (level ≤ n.level → m.died ≡ n.died) → Grows version level nodes (set nodes i m)
 grows_set version level nodes i n m e l a b c d k j x f = split (nat_eq i j) refl

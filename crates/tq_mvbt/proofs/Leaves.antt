@@ -10,7 +10,7 @@ use Rattle.tq_arena.specs.Contents.{Contents}
 use Rattle.tq_mvbt.specs.declared.entry.Entry.{Entry}
 use Rattle.tq_mvbt.specs.NodeState.{NodeState}
 use Rattle.tq_mvbt.specs.Points.{now, is_live, leads, with_end}
-use Rattle.tq_mvbt.specs.Shape.{top, tally, IsPlaced, IsNode, IsForest, IsSomeForest, IsFilled, IsFound, listed, with_life}
+use Rattle.tq_mvbt.specs.Shape.{top, tally, IsPlaced, IsNode, IsForest, IsFilled, IsFound, listed, with_life}
 use Rattle.tq_mvbt.specs.Steps.{edited, with_entry, Changes}
 use Rattle.tq_mvbt.specs.Loose.{IsFromBefore, IsForestBy, IsSettling, IsReady, IsPartOf}
 use Rattle.tq_mvbt.proofs.Lists.{all_at}
@@ -97,10 +97,6 @@ adds_edited version key alive s t p e small on ready found change =
       nodes = change.nodes ∙ ap (λ xs. set nodes p (record change.node { entries = xs ++ e ∷ [] })) (sym its);
       room = change.room;
     }
-
--- the nodes before an update are those of some tree
-pub ready_forest : (version key : ℕ) (alive : Bool) (nodes : List NodeState) → version < now → IsReady version key alive nodes → IsSomeForest nodes
-ready_forest version key alive nodes small ready = let l = ready.later in record { version = ready.before; lives = ready.lives; height = ready.height; small = omega arith; forest = ready.forest }
 
 -- two nodes of different levels are different
 apart : (nodes : List NodeState) (p q : ℕ) (n m : NodeState) → slice_get nodes p ≡ Some n → slice_get nodes q ≡ Some m → n.level < m.level → q ≢ p

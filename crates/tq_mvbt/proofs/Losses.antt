@@ -1,9 +1,9 @@
 -- The laws of a change: what ends and what begins over the same keys hold the same points.
-use Rattle.std.proofs.Common.{◌≡◌, ℕ, ◌+◌, ◌<◌, ◌≤◌, List, [], ◌∷◌, map, Bool, true, false, cond, not, ◌&&◌, length, get_or, set, ap, refl, sym, arith, count_by, filter, nat_eq}
+use Rattle.std.proofs.Common.{◌≡◌, ℕ, ◌+◌, ◌<◌, ◌≤◌, List, [], ◌∷◌, map, Bool, true, false, cond, not, ◌&&◌, ap, refl, arith, count_by, filter, nat_eq}
 use Rattle.std.specs.Prelude.{All}
 use Rattle.std.proofs.lemmas.Bool.Decides.{nat_tests}
 use Rattle.std.proofs.lemmas.List.Elements.{All-head, All-tail}
-use Rattle.std.proofs.lemmas.List.Sums.{sum_by-cons, sum_by-set}
+use Rattle.std.proofs.lemmas.List.Sums.{sum_by-cons}
 use Rattle.tq_mvbt.specs.declared.entry.Entry.{Entry}
 use Rattle.tq_mvbt.specs.NodeState.{NodeState}
 use Rattle.tq_mvbt.specs.Points.{now, within, covers, is_live, with_end}
@@ -18,10 +18,6 @@ life_cut born version v b h = grind (arith, nat_tests)
 -- a range that is cut at a key
 pub range_cut : (low middle high k : ℕ) → low ≤ middle → middle ≤ high → tally (within low high k) ≡ tally (within low middle k) + tally (within middle high k)
 range_cut low middle high k a b = grind (arith, nat_tests)
-
-tally_and : (a b : Bool) → tally (a && b) ≡ cond a (tally b) 0
-tally_and true b = refl
-tally_and false b = refl
 
 -- ---- the node that ends
 
@@ -40,13 +36,6 @@ node_ends level k v version n d b h = split (nat_eq n.level level) (within n.low
     split true false = refl
     split false true = refl
     split false false = refl
-
--- one node of a list ends
-pub list_ends : (level k v version : ℕ) (nodes : List NodeState) (i : ℕ) (n : NodeState) → i < length nodes → n ≡ get_or nodes i n → n.died ≡ now → n.born ≤ version → v < now → count_by (at_point level k v) (set nodes i (ended version n)) + tally (nat_eq n.level level && (within n.low n.high k && within version now v)) ≡ count_by (at_point level k v) nodes
-list_ends level k v version nodes i n l e d b h =
-    let change = sum_by-set (λ m. tally (at_point level k v m)) nodes i (ended version n) n l in
-    let same : tally (at_point level k v (get_or nodes i n)) ≡ tally (at_point level k v n) = ap (λ m. tally (at_point level k v m)) (sym e) in
-    omega (arith, change, same, node_ends level k v version n d b h)
 
 -- a node that begins at the version holds the points of its keys from there on
 pub node_begins : (level k v version : ℕ) (n : NodeState) → n.died ≡ now → n.born ≡ version → tally (at_point level k v n) ≡ tally (nat_eq n.level level && (within n.low n.high k && within version now v))

@@ -12,8 +12,8 @@ use Rattle.tq_mvbt.specs.declared.root.Root.{Root}
 use Rattle.tq_mvbt.specs.NodeState.{NodeState}
 use Rattle.tq_mvbt.specs.Points.{now, within, holds, leads}
 use Rattle.tq_mvbt.specs.Steps.{fresh}
-use Rattle.tq_mvbt.specs.Shape.{top, tally, listed, with_life, raised, Tiles, at_point, IsPlaced, IsRow, IsBranch, IsNode, IsForest, IsSomeForest, IsFound, IsFilled}
-use Rattle.tq_mvbt.specs.Loose.{IsReady, Grows, HeightChanges, KeyChanges}
+use Rattle.tq_mvbt.specs.Shape.{top, tally, listed, with_life, raised, Tiles, at_point, IsPlaced, IsRow, IsBranch, IsNode, IsForest, IsFound, IsFilled}
+use Rattle.tq_mvbt.specs.Loose.{Grows, HeightChanges, KeyChanges}
 use Rattle.tq_mvbt.specs.Links.{AreLinked, LinkJust, IsLinkTo}
 use Rattle.tq_mvbt.specs.Directory.{last_root, root_of, IsTop}
 use Rattle.tq_mvbt.specs.TreeState.{among, lives_of, height_of, HasLife, IsRootAt, AreRoots, AreLives, IsTree}
@@ -109,12 +109,6 @@ module _ (before : ℕ) (nodes : List NodeState) (roots : List Root) (tree : IsT
       let a = at.low in
       let b = at.high in
       record { node = at.node; stands = at.stands; at_level = omega arith; died = at.died; low = omega arith; high = omega arith }
-
-  pub some_forest : IsSomeForest nodes
-  some_forest = record { version = before; lives = lives_of nodes; height = height_of roots; small = b_small; forest = tree.forest }
-
-  pub ready : (version key : ℕ) (alive : Bool) → before < version → (alive ≡ true → (v : ℕ) → lives_of nodes key v ≡ false) → IsReady version key alive nodes
-  ready version key alive later never = record { before = before; lives = lives_of nodes; height = height_of roots; later = later; never = never; forest = tree.forest; filled = tree.filled }
 
   pub top_grows : (version : ℕ) (mid : List NodeState) → before < version → Grows version (root.levels - 1) nodes mid → IsTop version mid root
   top_grows version mid later grows =
@@ -374,20 +368,6 @@ life_begins version key nodes new small kt never are =
     at v h true s = let on : within version now v ≡ true = grind (arith, nat_tests) in sym on
     at v h false s = let off : within version now v ≡ false = grind (arith, nat_tests) in never v ∙ sym off
 
-pub life_ends : (before version key born : ℕ) (nodes new : List NodeState) → before < version → version < now → key < top → lives_of nodes key before ≡ true → ((k v : ℕ) → k < top → v < now → lives_of new k v ≡ with_life (lives_of nodes) key version false k v) → HasLife nodes key born now → HasLife new key born version
-life_ends before version key born nodes new later small kt alive are life =
-    record { lived = born_before; ends = omega arith; lives = λ v h. are key v kt h ∙ this_life (lives_of nodes) key version v false ∙ at v h (nat_le version v) refl }
-  where
-    born_before : born < version
-    born_before =
-        let e : within born now before ≡ true = sym (life.lives before (omega arith)) ∙ alive in
-        let b : born ≤ before = grind (arith, nat_tests) in
-        omega arith
-
-    at : (v : ℕ) → v < now → (b : Bool) → nat_le version v ≡ b → cond b false (lives_of nodes key v) ≡ within born version v
-    at v h true s = let off : within born version v ≡ false = grind (arith, nat_tests) in sym off
-    at v h false s = let same : within born now v ≡ within born version v = grind (arith, nat_tests) in life.lives v h ∙ same
-
 -- ---- the first tree
 
 abbrev leaf : NodeState
@@ -474,6 +454,3 @@ first_linked =
 
 pub first_tree : IsTree 0 (leaf ∷ []) (first_root ∷ [])
 first_tree = record { small = omega arith; forest = first_forest; filled = first_filled; lives = first_lives; rooted = first_roots; bounded = omega arith; linked = first_linked }
-
-pub first_empty : (k v : ℕ) → lives_of (fresh 0 0 top 0 [] [] ∷ []) k v ≡ false
-first_empty = no_lives

@@ -125,9 +125,6 @@ copies-rows_of u v (p ∷ ps) t =
     cases false false = refl
 
 module _ (window : Period) (side : Side) (v : List Value) (t : ℕ) where
-  there : Held → Bool
-  there r = is_same_side side r.side && (holds r.row.period t && holds window t)
-
   side_copies-cons : (r : Held) (rows : List Held) → side_copies window side (r ∷ rows) v t ≡ one_if ((is_same_side side r.side && (holds r.row.period t && holds window t)) && eq_by_cmp values_cmp r.row.values v) + side_copies window side rows v t
   side_copies-cons r rows = sum_by-cons (λ (r : Held). one_if ((is_same_side side r.side && (holds r.row.period t && holds window t)) && eq_by_cmp values_cmp r.row.values v)) r rows
 

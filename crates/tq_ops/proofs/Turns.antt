@@ -21,7 +21,7 @@ use Rattle.tq_base.specs.Fragments.{copies}
 use Rattle.tq_ops.specs.Differences.{side_copies, AddsDifference, AreKeysOfBoth, AreOfValues}
 use Rattle.tq_ops.proofs.Counting.{one_if, sum_by-same, sum_by-zero}
 use Rattle.tq_ops.proofs.Cutting.{holds_not_both}
-use Rattle.tq_ops.proofs.Grouping.{adds_group, group_ends, group_not_empty, item_at, AreSorted, Grouping}
+use Rattle.tq_ops.proofs.Grouping.{adds_group, group_ends, item_at, AreSorted, Grouping}
 use Rattle.tq_ops.proofs.Products.{sum_by-overlapping, sum_by-side}
 
 abbrev no_key : Key
@@ -87,9 +87,6 @@ module _ (s : SidesState) (keys : List Key) (whole : All (λ k. key_values s k �
         let alike_x : AreOfValues x.row.values (take len (drop start rows)) = subst (λ (y : Held). AreOfValues y.row.values (take len (drop start rows))) first (alike_rows x) in
         adds_group window rows start len out new x (sorted rising) inside is (omega (arith, within_rows, length-drop start rows)) alike_x
         (group_ends rows start len within_rows alike_rows ends_rows inside) (adds x.row.values alike_x) w
-
-    pub some_run : 0 < len
-    some_run = group_not_empty (map (held s) keys) start len within_rows alike_rows ends_rows (omega (arith, below, length-map keys (held s)))
 
 -- ---- what the rows of a side count
 

@@ -4,7 +4,6 @@ use mathlib.Core.Logic.{dite}
 use Rattle.std.proofs.Common.{Option, Some, IsSomeAnd, get_or, set, subst, length-set, get_or-set_same, get_or-set_other, lt_of_not-le, ◌≡◌, ℕ, ◌+◌, ◌<◌, ◌≤◌, List, [], ◌∷◌, ◌++◌, length, refl, sym, ap, ◌∙◌, arith, append_assoc, append-nil, length-append}
 use Rattle.std.proofs.Math.Seq.{get_or-append_seam}
 use Rattle.std.proofs.lemmas.List.{map-append, get_or_append_left}
-use Rattle.std.proofs.lemmas.List.Elements.{All-append}
 use Rattle.tq_run.specs.Counting.{times, EachOnce}
 use Rattle.tq_run.specs.Results.{IsResultList}
 use Rattle.tq_run.specs.Sharing.{numbers, EachRelates, AllFilled}
@@ -37,12 +36,6 @@ module _ {A : Type 0} where
   ]
 
 module _ {A : Type 0} (relates : ℕ → A → Type 0) where
-  pub relates-append : (xs ys : List (ℕ × A)) → EachRelates relates xs → EachRelates relates ys → EachRelates relates (xs ++ ys)
-  relates-append xs ys = All-append (λ q. relates q.0 q.1) xs ys
-
-  pub relates_one : (i : ℕ) (x : A) → relates i x → EachRelates relates ((i, x) ∷ [])
-  relates_one i x h k d l = let z : k ≡ 0 = omega arith in subst (λ j. relates (get_or ((i, x) ∷ []) j d).0 (get_or ((i, x) ∷ []) j d).1) (sym z) h
-
   relates_at : (i : ℕ) (x : A) (done rest all : List (ℕ × A)) → EachRelates relates all → done ++ (i, x) ∷ rest ≡ all → relates i x
   relates_at i x done rest all each is =
       let at = get_or-append_seam done (i, x) rest (i, x) in

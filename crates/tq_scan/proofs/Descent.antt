@@ -2,7 +2,7 @@
 use Rattle.std.proofs.Common.{◌≡◌, ℕ, zero, suc, ◌+◌, ◌-◌, ◌*◌, ◌<◌, ◌≤◌, Bool, true, false, ◌&&◌, List, [], ◌∷◌, length, ap, refl, sym, ◌∙◌, subst, arith, count_by, slice_get, Some, nat_eq, nat_le, nat_lt, max, length-append}
 use Rattle.std.specs.Prelude.{All}
 use Rattle.std.proofs.lemmas.Bool.Decides.{nat_tests}
-use Rattle.std.proofs.lemmas.List.Elements.{All-nil, All-cons, All-head, All-tail, All-append}
+use Rattle.std.proofs.lemmas.List.Elements.{All-nil, All-head, All-tail, All-append}
 use Rattle.std.proofs.lemmas.List.Sums.{sum_by-append, count_by-le-length}
 use Rattle.tq_arena.specs.declared.arena.NodeNo.{NodeNo}
 use Rattle.tq_mvbt.specs.declared.entry.Entry.{Entry}
@@ -10,8 +10,7 @@ use Rattle.tq_mvbt.specs.declared.root.Root.{Root}
 use Rattle.tq_mvbt.specs.NodeState.{NodeState}
 use Rattle.tq_mvbt.specs.Points.{now, within, covers, holds, end_of}
 use Rattle.tq_mvbt.specs.Shape.{IsNode, IsBranch, IsPlaced}
-use Rattle.tq_mvbt.specs.TreeState.{lives_of, height_of, IsTree}
-use Rattle.tq_mvbt.specs.Directory.{root_of}
+use Rattle.tq_mvbt.specs.TreeState.{lives_of, IsTree}
 use Rattle.tq_mvbt.specs.Tiling.{before_end}
 use Rattle.tq_scan.specs.declared.window.Part.{Part}
 use Rattle.tq_scan.specs.Windows.{IsSmall}
@@ -65,23 +64,6 @@ module _ (version : ℕ) (nodes : List NodeState) (roots : List Root) (tree : Is
 
   node_at : (i : ℕ) (n : NodeState) → slice_get nodes i ≡ Some n → IsNode version (lives_of nodes) nodes n
   node_at i n e = all_at (IsNode version (lives_of nodes) nodes) nodes i n tree.forest.each e
-
-  -- ---- the root
-
-  pub root_row : IsRowOf nodes p (height_of roots p.last - 1) (record { 0 = (root_of roots p.last).node } ∷ [])
-  root_row =
-      let at = tree.rooted.stand p.last last_small in
-      let l = at.level in
-      let a = at.low in let b = at.high in
-      let w = is_small.wide in let t = is_small.in_keys in
-      let root : NodeNo = record { 0 = (root_of roots p.last).node } in
-      record {
-        each = All-cons (IsMetNode nodes p (height_of roots p.last - 1)) root [] (record { node = at.node; stands = at.stands; at_level = omega arith; low = omega arith; high = omega arith; born = at.born; died = at.died }) (All-nil (IsMetNode nodes p (height_of roots p.last - 1)));
-        tiles = λ k h g.
-            let held : holds k p.last at.node ≡ true = holds_from at.node k p.last (record { low = omega arith; high = omega arith; born = at.born; died = at.died }) in
-            let one : tally (held_at nodes k p.last root) ≡ 1 = ap (λ o. tally (is_held k p.last o)) at.stands ∙ ap tally held in
-            omega (arith, one, count-cons (held_at nodes k p.last) root []);
-      }
 
   -- ---- a level down
 

@@ -1,6 +1,6 @@
 -- What is appended where some bytes are held for later.
-use Rattle.std.proofs.Common.{◌≡◌, ◌∙◌, ℕ, List, [], ◌++◌, Option, ap, append-nil, append_assoc, refl, subst, sym}
-use Rattle.std.proofs.KnownBytes.{Appends-nil, Appends-trans}
+use Rattle.std.proofs.Common.{◌≡◌, ◌∙◌, ℕ, List, [], ◌++◌, Option, ap, append-nil, append_assoc, subst, sym}
+use Rattle.std.proofs.KnownBytes.{Appends-trans}
 use Rattle.std.specs.Io.KnownBytes.{Appends}
 use Rattle.std.specs.Prelude.{Err, Ok, OnErr, OnOk, Result}
 use Rattle.tq_table.specs.Sink.{AppendsPrefix}
@@ -20,10 +20,6 @@ where_ok-then (Err e) then p = tt
 pub where_err-then : {T E P Q : Type 0} → (r : Result T E) → (P → Q) → OnErr r P → OnErr r Q
 where_err-then (Ok x) then p = tt
 where_err-then (Err e) then p = then p
-
--- nothing was sent, and all is held
-pub all_held : (a : Option (List ℕ)) (bytes : List ℕ) → AppendsAllBut a a bytes bytes
-all_held a bytes = ([], refl, Appends-nil a)
 
 -- all was sent, and nothing is held
 pub none_held : (a b : Option (List ℕ)) (bytes : List ℕ) → Appends a b bytes → AppendsAllBut a b bytes []

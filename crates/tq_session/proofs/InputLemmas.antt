@@ -2,8 +2,8 @@
 use Rattle.std.proofs.Common.{◌≡◌, ◌≢◌, ◌<◌, ◌≤◌, ◌+◌, ◌*◌, not, length-append, if◌then◌else◌, ℕ, zero, suc, List, [], ◌∷◌, ◌++◌, Option, Some, length, take, drop, get_or, arith, refl, sym, ap, ◌∙◌, subst, append_assoc, append-nil, add-one}
 use Rattle.std.proofs.lemmas.Bool.{eq-eqb, eqb-true, false≢true, ne_eqb}
 use Rattle.std.proofs.lemmas.List.{get_or-take, length-take}
-use Rattle.std.proofs.lemmas.List.Elements.{All-from_get_or, All-append, All-nil, All-take}
-use Rattle.std.proofs.KnownBytes.{Consumes-nil, Consumes-trans}
+use Rattle.std.proofs.lemmas.List.Elements.{All-from_get_or, All-append, All-take}
+use Rattle.std.proofs.KnownBytes.{Consumes-trans}
 use Rattle.std.proofs.Math.Seq.{split_at, take-append_seam}
 use Rattle.std.specs.Io.KnownBytes.{Consumes, IsAtEnd}
 use Rattle.memchr.specs.Find.{IsFirstByte, is_byte}
@@ -78,17 +78,6 @@ pub record IsMidway (before unread : List ℕ) (line : GatheredState) (old new :
   pub consumes : Consumes old new taken
   pub split : before ++ taken ≡ bytes ++ unread
   pub most : length taken ≤ most_of_read * reads
-
-pub midway_init : (before : List ℕ) (line : GatheredState) (known : Option (List ℕ)) (reads : ℕ) → IsGathered line [] → IsMidway before before line known known reads
-midway_init before line known reads none = record {
-  bytes = [];
-  taken = [];
-  no_feed = All-nil (λ b. b ≢ 10);
-  gathered = none;
-  consumes = Consumes-nil known;
-  split = append-nil before;
-  most = omega arith;
-}
 
 -- all that was read went into the line
 pub midway_moved : (before unread after : List ℕ) (line more : GatheredState) (old new : Option (List ℕ)) (reads : ℕ) → IsMidway before unread line old new reads → MovesAll unread after line more

@@ -38,9 +38,6 @@ by_real e = cc
 pub group_real : k.Group ≢ k.End
 group_real e = cc
 
-name_real : k.Name ≢ k.End
-name_real e = cc
-
 -- ---- what an item is
 
 abbrev counted : Reader What

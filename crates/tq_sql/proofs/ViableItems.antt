@@ -168,9 +168,6 @@ summed_open =
     (column_example.0 ++ token_of k.Close ∷ [], column_example.1, (column_example.0, token_of k.Close, refl, column_example.2, refl))
     (before_open k.Close IsColumn column_at what.Sum column_reader.sound column_open)
 
-abbrev plain : Reader What
-plain = column_at >>= (λ x. pure (what.Column x))
-
 what_open : IsOpen IsWhat what_at
 unfolding what_at
 what_open = record { open_at = λ ts rest why e. at ts rest why (sees k.Count ts) (sees k.Sum ts) refl refl e }
@@ -204,9 +201,6 @@ item_open = wider (Pair IsWhat (Optional (After k.As IsName))) IsItem (what_at >
 pub items_open : IsOpen (Listed k.Comma IsItem) items_at
 unfolding items_at
 items_open = list_begun k.Comma comma_real IsItem item_at item_reader.sound item_open
-
-abbrev named : Reader (Option (List ℕ))
-named = name_at >>= (λ n. pure (Some n))
 
 source_alias_open : IsOpen (Optional IsAlias) source_alias_at
 unfolding source_alias_at

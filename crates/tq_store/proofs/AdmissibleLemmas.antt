@@ -134,9 +134,6 @@ known_table c es (Start t v at) can = by (slice_get c.tables t) refl can
     by (Some s) is can = slice_get_within c.tables t s is
 known_table c es (End t r at) can = can.0
 
-pub table_within : (c : Catalogue) (es : List Event) (indexes : List Index) (e : Event) → length indexes ≡ length c.tables → IsAdmissible c es e → table_of e < length indexes
-table_within c es indexes e tables fits = let less = known_table c es e fits.1 in omega (arith, less, tables)
-
 pub can_take : (c : Catalogue) (es : List Event) (indexes : List Index) (e : Event) → length indexes ≡ length c.tables → AreIndexes es indexes → IsAdmissible c es e → time_of e < FOREVER → CanTake es e
 can_take c es indexes (Start t v at) tables are fits finite = (by (slice_get c.tables t) fits.1, finite)
   where

@@ -223,20 +223,6 @@ pub same_rows : (ls : List Life) (c version : ℕ) (nodes : List NodeState) → 
 same_rows ls c version nodes has =
     record { each = has.each; only = has.only; begun = has.begun; rows = has.rows; up_to = let le = has.up_to in omega (arith, le); few = let le = has.few in omega (arith, le) }
 
--- the key of the next row never lived
-pub never_lived : (ls : List Life) (c version : ℕ) (nodes : List NodeState) (v : List Value) → c < 16777216 → HasRows ls c version nodes → (at : ℕ) → lives_of nodes (tree_key v (length ls)) at ≡ false
-never_lived ls c version nodes v small has at = by (lives_of nodes (tree_key v (length ls)) at) refl
-  where
-    few : length ls < 4294967296
-    few = let le = has.few in omega (arith, le, small)
-
-    by : (b : Bool) → lives_of nodes (tree_key v (length ls)) at ≡ b → lives_of nodes (tree_key v (length ls)) at ≡ false
-    by false is = is
-    by true is =
-        let one = has.only (tree_key v (length ls)) at is in
-        let less : one.row < length ls = slice_get_within ls one.row one.life one.stands in
-        absurd (other_key v one.life.values (length ls) one.row few (omega (arith, less, few)) (λ same. omega (arith, less, same)) one.same)
-
 -- ---- open rows
 
 get_push_other : {X : Type 0} → (xs : List X) (y : X) (i : ℕ) → i ≢ length xs → slice_get (xs ++ y ∷ []) i ≡ slice_get xs i
@@ -384,23 +370,6 @@ index_like es t old new tree rows kept open_like is = record {
   opened = λ k. open_like k ∙ is.opened k;
 }
 
--- no event
-pub index_none : (t : ℕ) (index : Index) → index.rows.items ≡ [] → index.kept.items ≡ [] → index.tree.version ≡ 0 → ((k v : ℕ) → lives_of index.tree.nodes k v ≡ false)
-    → ((k : ℕ) → has index.opened k ≡ false) → IsIndexOf [] t index
-index_none t index rows kept version none shut_all = record {
-  rows = rows;
-  kept = ap values_of kept;
-  tree = record {
-    each = λ row l stands. absurd (cc);
-    only = λ k v lives. absurd (let no = none k v in cc);
-    begun = λ row l stands. absurd (cc);
-    rows = λ row l stands. absurd (cc);
-    up_to = omega (arith, version);
-    few = omega arith;
-  };
-  opened = shut_all;
-}
-
 -- ---- the indexes of all tables
 
 pub indexes_set : (es more : List Event) (indexes : List Index) (t : ℕ) (new : Index) → AreIndexes es indexes → t < length indexes → IsIndexOf more t new
@@ -493,10 +462,6 @@ on_three (Err e) p q s step = p
 pub on_three_err : {T E : Type 0} → (r : Result T E) {P Q R S : Type 0} → OnErr r P → OnErr r Q → OnErr r R → (P → Q → R → S) → OnErr r S
 on_three_err (Ok x) p q s step = p
 on_three_err (Err e) p q s step = step p q s
-
-pub on_both_err : {T E : Type 0} → (r : Result T E) {P Q R : Type 0} → OnErr r P → OnErr r Q → (P → Q → R) → OnErr r R
-on_both_err (Ok x) p q step = p
-on_both_err (Err e) p q step = step p q
 
 -- ---- the rows of an index
 

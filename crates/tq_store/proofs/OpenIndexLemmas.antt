@@ -1,5 +1,5 @@
 -- The rows of a table after one more event, and those of every table.
-use Rattle.std.proofs.Common.{◌≡◌, ◌≢◌, ℕ, zero, suc, ◌+◌, ◌-◌, ◌<◌, ◌≤◌, ◌==◌, ◌&&◌, not, Bool, true, false, if◌then◌else◌, List, [], ◌∷◌, ◌++◌, Option, Some, None, length, map, take, slice_get, slice_set, refl, sym, ap, subst, ◌∙◌, ◌⊎◌, inl, inr, arith}
+use Rattle.std.proofs.Common.{◌≡◌, ◌≢◌, ℕ, zero, suc, ◌+◌, ◌-◌, ◌<◌, ◌==◌, ◌&&◌, not, Bool, true, false, if◌then◌else◌, List, [], ◌∷◌, ◌++◌, Option, Some, None, length, map, take, slice_get, slice_set, refl, sym, ap, subst, ◌∙◌, ◌⊎◌, inl, inr, arith}
 use Rattle.std.specs.Prelude.{◌||◌, IsSomeAnd, FitsSigned}
 use Rattle.std.specs.Option.{option_map}
 use Rattle.std.specs.Ordering.{eq_by_cmp, nat_cmp}
@@ -18,7 +18,7 @@ use Rattle.tq_event.specs.Recorded.{table_of}
 use Rattle.tq_event.specs.Versions.{Life, ending_of, row_lives, row_lives_from}
 use Rattle.tq_store.specs.declared.open_index.TableRows.{TableRows}
 use Rattle.tq_store.specs.Index.{AreRowLives, CanTake, IsOpenAt, IsRowLife, is_open_under}
-use Rattle.tq_store.specs.Open.{HasSame, has, place_key}
+use Rattle.tq_store.specs.Open.{has, place_key}
 use Rattle.tq_store.specs.OpenIndex.{AreTableRows, MayFollow, next_row}
 use Rattle.tq_store.proofs.AdmissibleLemmas.{fit_key, known_table, open_at}
 use Rattle.tq_store.proofs.IndexLemmas.{get_push, get_set_other, get_set_same, length_push, open_push, open_set, start_stands}
@@ -48,9 +48,6 @@ pub next_row_is : (es : List Event) (t : ℕ) (rows : TableRows) → AreTableRow
 next_row_is es t rows is = rows_counted es t rows is ∙ sym (rows_length t 0 0 es) ∙ sym (ap (λ l. length (rows_from t 0 l)) (take_all (length es) es (omega arith)))
 
 -- ---- one more event
-
-starts_of : List Life → List ℕ
-starts_of ls = map (λ (l : Life). l.start) ls
 
 pub rows_start : (es : List Event) (t : ℕ) (v : List Value) (at : ℕ) (old new : TableRows) → length es < 16777216 → AreTableRows es t old → FitsSigned w64 (key_of v) → at < FOREVER
     → new.starts.items ≡ old.starts.items ++ length es ∷ []
@@ -148,20 +145,6 @@ rows_other es t e rows is other = record {
     same : row_lives (es ++ e ∷ []) t ≡ row_lives es t
     same = lives_other t 0 0 es e other
 
-pub rows_like : (es : List Event) (t : ℕ) (old new : TableRows) → new.starts.items ≡ old.starts.items → HasSame old.opened new.opened → AreTableRows es t old → AreTableRows es t new
-rows_like es t old new starts same is = record {
-  starts = starts ∙ is.starts;
-  open_rows = record { few = is.open_rows.few; opened = λ k. same k ∙ is.open_rows.opened k };
-  good = is.good;
-}
-
-pub rows_none : (t : ℕ) (rows : TableRows) → rows.starts.items ≡ [] → ((k : ℕ) → has rows.opened k ≡ false) → AreTableRows [] t rows
-rows_none t rows starts none = record {
-  starts = starts;
-  open_rows = record { few = omega arith; opened = none };
-  good = λ row l stands. absurd (cc);
-}
-
 -- ---- every table
 
 module _ (es : List Event) (tables : List TableRows) (t : ℕ) (new : TableRows) (each : (u : ℕ) (rows : TableRows) → slice_get tables u ≡ Some rows → AreTableRows es u rows) (less : t < length tables) where
@@ -197,27 +180,6 @@ can_follow tables es (Start t v at) may good finite = (by (slice_get may.catalog
     by None can = absurd can
     by (Some s) can = fit_key s.columns v can
 can_follow tables es (End t r at) may good finite = (open_at es t r at good may.admissible.1.1, finite)
-
--- ---- an open row
-
-pub row_there : (es : List Event) (t row at : ℕ) (rows : TableRows) → AreTableRows es t rows → IsOpenAt es t row at → row < length rows.starts.items
-row_there es t row at rows is here = by (slice_get (row_lives es t) row) refl here
-  where
-    by : (o : Option Life) → slice_get (row_lives es t) row ≡ o → IsSomeAnd o (λ (l : Life). (l.ending ≡ None) × (l.from < at)) → row < length rows.starts.items
-    by None stands there = absurd there
-    by (Some l) stands there = let less = slice_get_within (row_lives es t) row l stands in let len = rows_counted es t rows is in omega (arith, less, len)
-
--- ---- two lists, one behind the other
-
-pub get_front : {X : Type 0} → (xs ys : List X) (i : ℕ) → i < length xs → slice_get (xs ++ ys) i ≡ slice_get xs i
-get_front [] ys i less = absurd (omega (arith, less))
-get_front (x ∷ xs) ys zero less = refl
-get_front (x ∷ xs) ys (suc i) less = get_front xs ys i (omega (arith, less))
-
-pub get_behind : {X : Type 0} → (xs ys : List X) (i : ℕ) → length xs ≤ i → slice_get (xs ++ ys) i ≡ slice_get ys (i - length xs)
-get_behind [] ys i le = ap (slice_get ys) (let same : i ≡ i - 0 = omega arith in same)
-get_behind (x ∷ xs) ys zero le = absurd (omega (arith, le))
-get_behind (x ∷ xs) ys (suc i) le = get_behind xs ys i (omega (arith, le)) ∙ ap (slice_get ys) (omega (arith, le))
 
 -- ---- the event that starts a row
 

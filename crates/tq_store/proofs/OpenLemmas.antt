@@ -21,7 +21,7 @@ use Rattle.tq_event.specs.Opening.{is_open_like, open_row}
 use Rattle.tq_event.specs.Versions.{Ending, Life, row_lives}
 use Rattle.tq_store.specs.declared.index.RowEvents.{RowEvents}
 use Rattle.tq_store.specs.Index.{AreRowLives, IsOpenAt, events_of, is_open_at, is_open_of, rows_kept}
-use Rattle.tq_store.specs.Stored.{ends_row, open_like, starts_like, starts_of}
+use Rattle.tq_store.specs.Stored.{open_like, starts_like, starts_of}
 use Rattle.tq_store.proofs.LifeLemmas.{and-true, as_of, end_by, eqb-other, eqb-same, known_by, rows_known, starts_rise}
 use Rattle.tq_store.proofs.IndexLemmas.{IsKnown, end_stands, start_stands}
 
@@ -267,14 +267,6 @@ module _ (es : List Event) (t : ℕ) (good : AreRowLives es t) (values : List Va
 
 -- ---- a walk over the events
 
-pub ended_here : (t row : ℕ) (e : Event) (es : List Event) → ends_row t row e ≡ true → time_of e < FOREVER → (end_of t row (e ∷ es) == FOREVER) ≡ false
-ended_here t row (Start u v a) es so finite = absurd (cc)
-ended_here t row (End u r a) es so finite = ap (λ b. (if b then a else end_of t row es) == FOREVER) so ∙ eqb-other a FOREVER (λ same. omega (arith, same, finite))
-
-pub ended_later : (t row : ℕ) (e : Event) (es : List Event) → ends_row t row e ≡ false → end_of t row (e ∷ es) ≡ end_of t row es
-ended_later t row (Start u v a) es not_so = refl
-ended_later t row (End u r a) es not_so = ap (λ b. if b then a else end_of t row es) not_so
-
 and_swap : (a b : Bool) → (a && b) ≡ (b && a)
 and_swap true true = refl
 and_swap true false = refl
@@ -286,11 +278,6 @@ abbrev pub first_from : ℕ → ℕ → List Value → ℕ → List Event → Op
 first_from t row values at es = position_from (is_open_like values at) row (rows_from t row es)
 
 module _ (t : ℕ) (values : List Value) (at row : ℕ) where
-  pub skipped : (e : Event) (es : List Event) → starts_of t e ≡ false → first_from t row values at (e ∷ es) ≡ first_from t row values at es
-  skipped (Start u v a) es not_so =
-      ap (λ b. position_from (is_open_like values at) row (if b then record { number = row; values = v; from = a; to = end_of t row es } ∷ rows_from t (row + 1) es else rows_from t row es)) not_so
-  skipped (End u r a) es not_so = refl
-
   begun : (u : ℕ) (v : List Value) (a : ℕ) (es : List Event) → (u == t) ≡ true
       → first_from t row values at (Start u v a ∷ es) ≡ cond (starts_like values at (Start u v a) && end_of t row es == FOREVER) (Some row) (first_from t (row + 1) values at es)
   begun u v a es so =
@@ -300,10 +287,6 @@ module _ (t : ℕ) (values : List Value) (at row : ℕ) where
   pub taken : (e : Event) (es : List Event) → starts_of t e ≡ true → (starts_like values at e && end_of t row es == FOREVER) ≡ true → first_from t row values at (e ∷ es) ≡ Some row
   taken (Start u v a) es so opens = begun u v a es so ∙ ap (λ b. cond b (Some row) (first_from t (row + 1) values at es)) opens
   taken (End u r a) es so opens = absurd (cc)
-
-  pub passed_over : (e : Event) (es : List Event) → starts_of t e ≡ true → (starts_like values at e && end_of t row es == FOREVER) ≡ false → first_from t row values at (e ∷ es) ≡ first_from t (row + 1) values at es
-  passed_over (Start u v a) es so opens = begun u v a es so ∙ ap (λ b. cond b (Some row) (first_from t (row + 1) values at es)) opens
-  passed_over (End u r a) es so opens = absurd (cc)
 
 pub walked : (es : List Event) (t : ℕ) (values : List Value) (at : ℕ) → open_row es t values at ≡ first_from t 0 values at es
 walked es t values at =

@@ -1,12 +1,10 @@
 -- The sets among which the keys of open rows are divided, where one of them changes.
-use Rattle.std.proofs.Common.{◌≡◌, ◌≢◌, ℕ, ◌==◌, Bool, true, false, List, Option, Some, None, length, slice_get, slice_set, refl, sym, ap, subst, ◌∙◌}
-use Rattle.std.specs.Prelude.{All}
+use Rattle.std.proofs.Common.{◌≡◌, ◌≢◌, ℕ, ◌==◌, Bool, true, false, List, Some, length, slice_get, slice_set, refl, sym, ap, ◌∙◌}
 use Rattle.std.specs.BTreeSet.{BTreeSet, contains}
 use Rattle.std.specs.Option.{option_map_or}
 use Rattle.std.specs.Ordering.{eq_by_cmp, nat_cmp}
 use Rattle.std.proofs.lemmas.Bool.{eqb-true}
-use Rattle.std.proofs.lemmas.List.Elements.{All-get_or}
-use Rattle.std.proofs.lemmas.Option.{get_or_from_slice_get, slice_get_within}
+use Rattle.std.proofs.lemmas.Option.{slice_get_within}
 use Rattle.tq_store.specs.Open.{set_place}
 use Rattle.tq_store.proofs.IndexLemmas.{get_set_other, get_set_same, set_length}
 use Rattle.tq_store.proofs.LifeLemmas.{eqb-same}
@@ -15,17 +13,6 @@ use Rattle.tq_store.proofs.OpenRowsLemmas.{number_other}
 -- whether the key stands in its set
 abbrev pub has_in : List (BTreeSet ℕ) → ℕ → Bool
 has_in sets k = option_map_or (λ set. contains nat_cmp set k) (slice_get sets (set_place (length sets) k)) false
-
--- sets of no keys have none
-pub none_in : (sets : List (BTreeSet ℕ)) → All (λ set. (k : ℕ) → contains nat_cmp set k ≡ false) sets → (k : ℕ) → has_in sets k ≡ false
-none_in sets none k = by (slice_get sets (set_place (length sets) k)) refl
-  where
-    by : (o : Option (BTreeSet ℕ)) → slice_get sets (set_place (length sets) k) ≡ o → option_map_or (λ set. contains nat_cmp set k) o false ≡ false
-    by None here = refl
-    by (Some set) here =
-        let place : ℕ = set_place (length sets) k in
-        let its = All-get_or (λ (set : BTreeSet ℕ). (k : ℕ) → contains nat_cmp set k ≡ false) sets place set (slice_get_within sets place set here) none in
-        subst (λ (set : BTreeSet ℕ). contains nat_cmp set k ≡ false) (get_or_from_slice_get sets place set set here) (its k)
 
 -- where the set of a key changes at this key alone, so do the sets
 module _ (sets : List (BTreeSet ℕ)) (key : ℕ) (old new : BTreeSet ℕ) (f : Bool → Bool → Bool)

@@ -1,4 +1,5 @@
 pub mod LineLists
+mod AheadLemmas
 mod LentLemmas
 mod WritingLemmas
 pub mod Apart

@@ -1,3 +1,4 @@
+pub mod Ahead
 pub mod Apart
 pub mod Groups
 pub mod Sink

@@ -16,21 +16,9 @@ ghost use Rattle.tq_table.specs.Groups.{line_at};
 use crate::layering::layered;
 use crate::line_list::LineList;
 use crate::lines::Lines;
+use crate::periods_ahead::PeriodsAhead;
 use std::alloc::{AllocError, Global};
 use tq_base::{Key, Period, Relation, Side, Sides, all_columns};
-
-// The periods of the rows that keys name, of all rows' periods. They are read in one short loop, since keys in order
-// name rows that lie anywhere, and such reads wait for memory together.
-fn periods_at(alloc: Global, periods: &[Period], keys: &[Key]) -> Result<Vec<Period>, AllocError>
-    requires { All (λ k. k.row < length periods.now) keys.now }
-    ensures { IfOk result (λ chosen. chosen.items ≡ map (λ k. slice_index_or periods.now k.row no_row.period) keys.now) }
-{
-    let mut chosen = Vec::with_capacity(alloc, keys.len())?;
-    'keys: for key in keys {
-        chosen.push_reserved(periods[key.row as usize]);
-    }
-    Ok(chosen)
-}
 
 // Whether each of the rows of these periods ends before the next one begins: then they are their own layers.
 fn stand_apart(periods: &[Period]) -> bool
@@ -101,16 +89,18 @@ fn lines_of(alloc: Global, rows: &Relation<'_>) -> Result<LineList, AllocError>
         right_columns: &columns,
     };
     let keys = sorted_keys(alloc, &sides)?;
-    let periods = periods_at(alloc, rows.periods(), &keys)?;
+    let periods = rows.periods();
+    let mut ahead = PeriodsAhead::new(alloc);
     let mut table = LineList::with_capacity(alloc, keys.len())?;
     let mut start = 0;
     'groups: while start < keys.len() {
         let end = start + sides.run_len(&keys[start..]);
+        ahead.look_up(alloc, periods, &keys, start, end)?;
         add_layers(
             alloc,
             &sides,
             &keys[start..end],
-            &periods[start..end],
+            ahead.between(start, end),
             &mut table,
         )?;
         start = end;

@@ -12,6 +12,7 @@ mod layering;
 mod line_list;
 mod lines;
 mod merging;
+mod periods_ahead;
 mod ranges;
 mod sending;
 mod sink;

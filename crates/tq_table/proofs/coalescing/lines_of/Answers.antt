@@ -14,6 +14,7 @@ use Rattle.tq_base.specs.KeyLaws.{marks_rest}
 use Rattle.tq_base.specs.Keys.{key_row, key_values, no_row, rows_on, IsKey, SidesState}
 use Rattle.tq_base.specs.Layering.{AddsLayers}
 use Rattle.tq_base.specs.Relations.{line_of}
+use Rattle.tq_table.specs.Ahead.{periods_of_keys}
 use Rattle.tq_table.proofs.KeyGroups.{all_stand, all_whole, grouping_starts, end_key, takes_group, AreWhole}
 use Rattle.tq_table.proofs.coalescing.lines_of.Goals as goal
 
@@ -50,6 +51,8 @@ groups-init c =
     record {
       within = omega arith;
       stand = rw c.in_ok-table.ensures (All-nil (λ (line : Line). line.row < length rows));
+      from = rw c.new-ahead.ensures.from (omega arith);
+      ahead = c.new-ahead.ensures.ahead (map when rows) keys;
       grouping = rw c.in_ok-table.ensures (grouping_starts s rows keys c.in_ok-keys.ensures.rows are_whole c.in_ok-keys.ensures.rises);
     }
 
@@ -72,16 +75,27 @@ add_layers-requires-clause-stand c =
     let len = c.groups.start + c.run_len.result - c.groups.start in
     let s : SidesState = record { left = rows; right = rows; left_columns = c.deref.result.now; right_columns = c.deref-2.result.now } in
     let Stands : Key → Type 0 = λ (k : Key). k.row < length rows in
-    subst (λ (l : List Key). All Stands (take len (drop start l))) (sym c.deref-in-groups-2.ensures.value)
+    subst (λ (l : List Key). All Stands (take len (drop start l))) (sym c.deref-in-groups-3.ensures.value)
     (All-take Stands len (drop start keys) (All-drop Stands start keys (all_stand s keys c.in_ok-keys.ensures.keys c.in_ok-keys.ensures.left)))
 
-pub periods_at-requires : goal.periods_at-requires
-periods_at-requires c =
+-- all keys name rows
+stand_all : (rows : List Fragment) (s : SidesState) (keys : List Key) (periods : List Period) (lent : List Key) → s.left ≡ rows → periods ≡ map when rows → lent ≡ keys
+    → All (IsKey s) keys → All (λ k. k.side ≡ side.Left) keys → All (λ (k : Key). k.row < length periods) lent
+stand_all rows s keys periods lent same periods_are keys_are is left =
+    rw (periods_are, keys_are, length-map rows when) (subst (λ (l : List Fragment). All (λ (k : Key). k.row < length l) keys) same (all_stand s keys is left))
+
+pub look_up-requires-clause-stand : goal.look_up-requires-clause-stand
+look_up-requires-clause-stand c =
     let rows = c.args.rows.now.items in
     let keys = c.in_ok-keys.keys.items in
     let s : SidesState = record { left = rows; right = rows; left_columns = c.deref.result.now; right_columns = c.deref-2.result.now } in
-    let stand : All (λ (k : Key). k.row < length rows) keys = all_stand s keys c.in_ok-keys.ensures.keys c.in_ok-keys.ensures.left in
-    rw (c.deref-3.ensures.value, c.periods.ensures, length-map rows when) stand
+    stand_all rows s keys c.periods-periods.result.now c.deref-in-groups-2.result.now refl c.periods-periods.ensures c.deref-in-groups-2.ensures.value c.in_ok-keys.ensures.keys c.in_ok-keys.ensures.left
+
+pub look_up-requires-clause-from : goal.look_up-requires-clause-from
+look_up-requires-clause-from c = c.groups.invariant.from
+
+pub look_up-requires-clause-ahead : goal.look_up-requires-clause-ahead
+look_up-requires-clause-ahead c = rw (c.periods-periods.ensures, c.deref-in-groups-2.ensures.value) c.groups.invariant.ahead
 
 pub add_layers-requires-clause-periods : goal.add_layers-requires-clause-periods
 add_layers-requires-clause-periods c =
@@ -91,9 +105,11 @@ add_layers-requires-clause-periods c =
     let len = c.groups.start + c.run_len.result - c.groups.start in
     let s : SidesState = record { left = rows; right = rows; left_columns = c.deref.result.now; right_columns = c.deref-2.result.now } in
     let stand : All (λ (k : Key). k.row < length rows) keys = all_stand s keys c.in_ok-keys.ensures.keys c.in_ok-keys.ensures.left in
-    let told : c.in_ok-periods.periods.items ≡ map (λ (k : Key). get_or (map when rows) k.row no_row.period) keys = rw (c.periods.ensures, c.deref-3.ensures.value) at c.in_ok-periods.ensures in
+    let all = periods_of_keys c.periods-periods.result.now c.deref-in-groups-2.result.now in
+    let told : all ≡ map (λ (k : Key). get_or (map when rows) k.row no_row.period) keys = rw (c.periods-periods.ensures, c.deref-in-groups-2.ensures.value) refl in
     let are = told ∙ periods_are s keys c.in_ok-keys.ensures.left stand in
-    rw (c.deref-in-groups-3.ensures.value, c.deref-in-groups-2.ensures.value) (cut s keys c.in_ok-periods.periods.items start len are)
+    c.between.ensures c.periods-periods.result.now c.deref-in-groups-2.result.now c.in_ok-look_up.ensures.ahead
+    ∙ rw c.deref-in-groups-3.ensures.value (cut s keys all start len are)
 
 pub groups-preserved : goal.groups-preserved
 groups-preserved c =
@@ -112,10 +128,12 @@ groups-preserved c =
     let ends : len < length rest → key_values s (get_or rest len end_key) ≢ key_values s (get_or rest 0 end_key) = rw (c.deref-in-groups.ensures.value, take_rest keys start) at (c.run_len.ensures.ends end_key) in
     let len_is : start + len - start ≡ len = omega arith in
     let adds : (u : List Value) → All (λ k. (key_row s k).values ≡ u) (take len rest) → AddsLayers u (map (key_row s) (take len rest)) table new =
-    rw (c.deref-in-groups-2.ensures.value, len_is) at c.in_ok-add_layers.ensures.layers in
+    rw (c.deref-in-groups-3.ensures.value, len_is) at c.in_ok-add_layers.ensures.layers in
     record {
       within = omega (arith, run_within, length-drop start keys, c.groups.invariant.within);
       stand = c.in_ok-add_layers.ensures.within c.groups.invariant.stand;
+      from = omega (arith, c.in_ok-look_up.ensures.from);
+      ahead = rw (c.periods-periods.ensures, c.deref-in-groups-2.ensures.value) at c.in_ok-look_up.ensures.ahead;
       grouping = subst (λ l. Grouping rows (map (key_row s) l) new) (drop-drop len start keys)
           (takes_group s rest len (All-drop (λ k. key_values s k ≡ (key_row s k).values) start keys are_whole) rows table new c.groups.invariant.grouping alike ends adds);
     }

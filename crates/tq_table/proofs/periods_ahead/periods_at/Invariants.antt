@@ -2,7 +2,7 @@
 use Rattle.std.proofs.Common.{◌≡◌, ◌≤◌, ◌+◌, get_or, length, map, take}
 use Rattle.std.specs.Prelude.{vec_capacity, vec_len}
 use Rattle.tq_base.specs.Keys.{no_row}
-use Rattle.tq_table.proofs.coalescing.periods_at.Given as goal
+use Rattle.tq_table.proofs.periods_ahead.periods_at.Given as goal
 
 abbrev pub invariant-keys : goal.invariant-keys
 invariant-keys l = record {
