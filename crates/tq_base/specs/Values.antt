@@ -10,6 +10,7 @@ use Rattle.tq_base.specs.Contents.{Content, Int, Text, has_exact_rank}
 abbrev pub content_of : Kept → Content
 content_of (kept.Int n) = Int n
 content_of (kept.Short t) = Text t
+content_of (kept.Medium t) = Text t.value
 content_of (kept.Long t) = Text t.value
 content_of (kept.Wide n) = Int n.value
 
@@ -17,6 +18,7 @@ content_of (kept.Wide n) = Int n.value
 abbrev pub is_in_place : Kept → Bool
 is_in_place (kept.Int n) = true
 is_in_place (kept.Short t) = true
+is_in_place (kept.Medium t) = false
 is_in_place (kept.Long t) = false
 is_in_place (kept.Wide n) = false
 

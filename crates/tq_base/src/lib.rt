@@ -18,6 +18,7 @@ mod key_range;
 mod keys;
 pub mod laws;
 mod looks;
+mod medium_text;
 mod name;
 mod number;
 mod packed;

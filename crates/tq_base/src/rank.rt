@@ -37,6 +37,7 @@ pub fn rank_of(value: &Value) -> u128
     match &value.kept {
         Kept::Int(number) => int_rank(i128::from(*number)),
         Kept::Short(text) => text.rank(),
+        Kept::Medium(text) => bytes_rank(text.as_ref().get().as_bytes()),
         Kept::Long(text) => bytes_rank(text.as_ref().get().as_bytes()),
         Kept::Wide(number) => int_rank(*number.as_ref()),
     }
