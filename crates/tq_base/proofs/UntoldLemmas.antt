@@ -37,6 +37,10 @@ after_none [] = refl
 after_none (Int n ∷ values) = refl
 after_none (Text t ∷ values) = refl
 
+-- the bytes of a text behind its first 14, from a later byte on
+pub after_tail : (offset : ℕ) (t : List ℕ) → 14 ≤ offset → drop (offset - 14) (drop 14 t) ≡ drop offset t
+after_tail offset t far = drop-drop (offset - 14) 14 t ∙ ap (λ n. drop n t) (omega (arith, far))
+
 after_more : (m n : ℕ) (values : List Value) → values_after (m + n) values ≡ values_after n (values_after m values)
 after_more m n [] = refl
 after_more m n (Int k ∷ values) = refl

@@ -53,4 +53,17 @@ impl<'a> Looks<'a> {
         }
         longest
     }
+
+    // The same where the first 14 bytes of no text are asked for next, so that boxes are looked at only where what follows
+    // these does not lie beside them.
+    pub(crate) fn longest_behind(&self) -> usize {
+        let mut longest = SHORT;
+        if self.count_boxed() == 0 {
+            return longest;
+        }
+        'values: for value in self.values.iter().take(self.len) {
+            longest = longest.max(value.told_len());
+        }
+        longest
+    }
 }

@@ -37,7 +37,7 @@ pub fn rank_of(value: &Value) -> u128
     match &value.kept {
         Kept::Int(number) => int_rank(i128::from(*number)),
         Kept::Short(text) => text.rank(),
-        Kept::Medium(text) => bytes_rank(text.as_ref().get().as_bytes()),
+        Kept::Medium(_, text) => bytes_rank(text.as_ref().get().as_bytes()),
         Kept::Long(text) => bytes_rank(text.as_ref().get().as_bytes()),
         Kept::Wide(number) => int_rank(*number.as_ref()),
     }
@@ -55,8 +55,8 @@ pub(crate) fn rank_in_place(value: &Value) -> u128
     }
 }
 
-// The bytes from the offset on, none where there are no more.
-fn bytes_after(bytes: &[u8], offset: usize) -> &[u8]
+/// The bytes from the offset on, none where there are no more.
+pub(crate) fn bytes_after(bytes: &[u8], offset: usize) -> &[u8]
     ensures { result.now ≡ drop offset bytes.now }
 {
     &bytes[offset.min(bytes.len())..]
@@ -66,6 +66,9 @@ fn bytes_after(bytes: &[u8], offset: usize) -> &[u8]
 pub(crate) fn text_after(value: &Value, offset: usize) -> &[u8]
     ensures { result.now ≡ text_of (value_after offset value.now) }
 {
+    if let Some(bytes) = value.tail_after(offset) {
+        return bytes;
+    }
     match value.seen() {
         Seen::Int(_) => &[],
         Seen::Text(text) => bytes_after(text.as_bytes(), offset),
@@ -77,6 +80,9 @@ pub(crate) fn rank_after(value: &Value, offset: usize) -> u128
     ensures rank { result ≡ value_rank (value_after offset value.now) }
     ensures bytes { HasBytes (value_after offset value.now) }
 {
+    if let Some(bytes) = value.tail_after(offset) {
+        return bytes_rank(bytes);
+    }
     match value.seen() {
         Seen::Int(number) => int_rank(number),
         Seen::Text(text) => bytes_rank(bytes_after(text.as_bytes(), offset)),

@@ -21,7 +21,6 @@ use crate::place_view::PlaceView;
 use crate::rank::{compare_after, rank_after, text_after};
 use crate::row::Row;
 use crate::sides::{Key, Mark, Sides};
-use crate::value::Value;
 use std::cmp::Ordering;
 
 // How often the ranks of one key are taken anew: what they do not tell then is read.
@@ -148,23 +147,9 @@ fn mark_going_on(keys: &mut [Key])
     }
 }
 
-// The value that comes next for the key, if one does: where its rank tells the one here, the one in the column behind.
-fn next_value<'a>(
-    here: &PlaceView<'a>,
-    behind: &Option<PlaceView<'a>>,
-    key: &Key,
-) -> Option<&'a Value> {
-    if !rank_tells(key.rank) {
-        return Some(here.at(key));
-    }
-    match behind {
-        Some(behind) => Some(behind.at(key)),
-        None => None,
-    }
-}
-
-// How many bytes the texts of the keys have at most there, as far as there are not more than are looked at together.
-fn longest_text(view: &PlaceView<'_>, keys: &[Key]) -> usize {
+// How many bytes the texts of the keys have at most there, as far as there are not more than are looked at together. They
+// are asked for from the offset on next.
+fn longest_text(view: &PlaceView<'_>, keys: &[Key], offset: usize) -> usize {
     let Some(first) = keys.first() else {
         return 0;
     };
@@ -172,7 +157,30 @@ fn longest_text(view: &PlaceView<'_>, keys: &[Key]) -> usize {
     'keys: for key in keys {
         looks.push(view.at(key));
     }
-    looks.longest()
+    if offset < HEAD {
+        looks.longest()
+    } else {
+        looks.longest_behind()
+    }
+}
+
+// How many bytes the texts have at most there of the keys whose ranks others have too, and tell all or do not, as is asked;
+// of a text that its rank does not tell, what follows the first 14 bytes is asked for next.
+fn longest_shared(view: &PlaceView<'_>, keys: &[Key], are_told: bool) -> usize {
+    let Some(first) = keys.first() else {
+        return 0;
+    };
+    let mut looks = Looks::new(view.at(first));
+    'keys: for (number, key) in keys.iter().enumerate() {
+        if has_like(keys, number, key.rank) && rank_tells(key.rank) == are_told {
+            looks.push(view.at(key));
+        }
+    }
+    if are_told {
+        looks.longest()
+    } else {
+        looks.longest_behind()
+    }
 }
 
 impl<'a> Sides<'a> {
@@ -223,7 +231,7 @@ impl<'a> Sides<'a> {
         'keys: for number in 0..keys.len() {
             if are_many && number % AHEAD == 0 {
                 let until = number.saturating_add(AHEAD).min(keys.len());
-                longest = longest.max(longest_text(&view, &keys[number..until]));
+                longest = longest.max(longest_text(&view, &keys[number..until], offset));
             }
             keys[number].rank = rank_after(view.at(&keys[number]), offset);
         }
@@ -248,25 +256,18 @@ impl<'a> Sides<'a> {
         len
     }
 
-    // How many bytes the texts have at most that come next for the keys of the ranks that are not theirs alone.
+    // How many bytes the texts have at most that come next for the keys of the ranks that are not theirs alone: where a
+    // rank tells the value here, those in the column behind.
     #[inline(never)]
     fn longest_next(&self, keys: &[Key], place: usize) -> usize {
         let Some(here) = self.view_at(place) else {
             return 0;
         };
-        let Some(first) = keys.first() else {
-            return 0;
-        };
-        let mut looks = Looks::new(here.at(first));
-        let behind = self.view_at(place.saturating_add(1));
-        'keys: for (number, key) in keys.iter().enumerate() {
-            if has_like(keys, number, key.rank)
-                && let Some(value) = next_value(&here, &behind, key)
-            {
-                looks.push(value);
-            }
+        let longest = longest_shared(&here, keys, false);
+        match self.view_at(place.saturating_add(1)) {
+            Some(behind) => longest.max(longest_shared(&behind, keys, true)),
+            None => longest,
         }
-        looks.longest()
     }
 
     // Looks at the next keys, from the start on, once those that were looked at are sorted. Of few keys it is not known then
