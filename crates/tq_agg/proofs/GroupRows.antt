@@ -12,10 +12,10 @@ use Rattle.tq_base.specs.declared.value.Value.{Value}
 use Rattle.tq_base.specs.Contents.{Int}
 use Rattle.tq_base.specs.ValueOrder.{values_cmp, same_from_eq, eq_from_same}
 use Rattle.tq_base.specs.Fragments.{occurrences}
-use Rattle.tq_ops.specs.Conditions.{value_at}
+use Rattle.tq_base.specs.RowValues.{number_of, value_at}
 use Rattle.tq_ops.specs.Ordinary.{projection}
 use Rattle.tq_agg.specs.declared.summands.Summand.TheVariants.{Column, One}
-use Rattle.tq_agg.specs.Grouping.{each_once, first_row, group_row, grouped_rows, number_of, same_row, sum_at}
+use Rattle.tq_agg.specs.Grouping.{each_once, first_row, group_row, grouped_rows, same_row, sum_at}
 use Rattle.tq_agg.specs.Totals.{added, shown_copies, weight_of}
 use Rattle.tq_agg.proofs.Adding.{added-filter}
 use Rattle.tq_agg.proofs.Gathering.{added-ones}

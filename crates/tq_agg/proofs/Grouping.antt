@@ -17,7 +17,7 @@ use Rattle.tq_base.specs.ValueOrder.{values_cmp, values_same, values_total, same
 use Rattle.tq_base.specs.Periods.{holds}
 use Rattle.tq_base.specs.Fragments.{copies}
 use Rattle.tq_ops.specs.Ordinary.{projection}
-use Rattle.tq_ops.specs.Conditions.{value_at}
+use Rattle.tq_base.specs.RowValues.{value_at}
 use Rattle.tq_agg.specs.declared.summands.Summand.{Summand}
 use Rattle.tq_agg.specs.Grouping.{same_row}
 use Rattle.tq_agg.specs.GroupKeys.{key_of, AreOfKey}

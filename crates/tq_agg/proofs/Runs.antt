@@ -9,6 +9,7 @@ use Rattle.std.proofs.lemmas.Bool.Decides.{nat_tests}
 use Rattle.std.proofs.lemmas.List.{drop-map, get_or-drop, get_or-map, get_or-take, length-map, take-map}
 use Rattle.std.proofs.lemmas.List.Elements.{All-map, All-weaker}
 use Rattle.std.proofs.lemmas.List.Sorted.{IsNonDecreasingBy-from_all_adjacent, IsPermutation-map}
+use Rattle.tq_base.specs.RowValues.{value_at}
 use Rattle.tq_base.specs.declared.period.Period.{Period}
 use Rattle.tq_base.specs.declared.fragment.Fragment.{Fragment}
 use Rattle.tq_base.specs.declared.sides.Key.{Key}
@@ -16,7 +17,7 @@ use Rattle.tq_base.specs.declared.sides.Mark.TheVariants.{Unknown}
 use Rattle.tq_base.specs.declared.sides.Side.{Side}
 use Rattle.tq_base.specs.declared.sides.Side.TheVariants.{Left, Right}
 use Rattle.tq_base.specs.KeyLaws.{alike}
-use Rattle.tq_base.specs.Keys.{columns_on, held, held_on, key_cmp, key_row, key_values, overlapping, value_at, value_key_cmp, Held, IsKey, Rises, SidesState}
+use Rattle.tq_base.specs.Keys.{columns_on, held, held_on, key_cmp, key_row, key_values, overlapping, value_key_cmp, Held, IsKey, Rises, SidesState}
 use Rattle.tq_base.specs.ValueOrder.{values_cmp}
 use Rattle.tq_agg.specs.GroupKeys.{key_of, AreOfKey}
 use Rattle.tq_agg.proofs.Grouping.{IsRun, RiseByKey}

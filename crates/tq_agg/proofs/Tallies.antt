@@ -16,7 +16,7 @@ use Rattle.tq_base.specs.Ranks.{value_rank}
 use Rattle.tq_base.specs.Relations.{column_of}
 use Rattle.tq_base.specs.Sweep.{pairs_head, pairs_tail}
 use Rattle.tq_base.specs.ValueOrder.{eq_from_same, same_from_eq}
-use Rattle.tq_ops.specs.Conditions.{value_at}
+use Rattle.tq_base.specs.RowValues.{value_at}
 use Rattle.tq_agg.specs.declared.few.Bucket.{Bucket}
 use Rattle.tq_agg.specs.declared.few.Tally.{Tally}
 use Rattle.tq_agg.specs.Buckets.{bucket_count, counted, counted_at, counted_in, keyed_count, rank_share, value_of, AreRanked, AreRanksOf, AreTallies, IsAmong, IsTally}

@@ -6,10 +6,11 @@ use Rattle.std.proofs.lemmas.Bool.Decides.{nat_tests}
 use Rattle.std.proofs.lemmas.Int.{ints}
 use Rattle.std.proofs.lemmas.List.{get_or_default, map-append}
 use Rattle.std.proofs.lemmas.List.Elements.{All-nil, All-push}
+use Rattle.tq_base.specs.RowValues.{number_of, value_at}
 use Rattle.tq_base.specs.declared.value.Value.{Value}
 use Rattle.tq_base.specs.declared.period.Period.{Period}
 use Rattle.tq_base.specs.declared.fragment.Fragment.{Fragment}
-use Rattle.tq_base.specs.Keys.{no_row, value_at}
+use Rattle.tq_base.specs.Keys.{no_row}
 use Rattle.tq_base.specs.Periods.{holds}
 use Rattle.tq_base.specs.Relations.{column_of, values_at_number}
 use Rattle.tq_agg.specs.declared.changes.Change.{Change}
@@ -18,7 +19,7 @@ use Rattle.tq_agg.specs.declared.summands.Summand.{Summand}
 use Rattle.tq_agg.specs.declared.summands.Summand.TheVariants.{Column}
 use Rattle.tq_agg.specs.Buckets.{value_of}
 use Rattle.tq_agg.specs.Changes.{bounds_of, bucket_change, changed_by, changed_upto, keyed_weight, weighed, AreChangesCut, ChangeInside}
-use Rattle.tq_agg.specs.Grouping.{number_of, same_row}
+use Rattle.tq_agg.specs.Grouping.{same_row}
 use Rattle.tq_agg.specs.Totals.{added, weight_of}
 use Rattle.tq_agg.proofs.Adding.{added-append, added-step}
 use Rattle.tq_agg.proofs.Buckets.{added-insert, added-set, number_at, All-insert}

@@ -2,11 +2,12 @@
 use Rattle.std.specs.Prelude.{◌≡◌, ◌<◌, ◌==◌, ◌⊎◌, ℕ, ℤ, pos, ◌+ℤ◌, true, cond, ◌&&◌, nat_le, List, [], ◌∷◌, drop, filter, length, map, take, All, AllPairs}
 use Rattle.std.specs.List.{list_any}
 use Rattle.std.proofs.Props.{props}
+use Rattle.tq_base.specs.RowValues.{value_at}
 use Rattle.tq_base.specs.declared.value.Value.{Value}
 use Rattle.tq_base.specs.Contents.{Int, Text}
 use Rattle.tq_base.specs.declared.period.Period.{Period}
 use Rattle.tq_base.specs.declared.fragment.Fragment.{Fragment}
-use Rattle.tq_base.specs.Keys.{rank_tells, value_at}
+use Rattle.tq_base.specs.Keys.{rank_tells}
 use Rattle.tq_base.specs.Periods.{holds}
 use Rattle.tq_base.specs.Ranks.{value_rank, HasBytes}
 use Rattle.tq_base.specs.Relations.{column_of}

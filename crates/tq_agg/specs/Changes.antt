@@ -3,7 +3,7 @@ use Rattle.std.specs.Prelude.{◌≡◌, ℕ, ℤ, pos, ◌-ℤ◌, ◌&&◌, co
 use Rattle.tq_base.specs.declared.value.Value.{Value}
 use Rattle.tq_base.specs.declared.period.Period.{Period}
 use Rattle.tq_base.specs.declared.fragment.Fragment.{Fragment}
-use Rattle.tq_base.specs.Keys.{value_at}
+use Rattle.tq_base.specs.RowValues.{value_at}
 use Rattle.tq_base.specs.Periods.{holds}
 use Rattle.tq_base.specs.Relations.{column_of}
 use Rattle.tq_agg.specs.declared.changes.Change.{Change}

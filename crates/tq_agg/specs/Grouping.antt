@@ -3,9 +3,9 @@ use Rattle.std.specs.Prelude.{ℕ, ℤ, pos, ◌+ℤ◌, Bool, not, FitsSigned, 
 use Rattle.std.specs.Int.{w64}
 use Rattle.std.specs.Ordering.{eq_by_cmp}
 use Rattle.tq_base.specs.declared.value.Value.{Value}
-use Rattle.tq_base.specs.Contents.{Int, Text}
+use Rattle.tq_base.specs.Contents.{Int}
 use Rattle.tq_base.specs.ValueOrder.{values_cmp}
-use Rattle.tq_ops.specs.Conditions.{value_at}
+use Rattle.tq_base.specs.RowValues.{number_of, value_at}
 use Rattle.tq_ops.specs.Ordinary.{projection}
 
 abbrev pub Row : Type 0
@@ -22,11 +22,6 @@ each_once (row ∷ rows) = row ∷ filter (λ other. not (same_row other row)) (
 -- the rows of each key (GROUP BY); with no places all rows have one key
 abbrev pub grouped_by : List ℕ → List Row → List (List Row)
 grouped_by places rows = map (λ key. filter (λ row. same_row (projection places row) key) rows) (each_once (map (projection places) rows))
-
--- a text counts as nothing
-abbrev pub number_of : Value → ℤ
-number_of (Int n) = n
-number_of (Text t) = pos 0
 
 -- the sum of the values at a place
 abbrev pub sum_at : ℕ → List Row → ℤ

@@ -13,12 +13,11 @@ use Rattle.tq_base.specs.declared.sides.Mark.TheVariants.{Unknown}
 use Rattle.tq_base.specs.Keys.{key_row, SidesState}
 use Rattle.tq_base.specs.Relations.{values_at_number}
 use Rattle.tq_base.specs.Sweep.{upto}
-use Rattle.tq_ops.specs.Conditions.{value_at}
+use Rattle.tq_base.specs.RowValues.{number_of, value_at}
 use Rattle.tq_agg.specs.declared.summands.Summand.{Summand}
 use Rattle.tq_agg.specs.declared.summands.Summand.TheVariants.{Column, One}
 use Rattle.tq_agg.specs.declared.bounds.End.{End}
 use Rattle.tq_agg.specs.Bounds.{start_in}
-use Rattle.tq_agg.specs.Grouping.{number_of}
 
 -- what a row adds: 1, or the number at the place
 abbrev pub weight_of : Summand → List Value → ℤ

@@ -20,16 +20,6 @@ pub(crate) struct End {
     pub(crate) side: Side,
 }
 
-// The bound at an instant.
-pub(crate) fn bound_at(instant: Instant) -> Bound
-    ensures { result ≡ instant }
-{
-    match Bound::new(instant.number()) {
-        Some(bound) => bound,
-        None => unreachable!(),
-    }
-}
-
 // The bound of this number, or the end of the window that is nearer. There is no branch to guess.
 fn moved(number: u64, window: &Period) -> Bound
     ensures { result ≡ moved window.now number }

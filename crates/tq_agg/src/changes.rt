@@ -12,7 +12,6 @@ ghost use Rattle.tq_agg.specs.Edges.{IsAtFront};
 ghost use Rattle.tq_agg.specs.Totals.{added, shown_copies};
 ghost use Rattle.tq_ops.specs.Ordinary.{projection};
 
-use crate::bounds::bound_at;
 use crate::edges::left;
 use crate::sweeping::{Head, add_shown};
 use std::alloc::{AllocError, Global};
@@ -50,7 +49,7 @@ impl Changes {
         ensures ends { OnOk result (self.new.ends.items ≡ self.old.ends.items ++ record { at = period.now.end; weight = weight } ∷ []) }
     {
         self.starts.push(Change {
-            at: bound_at(period.start),
+            at: Bound::at(period.start),
             weight,
         })?;
         self.ends.push(Change {
@@ -133,7 +132,7 @@ pub(crate) fn sweep_changes(
         + (if holds window.now t then shown_copies (projection head.now.keys.now head.now.row.now) (totals_changed starts.now ends.now t) v else 0)) }
 {
     let mut room = Vec::new(alloc);
-    let mut since = bound_at(window.start);
+    let mut since = Bound::at(window.start);
     let mut begun = 0;
     let mut ended = 0;
     let mut sum: i128 = 0;

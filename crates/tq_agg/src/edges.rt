@@ -10,7 +10,6 @@ ghost use Rattle.tq_agg.specs.Edges.{count_copies, count_upto, AreEdges, IsAtFro
 ghost use Rattle.tq_agg.specs.Totals.{added, held_weight};
 ghost use Rattle.tq_ops.specs.Ordinary.{projection};
 
-use crate::bounds::bound_at;
 use crate::sweeping::{Head, add_row, add_shown};
 use std::alloc::{AllocError, Global};
 use tq_base::{Bound, Period, Relation, Rows, Value};
@@ -39,7 +38,7 @@ impl Edges {
         ensures starts { OnOk result (self.new.starts.items ≡ self.old.starts.items ++ period.now.start ∷ []) }
         ensures ends { OnOk result (self.new.ends.items ≡ self.old.ends.items ++ period.now.end ∷ []) }
     {
-        self.starts.push(bound_at(period.start))?;
+        self.starts.push(Bound::at(period.start))?;
         self.ends.push(period.end)?;
         Ok(())
     }
@@ -169,7 +168,7 @@ pub(crate) fn sweep_edges(
         + (if holds window.now t then count_copies is_none_shown (projection head.now.keys.now head.now.row.now) (count_upto starts.now ends.now t) v else 0)) }
 {
     let mut room = Vec::new(alloc);
-    let mut since = bound_at(window.start);
+    let mut since = Bound::at(window.start);
     let mut begun = 0;
     let mut ended = 0;
     'edges: while let Some(at) = first_of(&starts[begun..], &ends[ended..]) {

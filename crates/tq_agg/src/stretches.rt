@@ -6,7 +6,7 @@ ghost use Rattle.tq_base.specs.declared.fragment.Fragment.{Fragment};
 ghost use Rattle.tq_base.specs.declared.value.Value.{Value};
 ghost use Rattle.tq_base.specs.Fragments.{at, occurrences};
 ghost use Rattle.tq_base.specs.Relations.{column_of};
-ghost use Rattle.tq_ops.specs.Conditions.{value_at};
+ghost use Rattle.tq_base.specs.RowValues.{value_at};
 ghost use Rattle.tq_ops.specs.Ordinary.{HasInside, IsEmptyOutside};
 ghost use Rattle.tq_agg.specs.declared.few.Tally.{Tally as AnyTally};
 ghost use Rattle.tq_agg.specs.Buckets.{bucket_count, counted_at, counted_in, rank_share, AreCut, AreRanked, AreRanksOf, AreTallies, IsAmong, IsFound, IsInside};

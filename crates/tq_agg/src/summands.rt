@@ -2,7 +2,7 @@
 
 ghost use Rattle.std.specs.Prelude.{◌≡◌, ◌∷◌, map, IfOk};
 ghost use Rattle.tq_agg.specs.declared.summands.Summand.TheVariants.{Column, One};
-ghost use Rattle.tq_agg.specs.Grouping.{number_of};
+ghost use Rattle.tq_base.specs.RowValues.{number_of};
 ghost use Rattle.tq_agg.specs.Totals.{weight_of, AreWeights, HaveWeights};
 
 use std::alloc::{AllocError, Global};

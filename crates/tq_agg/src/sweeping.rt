@@ -16,7 +16,7 @@ ghost use Rattle.tq_agg.specs.declared.bounds.End.{End};
 ghost use Rattle.tq_agg.specs.declared.summands.Summand.TheVariants.{One};
 ghost use Rattle.tq_agg.specs.Totals.{added, end_key, has_rows, key_weight, row_copies, shown_copies, totals_of, totals_upto, AreSmallEnds, AreSmallKeys, AreWeights, HaveWeights};
 
-use crate::bounds::{End, bound_at, ends_by, first_bound, starts_by};
+use crate::bounds::{End, ends_by, first_bound, starts_by};
 use crate::summands::{Summand, weight};
 use std::alloc::{AllocError, Global};
 use std::mem;
@@ -308,7 +308,7 @@ pub(crate) fn sweep(
         + (if holds window.now t then shown_copies (projection head.now.keys.now head.now.row.now) (totals_upto (state_of group.now.sides.now) window.now summands.now group.now.keys.now group.now.ends.now t) v else 0)) }
 {
     clear_totals(summands, &mut room.totals)?;
-    let mut since = bound_at(window.start);
+    let mut since = Bound::at(window.start);
     let mut place = Place { begun: 0, ended: 0 };
     'bounds: while let Some(at) = first_bound(
         &group.keys[place.begun..],

@@ -4,7 +4,7 @@
 ghost use Rattle.std.specs.Prelude.{◌≡◌, ◌+◌, ◌+ℤ◌, ◌<◌, ◌≤◌, ◌&&◌, ◌^◌, ℕ, ℤ, pos, true, [], ◌∷◌, All, IfOk, IfSome, List, OnOk, if◌then◌else◌, length};
 ghost use Rattle.tq_base.specs.declared.value.Value.{Value};
 ghost use Rattle.tq_base.specs.Fragments.{at, copies, occurrences};
-ghost use Rattle.tq_base.specs.Keys.{value_at};
+ghost use Rattle.tq_base.specs.RowValues.{value_at};
 ghost use Rattle.tq_base.specs.Periods.{holds};
 ghost use Rattle.tq_base.specs.Relations.{column_of};
 ghost use Rattle.tq_ops.specs.Ordinary.{HasInside, IsEmptyOutside};

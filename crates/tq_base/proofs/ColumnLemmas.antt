@@ -6,6 +6,7 @@ use Rattle.std.proofs.lemmas.Bool.{cases_lt, le-ltb, lt-ltb}
 use Rattle.std.proofs.lemmas.List.{get_or_default, get_or_past}
 use Rattle.std.proofs.lemmas.List.FromFn.{get_or-map-range_with_len, length-map-range_with_len}
 use Rattle.std.proofs.lemmas.Simd.{map-map}
+use Rattle.tq_base.specs.RowValues.{value_at}
 use Rattle.tq_base.specs.declared.value.Value.{Value}
 use Rattle.tq_base.specs.declared.fragment.Fragment.{Fragment}
 use Rattle.tq_base.specs.declared.period.Period.{Period}
@@ -13,7 +14,7 @@ use Rattle.tq_base.specs.declared.parts.Part.{Part}
 use Rattle.tq_base.specs.declared.parts.Place.{Place}
 use Rattle.tq_base.specs.Contents.{Int}
 use Rattle.tq_base.specs.KeyLaws.{all_values}
-use Rattle.tq_base.specs.Keys.{no_row, value_at}
+use Rattle.tq_base.specs.Keys.{no_row}
 use Rattle.tq_base.specs.Parts.{cell, chosen_column, column_cells, number_in, rows_at, rows_by_number, value_there, values_there}
 use Rattle.tq_base.specs.Relations.{column_of, values_at_number}
 use Rattle.tq_base.proofs.RelationLemmas.{column_value}

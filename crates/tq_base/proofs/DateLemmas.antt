@@ -1,5 +1,6 @@
 -- The date of each day, and the day of each date.
-use Rattle.std.proofs.Common.{◌≡◌, ℕ, zero, suc, ◌+◌, ◌-◌, ◌<◌, ◌≤◌, ◌==◌, ◌&&◌, Bool, true, false, cond, nat_le, nat_lt, List, length, take, get_or, Option, Some, None, refl, sym, ap, subst, ◌∙◌, arith, ℤ, pos, ◌+ℤ◌, ◌-ℤ◌}
+use Rattle.std.proofs.Common.{◌≡◌, ℕ, zero, suc, ◌+◌, ◌-◌, ◌<◌, ◌≤◌, ◌==◌, ◌&&◌, Bool, true, false, cond, nat_le, nat_lt, List, length, take, get_or, Option, Some, None, refl, sym, ap, subst, ◌∙◌, arith, ℤ, pos, ◌+ℤ◌, ◌-ℤ◌, ◌*ℤ◌, ◌≤ℤ◌, ◌*◌, ◌/◌, int_div, negsuc, unsigned_abs}
+use Rattle.std.proofs.Math.Nat.{mul-div_cancel}
 use Rattle.std.specs.Bool.{Decides}
 use Rattle.std.specs.Char.{is_ascii_digit}
 use Rattle.std.specs.List.{list_all, slice_range}
@@ -9,7 +10,7 @@ use Rattle.jiff_core.specs.declared.civil.date.Date.{Date}
 use Rattle.jiff_core.specs.Calendar.{day_count, days_from_civil, days_in_month}
 use Rattle.jiff_core.specs.Date.{epoch_day, IsYmd}
 use Rattle.jiff_core.proofs.CalendarLemmas.{days_in_month_bounds, day_count-day, day_count-next_month, day_count-last_of_year, day_count-next_year, day_count-later_year, day_count-day_of_year, day_count_bounds, day_count-end, days_from_civil-day_count}
-use Rattle.jiff_core.proofs.DateLemmas.{epoch_day_injective}
+use Rattle.jiff_core.proofs.DateLemmas.{epoch_day_injective, epoch_day_range}
 use Rattle.jiff_core.proofs.MarchLemmas.{day_count-early}
 use Rattle.jiff_core.proofs.SignedLemmas.{signed_arith}
 use Rattle.tq_base.specs.Dates.{CivilDate, date_in, date_of, day_of, days_before, is_date, is_date_text, next_date}
@@ -258,3 +259,32 @@ instant_of_date bytes date s year month day =
     when : (b : Bool) (o : Option ℕ) → b ≡ true → cond b o None ≡ o
     when true o e = refl
     when false o e = cc
+
+min_count : day_count (negsuc 9998) 1 1 ≡ 366
+min_count = day_count-early (negsuc 9998) 0 1 1 refl (omega arith) (omega arith) (omega arith)
+
+-- the first date of `jiff`, -9999-01-01, has this day number
+pub min_day : (d : Date) → d.year ≡ negsuc 9998 → d.month ≡ 1 → d.day ≡ 1 → epoch_day d +ℤ pos 4_371_587 ≡ pos 0
+min_day d year month day =
+    let count : day_count d.year d.month d.day ≡ 366 = rw (year, month, day) min_count in
+    omega (arith, signed_arith, days_from_civil-day_count d.year d.month d.day)
+
+-- the whole days of that many nanoseconds, counted in hours
+pub whole_days : (e : ℤ) (k : ℕ) → e ≡ pos k → unsigned_abs (int_div (e *ℤ pos 86_400_000_000_000) (pos 3_600_000_000_000)) / 24 ≡ k
+whole_days e k same =
+    let hours : k * 86_400_000_000_000 ≡ k * 24 * 3_600_000_000_000 = omega arith in
+    rw (same, hours, mul-div_cancel (k * 24) {n = 3_600_000_000_000} (omega arith)) (mul-div_cancel k {n = 24} (omega arith))
+
+-- the hours from the first date of `jiff` to a date are those of whole days
+pub days_from_min : (d first : Date) (nanos hours : ℤ) (count : ℕ) → epoch_day first +ℤ pos 4_371_587 ≡ pos 0
+    → nanos ≡ (epoch_day d -ℤ epoch_day first) *ℤ pos 86_400_000_000_000 → hours ≡ int_div nanos (pos 3_600_000_000_000) → count ≡ unsigned_abs hours
+    → epoch_day d +ℤ pos 4_371_587 ≡ pos (count / 24)
+days_from_min d first nanos hours count low gap whole same =
+    let range = epoch_day_range d in
+    by (epoch_day d -ℤ epoch_day first) refl (omega (arith, signed_arith))
+  where
+    by : (z : ℤ) → epoch_day d -ℤ epoch_day first ≡ z → pos 0 ≤ℤ z → epoch_day d +ℤ pos 4_371_587 ≡ pos (count / 24)
+    by (pos k) e h =
+        let is : count / 24 ≡ k = rw (same, whole, gap) (whole_days (epoch_day d -ℤ epoch_day first) k e) in
+        omega (arith, signed_arith, is, e, low)
+    by (negsuc k) e h = absurd (omega (arith, signed_arith))

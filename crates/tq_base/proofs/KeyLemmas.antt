@@ -11,6 +11,7 @@ use Rattle.std.proofs.lemmas.Bool.{cases_lt}
 use Rattle.std.proofs.lemmas.Bool.Decides.{nat_tests}
 use Rattle.std.proofs.lemmas.List.{drop_all, drop_more, get_or-map, get_or-take, get_or_default, length-map, length-take, map-append, take_more}
 use Rattle.std.proofs.lemmas.List.Elements.{filter-append, All-more}
+use Rattle.tq_base.specs.RowValues.{value_at}
 use Rattle.tq_base.specs.declared.value.Value.{Value}
 use Rattle.tq_base.specs.declared.period.Period.{Period}
 use Rattle.tq_base.specs.declared.fragment.Fragment.{Fragment}
@@ -18,7 +19,7 @@ use Rattle.tq_base.specs.declared.sides.Key.{Key}
 use Rattle.tq_base.specs.declared.sides.Mark.{Mark}
 use Rattle.tq_base.specs.declared.sides.Mark.TheVariants.{Unknown, Begins, GoesOn}
 use Rattle.tq_base.specs.declared.sides.Side.{Side}
-use Rattle.tq_base.specs.Keys.{begins_by, begins_run, columns_on, first_rank, held, held_on, is_overlap, is_within, key_cmp, key_row, key_values, no_row, overlapping, rank_tells, rows_on, told_cmp, value_at, value_key_cmp, values_left, within, AreMarked, AreTold, BeginsWithBytes, Held, IsKey, SidesState, TellsRight}
+use Rattle.tq_base.specs.Keys.{begins_by, begins_run, columns_on, first_rank, held, held_on, is_overlap, is_within, key_cmp, key_row, key_values, no_row, overlapping, rank_tells, rows_on, told_cmp, value_key_cmp, values_left, within, AreMarked, AreTold, BeginsWithBytes, Held, IsKey, SidesState, TellsRight}
 use Rattle.tq_base.specs.KeyLaws.{alike, told}
 use Rattle.tq_base.specs.ValueOrder.{value_cmp, values_cmp}
 

@@ -7,6 +7,7 @@ use Rattle.std.proofs.lemmas.List.{drop-set-lt, get_or-append_right, get_or-drop
 use Rattle.std.proofs.lemmas.List.Elements.{All-append, All-head, All-map, All-tail}
 use Rattle.std.proofs.lemmas.Simd.{map-map}
 use Rattle.std.proofs.Math.ListN as list
+use Rattle.tq_base.specs.RowValues.{value_at}
 use Rattle.tq_base.specs.declared.value.Value.{Value}
 use Rattle.tq_base.specs.declared.fragment.Fragment.{Fragment}
 use Rattle.tq_base.specs.declared.period.Period.{Period}
@@ -15,7 +16,7 @@ use Rattle.tq_base.specs.declared.parts.Place.{Place}
 use Rattle.tq_base.specs.declared.relation.Line.{Line}
 use Rattle.tq_base.specs.declared.relation.Pair.{Pair}
 use Rattle.tq_base.specs.KeyLaws.{all_values}
-use Rattle.tq_base.specs.Keys.{no_row, value_at}
+use Rattle.tq_base.specs.Keys.{no_row}
 use Rattle.tq_base.specs.Parts.{cell, cells, chosen_column, first_column, moved_column, part_values, rows_at, rows_by_number, source_list, IsIn}
 use Rattle.tq_base.specs.Relations.{line_of, pair_of, projected, row_at, values_at_number}
 

@@ -10,7 +10,7 @@ use Rattle.tq_base.specs.declared.period.Period.{Period}
 use Rattle.tq_base.specs.declared.rows.Slot.{Slot}
 use Rattle.tq_base.specs.declared.rows.Slot.TheVariants.{Kept, Zero, Empty}
 use Rattle.tq_base.specs.Contents.{Int, Text}
-use Rattle.tq_base.specs.Keys.{value_at}
+use Rattle.tq_base.specs.RowValues.{value_at}
 use Rattle.tq_base.specs.RowLists.{RowList}
 use Rattle.tq_base.specs.Slots.{kept_of, seen_row, seen_values, seen_width, slot_value, AreLeftOut, AreNumbered, AreSlots, IsLeftOut, IsText}
 

@@ -13,6 +13,7 @@ use Rattle.std.proofs.lemmas.List.Elements.{All-drop, All-head, All-map, All-mor
 use Rattle.std.proofs.lemmas.List.Sorted.{length_permutation, All-permutation, IsPermutation-append_left, IsPermutation-append_right, IsPermutation-map}
 use Rattle.std.proofs.lemmas.Slice.{drop-put_mid, take-put_mid}
 use borrow.Rule.Slice.PartMut.{mid_of, post_of, put_mid, put_same}
+use Rattle.tq_base.specs.RowValues.{value_at}
 use Rattle.tq_base.specs.declared.value.Value.{Value}
 use Rattle.tq_base.specs.declared.sides.Key.{Key}
 use Rattle.tq_base.specs.declared.sides.Mark.{Mark}
@@ -21,7 +22,7 @@ use Rattle.tq_base.specs.declared.place_view.PlaceView.{PlaceView}
 use Rattle.tq_base.specs.declared.sides.Side.{Side}
 use Rattle.tq_base.specs.declared.sides.Side.TheVariants.{Left, Right}
 use Rattle.tq_base.specs.Contents.{Int, Text}
-use Rattle.tq_base.specs.Keys.{columns_on, first_rank, key_cmp, key_row, held, key_values, rank_tells, rows_on, told_cmp, value_at, AreMarked, BeginsWithBytes, IsKey, SidesState, TellsRight}
+use Rattle.tq_base.specs.Keys.{columns_on, first_rank, key_cmp, key_row, held, key_values, rank_tells, rows_on, told_cmp, AreMarked, BeginsWithBytes, IsKey, SidesState, TellsRight}
 use Rattle.tq_base.specs.KeyLaws.{as_values, less_from_rank, tells_same, told_firsts}
 use Rattle.tq_base.specs.Untold.{first_text, from_cmp, goes_on, rank_cmp, ranked, unmarked, value_after, values_after, values_from, with_rank, AreUnmarked, IsRanked, IsSameOrder, RunsDone, SameKeys, SameOrder}
 use Rattle.tq_base.specs.Ranks.{prefix, prefix-lt}

@@ -11,12 +11,13 @@ use Rattle.std.proofs.lemmas.Bool.Decides.{nat_tests}
 use Rattle.std.proofs.lemmas.List.Sorted.{ranks_by, sorted_far}
 use Rattle.std.proofs.lemmas.Nat.{mod-mul-add}
 use Rattle.std.proofs.lemmas.List.{append_assoc, get_or-append-add, get_or-drop, length-append, length-drop}
+use Rattle.tq_base.specs.RowValues.{value_at}
 use Rattle.tq_base.specs.declared.value.Value.{Value}
 use Rattle.tq_base.specs.declared.sides.Key.{Key}
 use Rattle.tq_base.specs.Contents.{Int, Text, has_exact_rank}
 use Rattle.tq_base.specs.Ranks.{prefix, ranks_rise, ranks_tell, value_rank, HasBytes}
 use Rattle.tq_base.specs.ValueOrder.{value_cmp, value_total, values_cmp, values_same, values_total}
-use Rattle.tq_base.specs.Keys.{columns_on, first_rank, key_row, value_at, key_cmp, key_values, rank_tells, value_key_cmp, values_left, AreMarked, BeginsWithBytes, IsKey, Rises, SidesState, TellsRight}
+use Rattle.tq_base.specs.Keys.{columns_on, first_rank, key_row, key_cmp, key_values, rank_tells, value_key_cmp, values_left, AreMarked, BeginsWithBytes, IsKey, Rises, SidesState, TellsRight}
 
 -- ---- what ranks tell
 

@@ -1,6 +1,6 @@
 -- Rows as they are sorted: by the rank of the first value that is compared, by the values that this does not tell, and
 -- by their start. This project's own.
-use Rattle.std.specs.Prelude.{◌≡◌, ◌≢◌, ◌<◌, ℕ, ◌+◌, ◌^◌, ◌%◌, Bool, true, false, nat_lt, ◌&&◌, cond, if◌then◌else◌, List, [], ◌∷◌, length, map, drop, filter, pos, refl, slice_index_or, Option, Some, None, All, AllPairs}
+use Rattle.std.specs.Prelude.{◌≡◌, ◌≢◌, ◌<◌, ℕ, ◌+◌, ◌^◌, ◌%◌, Bool, true, false, nat_lt, ◌&&◌, cond, if◌then◌else◌, List, [], ◌∷◌, length, map, drop, filter, refl, slice_index_or, Option, Some, None, All, AllPairs}
 use Rattle.std.specs.Ordering.{is_ne, nat_cmp, on, then_cmp}
 use Rattle.std.specs.declared.cmp.Ordering.{Ordering}
 use Rattle.std.specs.declared.cmp.Ordering.TheVariants.{Greater}
@@ -13,13 +13,9 @@ use Rattle.tq_base.specs.declared.sides.Mark.{Mark}
 use Rattle.tq_base.specs.declared.sides.Mark.TheVariants.{Unknown, Begins, GoesOn}
 use Rattle.tq_base.specs.declared.sides.Side.{Side}
 use Rattle.tq_base.specs.declared.sides.Side.TheVariants as side
-use Rattle.tq_base.specs.Contents.{Int}
+use Rattle.tq_base.specs.RowValues.{value_at}
 use Rattle.tq_base.specs.Ranks.{value_rank, HasBytes}
 use Rattle.tq_base.specs.ValueOrder.{values_cmp}
-
--- the value at the place; one that the row does not have counts as the number 0
-abbrev pub value_at : List Value → ℕ → Value
-value_at row place = slice_index_or row place (Int (pos 0))
 
 -- the rows of two sides, and the columns of each that are compared
 pub record SidesState : Type 0 where

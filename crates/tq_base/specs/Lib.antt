@@ -21,6 +21,7 @@ pub mod Ranks
 pub mod Relations
 pub mod Results
 pub mod RowLists
+pub mod RowValues
 pub mod Slots
 pub mod Sweep
 pub mod Untold

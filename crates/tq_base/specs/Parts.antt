@@ -12,7 +12,7 @@ use Rattle.tq_base.specs.declared.parts.Place.{Place}
 use Rattle.tq_base.specs.declared.relation.Periods.{Periods}
 use Rattle.tq_base.specs.declared.relation.Periods.TheVariants as periods
 use Rattle.tq_base.specs.Contents.{Int}
-use Rattle.tq_base.specs.Keys.{value_at}
+use Rattle.tq_base.specs.RowValues.{value_at}
 use Rattle.tq_base.specs.Relations.{values_at_number}
 use Rattle.tq_base.specs.RowLists.{RowList}
 

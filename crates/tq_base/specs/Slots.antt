@@ -5,7 +5,7 @@ use Rattle.tq_base.specs.declared.fragment.Fragment.{Fragment}
 use Rattle.tq_base.specs.declared.rows.Slot.{Slot}
 use Rattle.tq_base.specs.declared.rows.Slot.TheVariants.{Kept, Zero, Empty}
 use Rattle.tq_base.specs.Contents.{Int, Text}
-use Rattle.tq_base.specs.Keys.{value_at}
+use Rattle.tq_base.specs.RowValues.{value_at}
 
 -- the value of a column, where these values are kept of a row
 abbrev pub slot_value : List Value → Slot → Value

@@ -5,7 +5,7 @@ ghost use Rattle.std.specs.List.{list_all, range_with_len};
 ghost use Rattle.std.specs.Option.{option_copied};
 ghost use Rattle.tq_base.specs.Contents.{Int};
 ghost use Rattle.tq_base.specs.KeyRanges.{is_number_in};
-ghost use Rattle.tq_base.specs.Keys.{value_at};
+ghost use Rattle.tq_base.specs.RowValues.{value_at};
 ghost use Rattle.tq_base.specs.Parts.{column_cells, number_in, part_values, value_there, StandThere};
 
 use crate::key_range::KeyRange;

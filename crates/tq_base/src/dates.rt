@@ -1,19 +1,21 @@
 //! Dates of the Gregorian calendar carried back, as `YYYY-MM-DD`.
 
-ghost use Rattle.std.specs.Prelude.{◌≡◌, ◌≤◌, ◌+◌, ◌%◌, drop, take};
+ghost use Rattle.std.specs.Prelude.{◌≡◌, ◌≤◌, ◌+◌, ◌%◌, ◌+ℤ◌, drop, pos, take};
+ghost use Rattle.jiff_core.specs.Date.{epoch_day};
 ghost use Rattle.tq_base.specs.Dates.{CivilDate, date_of, date_text, day_of};
 ghost use Rattle.tq_base.specs.Numbers.{instant_of};
 ghost use Rattle.tq_base.specs.declared.form.Form.TheVariants.{Dates};
 
 use crate::number::read_natural;
 use crate::period::Instant;
-use jiff_core::civil::Date;
+use jiff::ToSpan;
+use jiff::civil::{Date, date};
 
 /// The day of 9999-12-31, the last that has a date.
 pub const LAST_DAY: u64 = 3_652_058;
 
 // The days from -9999-01-01, from which `jiff` counts, to 0001-01-01.
-const DAYS_BEFORE: u32 = 3_652_425;
+const DAYS_BEFORE: u64 = 3_652_425;
 
 /// The day of a date; `None` where the bytes are no date of the years 1 to 9999.
 pub fn read_date(bytes: &[u8]) -> Option<Instant>
@@ -28,6 +30,33 @@ pub fn read_date(bytes: &[u8]) -> Option<Instant>
     instant_on(year, month, day)
 }
 
+// The first date of `jiff`, -9999-01-01.
+fn first_date() -> Date
+    ensures { epoch_day result +ℤ pos 4_371_587 ≡ pos 0 }
+{
+    date(-9999, 1, 1)
+}
+
+// The days from the first date of `jiff` to this one.
+fn days_from_first(date: Date) -> u64
+    ensures { epoch_day date +ℤ pos 4_371_587 ≡ pos result }
+{
+    let first = first_date();
+    date.duration_since(first).as_hours().unsigned_abs() / 24
+}
+
+// The date that many days after the first one of `jiff`.
+fn date_after_first(days: u32) -> Date
+    requires { days ≤ 7_304_483 }
+    ensures { epoch_day result +ℤ pos 4_371_587 ≡ pos days }
+{
+    let first = first_date();
+    match first.checked_add(i64::from(days).days()) {
+        Ok(date) => date,
+        Err(_) => unreachable!(),
+    }
+}
+
 // The day of the date of these parts; `None` where the calendar has no such date.
 fn instant_on(year: u64, month: u64, day: u64) -> Option<Instant>
     requires year_in { year ≤ 9999 }
@@ -39,7 +68,7 @@ fn instant_on(year: u64, month: u64, day: u64) -> Option<Instant>
         return None;
     }
     match Date::new(year as i16, month as i8, day as i8) {
-        Ok(date) => Instant::new(u64::from(date.days_since_min() - DAYS_BEFORE)),
+        Ok(date) => Instant::new(days_from_first(date) - DAYS_BEFORE),
         Err(_) => None,
     }
 }
@@ -51,11 +80,11 @@ fn parts_of(day: u32) -> (u32, u32, u32)
     ensures month { result.1 ≡ (date_of day).month }
     ensures day { result.2 ≡ (date_of day).day }
 {
-    let date = Date::from_days_since_min(day + DAYS_BEFORE);
+    let date = date_after_first(day + DAYS_BEFORE as u32);
     (
-        u32::from(date.year.unsigned_abs()),
-        u32::from(date.month),
-        u32::from(date.day),
+        u32::from(date.year().unsigned_abs()),
+        u32::from(date.month().unsigned_abs()),
+        u32::from(date.day().unsigned_abs()),
     )
 }
 

@@ -4,9 +4,10 @@
 ghost use Rattle.std.specs.Prelude.{◌≡◌, ◌≢◌, ◌<◌, ◌≤◌, ◌++◌, ◌&&◌, ◌||◌, nat_eq, nat_lt, All, IsPermutation, IsSorted, OnErr, OnOk, drop, length, map, slice_index_or, take, true};
 ghost use Rattle.std.specs.Bool.{OnTrue};
 ghost use Rattle.std.specs.Option.{option_copied};
+ghost use Rattle.tq_base.specs.RowValues.{value_at};
 ghost use Rattle.tq_base.specs.declared.sides.Key.{Key};
 ghost use Rattle.tq_base.specs.KeySides.{state_of};
-ghost use Rattle.tq_base.specs.Keys.{begins_run, columns_on, first_rank, held, held_on, is_within, key_cmp, key_row, key_values, no_row, rank_tells, rows_on, told_cmp, value_at, value_key_cmp, within, AreMarked, AreTold, BeginsWithBytes, IsFresh, IsKey, Rises};
+ghost use Rattle.tq_base.specs.Keys.{begins_run, columns_on, first_rank, held, held_on, is_within, key_cmp, key_row, key_values, no_row, rank_tells, rows_on, told_cmp, value_key_cmp, within, AreMarked, AreTold, BeginsWithBytes, IsFresh, IsKey, Rises};
 ghost use Rattle.tq_base.specs.PlaceViews.{first_in, IsFirstOn};
 ghost use Rattle.tq_base.specs.ValueOrder.{value_cmp, values_cmp};
 

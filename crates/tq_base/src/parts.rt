@@ -3,7 +3,7 @@
 ghost use Rattle.std.specs.Prelude.{◌≡◌, ◌<◌, ℕ, IfOk, OnOk, length, map, pos, slice_index_or};
 ghost use Rattle.std.specs.Option.{option_copied};
 ghost use Rattle.tq_base.specs.Contents.{Int};
-ghost use Rattle.tq_base.specs.Keys.{value_at};
+ghost use Rattle.tq_base.specs.RowValues.{value_at};
 ghost use Rattle.tq_base.specs.Parts.{cell, number_at, number_in, part_values, rows_at, source_list};
 ghost use Rattle.tq_base.specs.Relations.{values_at_number};
 

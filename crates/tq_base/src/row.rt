@@ -2,7 +2,7 @@
 
 ghost use Rattle.std.specs.Prelude.{◌≡◌, ◌++◌, OnOk, length, map, pos};
 ghost use Rattle.tq_base.specs.Contents.{Int};
-ghost use Rattle.tq_base.specs.Keys.{value_at};
+ghost use Rattle.tq_base.specs.RowValues.{value_at};
 ghost use Rattle.tq_base.specs.Parts.{cells, rows_at};
 
 use crate::parts::{Part, Place, value_in};

@@ -5,7 +5,7 @@ ghost use Rattle.std.specs.Prelude.{◌≡◌, ◌≢◌, false, ◌++◌, ◌�
 ghost use Rattle.tq_base.specs.declared.fragment.Fragment.{Fragment};
 ghost use Rattle.tq_base.specs.declared.rows.Slot.{Slot as AnySlot};
 ghost use Rattle.tq_base.specs.declared.value.Value.{Value as AnyValue};
-ghost use Rattle.tq_base.specs.Keys.{value_at};
+ghost use Rattle.tq_base.specs.RowValues.{value_at};
 ghost use Rattle.tq_base.specs.Contents.{Int, Text};
 ghost use Rattle.tq_base.specs.Parts.{StandThere};
 ghost use Rattle.tq_base.specs.RowLists.{rows_from};

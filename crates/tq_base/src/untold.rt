@@ -8,10 +8,11 @@
 
 ghost use Rattle.std.specs.Prelude.{◌≡◌, ◌≢◌, ◌<◌, ◌≤◌, All, IsPermutation, IsSorted, drop, length, map, slice_index_or, take};
 ghost use Rattle.std.specs.Bool.{OnTrue};
+ghost use Rattle.tq_base.specs.RowValues.{value_at};
 ghost use Rattle.tq_base.specs.declared.sides.Key.{Key};
 ghost use Rattle.tq_base.specs.declared.sides.Mark.TheVariants.{Begins};
 ghost use Rattle.tq_base.specs.KeySides.{state_of};
-ghost use Rattle.tq_base.specs.Keys.{value_at, AreMarked};
+ghost use Rattle.tq_base.specs.Keys.{AreMarked};
 ghost use Rattle.tq_base.specs.Untold.{from_cmp, goes_on, rank_cmp, ranked, unmarked, value_after, with_rank, AreUnmarked, IsRanked, RunsDone, SameKeys, SameOrder, Share};
 ghost use Rattle.tq_base.specs.ValueOrder.{value_cmp};
 

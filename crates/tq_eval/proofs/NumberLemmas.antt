@@ -22,9 +22,9 @@ use Rattle.tq_base.specs.Periods.{holds}
 use Rattle.tq_base.specs.ValueOrder.{eq_from_same}
 use Rattle.tq_event.specs.Recorded.{HasTable}
 use Rattle.tq_ops.specs.declared.condition.Test.{Test}
-use Rattle.tq_ops.specs.Conditions.{value_at}
+use Rattle.tq_base.specs.RowValues.{number_of, value_at}
 use Rattle.tq_ops.specs.Ordinary.{HasInside, IsEmptyOutside, admits, product, product_of, selection}
-use Rattle.tq_agg.specs.Grouping.{AreSummable, Row, number_of}
+use Rattle.tq_agg.specs.Grouping.{AreSummable, Row}
 use Rattle.tq_eval.specs.Running.{AreNumbers}
 use Rattle.tq_eval.specs.Fitting.{AreFitting}
 use Rattle.tq_eval.specs.Answers.{lists_at, ValidRows}

@@ -4,7 +4,7 @@ use Rattle.tq_base.specs.declared.catalogue.Catalogue.{Catalogue}
 use Rattle.tq_base.specs.declared.fragment.Fragment.{Fragment}
 use Rattle.tq_event.specs.Keeping.{is_wanted, kept_row, kept_values, wanted_of}
 use Rattle.tq_event.specs.Tables.{rows_in}
-use Rattle.tq_ops.specs.Conditions.{value_at}
+use Rattle.tq_base.specs.RowValues.{value_at}
 use Rattle.tq_ops.specs.Ordinary.{admits}
 use Rattle.tq_agg.specs.Grouping.{Row}
 use Rattle.tq_plan.specs.declared.plans.Output.{Output}

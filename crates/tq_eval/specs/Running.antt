@@ -1,9 +1,10 @@
 -- Evaluated queries: which values are summed, and where the items stand in the row of a group.
 use Rattle.std.specs.Prelude.{ℕ, ◌+◌, ◌==◌, FitsSigned, List, [], ◌∷◌, length, position, unwrap_or, All}
 use Rattle.std.specs.Int.{w64}
+use Rattle.tq_base.specs.RowValues.{number_of}
 use Rattle.tq_event.specs.declared.event.Event.{Event}
 use Rattle.tq_event.specs.declared.event.Event.TheVariants.{Start, End}
-use Rattle.tq_agg.specs.Grouping.{Row, number_of}
+use Rattle.tq_agg.specs.Grouping.{Row}
 use Rattle.tq_plan.specs.declared.plans.Output.{Output}
 use Rattle.tq_plan.specs.declared.plans.Output.TheVariants.{Column, Count, Sum}
 

@@ -3,7 +3,7 @@ use Rattle.std.specs.Prelude.{◌≡◌, ◌==◌, ℕ, IsTrue, Bool, true, fals
 use Rattle.std.specs.List.{list_any}
 use Rattle.tq_base.specs.declared.catalogue.Catalogue.{Catalogue}
 use Rattle.tq_base.specs.declared.value.Value.{Value}
-use Rattle.tq_ops.specs.Conditions.{value_at}
+use Rattle.tq_base.specs.RowValues.{value_at}
 use Rattle.tq_base.specs.Fragments.{occurrences}
 use Rattle.tq_ops.specs.Ordinary.{admits, product_of, selection}
 use Rattle.tq_ops.specs.declared.condition.Test.{Test}

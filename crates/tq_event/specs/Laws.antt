@@ -1,5 +1,5 @@
 -- What is known of files that were loaded. This project's own.
-use Rattle.std.specs.Prelude.{◌≡◌, ℕ, ◌≤◌, List, Some, length, All}
+use Rattle.std.specs.Prelude.{◌≡◌, ℕ, ◌≤◌, List, Some, length, All, Ok}
 use Rattle.tq_base.specs.declared.catalogue.Column.{Column}
 use Rattle.tq_base.specs.declared.catalogue.Schema.{Schema}
 use Rattle.tq_base.specs.declared.form.Form.{Form}
@@ -10,12 +10,16 @@ use Rattle.tq_base.specs.Names.{folded_name}
 use Rattle.tq_event.specs.declared.file.TableFile.{TableFile}
 use Rattle.tq_event.specs.declared.file.Loaded.{Loaded}
 use Rattle.tq_event.specs.History.{IsHistory, time_of}
-use Rattle.tq_event.specs.Loading.{IsLoaded}
+use Rattle.tq_event.specs.Loading.{Contents, IsLoaded, contents_of}
 
 -- files hold one list of tables and one list of events
 abbrev pub LoadedIsUnique : Type 0
 LoadedIsUnique = (form : Form) (files : List TableFile) (limit : ℕ) (a b : Loaded) → IsLoaded form files limit a → IsLoaded form files limit b
     → (a.catalogue.tables ≡ b.catalogue.tables) × (a.events ≡ b.events)
+
+-- files whose contents have no fault were loaded as some history
+abbrev pub LoadedExists : Type 0
+LoadedExists = (form : Form) (files : List TableFile) (limit : ℕ) (contents : Contents) → contents_of form files limit ≡ Ok contents → (loaded : Loaded) × IsLoaded form files limit loaded
 
 -- the events stay within the limit
 abbrev pub LoadedIsWithin : Type 0

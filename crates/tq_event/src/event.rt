@@ -1,6 +1,8 @@
 // An event starts or ends a row.
 
 ghost use Rattle.std.specs.Prelude.{◌≡◌, IfOk};
+ghost use Rattle.tq_event.specs.History.{time_of};
+ghost use Rattle.tq_event.specs.Recorded.{table_of};
 
 use std::alloc::AllocError;
 use tq_base::{Instant, Values};
@@ -22,6 +24,26 @@ pub enum Event {
 }
 
 impl Event {
+    /// When the row starts or ends.
+    pub fn at(&self) -> Instant
+        ensures { result ≡ time_of self.now }
+    {
+        match self {
+            Event::Start { at, .. } => *at,
+            Event::End { at, .. } => *at,
+        }
+    }
+
+    /// The number of the row's table.
+    pub fn table(&self) -> u32
+        ensures { result ≡ table_of self.now }
+    {
+        match self {
+            Event::Start { table, .. } => *table,
+            Event::End { table, .. } => *table,
+        }
+    }
+
     /// An equal event; `AllocError` where a growth was refused.
     pub fn try_copy(&self) -> Result<Event, AllocError>
         ensures { IfOk result (λ event. event ≡ self.now) }

@@ -29,29 +29,18 @@ impl Model for History {
     ghost invariant = { λ h. IsRecorded h.catalogue h.events.items h.starts.items };
 }
 
-// The number of the event's instant.
-fn time(event: &Event) -> u64
-    ensures time { result ≡ time_of event.now }
-    ensures finite { result < FOREVER }
-{
-    match event {
-        Event::Start { at, .. } => at.number(),
-        Event::End { at, .. } => at.number(),
-    }
-}
-
-// Whether the last event is no later than the instant of this number.
-fn is_not_before(events: &[Event], at: u64) -> bool
+/// Whether the last event, if any, is no later than the instant.
+pub fn is_not_before(events: &[Event], at: Instant) -> bool
     ensures { IsTrue result ↔ IsNotBefore events.now at }
 {
     match events.last() {
-        Some(last) => time(last) <= at,
+        Some(last) => last.at() <= at,
         None => true,
     }
 }
 
-// Whether the table takes the values.
-fn can_start(catalogue: &Catalogue, table: u32, values: &Values) -> bool
+/// Whether the catalogue has the table, and the values fit its columns.
+pub fn can_start(catalogue: &Catalogue, table: u32, values: &Values) -> bool
     ensures { IsTrue result ↔ HasTable catalogue.now table values.now }
 {
     match catalogue.tables.get().get(table as usize) {
@@ -76,21 +65,14 @@ fn is_admissible(catalogue: &Catalogue, events: &[Event], starts: &[Starts], eve
     ensures admissible { IsTrue result ↔ IsAdmissible catalogue.now events.now event.now }
     ensures finite { time_of event.now < FOREVER }
 {
-    if !is_not_before(events, time(event)) {
+    let at = event.at();
+    let _finite = at.number();
+    if !is_not_before(events, at) {
         return false;
     }
     match event {
         Event::Start { table, values, .. } => can_start(catalogue, *table, values),
         Event::End { table, row, at } => can_end(starts, *table, *row, *at),
-    }
-}
-
-fn table(event: &Event) -> u32
-    ensures { result ≡ table_of event.now }
-{
-    match event {
-        Event::Start { table, .. } => *table,
-        Event::End { table, .. } => *table,
     }
 }
 
@@ -114,7 +96,7 @@ fn note(starts: &mut Vec<Starts>, event: &Event) -> Result<(), AllocError>
     ensures ok { OnOk result (starts.new.items ≡ noted event.now starts.old.items) }
     ensures err { OnErr result (starts.new.items ≡ starts.old.items) }
 {
-    let rows = &mut starts[table(event) as usize];
+    let rows = &mut starts[event.table() as usize];
     note_rows(rows, event)
 }
 

@@ -32,6 +32,6 @@ pub use bytes::FileBytes;
 pub use event::Event;
 pub use fault::{LoadFault, LoadFaultKind};
 pub use file::{Loaded, TableFile, Tables};
-pub use history::History;
+pub use history::{History, can_start, is_not_before};
 pub use loading::{MAX_EVENTS, MAX_TABLES, load, load_tables, load_wanted};
 pub use one_record::read_values;

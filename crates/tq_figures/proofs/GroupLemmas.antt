@@ -10,6 +10,7 @@ use Rattle.std.proofs.lemmas.List.{get_or-map, get_or-take, get_or_default, leng
 use Rattle.std.proofs.lemmas.List.Elements.{All-contains_itself, All-push, All-weaker, Contains-push_cases, Contains-append_left, Contains-push}
 use Rattle.std.proofs.lemmas.List.Quantifiers.{all_pairs_push}
 use Rattle.std.proofs.lemmas.List.Sorted.{Contains-permutation, IsPermutation-map, IsPermutation-sym}
+use Rattle.tq_base.specs.RowValues.{value_at}
 use Rattle.tq_base.specs.declared.fragment.Fragment.{Fragment}
 use Rattle.tq_base.specs.declared.sides.Key.{Key}
 use Rattle.tq_base.specs.declared.sides.Mark.TheVariants.{Unknown}
@@ -17,7 +18,7 @@ use Rattle.tq_base.specs.declared.sides.Side.{Side}
 use Rattle.tq_base.specs.declared.sides.Side.TheVariants.{Left, Right}
 use Rattle.tq_base.specs.declared.value.Value.{Value}
 use Rattle.tq_base.specs.KeyLaws.{alike, told}
-use Rattle.tq_base.specs.Keys.{columns_on, held, held_on, key_row, key_values, value_at, value_key_cmp, Held, IsKey, Rises, SidesState}
+use Rattle.tq_base.specs.Keys.{columns_on, held, held_on, key_row, key_values, value_key_cmp, Held, IsKey, Rises, SidesState}
 use Rattle.tq_base.specs.ValueOrder.{values_cmp, values_same, values_total}
 use Rattle.tq_ops.specs.Ordinary.{projection}
 use Rattle.tq_figures.specs.Groups.{begins, AreEach, CountsEach, CountsGroups}

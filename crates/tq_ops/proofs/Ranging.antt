@@ -4,6 +4,7 @@ use Rattle.std.specs.Prelude.{FitsSigned}
 use Rattle.std.specs.Int.{w64}
 use Rattle.std.specs.Ordering.{ordering_reverse}
 use Rattle.std.specs.declared.cmp.Ordering.{Ordering}
+use Rattle.tq_base.specs.RowValues.{value_at}
 use Rattle.tq_base.specs.declared.key_range.KeyRange.{KeyRange}
 use Rattle.tq_base.specs.declared.value.Value.{Value}
 use Rattle.tq_base.specs.Contents.{Int}
@@ -14,7 +15,7 @@ use Rattle.tq_ops.specs.declared.condition.Operand.{Operand}
 use Rattle.tq_ops.specs.declared.condition.Operand.TheVariants.{Column, Literal}
 use Rattle.tq_ops.specs.declared.condition.Test.{Test}
 use Rattle.tq_ops.specs.declared.condition.Test.TheVariants.{Is, And, Or, Not}
-use Rattle.tq_ops.specs.Conditions.{accepts, operand_value, passes, value_at}
+use Rattle.tq_ops.specs.Conditions.{accepts, operand_value, passes}
 use Rattle.tq_ops.specs.KeyRanges.{HasBeside, HasCompared, TellsWithin}
 use Rattle.tq_ops.specs.Known.{agrees}
 use Rattle.tq_ops.proofs.Conditions.{passes-Is, passes-And, passes-Or, passes-Not}

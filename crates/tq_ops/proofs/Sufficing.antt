@@ -3,6 +3,7 @@ use Rattle.std.proofs.Common.{◌≡◌, ℕ, ℤ, Bool, true, false, ◌&&◌, 
 use Rattle.std.specs.Prelude.{IfSome, T, int_le}
 use Rattle.std.specs.Int.Signed.{le_z_yes}
 use Rattle.std.proofs.lemmas.Bool.{and_parts, false≢true}
+use Rattle.tq_base.specs.RowValues.{value_at}
 use Rattle.tq_base.specs.declared.key_range.KeyRange.{KeyRange}
 use Rattle.tq_base.specs.declared.value.Value.{Value}
 use Rattle.tq_base.specs.Contents.{Int, Text}
@@ -12,7 +13,7 @@ use Rattle.tq_ops.specs.declared.condition.Compare.{Compare}
 use Rattle.tq_ops.specs.declared.condition.Operand.{Operand}
 use Rattle.tq_ops.specs.declared.condition.Test.{Test}
 use Rattle.tq_ops.specs.declared.condition.Test.TheVariants.{Is, And}
-use Rattle.tq_ops.specs.Conditions.{accepts, operand_value, passes, value_at}
+use Rattle.tq_ops.specs.Conditions.{accepts, operand_value, passes}
 use Rattle.tq_ops.specs.KeyRanges.{IsEnough}
 use Rattle.tq_ops.proofs.Conditions.{passes-Is, passes-And}
 

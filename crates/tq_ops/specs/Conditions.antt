@@ -1,9 +1,9 @@
 -- Conditions on one row, as SQL has them where no value is null: each holds or does not.
-use Rattle.std.specs.Prelude.{ℕ, pos, Bool, true, false, not, ◌&&◌, ◌||◌, List, slice_index_or}
+use Rattle.std.specs.Prelude.{Bool, true, false, not, ◌&&◌, ◌||◌, List}
 use Rattle.std.specs.declared.cmp.Ordering.{Ordering}
 use Rattle.std.specs.declared.cmp.Ordering.TheVariants.{Less, Equal, Greater}
 use Rattle.tq_base.specs.declared.value.Value.{Value}
-use Rattle.tq_base.specs.Contents.{Int}
+use Rattle.tq_base.specs.RowValues.{value_at}
 use Rattle.tq_base.specs.ValueOrder.{value_cmp}
 use Rattle.tq_ops.specs.declared.condition.Operand.{Operand}
 use Rattle.tq_ops.specs.declared.condition.Operand.TheVariants.{Column, Literal}
@@ -11,10 +11,6 @@ use Rattle.tq_ops.specs.declared.condition.Compare.{Compare}
 use Rattle.tq_ops.specs.declared.condition.Compare.TheVariants as compare
 use Rattle.tq_ops.specs.declared.condition.Test.{Test, fold-Test}
 use Rattle.tq_ops.specs.declared.condition.Test.TheOpen.{Test-F}
-
--- the value at a place of a row; a place that the row does not have counts as the number 0
-abbrev pub value_at : List Value → ℕ → Value
-value_at row place = slice_index_or row place (Int (pos 0))
 
 abbrev pub operand_value : Operand → List Value → Value
 operand_value (Column place) row = value_at row place

@@ -1,6 +1,7 @@
 -- What a condition tells of the number at a place of a row. This project's own.
 use Rattle.std.specs.Prelude.{◌≡◌, ℕ, ℤ, IsTrue, Bool, List, Option, FitsSigned}
 use Rattle.std.specs.Int.{w64}
+use Rattle.tq_base.specs.RowValues.{value_at}
 use Rattle.tq_base.specs.declared.value.Value.{Value}
 use Rattle.tq_base.specs.declared.key_range.KeyRange.{KeyRange}
 use Rattle.tq_base.specs.Contents.{Int}
@@ -9,7 +10,7 @@ use Rattle.tq_base.specs.ValueOrder.{value_cmp}
 use Rattle.tq_ops.specs.declared.condition.Compare.{Compare}
 use Rattle.tq_ops.specs.declared.condition.Operand.{Operand}
 use Rattle.tq_ops.specs.declared.condition.Test.{Test}
-use Rattle.tq_ops.specs.Conditions.{accepts, operand_value, passes, value_at}
+use Rattle.tq_ops.specs.Conditions.{accepts, operand_value, passes}
 
 -- in each row that passes the condition, the number at the place lies in the range, if it has 64 signed bits; so no
 -- such row passes where there is no range

@@ -38,16 +38,6 @@ fn between(start: Bound, end: Bound) -> Option<Period>
     Period::new(start, end)
 }
 
-// The bound at an instant.
-fn bound_at(instant: Instant) -> Bound
-    ensures { result ≡ instant }
-{
-    match Bound::new(instant.number()) {
-        Some(bound) => bound,
-        None => unreachable!(),
-    }
-}
-
 // The periods of the rows that keys name, read in one short loop: keys in order name rows that lie anywhere, and such
 // reads wait for memory together.
 fn periods_of(alloc: Global, sides: &Sides<'_>, keys: &[Key]) -> Result<Vec<Period>, AllocError>
@@ -82,7 +72,7 @@ fn changes_of(
         };
         let rises = is_left(group[place].side);
         changes.push(Change {
-            at: bound_at(period.start),
+            at: Bound::at(period.start),
             rises,
         })?;
         changes.push(Change {

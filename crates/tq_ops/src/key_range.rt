@@ -4,11 +4,12 @@ ghost use Rattle.std.specs.Prelude.{◌≡◌, ◌≢◌, ℤ, false, not, FitsS
 ghost use Rattle.std.specs.Int.{w64};
 ghost use Rattle.std.specs.Ordering.{int_cmp, ordering_reverse};
 ghost use Rattle.std.specs.declared.cmp.Ordering.{Ordering};
+ghost use Rattle.tq_base.specs.RowValues.{value_at};
 ghost use Rattle.tq_base.specs.declared.value.Value.{Value};
 ghost use Rattle.tq_base.specs.Contents.{Int};
 ghost use Rattle.tq_base.specs.KeyRanges.{IsInRange, IsInSomeRange};
 ghost use Rattle.tq_base.specs.ValueOrder.{value_cmp};
-ghost use Rattle.tq_ops.specs.Conditions.{accepts, operand_value, value_at};
+ghost use Rattle.tq_ops.specs.Conditions.{accepts, operand_value};
 ghost use Rattle.tq_ops.specs.KeyRanges.{HasBeside, HasCompared, IsEnough, TellsNumbers, TellsWithin};
 ghost use Rattle.tq_ops.specs.Known.{agrees};
 

@@ -5,16 +5,11 @@ use Rattle.tq_base.specs.declared.key_range.KeyRange.{KeyRange}
 use Rattle.tq_base.specs.declared.value.Value.{Value}
 use Rattle.tq_base.specs.Contents.{Int, Text}
 use Rattle.tq_base.specs.KeyRanges.{IsInSomeRange}
-use Rattle.tq_ops.specs.Conditions.{value_at}
+use Rattle.tq_base.specs.RowValues.{number_of, value_at}
 use Rattle.tq_ops.specs.Ordinary.{admits}
 use Rattle.tq_plan.specs.declared.plans.Plan.{Plan}
 use Rattle.tq_plan.specs.declared.plans.QueryPlan.{QueryPlan}
 use Rattle.tq_plan.specs.declared.plans.QuerySource.{QuerySource}
-
--- a number is itself, a text counts as 0
-abbrev pub number_of : Value → ℤ
-number_of (Int n) = n
-number_of (Text t) = pos 0
 
 -- the key of the source's row in a row of all sources: the number at the place of its first column where that column
 -- holds numbers, else 0

@@ -18,7 +18,7 @@ changes-init c = record {
   sum = refl;
   low = omega (arith, ints);
   high = omega (arith, ints);
-  counting = rw c.bound_at-since.ensures (sweep_begins (projection c.args.head.now.keys.now c.args.head.now.row.now) c.args.starts.now c.args.ends.now c.args.window.now c.args.out.now.items c.requires.starts c.requires.ends);
+  counting = rw c.at-since.ensures (sweep_begins (projection c.args.head.now.keys.now c.args.head.now.row.now) c.args.starts.now c.args.ends.now c.args.window.now c.args.out.now.items c.requires.starts c.requires.ends);
 }
 
 pub overflow_sub-more : goal.overflow_sub-more

@@ -20,7 +20,7 @@ pub edges-init : goal.edges-init
 edges-init c = record {
   empty = c.new-room.ensures.items;
   width = refl;
-  counting = rw c.bound_at-since.ensures (begins (counts_shown c.args.is_none_shown (projection c.args.head.now.keys.now c.args.head.now.row.now)) c.args.starts.now c.args.ends.now c.args.window.now c.args.out.now.items (sorted_rise c.args.window.now c.args.starts.now c.requires.starts) (sorted_rise c.args.window.now c.args.ends.now c.requires.ends));
+  counting = rw c.at-since.ensures (begins (counts_shown c.args.is_none_shown (projection c.args.head.now.keys.now c.args.head.now.row.now)) c.args.starts.now c.args.ends.now c.args.window.now c.args.out.now.items (sorted_rise c.args.window.now c.args.starts.now c.requires.starts) (sorted_rise c.args.window.now c.args.ends.now c.requires.ends));
 }
 
 -- what the calls say of the bounds from the place on

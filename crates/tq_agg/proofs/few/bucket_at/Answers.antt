@@ -1,7 +1,8 @@
 use Rattle.std.proofs.Common.{◌≡◌, ◌≢◌, ◌<◌, List, length, get_or, sym, subst, ap, ◌∙◌, arith}
 use Rattle.std.specs.List.{insert}
 use Rattle.std.proofs.lemmas.List.{get_or_default}
-use Rattle.tq_base.specs.Keys.{rank_tells, value_at}
+use Rattle.tq_base.specs.RowValues.{value_at}
+use Rattle.tq_base.specs.Keys.{rank_tells}
 use Rattle.tq_base.specs.Ranks.{value_rank, HasBytes}
 use Rattle.tq_agg.specs.declared.few.Bucket.{Bucket}
 use Rattle.tq_agg.specs.Buckets.{counted, AreCut, AreRanked, IsTold}

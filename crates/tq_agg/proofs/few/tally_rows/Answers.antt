@@ -2,7 +2,7 @@ use Rattle.std.proofs.Common.{◌≡◌, ◌<◌, ◌+ℤ◌, ◌&&◌, ◌∷�
 use Rattle.std.proofs.lemmas.Int.{ints}
 use Rattle.tq_base.specs.declared.fragment.Fragment.{Fragment}
 use Rattle.tq_base.specs.declared.value.Value.{Value}
-use Rattle.tq_base.specs.Keys.{value_at}
+use Rattle.tq_base.specs.RowValues.{value_at}
 use Rattle.tq_base.specs.Periods.{holds}
 use Rattle.tq_base.specs.Relations.{column_of}
 use Rattle.tq_agg.specs.Buckets.{counted, AreRanked}

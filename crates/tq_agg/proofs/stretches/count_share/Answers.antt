@@ -4,7 +4,7 @@ use Rattle.tq_base.specs.declared.value.Value.{Value}
 use Rattle.tq_base.specs.Fragments.{at, copies, occurrences}
 use Rattle.tq_base.specs.Periods.{holds}
 use Rattle.tq_base.specs.Relations.{column_of}
-use Rattle.tq_ops.specs.Conditions.{value_at}
+use Rattle.tq_base.specs.RowValues.{value_at}
 use Rattle.tq_agg.specs.declared.few.Tally.{Tally}
 use Rattle.tq_agg.specs.Buckets.{rank_share, value_of}
 use Rattle.tq_agg.specs.Edges.{count_upto}

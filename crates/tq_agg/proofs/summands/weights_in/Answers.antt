@@ -1,8 +1,7 @@
 use Rattle.std.proofs.Common.{inl, inr, ◌≡◌, ◌+◌, ◌++◌, ◌∷◌, [], ◌∙◌, ap, arith, get_or, length, length-append, pos, rules, sym, to_z, of_z, w64}
 use Rattle.std.proofs.lemmas.Bool.{cases_lt}
 use Rattle.std.proofs.lemmas.List.{get_or_append_left, get_or_push}
-use Rattle.tq_agg.specs.Grouping.{number_of}
-use Rattle.tq_base.specs.Keys.{value_at}
+use Rattle.tq_base.specs.RowValues.{number_of, value_at}
 use Rattle.tq_base.specs.Relations.{values_at_number}
 use Rattle.tq_base.proofs.ColumnLemmas.{column_here}
 use Rattle.tq_agg.proofs.summands.weights_in.Goals as goal

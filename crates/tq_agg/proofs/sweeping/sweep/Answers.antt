@@ -30,7 +30,7 @@ bounds-init c =
       empty = c.requires.empty;
       width = refl;
       totals = c.in_ok-clear_totals.ensures;
-      counting = rw c.bound_at-since.ensures (begins (totals_shown (state_of c.args.group.now.sides.now) (projection c.args.head.now.keys.now c.args.head.now.row.now) c.args.summands.now keys ends)
+      counting = rw c.at-since.ensures (begins (totals_shown (state_of c.args.group.now.sides.now) (projection c.args.head.now.keys.now c.args.head.now.row.now) c.args.summands.now keys ends)
           (map (start_in window) keys) (map (λ (e : End). e.at) ends) window c.args.out.now.items (starts_in_order window keys c.requires.starts) (ends_in_order window ends c.requires.ends c.requires.within));
     }
 

@@ -4,13 +4,13 @@ use Rattle.std.proofs.lemmas.Int.{ints}
 use Rattle.std.proofs.lemmas.List.{length-map}
 use Rattle.tq_base.specs.declared.fragment.Fragment.{Fragment}
 use Rattle.tq_base.specs.declared.value.Value.{Value}
-use Rattle.tq_base.specs.Keys.{value_at}
+use Rattle.tq_base.specs.RowValues.{number_of, value_at}
 use Rattle.tq_base.specs.Periods.{holds}
 use Rattle.tq_base.specs.Relations.{column_of, values_at_number}
 use Rattle.tq_agg.specs.declared.summands.Summand.TheVariants.{Column, One}
 use Rattle.tq_agg.specs.Buckets.{AreRanked}
 use Rattle.tq_agg.specs.Changes.{one, own, weighed}
-use Rattle.tq_agg.specs.Grouping.{number_of, same_row}
+use Rattle.tq_agg.specs.Grouping.{same_row}
 use Rattle.tq_agg.specs.Totals.{weight_of}
 use Rattle.tq_agg.proofs.Cutting.{period_at}
 use Rattle.tq_agg.proofs.WeighedBuckets.{weight_at, weighed_step}

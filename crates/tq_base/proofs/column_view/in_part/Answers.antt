@@ -1,7 +1,7 @@
 use Rattle.std.proofs.Common.{◌≡◌, ◌∙◌, ℕ, ap, map}
 use Rattle.std.specs.List.{range_with_len}
 use Rattle.std.specs.Option.{option_copied}
-use Rattle.tq_base.specs.Keys.{value_at}
+use Rattle.tq_base.specs.RowValues.{value_at}
 use Rattle.tq_base.specs.Parts.{number_at, number_in, part_values, value_there}
 use Rattle.tq_base.specs.Relations.{values_at_number}
 use Rattle.tq_base.specs.RowLists.{RowList}

@@ -1,7 +1,7 @@
 -- The values of the columns so far were copied, and there is room for the others.
 use Rattle.std.proofs.Common.{◌≡◌, ◌+◌, ◌++◌, map, take}
 use Rattle.std.specs.Prelude.{vec_capacity, vec_len}
-use Rattle.tq_base.specs.Keys.{value_at}
+use Rattle.tq_base.specs.RowValues.{value_at}
 use Rattle.tq_base.proofs.column_view.push_values.Given as goal
 
 abbrev pub invariant-columns : goal.invariant-columns

@@ -47,9 +47,9 @@ rows-preserved c =
     let side = c.is_left-rises.ensures ∙ ap (λ (k : Key). is_same_side Left k.side) (get_or_default c.args.group.now c.rows.place _ no_key c.rows-test.true) in
     record {
       counted = λ t. counts_on c.args.window.now (map f c.args.group.now) c.rows.place (f k) lt is
-          c.in-Some.period c.is_left-rises.result c.bound_at.result c.in-Some.period.end c.rows.changes.items c.push.new.self.items c.push-in-rows.new.self.items
-          overlap side c.bound_at.ensures refl c.in_ok-push.ensures.items c.in_ok-push-2.ensures.items t (c.rows.invariant.counted t);
-      even = stays_even c.rows.changes.items c.push.new.self.items c.push-in-rows.new.self.items c.is_left-rises.result c.bound_at.result c.in-Some.period.end
+          c.in-Some.period c.is_left-rises.result c.at.result c.in-Some.period.end c.rows.changes.items c.push.new.self.items c.push-in-rows.new.self.items
+          overlap side c.at.ensures refl c.in_ok-push.ensures.items c.in_ok-push-2.ensures.items t (c.rows.invariant.counted t);
+      even = stays_even c.rows.changes.items c.push.new.self.items c.push-in-rows.new.self.items c.is_left-rises.result c.at.result c.in-Some.period.end
           c.in_ok-push.ensures.items c.in_ok-push-2.ensures.items c.rows.invariant.even;
     }
 

@@ -3,8 +3,8 @@ use Rattle.std.specs.Int.{w64, w128}
 use Rattle.std.proofs.lemmas.Int.{ints, to_z-of_z}
 use Rattle.std.proofs.lemmas.List.{drop_more}
 use Rattle.std.proofs.lemmas.List.Elements.{All-get_or}
-use Rattle.tq_agg.specs.Grouping.{number_of, sum_at}
-use Rattle.tq_ops.specs.Conditions.{value_at}
+use Rattle.tq_agg.specs.Grouping.{sum_at}
+use Rattle.tq_base.specs.RowValues.{number_of, value_at}
 use Rattle.tq_eval.specs.Running.{AreNumbers}
 use Rattle.tq_plain.proofs.NarrowLemmas.{IsSumOf, narrow_at, sum_more}
 use Rattle.tq_plain.proofs.groups.sum_at.Goals as goal

@@ -6,7 +6,7 @@ use Rattle.std.proofs.lemmas.List.Folds.{list_all_more}
 use Rattle.std.proofs.lemmas.List.FromFn.{length-map-range_with_len}
 use Rattle.tq_base.specs.Contents.{Int}
 use Rattle.tq_base.specs.KeyRanges.{is_number_in}
-use Rattle.tq_base.specs.Keys.{value_at}
+use Rattle.tq_base.specs.RowValues.{value_at}
 use Rattle.tq_base.specs.Parts.{number_in, value_there}
 use Rattle.tq_base.proofs.ColumnLemmas.{read_there}
 use Rattle.tq_base.proofs.column_view.ColumnView.are_numbers_in.Goals as goal

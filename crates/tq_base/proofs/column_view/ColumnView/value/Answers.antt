@@ -1,6 +1,6 @@
 use Rattle.std.proofs.Common.{◌∙◌, ap, sym}
 use Rattle.std.specs.Option.{option_copied}
-use Rattle.tq_base.specs.Keys.{value_at}
+use Rattle.tq_base.specs.RowValues.{value_at}
 use Rattle.tq_base.specs.Parts.{value_there}
 use Rattle.tq_base.proofs.ColumnLemmas.{read_past, read_there}
 use Rattle.tq_base.proofs.column_view.ColumnView.value.Goals as goal

@@ -1,6 +1,6 @@
 -- The values in the columns so far were added.
 use Rattle.std.proofs.Common.{◌≡◌, ◌++◌, map, take}
-use Rattle.tq_base.specs.Keys.{value_at}
+use Rattle.tq_base.specs.RowValues.{value_at}
 use Rattle.tq_base.proofs.row.Row.show.Given as goal
 
 abbrev pub invariant-columns : goal.invariant-columns

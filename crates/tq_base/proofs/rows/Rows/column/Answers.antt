@@ -1,9 +1,10 @@
 use Rattle.std.proofs.Common.{◌≡◌, ◌<◌, ◌≤◌, ◌+◌, ◌*◌, ◌∙◌, List, ap, arith, get_or, length, pos, subst, sym}
 use Rattle.std.proofs.lemmas.List.{get_or_past}
+use Rattle.tq_base.specs.RowValues.{value_at}
 use Rattle.tq_base.specs.declared.rows.Slot.{Slot}
 use Rattle.tq_base.specs.declared.rows.Slot.TheVariants.{Kept, Zero, Empty}
 use Rattle.tq_base.specs.Contents.{Int}
-use Rattle.tq_base.specs.Keys.{no_row, value_at}
+use Rattle.tq_base.specs.Keys.{no_row}
 use Rattle.tq_base.specs.Slots.{seen_values, slot_value, AreSlots, IsText}
 use Rattle.tq_base.proofs.SlotLemmas.{cell_of, count_seen, value_among}
 use Rattle.tq_base.proofs.rows.Rows.column.Goals as goal

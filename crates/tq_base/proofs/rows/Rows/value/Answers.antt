@@ -1,9 +1,10 @@
 use Rattle.std.proofs.Common.{◌≡◌, ◌∙◌, List, ap, get_or, subst, sym}
 use Rattle.std.proofs.lemmas.Option.{IfSome_then}
+use Rattle.tq_base.specs.RowValues.{value_at}
 use Rattle.tq_base.specs.declared.fragment.Fragment.{Fragment}
 use Rattle.tq_base.specs.declared.rows.Slot.{Slot}
 use Rattle.tq_base.specs.declared.value.Value.{Value}
-use Rattle.tq_base.specs.Keys.{no_row, value_at}
+use Rattle.tq_base.specs.Keys.{no_row}
 use Rattle.tq_base.specs.Slots.{seen_values, slot_value, AreSlots, IsText}
 use Rattle.tq_base.proofs.SlotLemmas.{cell_of}
 use Rattle.tq_base.proofs.rows.Rows.value.Goals as goal

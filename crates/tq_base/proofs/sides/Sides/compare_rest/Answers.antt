@@ -1,7 +1,8 @@
 use Rattle.std.proofs.Common.{◌<◌, ◌≤◌, ◌+◌, ◌∙◌, ap, drop, get_or, length, refl, sym, arith}
 use Rattle.std.specs.Ordering.{is_ne, ordering_then}
+use Rattle.tq_base.specs.RowValues.{value_at}
 use Rattle.tq_base.specs.KeySides.{state_of}
-use Rattle.tq_base.specs.Keys.{key_values, value_at}
+use Rattle.tq_base.specs.Keys.{key_values}
 use Rattle.tq_base.specs.Untold.{value_after}
 use Rattle.tq_base.specs.ValueOrder.{value_cmp, values_cmp}
 use Rattle.tq_base.proofs.UntoldLemmas.{compared_from, compared_past, compared_unlike, from_at, from_past}

@@ -2,8 +2,9 @@ use Rattle.std.proofs.Common.{◌≡◌, ◌≢◌, ◌<◌, ◌∙◌, ◌+◌,
 use Rattle.std.specs.Ordering.{is_ne}
 use Rattle.std.specs.declared.cmp.Ordering.{Ordering}
 use Rattle.std.specs.declared.cmp.Ordering.TheVariants.{Less, Equal, Greater}
+use Rattle.tq_base.specs.RowValues.{value_at}
 use Rattle.tq_base.specs.KeySides.{state_of}
-use Rattle.tq_base.specs.Keys.{key_values, value_at}
+use Rattle.tq_base.specs.Keys.{key_values}
 use Rattle.tq_base.specs.ValueOrder.{value_cmp}
 use Rattle.tq_base.proofs.KeyLemmas.{compared_at, first_differs, first_same}
 use Rattle.tq_base.proofs.sides.Sides.compare_rows.Goals as goal

@@ -1,7 +1,8 @@
 use Rattle.std.proofs.Common.{◌∙◌, ap, map, refl, subst, sym}
+use Rattle.tq_base.specs.RowValues.{value_at}
 use Rattle.tq_base.specs.declared.period.Period.{Period}
 use Rattle.tq_base.specs.KeySides.{state_of}
-use Rattle.tq_base.specs.Keys.{columns_on, first_rank, rows_on, value_at, BeginsWithBytes}
+use Rattle.tq_base.specs.Keys.{columns_on, first_rank, rows_on, BeginsWithBytes}
 use Rattle.tq_base.specs.Relations.{values_at_number}
 use Rattle.tq_base.proofs.KeyLemmas.{begins_front, first_rank_front}
 use Rattle.tq_base.proofs.sides.Sides.key_of.Goals as goal
