@@ -2,10 +2,12 @@
 
 ghost use Rattle.std.specs.Prelude.{◌≡◌, ◌+◌, ◌<◌, ◌≤◌, ◌++◌, ◌-◌, length, take, filter, count_by, slice_get, Some, IsTrue, true, ◌↔◌, IfSome, MatchOption};
 ghost use Rattle.arrayvec.specs.ArrayVec.{array_vec_len};
+ghost use Rattle.smallvec.specs.SmallVec.{small_vec_len, HasRoomFor};
 ghost use Rattle.tq_mvbt.specs.Points.{is_live, leads, IsChild, end_of};
 
 use crate::entry::{self, Entry, NOW};
 use arrayvec::ArrayVec;
+use smallvec::SmallVec;
 use std::marker::Model;
 use tq_arena::NodeNo;
 
@@ -23,8 +25,8 @@ pub struct Link {
     pub high: u128,
 }
 
-/// The links of a leaf.
-pub(crate) type Links = ArrayVec<Link, 2>;
+/// The links of a leaf. A change replaces at most two leaves, so two links fit inline, and none is ever allocated.
+pub(crate) type Links = SmallVec<Link, 2>;
 
 /// A node of the tree, with the number of its entries that live now. During an update it may hold two entries too
 /// many.
@@ -157,7 +159,8 @@ impl Node {
         copied: &[Entry],
         links: &Links,
     ) -> Node
-        requires { length copied.now ≤ 34 }
+        requires few { length copied.now ≤ 34 }
+        requires few_links { small_vec_len links.now ≤ 2 }
         ensures { result ≡ fresh level low high version copied.now links.now.items }
     {
         let mut entries = ArrayVec::new();
@@ -207,12 +210,13 @@ impl Node {
 
     // Puts in the link to the node under the number, if it is a leaf.
     pub(crate) fn push_link(&self, number: u32, links: &mut Links)
-        requires { array_vec_len links.old < 2 }
+        requires { HasRoomFor links.old 1 }
         ensures links { links.new.items ≡ links.old.items ++ links_to number self.now }
-        ensures len { array_vec_len links.new ≤ array_vec_len links.old + 1 }
+        ensures len { small_vec_len links.new ≤ small_vec_len links.old + 1 }
+        ensures capacity { links.new.capacity ≡ links.old.capacity }
     {
         if self.level == 0 {
-            links.push(Link {
+            links.push_reserved(Link {
                 node: NodeNo(number),
                 low: self.low,
                 high: self.high,
@@ -258,13 +262,14 @@ fn ended(version: u32) -> Option<u32>
     if version == NOW { None } else { Some(version) }
 }
 
-// The same links.
+// The same links, inline.
 fn copy_links(links: &Links) -> Links
+    requires { small_vec_len links.now ≤ 2 }
     ensures { result.items ≡ links.now.items }
 {
-    let mut copied = ArrayVec::new();
+    let mut copied = SmallVec::new(*links.allocator());
     for link in links.as_slice() {
-        copied.push(*link);
+        copied.push_reserved(*link);
     }
     copied
 }

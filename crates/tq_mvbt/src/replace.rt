@@ -8,11 +8,14 @@ ghost use Rattle.tq_mvbt.specs.Loose.{IsForestBy, IsSettling, NeedsChange, IsAmp
 use crate::node::Node;
 use crate::steps::{count_live, edit, push_nodes, retire};
 use arrayvec::ArrayVec;
+use smallvec::SmallVec;
+use std::alloc::Global;
 use tq_arena::{Arena, Meter, NodeNo};
 
 // Replaces the node, whose last entries began at the version, by one or two; gives how many entries
 // the parent got.
 fn renew(
+    alloc: Global,
     nodes: &mut Arena<Node>,
     number: u32,
     last: usize,
@@ -34,7 +37,7 @@ fn renew(
     ensures len { length nodes.new.nodes ≤ length nodes.old.nodes + 2 }
 {
     let mut copied = ArrayVec::new();
-    let mut links = ArrayVec::new();
+    let mut links = SmallVec::new(alloc);
     let (low, high) = retire(nodes, number, last, version, &mut copied, &mut links);
     let added = push_nodes(nodes, level, low, high, version, &mut copied, &links);
     edit(nodes, parent, low, high, version, &added);
@@ -44,6 +47,7 @@ fn renew(
 // Replaces the node, whose last entries began at the version, and the one beside it, by one or two;
 // gives how many entries the parent got.
 fn merge(
+    alloc: Global,
     nodes: &mut Arena<Node>,
     number: u32,
     last: usize,
@@ -69,7 +73,7 @@ fn merge(
     ensures len { length nodes.new.nodes ≤ length nodes.old.nodes + 2 }
 {
     let mut copied = ArrayVec::new();
-    let mut links = ArrayVec::new();
+    let mut links = SmallVec::new(alloc);
     let (low, high) = retire(nodes, number, last, version, &mut copied, &mut links);
     let (its_low, its_high) = retire(nodes, sibling, 0, version, &mut copied, &mut links);
     let low = low.min(its_low);
@@ -113,6 +117,7 @@ fn sibling_of(nodes: &Arena<Node>, number: u32, parent: u32, level: u32) -> u32
 // Replaces the node, alone or with the one beside it, by one or two; gives how many entries the
 // parent got.
 pub(crate) fn replace(
+    alloc: Global,
     nodes: &mut Arena<Node>,
     number: u32,
     last: usize,
@@ -135,8 +140,8 @@ pub(crate) fn replace(
     ensures len { length nodes.new.nodes ≤ length nodes.old.nodes + 2 }
 {
     if count_live(nodes, number) >= 8 {
-        return renew(nodes, number, last, parent, level, version);
+        return renew(alloc, nodes, number, last, parent, level, version);
     }
     let sibling = sibling_of(nodes, number, parent, level);
-    merge(nodes, number, last, sibling, parent, level, version)
+    merge(alloc, nodes, number, last, sibling, parent, level, version)
 }

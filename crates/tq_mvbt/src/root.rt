@@ -10,6 +10,8 @@ ghost use Rattle.tq_mvbt.specs.Directory.{root_of, IsTop};
 use crate::node::Node;
 use crate::steps::{child_of, fits, push_node, push_nodes, retire};
 use arrayvec::ArrayVec;
+use smallvec::SmallVec;
+use std::alloc::Global;
 use tq_arena::Arena;
 
 /// One above the greatest key.
@@ -50,7 +52,13 @@ pub(crate) fn leaf_of(nodes: &Arena<Node>, top: u32, levels: u32, key: u128) -> 
 }
 
 // The root that takes the place of one which is too full or too empty.
-fn replace_root(nodes: &mut Arena<Node>, root: Root, last: usize, version: u32) -> Root
+fn replace_root(
+    alloc: Global,
+    nodes: &mut Arena<Node>,
+    root: Root,
+    last: usize,
+    version: u32,
+) -> Root
     requires small { version < 4294967295 }
     requires levels { 1 ≤ root.levels }
     requires few_levels { root.levels < 4294967295 }
@@ -70,7 +78,7 @@ fn replace_root(nodes: &mut Arena<Node>, root: Root, last: usize, version: u32) 
 {
     let level = root.levels - 1;
     let mut copied = ArrayVec::new();
-    let mut links = ArrayVec::new();
+    let mut links = SmallVec::new(alloc);
     retire(nodes, root.node, last, version, &mut copied, &mut links);
     if level > 0 && copied.len() == 1 {
         return Root {
@@ -94,7 +102,7 @@ fn replace_root(nodes: &mut Arena<Node>, root: Root, last: usize, version: u32) 
         TOP,
         version,
         &added,
-        &ArrayVec::new(),
+        &SmallVec::new(alloc),
     );
     Root {
         from: version,
@@ -105,6 +113,7 @@ fn replace_root(nodes: &mut Arena<Node>, root: Root, last: usize, version: u32) 
 
 // Puts the root right; gives the root in its place, if there is another one.
 pub(crate) fn settle_root(
+    alloc: Global,
     nodes: &mut Arena<Node>,
     root: Root,
     last: usize,
@@ -130,5 +139,5 @@ pub(crate) fn settle_root(
     if fits(nodes, root.node, least) {
         return None;
     }
-    Some(replace_root(nodes, root, last, version))
+    Some(replace_root(alloc, nodes, root, last, version))
 }

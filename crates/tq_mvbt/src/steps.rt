@@ -3,6 +3,7 @@
 ghost use Rattle.std.specs.Prelude.{◌≡◌, ◌+◌, ◌-◌, ◌<◌, ◌≤◌, ◌++◌, IsTrue, true, ◌↔◌, length, count_by, slice_get, IfSome, filter, IsPermutation};
 ghost use Rattle.std.specs.List.Sorted.{IsNonDecreasingBy};
 ghost use Rattle.arrayvec.specs.ArrayVec.{array_vec_len};
+ghost use Rattle.smallvec.specs.SmallVec.{small_vec_len, HasRoomFor};
 ghost use Rattle.tq_mvbt.specs.Points.{is_live};
 ghost use Rattle.tq_mvbt.specs.Shape.{IsSomeForest, IsFound};
 ghost use Rattle.tq_mvbt.specs.Links.{links_to};
@@ -80,11 +81,12 @@ pub(crate) fn retire(
     requires stands { number < length nodes.old.nodes }
     requires last { IfSome (slice_get nodes.old.nodes number) (λ n. last ≤ length n.entries) }
     requires room { IfSome (slice_get nodes.old.nodes number) (λ n. array_vec_len copied.old + count_by is_live n.entries ≤ 40) }
-    requires few_links { array_vec_len links.old < 2 }
+    requires room_for_link { HasRoomFor links.old 1 }
     ensures nodes { Changes nodes.old nodes.new number (retired version last) }
     ensures copied { IfSome (slice_get nodes.old.nodes number) (λ n. copied.new.items ≡ copied.old.items ++ filter is_live n.entries) }
     ensures links { IfSome (slice_get nodes.old.nodes number) (λ n. links.new.items ≡ links.old.items ++ links_to number n) }
-    ensures links_len { array_vec_len links.new ≤ array_vec_len links.old + 1 }
+    ensures links_len { small_vec_len links.new ≤ small_vec_len links.old + 1 }
+    ensures links_capacity { links.new.capacity ≡ links.old.capacity }
     ensures range { IfSome (slice_get nodes.old.nodes number) (λ n. (result.0 ≡ n.low) × (result.1 ≡ n.high)) }
 {
     let node = nodes.change(NodeNo(number));
@@ -107,6 +109,7 @@ pub(crate) fn push_node(
 ) -> Entry
     requires room { 0 < nodes.old.room }
     requires few { length copied.now ≤ 34 }
+    requires few_links { small_vec_len links.now ≤ 2 }
     ensures { Puts nodes.old nodes.new (fresh level low high version copied.now links.now.items) result }
 {
     let number = nodes.push_reserved(Node::begin(level, low, high, version, copied, links));
@@ -149,6 +152,7 @@ fn push_two(
 ) -> ArrayVec<Entry, 2>
     requires room { 2 ≤ nodes.old.room }
     requires many { 25 ≤ array_vec_len copied.old }
+    requires few_links { small_vec_len links.now ≤ 2 }
     ensures { PutsTwo nodes.old nodes.new level low high version copied.old.items result.items links.now.items }
 {
     sort_copied(copied);
@@ -171,6 +175,7 @@ pub(crate) fn push_nodes(
     links: &Links,
 ) -> ArrayVec<Entry, 2>
     requires room { 2 ≤ nodes.old.room }
+    requires few_links { small_vec_len links.now ≤ 2 }
     ensures { PutsNodes nodes.old nodes.new level low high version copied.old.items result.items links.now.items }
 {
     if copied.len() >= 25 {

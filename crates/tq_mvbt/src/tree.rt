@@ -11,7 +11,7 @@ use crate::node::Node;
 use crate::region::{Region, regions};
 use crate::root::{Root, TOP, find_root, leaf_of, settle_root};
 use crate::update::update;
-use arrayvec::ArrayVec;
+use smallvec::SmallVec;
 use std::alloc::{AllocError, Global};
 use std::marker::Model;
 use tq_arena::{Arena, Meter, NodeNo};
@@ -45,7 +45,7 @@ impl Tree {
         let mut nodes = Arena::new(alloc);
         nodes.reserve(1)?;
         let mut roots = Vec::with_capacity(alloc, 1)?;
-        let leaf = nodes.push_reserved(Node::begin(0, 0, TOP, 0, &[], &ArrayVec::new()));
+        let leaf = nodes.push_reserved(Node::begin(0, 0, TOP, 0, &[], &SmallVec::new(alloc)));
         roots.push_reserved(Root {
             from: 0,
             node: leaf.0,
@@ -124,6 +124,7 @@ impl Tree {
         ensures err { OnErr result (self.new ≡ self.old) }
     {
         apply(
+            self.alloc,
             &mut self.nodes,
             &mut self.roots,
             &mut self.version,
@@ -148,6 +149,7 @@ impl Tree {
         ensures err { OnErr result (self.new ≡ self.old) }
     {
         apply(
+            self.alloc,
             &mut self.nodes,
             &mut self.roots,
             &mut self.version,
@@ -180,6 +182,7 @@ fn push_root(roots: &mut Vec<Root>, next: Option<Root>)
 
 // Begins or ends the key's life at the version.
 fn apply(
+    alloc: Global,
     nodes: &mut Arena<Node>,
     roots: &mut Vec<Root>,
     last_version: &mut u32,
@@ -204,8 +207,16 @@ fn apply(
     let root = find_root(roots, *last_version);
     nodes.reserve(2 * root.levels + 1)?;
     roots.reserve(1)?;
-    let last = update(nodes, root.node, root.levels - 1, key, version, alive);
-    let next = settle_root(nodes, root, last, version);
+    let last = update(
+        alloc,
+        nodes,
+        root.node,
+        root.levels - 1,
+        key,
+        version,
+        alive,
+    );
+    let next = settle_root(alloc, nodes, root, last, version);
     push_root(roots, next);
     *last_version = version;
     Ok(())

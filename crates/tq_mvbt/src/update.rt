@@ -10,6 +10,7 @@ use crate::entry::{Entry, NOW};
 use crate::node::Node;
 use crate::replace::replace;
 use crate::steps::{add, child_of, edit, fits};
+use std::alloc::Global;
 use tq_arena::Arena;
 
 // Lists a key in its leaf from the version on, or ends it there; gives how many entries the leaf got.
@@ -43,6 +44,7 @@ fn set_life(nodes: &mut Arena<Node>, leaf: u32, key: u128, version: u32, alive: 
 // Begins or ends the key's life below the node, and puts every node below it right; gives how many
 // entries the node itself got, which may now be too full or too empty.
 pub(crate) fn update(
+    alloc: Global,
     nodes: &mut Arena<Node>,
     number: u32,
     level: u32,
@@ -67,9 +69,9 @@ pub(crate) fn update(
         return set_life(nodes, number, key, version, alive);
     }
     let child = child_of(nodes, number, level, key);
-    let last = update(nodes, child, level - 1, key, version, alive);
+    let last = update(alloc, nodes, child, level - 1, key, version, alive);
     if fits(nodes, child, 5) {
         return 0;
     }
-    replace(nodes, child, last, number, level - 1, version)
+    replace(alloc, nodes, child, last, number, level - 1, version)
 }

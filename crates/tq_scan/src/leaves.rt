@@ -8,9 +8,14 @@ ghost use Rattle.tq_scan.specs.Rows.{IsMetNode, IsRowOf};
 
 use crate::keys::is_before;
 use crate::window::Part;
+use smallvec::SmallVec;
 use std::alloc::{AllocError, Global};
 use tq_arena::{Meter, NodeNo};
 use tq_mvbt::{Link, Node, Tree};
+
+// The nodes of one level that a scan has still to read. A question for one key has one node a level, and one for a
+// short range of keys has a few, so eight fit inline; the levels of longer ranges take an allocation.
+type Row = SmallVec<NodeNo, 8>;
 
 // Whether the entry's child is alive at the part's last version and has keys of the part.
 fn leads_on(node: &Node, place: u32, part: &Part) -> bool
@@ -24,7 +29,7 @@ fn leads_on(node: &Node, place: u32, part: &Part) -> bool
 }
 
 // Appends the children that a scan goes on to.
-fn push_children(row: &mut Vec<NodeNo>, node: &Node, part: &Part) -> Result<(), AllocError>
+fn push_children(row: &mut Row, node: &Node, part: &Part) -> Result<(), AllocError>
     requires { 0 < node.now.level }
     ensures { OnOk result (row.new.items ≡ row.old.items ++ met_children part.now node.now) }
 {
@@ -44,14 +49,14 @@ fn next_row(
     level: u32,
     row: &[NodeNo],
     meter: &mut Meter,
-) -> Result<Vec<NodeNo>, AllocError>
+) -> Result<Row, AllocError>
     requires index { 0 < level }
     requires each { All (IsMetNode tree.now.nodes part.now level) row.now }
     ensures children { IfOk result (λ next. next.items ≡ children_of part.now tree.now.nodes row.now) }
     ensures at_least { IfOk result (λ next. min (meter.old + length row.now) u64.MAX ≤ meter.new) }
     ensures at_most { IfOk result (λ next. meter.new ≤ meter.old + length row.now) }
 {
-    let mut next = Vec::new(alloc);
+    let mut next = SmallVec::new(alloc);
     for number in row {
         push_children(&mut next, tree.node(*number, meter), part)?;
     }
@@ -72,12 +77,12 @@ pub(crate) fn last_leaves(
 {
     let _version = tree.version();
     let levels = tree.levels(part.last);
-    let mut row = Vec::new(alloc);
+    let mut row: Row = SmallVec::new(alloc);
     row.push(tree.root_at(part.last))?;
     for passed in 1..levels {
         row = next_row(alloc, tree, part, levels - passed, &row, meter)?;
     }
-    Ok(row)
+    Ok(row.into_vec()?)
 }
 
 // Whether the linked leaf has a point in the part: the leaf was born after the part's first version, and the linked

@@ -107,7 +107,7 @@ returns-clause-links c =
     let standing = c.requires.standing in
     let nodes = c.args.nodes.now.nodes in
     let there = unchanged c.args.nodes.now c.retire-low.new.nodes c.args.number c.args.sibling (retired c.args.version c.args.last) standing.node c.retire-low.ensures.nodes (siblings_differ nodes c.args.number c.args.sibling c.requires.beside) standing.stands in
-    let links : c.retire-low.new.links.items ≡ links_to c.args.number loose.node = (rw (loose.stands, c.new-links.ensures) at c.retire-low.ensures.links) in
+    let links : c.retire-low.new.links.items ≡ links_to c.args.number loose.node = (rw (loose.stands, c.new-links.ensures.items) at c.retire-low.ensures.links) in
     let its_links : c.retire-its_low.new.links.items ≡ links_to c.args.number loose.node ++ links_to c.args.sibling standing.node = (rw (there, links) at c.retire-its_low.ensures.links) in
     let made = made_with c.args.level c.min-low.result c.max-high.result c.args.version c.retire-its_low.new.links.items c.retire-its_low.new.nodes c.push_nodes-added.new.nodes _ _ c.push_nodes-added.ensures in
     keeps_edited c.args.level c.args.version c.min-low.result c.max-high.result c.args.version nodes c.push_nodes-added.new.nodes c.edit.new.nodes c.args.parent c.deref.result.now c.edit.ensures

@@ -78,7 +78,7 @@ pub returns-clause-links : goal.returns-clause-links
 returns-clause-links c =
     let loose = c.requires.settling.loose in
     let nodes = c.args.nodes.now.nodes in
-    let links : c.retire-low.new.links.items ≡ links_to c.args.number loose.node = (rw (loose.stands, c.new-links.ensures) at c.retire-low.ensures.links) in
+    let links : c.retire-low.new.links.items ≡ links_to c.args.number loose.node = (rw (loose.stands, c.new-links.ensures.items) at c.retire-low.ensures.links) in
     let made = made_with c.args.level c.retire-low.result.0 c.retire-low.result.1 c.args.version c.retire-low.new.links.items c.retire-low.new.nodes c.push_nodes-added.new.nodes _ _ c.push_nodes-added.ensures in
     keeps_edited c.args.level c.args.version c.retire-low.result.0 c.retire-low.result.1 c.args.version nodes c.push_nodes-added.new.nodes c.edit.new.nodes c.args.parent c.deref.result.now c.edit.ensures
     (renew_links c.args.level c.args.version c.args.last c.args.nodes.now c.retire-low.new.nodes c.push_nodes-added.new.nodes c.args.number loose.node c.retire-low.new.links.items c.requires.small loose.stands loose.at_level loose.died c.retire-low.ensures.nodes links made)

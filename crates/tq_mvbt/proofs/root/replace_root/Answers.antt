@@ -100,7 +100,7 @@ returns-clause-height c =
     let added = c.deref-2.result.now in
     let puts : PutsNodes c.retire.new.nodes c.push_nodes-added.new.nodes level 0 top c.args.version c.retire.new.copied.items added c.retire.new.links.items = rw (c.deref-2.ensures.0) c.push_nodes-added.ensures in
     let more : length added ≢ 1 = λ one. c.if-len-eq1-2.false (let e = ap length c.deref-2.ensures.0 in let v = c.len-2.ensures.value in search rules) in
-    let last_put : Puts c.push_nodes-added.new.nodes c.push_node-top.new.nodes (fresh (level + 1) 0 top c.args.version added []) c.push_node-top.result = rw up (rw c.new.ensures at c.push_node-top.ensures) in
+    let last_put : Puts c.push_nodes-added.new.nodes c.push_node-top.new.nodes (fresh (level + 1) 0 top c.args.version added []) c.push_node-top.result = rw up (rw c.new.ensures.items at c.push_node-top.ensures) in
     subst (λ x. HeightChanges c.args.version x (c.args.root.levels + 1) c.args.nodes.now.nodes c.push_node-top.new.nodes.nodes) up
     (subst (λ x. HeightChanges c.args.version (level + 1) x c.args.nodes.now.nodes c.push_node-top.new.nodes.nodes) up'
     (higher c.args.version level c.args.last c.args.nodes.now c.retire.new.nodes c.retire.new.copied.items c.args.root.node c.requires.small settling (root_low _ _ _ _ _ settling c.requires.whole) (root_high _ _ _ _ _ settling c.requires.whole) c.retire.ensures.nodes copied
@@ -116,7 +116,7 @@ returns-clause-top c =
     let added = c.deref-2.result.now in
     let puts : PutsNodes c.retire.new.nodes c.push_nodes-added.new.nodes level 0 top c.args.version c.retire.new.copied.items added c.retire.new.links.items = rw (c.deref-2.ensures.0) c.push_nodes-added.ensures in
     let more : length added ≢ 1 = λ one. c.if-len-eq1-2.false (let e = ap length c.deref-2.ensures.0 in let v = c.len-2.ensures.value in search rules) in
-    let last_put : Puts c.push_nodes-added.new.nodes c.push_node-top.new.nodes (fresh (level + 1) 0 top c.args.version added []) c.push_node-top.result = rw up (rw c.new.ensures at c.push_node-top.ensures) in
+    let last_put : Puts c.push_nodes-added.new.nodes c.push_node-top.new.nodes (fresh (level + 1) 0 top c.args.version added []) c.push_node-top.result = rw up (rw c.new.ensures.items at c.push_node-top.ensures) in
     subst (λ x. IsTop c.args.version c.push_node-top.new.nodes.nodes (record { from = c.args.version; node = c.push_node-top.result.child; levels = x })) up'
     (two_top c.args.version level c.args.last c.args.nodes.now c.retire.new.nodes c.retire.new.copied.items c.args.root.node c.requires.small settling (root_low _ _ _ _ _ settling c.requires.whole) (root_high _ _ _ _ _ settling c.requires.whole) c.retire.ensures.nodes copied
     c.push_nodes-added.new.nodes c.push_node-top.new.nodes added c.push_node-top.result puts (many_from _ _ _ _ _ _ _ _ puts more) last_put)
@@ -130,7 +130,7 @@ returns-clause-filled c =
     let added = c.deref-2.result.now in
     let puts : PutsNodes c.retire.new.nodes c.push_nodes-added.new.nodes level 0 top c.args.version c.retire.new.copied.items added c.retire.new.links.items = rw (c.deref-2.ensures.0) c.push_nodes-added.ensures in
     let more : length added ≢ 1 = λ one. c.if-len-eq1-2.false (let e = ap length c.deref-2.ensures.0 in let v = c.len-2.ensures.value in search rules) in
-    let last_put : Puts c.push_nodes-added.new.nodes c.push_node-top.new.nodes (fresh (level + 1) 0 top c.args.version added []) c.push_node-top.result = rw up (rw c.new.ensures at c.push_node-top.ensures) in
+    let last_put : Puts c.push_nodes-added.new.nodes c.push_node-top.new.nodes (fresh (level + 1) 0 top c.args.version added []) c.push_node-top.result = rw up (rw c.new.ensures.items at c.push_node-top.ensures) in
     two_filled c.args.version level c.args.last c.args.nodes.now c.retire.new.nodes c.retire.new.copied.items c.args.root.node c.requires.small settling (root_low _ _ _ _ _ settling c.requires.whole) (root_high _ _ _ _ _ settling c.requires.whole) c.retire.ensures.nodes copied
     c.push_nodes-added.new.nodes c.push_node-top.new.nodes added c.push_node-top.result puts (many_from _ _ _ _ _ _ _ _ puts more) last_put c.requires.forest
 
@@ -155,14 +155,14 @@ returns-then-len-eq1-clause-links c =
 pub returns-then-len-eq1-2-clause-links : goal.returns-then-len-eq1-2-clause-links
 returns-then-len-eq1-2-clause-links c =
     let loose = c.requires.settling.loose in
-    let links : c.retire.new.links.items ≡ links_to c.args.root.node loose.node = (rw (loose.stands, c.new-links.ensures) at c.retire.ensures.links) in
+    let links : c.retire.new.links.items ≡ links_to c.args.root.node loose.node = (rw (loose.stands, c.new-links.ensures.items) at c.retire.ensures.links) in
     let made = made_with (c.args.root.levels - 1) 0 top c.args.version c.retire.new.links.items c.retire.new.nodes c.push_nodes-added.new.nodes _ _ c.push_nodes-added.ensures in
     renew_links (c.args.root.levels - 1) c.args.version c.args.last c.args.nodes.now c.retire.new.nodes c.push_nodes-added.new.nodes c.args.root.node loose.node c.retire.new.links.items c.requires.small loose.stands loose.at_level loose.died c.retire.ensures.nodes links made
 
 pub returns-clause-links : goal.returns-clause-links
 returns-clause-links c =
     let loose = c.requires.settling.loose in
-    let links : c.retire.new.links.items ≡ links_to c.args.root.node loose.node = (rw (loose.stands, c.new-links.ensures) at c.retire.ensures.links) in
+    let links : c.retire.new.links.items ≡ links_to c.args.root.node loose.node = (rw (loose.stands, c.new-links.ensures.items) at c.retire.ensures.links) in
     let made = made_with (c.args.root.levels - 1) 0 top c.args.version c.retire.new.links.items c.retire.new.nodes c.push_nodes-added.new.nodes _ _ c.push_nodes-added.ensures in
     let keeps = renew_links (c.args.root.levels - 1) c.args.version c.args.last c.args.nodes.now c.retire.new.nodes c.push_nodes-added.new.nodes c.args.root.node loose.node c.retire.new.links.items c.requires.small loose.stands loose.at_level loose.died c.retire.ensures.nodes links made in
-    keeps_topped (c.args.root.levels - 1) c.args.version c.args.nodes.now.nodes c.push_nodes-added.new.nodes.nodes c.push_node-top.new.nodes.nodes (fresh c.args.root.levels 0 top c.args.version c.deref-2.result.now c.new.result.items) c.requires.small c.new.ensures (omega arith) c.push_node-top.ensures.nodes keeps
+    keeps_topped (c.args.root.levels - 1) c.args.version c.args.nodes.now.nodes c.push_nodes-added.new.nodes.nodes c.push_node-top.new.nodes.nodes (fresh c.args.root.levels 0 top c.args.version c.deref-2.result.now c.new.result.items) c.requires.small c.new.ensures.items (omega arith) c.push_node-top.ensures.nodes keeps

@@ -23,7 +23,7 @@ loop-place-preserved c =
     elim c.if-leads_on.branch [
       | then-leads_on+in_ok-push w ↦
           (let k = ap (λ (x : ℕ). let n : NodeNo = record { 0 = x } in n) (rw there at w.child.ensures) in
-          let items : c.if-leads_on.row.items ≡ c.loop-place.row.items ++ w.child.result ∷ [] = ap (λ v. v.items) w.row-is ∙ w.in_ok-push.ensures.items in
+          let items : c.if-leads_on.row.items ≡ c.loop-place.row.items ++ w.child.result ∷ [] = ap (λ v. v.items) w.row-is ∙ w.in_ok-push.ensures.ok in
           step true c.args.row.now.items c.loop-place.row.items c.if-leads_on.row.items inside (sym (rw there at w.if-leads_on.ensures)) (items ∙ ap (λ x. c.loop-place.row.items ++ x ∷ []) k) c.loop-place.invariant)
       | else-leads_on w ↦
           step false c.args.row.now.items c.loop-place.row.items c.if-leads_on.row.items inside (sym (rw there at w.if-leads_on.ensures)) (ap (λ v. v.items) w.row-is ∙ sym (append-nil c.loop-place.row.items)) c.loop-place.invariant
