@@ -1,6 +1,7 @@
 pub mod ColumnLemmas
 pub mod ComparisonLemmas
 pub mod ConditionLemmas
+pub mod DeeperLemmas
 pub mod FaultLemmas
 pub mod ItemLemmas
 pub mod KindLemmas

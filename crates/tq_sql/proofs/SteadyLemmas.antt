@@ -2,8 +2,7 @@
 -- answer whatever stands behind that token.
 use Rattle.std.proofs.Common.{◌≡◌, ◌≢◌, ◌≤◌, ◌⊎◌, inl, inr, ℕ, zero, suc, ◌+◌, Bool, true, false, cond, List, [], ◌∷◌, ◌++◌, length, refl, ap, sym, ◌∙◌, subst, arith, append_assoc, length-append}
 use Rattle.std.specs.Prelude.{Option, Some, None, Ok, Err}
-use Rattle.tq_sql.specs.declared.cursor.Refusal.{Refusal}
-use Rattle.tq_sql.specs.declared.cursor.Refusal.TheVariants.{Unexpected}
+use Rattle.tq_sql.specs.declared.cursor.Refusal.TheVariants.{TooDeep, Unexpected}
 use Rattle.tq_sql.specs.declared.token.TokenKind.{TokenKind}
 use Rattle.tq_sql.specs.declared.token.TokenKind.TheVariants as k
 use Rattle.tq_sql.specs.Tokens.{Token, same_kind}
@@ -32,22 +31,30 @@ Agreeing t rest more (Err r) (Ok s) = ⊥
 abbrev pub AgreeingTo : {A : Type 0} → Token → List Token → List Token → Outcome A → Outcome A → Type 0
 AgreeingTo t rest more r s = Agreeing t rest more r s ⊎ (length (tail_of r) ≤ length rest)
 
-pub record IsSteady {A : Type 0} (p : List Token → Outcome A) : Type 0 where
+-- a refusal is Unexpected, unless the reader has levels
+abbrev pub Says : {A : Type 0} → Bool → Outcome A → Type 0
+Says true r = Unit {0}
+Says false (Ok r) = Unit {0}
+Says false (Err r) = r.0 ≡ Unexpected
+
+-- `deep`: the reader has levels
+pub record IsSteady {A : Type 0} (deep : Bool) (p : List Token → Outcome A) : Type 0 where
+  pub says : (ts : List Token) → Says deep (p ts)
   pub suffix : (ts : List Token) → (front : List Token) × (ts ≡ front ++ tail_of (p ts))
   pub agrees : (t : Token) (rest more u v : List Token) → Same t rest more u v → AgreeingTo t rest more (p u) (p v)
 
-pub shorter : {A : Type 0} (p : List Token → Outcome A) → IsSteady p → (ts : List Token) → length (tail_of (p ts)) ≤ length ts
+pub shorter : {A : Type 0} {deep : Bool} (p : List Token → Outcome A) → IsSteady deep p → (ts : List Token) → length (tail_of (p ts)) ≤ length ts
 shorter p steady ts = let s = steady.suffix ts in omega (arith, ap length s.1, length-append s.0 (tail_of (p ts)))
 
 -- ---- one reader after another
 
-bind_suffix : {A B : Type 0} (r : Outcome A) (f : A → List Token → Outcome B) → ((x : A) → IsSteady (f x)) → (ts : List Token) → (front : List Token) × (ts ≡ front ++ tail_of r) → (front : List Token) × (ts ≡ front ++ tail_of (and_then r f))
+bind_suffix : {A B : Type 0} {deep : Bool} (r : Outcome A) (f : A → List Token → Outcome B) → ((x : A) → IsSteady deep (f x)) → (ts : List Token) → (front : List Token) × (ts ≡ front ++ tail_of r) → (front : List Token) × (ts ≡ front ++ tail_of (and_then r f))
 bind_suffix (Err r) f steady ts is = is
 bind_suffix (Ok r) f steady ts is =
     let next_one = (steady r.0).suffix r.1 in
     (is.0 ++ next_one.0, is.1 ∙ ap (λ z. is.0 ++ z) next_one.1 ∙ sym (append_assoc is.0 next_one.0 (tail_of (f r.0 r.1))))
 
-bind_agrees : {A B : Type 0} (t : Token) (rest more : List Token) (r s : Outcome A) (f : A → List Token → Outcome B) → ((x : A) → IsSteady (f x)) → AgreeingTo t rest more r s → AgreeingTo t rest more (and_then r f) (and_then s f)
+bind_agrees : {A B : Type 0} {deep : Bool} (t : Token) (rest more : List Token) (r s : Outcome A) (f : A → List Token → Outcome B) → ((x : A) → IsSteady deep (f x)) → AgreeingTo t rest more r s → AgreeingTo t rest more (and_then r f) (and_then s f)
 bind_agrees t rest more (Ok r) (Ok s) f steady (inl h) =
     let P = λ (z : _). AgreeingTo t rest more (f r.0 r.1) (f z s.1) in
     subst P h.0 ((steady r.0).agrees t rest more r.1 s.1 h.1)
@@ -57,23 +64,40 @@ bind_agrees t rest more (Err r) (Err s) f steady (inl h) = inl h
 bind_agrees t rest more (Ok r) s f steady (inr h) = inr (let less = shorter (f r.0) (steady r.0) r.1 in omega (arith, less, h))
 bind_agrees t rest more (Err r) s f steady (inr h) = inr h
 
-pub bind_steady : {A B : Type 0} (p : List Token → Outcome A) (f : A → List Token → Outcome B) → IsSteady p → ((x : A) → IsSteady (f x)) → IsSteady (p >>= f)
-bind_steady p f one others = record {
+bind_says : {A B : Type 0} (deep : Bool) (r : Outcome A) (f : A → List Token → Outcome B) → ((x : A) → IsSteady deep (f x)) → Says deep r → Says deep (and_then r f)
+bind_says true r f steady says = tt
+bind_says false (Err r) f steady says = says
+bind_says false (Ok r) f steady says = (steady r.0).says r.1
+
+pub bind_steady : {A B : Type 0} {deep : Bool} (p : List Token → Outcome A) (f : A → List Token → Outcome B) → IsSteady deep p → ((x : A) → IsSteady deep (f x)) → IsSteady deep (p >>= f)
+bind_steady {A} {B} {deep} p f one others = record {
+  says = λ ts. bind_says deep (p ts) f others (one.says ts);
   suffix = λ ts. bind_suffix (p ts) f others ts (one.suffix ts);
   agrees = λ t rest more u v same. bind_agrees t rest more (p u) (p v) f others (one.agrees t rest more u v same);
 }
 
-pub pure_steady : {A : Type 0} (x : A) → IsSteady (pure x)
-pure_steady x = record { suffix = λ ts. ([], refl); agrees = λ t rest more u v same. inl (refl, same) }
+pub ok_says : {A : Type 0} (deep : Bool) (r : A × List Token) → Says {A = A} deep (Ok r)
+ok_says true r = tt
+ok_says false r = tt
 
-pub stop_steady : {A : Type 0} (why : Refusal) → IsSteady (stop {A = A} why)
-stop_steady why = record { suffix = λ ts. ([], refl); agrees = λ t rest more u v same. inl (refl, same) }
+pub unexpected_says : (A : Type 0) (deep : Bool) (ts : List Token) → Says {A = A} deep (Err (Unexpected, ts))
+unexpected_says A true ts = tt
+unexpected_says A false ts = refl
 
-pub given_steady : {A : Type 0} (o : Option A) → IsSteady (given o)
-given_steady None = stop_steady _
+pub pure_steady : {A : Type 0} {deep : Bool} (x : A) → IsSteady deep (pure x)
+pure_steady {A} {deep} x = record { says = λ ts. ok_says deep (x, ts); suffix = λ ts. ([], refl); agrees = λ t rest more u v same. inl (refl, same) }
+
+pub stop_steady : {A : Type 0} {deep : Bool} → IsSteady deep (stop {A = A} Unexpected)
+stop_steady {A} {deep} = record { says = λ ts. unexpected_says A deep ts; suffix = λ ts. ([], refl); agrees = λ t rest more u v same. inl (refl, same) }
+
+pub too_deep_steady : {A : Type 0} → IsSteady true (stop {A = A} TooDeep)
+too_deep_steady = record { says = λ ts. tt; suffix = λ ts. ([], refl); agrees = λ t rest more u v same. inl (refl, same) }
+
+pub given_steady : {A : Type 0} {deep : Bool} (o : Option A) → IsSteady deep (given o)
+given_steady None = stop_steady
 given_steady (Some x) = pure_steady x
 
-pub either_steady : {A : Type 0} (b : Bool) (p q : List Token → Outcome A) → IsSteady p → IsSteady q → IsSteady (cond b p q)
+pub either_steady : {A : Type 0} {deep : Bool} (b : Bool) (p q : List Token → Outcome A) → IsSteady deep p → IsSteady deep q → IsSteady deep (cond b p q)
 either_steady true p q one two = one
 either_steady false p q one two = two
 
@@ -104,8 +128,8 @@ unfolding next
 next_suffix [] = ([], refl)
 next_suffix (t ∷ ts) = (t ∷ [], refl)
 
-pub next_steady : {A : Type 0} (p : List Token → Outcome A) → IsSteady p → IsSteady (λ ts. p (next ts))
-next_steady {A} p steady = record { suffix = suffix; agrees = agrees }
+pub next_steady : {A : Type 0} {deep : Bool} (p : List Token → Outcome A) → IsSteady deep p → IsSteady deep (λ ts. p (next ts))
+next_steady {A} p steady = record { says = λ ts. steady.says (next ts); suffix = suffix; agrees = agrees }
   where
     suffix : (ts : List Token) → (front : List Token) × (ts ≡ front ++ tail_of (p (next ts)))
     suffix ts =
@@ -119,10 +143,14 @@ next_steady {A} p steady = record { suffix = suffix; agrees = agrees }
       | inr s ↦ inr (let less = shorter p steady (next u) in omega (arith, less, s))
     ]
 
-pub if_steady : {A : Type 0} (kind : TokenKind) (p q : List Token → Outcome A) → IsSteady p → IsSteady q → IsSteady (λ ts. cond (sees kind ts) (p ts) (q ts))
+pub if_steady : {A : Type 0} {deep : Bool} (kind : TokenKind) (p q : List Token → Outcome A) → IsSteady deep p → IsSteady deep q → IsSteady deep (λ ts. cond (sees kind ts) (p ts) (q ts))
 unfolding sees
-if_steady {A} kind p q one two = record { suffix = λ ts. suffix ts (sees kind ts); agrees = agrees }
+if_steady {A} {deep} kind p q one two = record { says = λ ts. says ts (sees kind ts); suffix = λ ts. suffix ts (sees kind ts); agrees = agrees }
   where
+    says : (ts : List Token) (b : Bool) → Says deep (cond b (p ts) (q ts))
+    says ts true = one.says ts
+    says ts false = two.says ts
+
     suffix : (ts : List Token) (b : Bool) → (front : List Token) × (ts ≡ front ++ tail_of (cond b (p ts) (q ts)))
     suffix ts true = one.suffix ts
     suffix ts false = two.suffix ts
@@ -137,9 +165,12 @@ if_steady {A} kind p q one two = record { suffix = λ ts. suffix ts (sees kind t
         let P = λ (b : Bool). AgreeingTo t rest more (cond (sees kind u) (p u) (q u)) (cond b (p v) (q v)) in
         subst P equal (by t rest more u v (sees kind u) same)
 
-pub equal_steady : {A : Type 0} (p q : List Token → Outcome A) → ((ts : List Token) → q ts ≡ p ts) → IsSteady q → IsSteady p
-equal_steady {A} p q equal steady = record { suffix = suffix; agrees = agrees }
+pub equal_steady : {A : Type 0} {deep : Bool} (p q : List Token → Outcome A) → ((ts : List Token) → q ts ≡ p ts) → IsSteady deep q → IsSteady deep p
+equal_steady {A} {deep} p q equal steady = record { says = says; suffix = suffix; agrees = agrees }
   where
+    says : (ts : List Token) → Says deep (p ts)
+    says ts = let P = λ (r : Outcome A). Says deep r in subst P (equal ts) (steady.says ts)
+
     suffix : (ts : List Token) → (front : List Token) × (ts ≡ front ++ tail_of (p ts))
     suffix ts = let P = λ (r : Outcome A). (front : List Token) × (ts ≡ front ++ tail_of r) in subst P (equal ts) (steady.suffix ts)
 
@@ -149,24 +180,32 @@ equal_steady {A} p q equal steady = record { suffix = suffix; agrees = agrees }
         let Q = λ (r : Outcome A). AgreeingTo t rest more (q u) r in
         subst P (equal u) (subst Q (equal v) (steady.agrees t rest more u v same))
 
-pub eat_steady : (kind : TokenKind) → IsSteady (eat kind)
+pub eat_steady : {deep : Bool} (kind : TokenKind) → IsSteady deep (eat kind)
 eat_steady kind = equal_steady (eat kind) (λ ts. cond (sees kind ts) (pure true (next ts)) (pure false ts)) (λ ts. by ts (sees kind ts) refl) (if_steady kind (λ ts. pure true (next ts)) (pure false) (next_steady (pure true) (pure_steady true)) (pure_steady false))
   where
     by : (ts : List Token) (b : Bool) → sees kind ts ≡ b → ◌≡◌ {A = Outcome Bool} (cond (sees kind ts) (pure true (next ts)) (pure false ts)) (eat kind ts)
     by ts true s = rw (s, after_seen kind ts s) refl
     by ts false s = rw (s, after_unseen kind ts s) refl
 
-pub expect_steady : (kind : TokenKind) → IsSteady (expect kind)
+pub expect_steady : {deep : Bool} (kind : TokenKind) → IsSteady deep (expect kind)
 unfolding expect
-expect_steady kind = if_steady kind (λ ts. pure tt (next ts)) (stop _) (next_steady (pure tt) (pure_steady tt)) (stop_steady _)
+expect_steady kind = if_steady kind (λ ts. pure tt (next ts)) (stop _) (next_steady (pure tt) (pure_steady tt)) stop_steady
 
-pub taken_steady : {A : Type 0} (x : A) → IsSteady (taken x)
+pub taken_steady : {A : Type 0} {deep : Bool} (x : A) → IsSteady deep (taken x)
 taken_steady x = next_steady (pure x) (pure_steady x)
 
-pub look_steady : (kind : TokenKind) → IsSteady (look kind)
+pub look_steady : {deep : Bool} (kind : TokenKind) → IsSteady deep (look kind)
 unfolding look
-look_steady kind = record { suffix = suffix; agrees = agrees }
+look_steady {deep} kind = record { says = says; suffix = suffix; agrees = agrees }
   where
+    says_first : (b : Bool) (t : Token) (ts : List Token) → Says deep (cond b (Ok (t.text, t ∷ ts)) (stop {A = List ℕ} Unexpected (t ∷ ts)))
+    says_first true t ts = ok_says deep (t.text, t ∷ ts)
+    says_first false t ts = unexpected_says (List ℕ) deep (t ∷ ts)
+
+    says : (ts : List Token) → Says deep (look kind ts)
+    says [] = unexpected_says (List ℕ) deep []
+    says (t ∷ ts) = says_first (same_kind t.kind kind) t ts
+
     at_first : (b : Bool) (t : Token) (ts : List Token) → tail_of (cond b (Ok (t.text, t ∷ ts)) (stop {A = List ℕ} Unexpected (t ∷ ts))) ≡ t ∷ ts
     at_first true t ts = refl
     at_first false t ts = refl
@@ -190,22 +229,22 @@ look_steady kind = record { suffix = suffix; agrees = agrees }
 
 -- ---- what stands behind a token, and lists
 
-pub behind_steady : {A : Type 0} (kind : TokenKind) (p : List Token → Outcome A) → IsSteady p → IsSteady (behind kind p)
+pub behind_steady : {A : Type 0} {deep : Bool} (kind : TokenKind) (p : List Token → Outcome A) → IsSteady deep p → IsSteady deep (behind kind p)
 behind_steady kind p steady = bind_steady (expect kind) (λ _. p) (expect_steady kind) (λ _. steady)
 
-pub optional_steady : {A : Type 0} (kind : TokenKind) (p : List Token → Outcome A) → IsSteady p → IsSteady (optional kind p)
+pub optional_steady : {A : Type 0} {deep : Bool} (kind : TokenKind) (p : List Token → Outcome A) → IsSteady deep p → IsSteady deep (optional kind p)
 optional_steady kind p steady =
     bind_steady (eat kind) (λ found. cond found (p >>= (λ x. pure (Some x))) (pure None)) (eat_steady kind)
     (λ found. either_steady found (p >>= (λ x. pure (Some x))) (pure None) (bind_steady p (λ x. pure (Some x)) steady (λ x. pure_steady (Some x))) (pure_steady None))
 
-pub more_steady : {A B : Type 0} (mark : TokenKind) (p : List Token → Outcome A) (add : B → A → B) → IsSteady p → (n : ℕ) (all : B) → IsSteady (more_from mark p add n all)
+pub more_steady : {A B : Type 0} {deep : Bool} (mark : TokenKind) (p : List Token → Outcome A) (add : B → A → B) → IsSteady deep p → (n : ℕ) (all : B) → IsSteady deep (more_from mark p add n all)
 more_steady mark p add steady zero all = pure_steady all
 more_steady mark p add steady (suc n) all =
     bind_steady (eat mark) (λ found. cond found (p >>= (λ x. more_from mark p add n (add all x))) (pure all)) (eat_steady mark)
     (λ found. either_steady found (p >>= (λ x. more_from mark p add n (add all x))) (pure all) (bind_steady p (λ x. more_from mark p add n (add all x)) steady (λ x. more_steady mark p add steady n (add all x))) (pure_steady all))
 
 -- enough turns are enough
-module _ {A B : Type 0} (mark : TokenKind) (real : mark ≢ k.End) (p : List Token → Outcome A) (add : B → A → B) (steady : IsSteady p) where
+module _ {A B : Type 0} {deep : Bool} (mark : TokenKind) (real : mark ≢ k.End) (p : List Token → Outcome A) (add : B → A → B) (steady : IsSteady deep p) where
   unseen_at_end : (b : Bool) → sees mark [] ≡ b → b ≡ false
   unseen_at_end false e = refl
   unseen_at_end true e = let first = kind_seen mark [] e real in cc
@@ -232,8 +271,8 @@ module _ {A B : Type 0} (mark : TokenKind) (real : mark ≢ k.End) (p : List Tok
           let left : length ts ≡ suc (length (next ts)) = ap length first.1 in
           rw (s, after_seen mark ts s) (one_more (p (next ts)) (λ x. more_from mark p add n (add all x)) (λ x. more_from mark p add m (add all x)) (λ x us less. again x us (omega (arith, left, less, shorter p steady (next ts)))))
 
-  pub all_steady : (all : B) → IsSteady (λ ts. more_from mark p add (length ts) all ts)
-  all_steady all = record { suffix = λ ts. (more_steady mark p add steady (length ts) all).suffix ts; agrees = agrees }
+  pub all_steady : (all : B) → IsSteady deep (λ ts. more_from mark p add (length ts) all ts)
+  all_steady all = record { says = λ ts. (more_steady mark p add steady (length ts) all).says ts; suffix = λ ts. (more_steady mark p add steady (length ts) all).suffix ts; agrees = agrees }
     where
       agrees : (t : Token) (rest more u v : List Token) → Same t rest more u v → AgreeingTo t rest more (more_from mark p add (length u) all u) (more_from mark p add (length v) all v)
       agrees t rest more u v same =

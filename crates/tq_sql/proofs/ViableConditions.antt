@@ -138,6 +138,6 @@ or_open : (n : ℕ) → IsOpen (IsOr (IsNot n)) (or_at n)
 unfolding or_at and_at
 or_open n = or_begun n (not_open n)
 
-pub condition_open : IsOpen (Optional (After k.Where IsCondition)) condition_at
+pub condition_open : (levels : ℕ) → IsOpen (Optional (After k.Where (IsCondition levels))) (condition_at levels)
 unfolding condition_at
-condition_open = optional_open k.Where where_real IsCondition (or_at 32) (or_open 32)
+condition_open levels = optional_open k.Where where_real (IsCondition levels) (or_at levels) (or_open levels)

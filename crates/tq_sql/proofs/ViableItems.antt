@@ -1,11 +1,10 @@
 -- Where the readers of lists, names, columns, items and sources stop, a value begins with what they took.
-use Rattle.std.proofs.Common.{◌≡◌, ◌≢◌, ◌≤◌, inl, inr, ℕ, suc, ◌-◌, Bool, true, false, cond, List, [], ◌∷◌, ◌++◌, length, refl, ap, sym, ◌∙◌, subst, arith, append-nil, length-append}
+use Rattle.std.proofs.Common.{◌≡◌, ◌≢◌, ◌≤◌, inl, inr, ℕ, suc, Bool, true, false, cond, List, [], ◌∷◌, ◌++◌, length, refl, ap, sym, ◌∙◌, subst, arith, append-nil, length-append}
 use Rattle.std.specs.Prelude.{Option, Some, None, Ok, Err, codes}
 use Rattle.std.specs.Str.{is_utf8}
 use Rattle.std.proofs.lemmas.Str.{IsUtf8-nil, is_utf8-from_IsUtf8}
 use Rattle.tq_base.specs.Names.{folded_name, is_reserved}
 use Rattle.tq_base.specs.Numbers.{int_of}
-use Rattle.tq_sql.specs.declared.columns.TheConstants.{MAX_SOURCES}
 use Rattle.tq_sql.specs.declared.cursor.Refusal.{Refusal}
 use Rattle.tq_sql.specs.declared.cursor.Refusal.TheVariants.{Unexpected}
 use Rattle.tq_sql.specs.declared.statement.ColumnRef.{ColumnRef}
@@ -227,11 +226,11 @@ source_open = wider (Pair IsName (Optional IsAlias)) IsSource (name_at >>= (λ t
     (λ t. shaped_open (Optional IsAlias) source_alias_at (λ a. of_source t a) source_alias_open) ([], None, refl))
 
 abbrev pub FewSources : List Token → List SourceRef → Type 0
-FewSources ts ss = Listed k.Comma IsSource ts ss × (length ss ≤ MAX_SOURCES)
+FewSources ts ss = Listed k.Comma IsSource ts ss × (length ss ≤ 4)
 
 pub sources_open : IsOpen FewSources sources_at
 unfolding sources_at
-sources_open = few_begun k.Comma comma_real IsSource source_at (MAX_SOURCES - 1) source_reader.sound source_open
+sources_open = few_begun k.Comma comma_real IsSource source_at 3 source_reader.sound source_open
 
 pub columns_open : IsOpen (Listed k.Comma IsColumn) columns_at
 unfolding columns_at

@@ -1,13 +1,16 @@
 -- Reading from the left: a value and the tokens after it, or why and before which tokens reading
--- stops. A recursive descent over the grammar, each function beside one of the code.
-use Rattle.std.specs.Prelude.{◌≡◌, ◌≢◌, ℕ, zero, suc, ◌-◌, Bool, ◌||◌, if◌then◌else◌, ℤ, List, [], ◌∷◌, ◌++◌, length, drop, Option, Some, None, Result, Ok, Err}
+-- stops. A recursive descent over the grammar, with a function for each function of the code. Only
+-- contracts of private functions cite it: Grammar.antt and Reading.antt define what `read` and the laws
+-- say, without it.
+use Rattle.std.specs.Prelude.{◌≡◌, ◌≢◌, ℕ, zero, suc, Bool, ◌||◌, if◌then◌else◌, ℤ, List, [], ◌∷◌, ◌++◌, length, drop, Option, Some, None, Result, Ok, Err}
 use Rattle.std.specs.Borrow.{Bor}
 use Rattle.std.specs.Str.{is_utf8}
 use Rattle.tq_base.specs.Names.{folded_name}
 use Rattle.tq_base.specs.Numbers.{int_of}
-use Rattle.tq_sql.specs.declared.columns.TheConstants.{MAX_SOURCES}
 use Rattle.tq_sql.specs.declared.cursor.Refusal.{Refusal}
 use Rattle.tq_sql.specs.declared.cursor.Refusal.TheVariants.{Memory, TooDeep, Unexpected}
+use Rattle.tq_sql.specs.declared.fault.SqlFault.{SqlFault}
+use Rattle.tq_sql.specs.declared.fault.SqlFaultKind.TheVariants as fault_kind
 use Rattle.tq_sql.specs.declared.statement.ColumnRef.{ColumnRef}
 use Rattle.tq_sql.specs.declared.statement.Cond.{Cond}
 use Rattle.tq_sql.specs.declared.statement.Cond.TheVariants as cond
@@ -23,7 +26,8 @@ use Rattle.tq_sql.specs.declared.statement.What.{What}
 use Rattle.tq_sql.specs.declared.statement.What.TheVariants as what
 use Rattle.tq_sql.specs.declared.token.TokenKind.{TokenKind}
 use Rattle.tq_sql.specs.declared.token.TokenKind.TheVariants as k
-use Rattle.tq_sql.specs.Tokens.{Token, same_kind, unquoted}
+use Rattle.tq_sql.specs.Faults.{out_of_memory}
+use Rattle.tq_sql.specs.Tokens.{Token, fault, same_kind, unquoted}
 
 abbrev pub Outcome : Type 0 → Type 0
 Outcome A = Result (A × List Token) (Refusal × List Token)
@@ -168,7 +172,7 @@ source_at = do
   pure (record { table = t; alias = a })
 
 unfoldable pub sources_at : Reader (List SourceRef)
-sources_at = listed_up_to k.Comma source_at (MAX_SOURCES - 1)
+sources_at = listed_up_to k.Comma source_at 3
 
 unfoldable pub columns_at : Reader (List ColumnRef)
 columns_at = listed k.Comma column_at
@@ -224,8 +228,8 @@ and_at levels = chain k.And cond.And (not_at levels)
 unfoldable pub or_at : ℕ → Reader Cond
 or_at levels = chain k.Or cond.Or (and_at levels)
 
-unfoldable pub condition_at : Reader (Option Cond)
-condition_at = optional k.Where (or_at 32)
+unfoldable pub condition_at : ℕ → Reader (Option Cond)
+condition_at levels = optional k.Where (or_at levels)
 
 -- ---- statements
 
@@ -240,21 +244,21 @@ group_at = do
   found ← eat k.Group
   if found then behind k.By columns_at else pure []
 
-unfoldable pub query_at : Reader Query
-query_at = do
+unfoldable pub query_at : ℕ → Reader Query
+query_at levels = do
   expect k.Select
   is ← items_at
   expect k.From
   ss ← sources_at
-  c ← condition_at
+  c ← condition_at levels
   g ← group_at
   pure (record { items = is; sources = ss; cond = c; group = g })
 
 unfoldable pub window_at : Reader (Option (List ℕ))
 window_at = optional k.Period text_at
 
-unfoldable pub right_at : Reader (Option Query)
-right_at = optional k.Except (behind k.All query_at)
+unfoldable pub right_at : ℕ → Reader (Option Query)
+right_at levels = optional k.Except (behind k.All (query_at levels))
 
 unfoldable pub ended : Reader (Unit {0})
 ended [] = Ok (tt, [])
@@ -265,19 +269,25 @@ end_at = do
   _ ← eat k.Semicolon
   ended
 
-unfoldable pub body_at : Reader Statement
-body_at = do
+unfoldable pub body_at : ℕ → Reader Statement
+body_at levels = do
   expect k.Validtime
   w ← window_at
-  l ← query_at
-  r ← right_at
+  l ← query_at levels
+  r ← right_at levels
   pure (record { window = w; left = l; right = r })
 
-unfoldable pub statement_at : Reader Statement
-statement_at = do
-  s ← body_at
+unfoldable pub statement_at : ℕ → Reader Statement
+statement_at levels = do
+  s ← body_at levels
   end_at
   pure s
+
+-- the fault of reading that stops at a byte
+abbrev pub stopped_at : Refusal → ℕ → SqlFault
+stopped_at Unexpected at = fault fault_kind.UnexpectedToken at
+stopped_at TooDeep at = fault fault_kind.TooDeep at
+stopped_at Memory at = out_of_memory
 
 -- ---- what a function that reads ensures: this outcome, unless memory was refused
 

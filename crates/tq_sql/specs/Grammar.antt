@@ -16,7 +16,6 @@ use Rattle.std.specs.Prelude.{◌≡◌, ◌⊎◌, ℕ, zero, suc, ◌≤◌, L
 use Rattle.std.specs.Str.{is_utf8}
 use Rattle.tq_base.specs.Names.{folded_name}
 use Rattle.tq_base.specs.Numbers.{int_of}
-use Rattle.tq_sql.specs.declared.columns.TheConstants.{MAX_SOURCES}
 use Rattle.tq_sql.specs.declared.statement.ColumnRef.{ColumnRef}
 use Rattle.tq_sql.specs.declared.statement.Cond.{Cond}
 use Rattle.tq_sql.specs.declared.statement.Cond.TheVariants as cond
@@ -157,13 +156,13 @@ pub record IsNegation (R : Rule Cond) (ts : List Token) (c : Cond) : Type 0 wher
   pub value : c ≡ cond.Not inner
   pub spelled : After k.Not R ts inner
 
--- not = NOT not | ( or ) | operand sign operand, with at most so many levels of NOT and brackets
+-- not = NOT not | ( or ) | operand sign operand, with at most `levels` levels of NOT and brackets
 abbrev pub IsNot : ℕ → Rule Cond
 IsNot zero ts c = IsComparison ts c
 IsNot (suc levels) ts c = IsComparison ts c ⊎ IsNegation (IsNot levels) ts c ⊎ After k.Open (Before k.Close (IsOr (IsNot levels))) ts c
 
-abbrev pub IsCondition : Rule Cond
-IsCondition = IsOr (IsNot 32)
+abbrev pub IsCondition : ℕ → Rule Cond
+IsCondition levels = IsOr (IsNot levels)
 
 -- ---- queries and statements
 
@@ -172,16 +171,21 @@ abbrev pub IsGroup : Rule (List ColumnRef)
 IsGroup ts [] = ts ≡ []
 IsGroup ts (c ∷ cs) = After k.Group (After k.By (Listed k.Comma IsColumn)) ts (c ∷ cs)
 
--- query = SELECT item {, item} FROM source {, source} [WHERE or] [GROUP BY column {, column}]
-pub record IsQuery (ts : List Token) (q : Query) : Type 0 where
-  pub spelled : After k.Select (Pair (Listed k.Comma IsItem) (After k.From (Pair (Listed k.Comma IsSource) (Pair (Optional (After k.Where IsCondition)) IsGroup)))) ts (q.items, (q.sources, (q.cond, q.group)))
-  pub few_sources : length q.sources ≤ MAX_SOURCES
+-- query = SELECT item {, item} FROM source {, source} [WHERE or] [GROUP BY column {, column}], of at most four sources
+pub record IsQuery (levels : ℕ) (ts : List Token) (q : Query) : Type 0 where
+  pub spelled : After k.Select (Pair (Listed k.Comma IsItem) (After k.From (Pair (Listed k.Comma IsSource) (Pair (Optional (After k.Where (IsCondition levels))) IsGroup)))) ts (q.items, (q.sources, (q.cond, q.group)))
+  pub few_sources : length q.sources ≤ 4
 
 -- nothing, or a semicolon
 abbrev pub IsEnd : Rule (Unit {0})
 IsEnd ts x = (ts ≡ []) ⊎ After k.Semicolon IsNothing ts x
 
--- statement = VALIDTIME [PERIOD text] query [EXCEPT ALL query] [;]
+-- statement = VALIDTIME [PERIOD text] query [EXCEPT ALL query] [;], with at most `levels` levels in each condition
+abbrev pub IsStatementWithin : ℕ → Rule Statement
+IsStatementWithin levels ts s =
+    After k.Validtime (Pair (Optional (After k.Period IsText)) (Pair (IsQuery levels) (Pair (Optional (After k.Except (After k.All (IsQuery levels)))) IsEnd))) ts
+    (s.window, (s.left, (s.right, tt)))
+
+-- .. with at most 32 levels
 abbrev pub IsStatement : Rule Statement
-IsStatement ts s =
-    After k.Validtime (Pair (Optional (After k.Period IsText)) (Pair IsQuery (Pair (Optional (After k.Except (After k.All IsQuery))) IsEnd))) ts (s.window, (s.left, (s.right, tt)))
+IsStatement = IsStatementWithin 32

@@ -152,7 +152,7 @@ fn any(alloc: Global, cursor: &mut Cursor<'_>, levels: usize) -> Result<Cond, Re
 /// Reads the condition after WHERE, if there is one.
 #[tactic(auto, unfolding(crate::specs::Descent::condition_at))]
 pub fn condition(alloc: Global, cursor: &mut Cursor<'_>) -> Result<Option<Cond>, Refusal>
-    ensures reads { Reads (spec.condition_at cursor.old) result cursor.new }
+    ensures reads { Reads (spec.condition_at MAX_LEVELS cursor.old) result cursor.new }
     ensures shorter { length cursor.new ≤ length cursor.old }
 {
     if cursor.eat(TokenKind::Where) {

@@ -5,7 +5,7 @@ ghost use Rattle.tq_sql.specs.Descent as spec;
 ghost use Rattle.tq_sql.specs.Descent.{Reads};
 
 use crate::columns::{columns, items, sources};
-use crate::conditions::condition;
+use crate::conditions::{MAX_LEVELS, condition};
 use crate::cursor::{Cursor, Refusal};
 use crate::statement::{ColumnRef, Query, Statement};
 use crate::token::TokenKind;
@@ -27,7 +27,7 @@ fn group(alloc: Global, cursor: &mut Cursor<'_>) -> Result<Items<ColumnRef>, Ref
 
 #[tactic(auto, unfolding(crate::specs::Descent::query_at))]
 fn query(alloc: Global, cursor: &mut Cursor<'_>) -> Result<Query, Refusal>
-    ensures reads { Reads (spec.query_at cursor.old) result cursor.new }
+    ensures reads { Reads (spec.query_at MAX_LEVELS cursor.old) result cursor.new }
     ensures shorter { length cursor.new ≤ length cursor.old }
 {
     cursor.expect(TokenKind::Select)?;
@@ -58,7 +58,7 @@ fn window(alloc: Global, cursor: &mut Cursor<'_>) -> Result<Option<Text>, Refusa
 
 #[tactic(auto, unfolding(crate::specs::Descent::right_at))]
 fn right(alloc: Global, cursor: &mut Cursor<'_>) -> Result<Option<Query>, Refusal>
-    ensures reads { Reads (spec.right_at cursor.old) result cursor.new }
+    ensures reads { Reads (spec.right_at MAX_LEVELS cursor.old) result cursor.new }
     ensures shorter { length cursor.new ≤ length cursor.old }
 {
     if cursor.eat(TokenKind::Except) {
@@ -71,7 +71,7 @@ fn right(alloc: Global, cursor: &mut Cursor<'_>) -> Result<Option<Query>, Refusa
 
 #[tactic(auto, unfolding(crate::specs::Descent::body_at))]
 fn body(alloc: Global, cursor: &mut Cursor<'_>) -> Result<Statement, Refusal>
-    ensures reads { Reads (spec.body_at cursor.old) result cursor.new }
+    ensures reads { Reads (spec.body_at MAX_LEVELS cursor.old) result cursor.new }
     ensures shorter { length cursor.new ≤ length cursor.old }
 {
     cursor.expect(TokenKind::Validtime)?;
@@ -96,7 +96,7 @@ fn end(cursor: &mut Cursor<'_>) -> Result<(), Refusal>
 /// Reads a statement and the end of the tokens.
 #[tactic(auto, unfolding(crate::specs::Descent::statement_at))]
 pub fn statement(alloc: Global, cursor: &mut Cursor<'_>) -> Result<Statement, Refusal>
-    ensures { Reads (spec.statement_at cursor.old) result cursor.new }
+    ensures { Reads (spec.statement_at MAX_LEVELS cursor.old) result cursor.new }
 {
     let found = body(alloc, cursor)?;
     end(cursor)?;

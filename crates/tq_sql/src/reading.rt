@@ -1,8 +1,9 @@
 // Reads a statement: its tokens first, and then a descent over them.
 
 ghost use Rattle.std.specs.Prelude.{◌≡◌, ◌≢◌, ◌≤◌, IfErr, IfOk};
+ghost use Rattle.tq_sql.specs.Descent.{stopped_at};
 ghost use Rattle.tq_sql.specs.Faults.{out_of_memory};
-ghost use Rattle.tq_sql.specs.Reading.{IsSqlFault, Makes, stopped_at};
+ghost use Rattle.tq_sql.specs.Reading.{IsSqlFault, Makes};
 
 use crate::cursor::{Cursor, Refusal};
 use crate::fault::{SqlFault, SqlFaultKind};
@@ -23,9 +24,10 @@ fn stopped(why: Refusal, at: usize) -> SqlFault
     }
 }
 
-/// The statement that a text makes. Faults: `TooLong` at byte 65,536 where there are more bytes; else
+/// The statement that a text makes. Faults: `TooLong` at byte 65,536 if there are more bytes; else
 /// the first token fault from the left, `BadByte`, `NumberTooLarge` or `UnclosedText`; else
-/// `UnexpectedToken` or `TooDeep` at the first token that no statement goes on with, or at the end.
+/// `UnexpectedToken` at the first token that no statement goes on with, or at the end, but `TooDeep` if a
+/// statement of one level more goes on with that token.
 pub fn read(alloc: Global, bytes: &[u8]) -> Result<Statement, SqlFault>
     ensures statement { IfOk result (λ s. Makes bytes.now s) }
     ensures fault { IfErr result (λ f. f ≢ out_of_memory → IsSqlFault bytes.now f) }
