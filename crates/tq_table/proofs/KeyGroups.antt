@@ -45,6 +45,10 @@ all_left : (rows : List Fragment) → All (λ (h : Held). h.side ≡ side.Left) 
 all_left [] = All-nil (λ (h : Held). h.side ≡ side.Left)
 all_left (row ∷ rows) = All-cons (λ (h : Held). h.side ≡ side.Left) (record { side = side.Left; row = row }) (held_on side.Left rows) refl (all_left rows)
 
+-- keys of left rows, in their order, stand for these rows one by one
+pub rows_kept : (s : SidesState) (keys : List Key) (rows : List Fragment) → map (held s) keys ≡ held_on side.Left rows → map (key_row s) keys ≡ rows
+rows_kept s keys rows are = sym (held_rows s keys) ∙ ap (map (λ (h : Held). h.row)) are ∙ rows_held rows
+
 -- keys of left rows, in some order, stand for these rows
 pub rows_moved : (s : SidesState) (keys : List Key) (rows : List Fragment) → IsPermutation (held_on side.Left rows) (map (held s) keys) → IsPermutation rows (map (key_row s) keys)
 rows_moved s keys rows same =

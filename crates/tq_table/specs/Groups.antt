@@ -1,7 +1,18 @@
--- Lines of a group of rows that are alike. This project's own.
-use Rattle.std.specs.Prelude.{ℕ, List, [], ◌∷◌}
+-- Groups of rows of equal values: the keys in whose order they come, and their lines. This project's own.
+use Rattle.std.specs.Prelude.{◌≡◌, ℕ, List, [], ◌∷◌, All, IsPermutation, map}
 use Rattle.tq_base.specs.declared.period.Period.{Period}
 use Rattle.tq_base.specs.declared.relation.Line.{Line}
+use Rattle.tq_base.specs.declared.sides.Key.{Key}
+use Rattle.tq_base.specs.declared.sides.Side.TheVariants as side
+use Rattle.tq_base.specs.Keys.{key_row, AreMarked, IsKey, Rises, SidesState}
+
+-- one key for each row of the left, in the order of their values
+pub record AreByValues (s : SidesState) (keys : List Key) : Type 0 where
+  pub rows : IsPermutation s.left (map (key_row s) keys)
+  pub left : All (λ k. k.side ≡ side.Left) keys
+  pub keys_are : All (IsKey s) keys
+  pub marks : AreMarked s keys
+  pub rises : Rises s keys
 
 -- a line of the row at the period
 abbrev pub line_at : ℕ → Period → Line

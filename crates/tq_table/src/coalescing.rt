@@ -1,17 +1,18 @@
 // Coalescing: the periods of each group of equal values are layered by themselves.
 
-ghost use Rattle.std.specs.Prelude.{◌≡◌, ◌<◌, ◌++◌, All, IfOk, IsPermutation, List, OnOk, length, map, slice_index_or};
+ghost use Rattle.std.specs.Prelude.{◌≡◌, ◌<◌, ◌++◌, All, IfOk, List, OnOk, length, map};
 ghost use Rattle.std.specs.Bool.{OnTrue};
+ghost use Rattle.std.specs.List.{range_with_len};
 ghost use Rattle.tq_base.specs.declared.value.Value.{Value};
 ghost use Rattle.tq_base.specs.declared.fragment.Fragment.{Fragment};
 ghost use Rattle.tq_base.specs.Fragments.{copies};
-ghost use Rattle.tq_base.specs.Keys.{key_row, no_row, AreMarked, IsKey, Rises};
+ghost use Rattle.tq_base.specs.Keys.{key_row};
 ghost use Rattle.tq_base.specs.KeySides.{state_of};
 ghost use Rattle.tq_base.specs.Layers.{IsLayers};
 ghost use Rattle.tq_base.specs.Layering.{AddsLayers};
 ghost use Rattle.tq_base.specs.Relations.{line_of};
 ghost use Rattle.tq_table.specs.Apart.{AreApart};
-ghost use Rattle.tq_table.specs.Groups.{line_at};
+ghost use Rattle.tq_table.specs.Groups.{line_at, AreByValues};
 
 use crate::layering::layered;
 use crate::line_list::LineList;
@@ -64,16 +65,43 @@ fn add_layers(
 
 // The keys of the left rows, in the order of their values.
 fn sorted_keys(alloc: Global, sides: &Sides<'_>) -> Result<Vec<Key>, AllocError>
-    ensures rows { IfOk result (λ keys. IsPermutation sides.now.left.now.items (map (key_row (state_of sides.now)) keys.items)) }
-    ensures left { IfOk result (λ keys. All (λ k. k.side ≡ Side.Left) keys.items) }
-    ensures keys { IfOk result (λ keys. All (IsKey (state_of sides.now)) keys.items) }
-    ensures marks { IfOk result (λ keys. AreMarked (state_of sides.now) keys.items) }
-    ensures rises { IfOk result (λ keys. Rises (state_of sides.now) keys.items) }
+    ensures { IfOk result (λ keys. AreByValues (state_of sides.now) keys.items) }
 {
     let mut keys = Vec::new(alloc);
     sides.add_keys(Side::Left, None, &mut keys)?;
     sides.sort(&mut keys)?;
     Ok(keys)
+}
+
+// The lines of the layers of the left rows, whose keys are in the order of their values, group by group.
+pub(crate) fn lines_by_group(
+    alloc: Global,
+    sides: &Sides<'_>,
+    keys: &[Key],
+) -> Result<LineList, AllocError>
+    requires columns { sides.now.left_columns.now ≡ range_with_len 0 sides.now.left.now.width }
+    requires keys { AreByValues (state_of sides.now) keys.now }
+    ensures within { IfOk result (λ lines. All (λ line. line.row < length sides.now.left.now.items) lines) }
+    ensures layers { IfOk result (λ lines. IsLayers (copies sides.now.left.now.items) (map (line_of sides.now.left.now.items) lines)) }
+{
+    sides.left.width();
+    let periods = sides.left.periods();
+    let mut ahead = PeriodsAhead::new(alloc);
+    let mut table = LineList::with_capacity(alloc, keys.len())?;
+    let mut start = 0;
+    'groups: while start < keys.len() {
+        let end = start + sides.run_len(&keys[start..]);
+        ahead.look_up(alloc, periods, keys, start, end)?;
+        add_layers(
+            alloc,
+            sides,
+            &keys[start..end],
+            ahead.between(start, end),
+            &mut table,
+        )?;
+        start = end;
+    }
+    Ok(table)
 }
 
 // The lines of the layers of the rows.
@@ -89,23 +117,7 @@ fn lines_of(alloc: Global, rows: &Relation<'_>) -> Result<LineList, AllocError>
         right_columns: &columns,
     };
     let keys = sorted_keys(alloc, &sides)?;
-    let periods = rows.periods();
-    let mut ahead = PeriodsAhead::new(alloc);
-    let mut table = LineList::with_capacity(alloc, keys.len())?;
-    let mut start = 0;
-    'groups: while start < keys.len() {
-        let end = start + sides.run_len(&keys[start..]);
-        ahead.look_up(alloc, periods, &keys, start, end)?;
-        add_layers(
-            alloc,
-            &sides,
-            &keys[start..end],
-            ahead.between(start, end),
-            &mut table,
-        )?;
-        start = end;
-    }
-    Ok(table)
+    lines_by_group(alloc, &sides, &keys)
 }
 
 /// The layers of the copies that go in: for each row of values and each count from 1 on, one row for

@@ -2,7 +2,8 @@
 //!
 //! `coalesce` makes of any rows the layers of their copies: the one ordered, coalesced table with
 //! the same rows valid, duplicates counted, at each instant. It sorts keys of the rows, and gives
-//! `Lines`: rows by number, each with a period, so that no value is moved. Bytes go to a writer through
+//! `Lines`: rows by number, each with a period, so that no value is moved. `merge` makes the layers
+//! of several lists that are in order, without sorting their rows again. Bytes go to a writer through
 //! a `Sink`, which counts the calls that failed and never tries one again; after `Sink::send` the writer
 //! has all of the bytes, or a prefix and one more failure.
 #![tactic(auto)]

@@ -51,14 +51,6 @@ impl<W> Sink<W> {
     {
         self.failed
     }
-
-    /// The writer, given back as it is.
-    pub fn into_inner(self) -> W
-        ensures { result ≡ self.writer }
-    {
-        let Sink { writer, .. } = self;
-        writer
-    }
 }
 
 impl<W> Sink<W> {

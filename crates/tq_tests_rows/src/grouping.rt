@@ -3,8 +3,8 @@
 ghost use Rattle.std.specs.Prelude.{◌≡◌, ℕ, All, FitsSigned, IfOk, OnOk};
 ghost use Rattle.std.specs.Int.{w64};
 ghost use Rattle.tq_base.specs.declared.fragment.Fragment.{Fragment};
-ghost use Rattle.tq_ops.specs.Conditions.{value_at};
-ghost use Rattle.tq_agg.specs.Grouping.{AreSummable, number_of};
+ghost use Rattle.tq_base.specs.RowValues.{number_of, value_at};
+ghost use Rattle.tq_agg.specs.Grouping.{AreSummable};
 
 use crate::lists::show;
 use crate::words::{period_of, tell_nothing, text_of};

@@ -8,6 +8,7 @@
 //!     join-all TO START END FIRST OTHER..  the same of several lists
 //!     except TO START END LEFT RIGHT       what of LEFT is left over
 //!     project TO FROM COLUMN..             some columns
+//!     merge TO WIDTH FROM..                the layers of lists merged, each list in its layers
 //!     show FROM                            the rows, in the order of values and periods
 //!     counts FROM COUNT                    how many of them are valid at each instant from 0 on
 //!     check VALUE,.. TEST                  which of some tests a row passes

@@ -1,9 +1,13 @@
 //! The operators over rows, with what they give copied into rows again.
 
+ghost use Rattle.std.specs.Prelude.{IfOk};
+ghost use Rattle.tq_table.specs.Merging.{AreInOrder, AreOfWidth};
+
 use crate::lists::push_row;
 use std::alloc::{AllocError, Global};
 use tq_base::{Period, Relation, Rows};
 use tq_ops::{Test, except_all, join, join_all, select};
+use tq_table::{coalesce, merge};
 
 // The rows of the relation, copied.
 fn copied(alloc: Global, relation: &Relation<'_>) -> Result<Rows, AllocError> {
@@ -79,4 +83,23 @@ pub(crate) fn projected(alloc: Global, rows: &Rows, columns: &[u32]) -> Result<R
 /// The rows, copied.
 pub(crate) fn copy_of(alloc: Global, rows: &Rows) -> Result<Rows, AllocError> {
     copied(alloc, &Relation::of(alloc, rows)?)
+}
+
+// The layers of the rows.
+fn layers(alloc: Global, rows: &Rows) -> Result<Rows, AllocError>
+    ensures width { IfOk result (AreOfWidth rows.now.width) }
+    ensures in_order { IfOk result AreInOrder }
+{
+    coalesce(alloc, Relation::of(alloc, rows)?)?.copied(alloc)
+}
+
+/// The layers of all lists together, each list in its layers. Lists of another width are left out.
+pub(crate) fn merged(alloc: Global, width: usize, lists: &[&Rows]) -> Result<Rows, AllocError> {
+    let mut pieces = Vec::new(alloc);
+    'lists: for rows in lists {
+        if rows.width() == width {
+            pieces.push(layers(alloc, *rows)?)?;
+        }
+    }
+    merge(alloc, width, pieces)?.copied(alloc)
 }

@@ -1,7 +1,5 @@
 //! The text of tables, and writers that take all or a part of it.
 
-ghost use Rattle.std.specs.Prelude.{◌≡◌, IfOk};
-
 use crate::operators::copy_of;
 use crate::words::{push_text, text_of};
 use std::alloc::{AllocError, Global};
@@ -129,10 +127,11 @@ pub(crate) fn send(
     out: &mut String,
 ) -> Result<(), AllocError> {
     let table = table_of(alloc, lines(alloc, rows)?, names)?;
-    let mut sink = Sink::over(Vec::new(alloc));
+    let mut taken = Vec::new(alloc);
+    let mut sink = Sink::over(&mut taken);
     let sent = write_table(alloc, &table, &mut sink, Form::Numbers);
     let failed = sink.failed();
-    tell_sent(sent, failed, &sink.into_inner(), out)
+    tell_sent(sent, failed, &taken, out)
 }
 
 /// A table of the rows is sent to a writer that takes five bytes and then fails.
@@ -143,17 +142,18 @@ pub(crate) fn send_short(
     out: &mut String,
 ) -> Result<(), AllocError> {
     let table = table_of(alloc, lines(alloc, rows)?, names)?;
-    let mut sink = Sink::over(ShortWriter {
+    let mut writer = ShortWriter {
         taken: Vec::new(alloc),
         most: 5,
         room: 5,
         at_end: AtEnd::Fails,
         flushes: true,
         calls: 0,
-    });
+    };
+    let mut sink = Sink::over(&mut writer);
     let sent = write_table(alloc, &table, &mut sink, Form::Numbers);
     let failed = sink.failed();
-    tell_sent(sent, failed, &sink.into_inner().taken, out)
+    tell_sent(sent, failed, &writer.taken, out)
 }
 
 /// Bytes are sent to a writer with so much room, three bytes a call; how often it was called is told too.
@@ -182,13 +182,11 @@ pub(crate) fn send_bytes(
     writeln!(out, "    {} calls", writer.calls)
 }
 
-// A caller by contract: over a vector, what was sent is what stands there.
-fn sent(alloc: Global, bytes: &[u8]) -> Result<Vec<u8>, WriteFault>
-    ensures { IfOk result (λ v. v.items ≡ bytes.now) }
-{
-    let mut sink = Sink::over(Vec::new(alloc));
-    sink.send(bytes)?;
-    Ok(sink.into_inner())
+// What stands in memory after the bytes were sent there.
+fn sent(alloc: Global, bytes: &[u8]) -> Result<Vec<u8>, WriteFault> {
+    let mut taken = Vec::new(alloc);
+    Sink::over(&mut taken).send(bytes)?;
+    Ok(taken)
 }
 
 /// What stands in memory after the text was sent there.

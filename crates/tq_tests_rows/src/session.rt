@@ -3,7 +3,7 @@
 use crate::drawing::tell_picture;
 use crate::grouping::{count, group};
 use crate::lists::{rising, rows_of, show, show_counts};
-use crate::operators::{joined, joined_all, left_over, projected, selected};
+use crate::operators::{joined, joined_all, left_over, merged, projected, selected};
 use crate::output::{send, send_bytes, send_short, tell_faults, tell_memory, tell_text};
 use crate::tests::{check, check_chains, may_pass, tests_of};
 use crate::words::{period_of, tell_nothing};
@@ -98,6 +98,22 @@ impl Session {
         }
     }
 
+    fn merge(
+        &self,
+        alloc: Global,
+        width: usize,
+        names: &[&str],
+    ) -> Result<Option<Rows>, AllocError> {
+        let mut lists = Vec::new(alloc);
+        for name in names {
+            match self.find(name) {
+                Some(rows) => lists.push(rows)?,
+                None => return Ok(None),
+            }
+        }
+        Ok(Some(merged(alloc, width, &lists)?))
+    }
+
     // The rows that an operator makes of the sources within the window.
     fn operate(
         &self,
@@ -151,6 +167,9 @@ impl Session {
                 _ => Ok(None),
             },
             ("project", [from, columns @ ..]) => self.project(alloc, from, columns),
+            ("merge", [width, names @ ..]) => {
+                self.merge(alloc, width.parse().unwrap_or(0), names)
+            }
             (_, [start, end, words @ ..]) => match period_of(start, end) {
                 Some(window) => self.operate(alloc, word, &window, words),
                 None => Ok(None),
@@ -237,7 +256,14 @@ impl Session {
         match words.as_slice() {
             [] | ["#", ..] => Ok(()),
             [
-                word @ ("rows" | "rising" | "project" | "select" | "join" | "join-all" | "except"),
+                word @ ("rows"
+                | "rising"
+                | "project"
+                | "merge"
+                | "select"
+                | "join"
+                | "join-all"
+                | "except"),
                 to,
                 words @ ..,
             ] => {

@@ -54,9 +54,10 @@ fn printed<R: Threads + Wait + Sync, I: Read + Drop>(
     input: I,
 ) -> (Vec<u8>, Result<(), SessionFault>) {
     let mut source = Source::over(input);
-    let mut sink = Sink::over(Vec::new(alloc));
+    let mut taken = Vec::new(alloc);
+    let mut sink = Sink::over(&mut taken);
     let ended = session(rt, alloc, files, &mut source, &mut sink, form);
-    (sink.into_inner(), ended)
+    (taken, ended)
 }
 
 /// What is printed for the input by a reader that gives a byte a call, and fails after so many calls.
@@ -101,13 +102,13 @@ pub(crate) fn tell_short<R: Threads + Wait + Sync>(
     out: &mut String,
 ) -> Result<(), AllocError> {
     let mut source = Source::over(input);
-    let mut sink = Sink::over(ShortWriter {
+    let mut writer = ShortWriter {
         taken: Vec::new(alloc),
         room: room as usize,
-    });
+    };
+    let mut sink = Sink::over(&mut writer);
     let ended = session(rt, alloc, files, &mut source, &mut sink, form);
     let failed = sink.failed();
-    let writer = sink.into_inner();
     tell_printed(&writer.taken, &ended, out)?;
     writeln!(out, "    ({failed} failed)")
 }
@@ -129,13 +130,13 @@ pub(crate) fn tell_noted<R: Threads + Wait + Sync>(
         noted: Vec::new(alloc),
     };
     let mut source = Source::over(&mut typist);
-    let mut sink = Sink::over(Screen {
+    let mut screen = Screen {
         printed: &printed,
         taken: 0,
         writes: 0,
-    });
+    };
+    let mut sink = Sink::over(&mut screen);
     let ended = session(rt, alloc, files, &mut source, &mut sink, form);
     tell_end(b"", &ended, out)?;
-    let writes = sink.into_inner().writes;
-    writeln!(out, "    {:?}, {writes} writes", typist.noted)
+    writeln!(out, "    {:?}, {} writes", typist.noted, screen.writes)
 }

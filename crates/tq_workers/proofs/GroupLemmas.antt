@@ -10,7 +10,7 @@ use Rattle.tq_base.specs.Fragments.{at, occurrences}
 use Rattle.tq_base.specs.Periods.{holds}
 use Rattle.tq_base.specs.Ranks.{value_rank}
 use Rattle.tq_base.specs.RowLists.{RowList}
-use Rattle.tq_ops.specs.Conditions.{value_at}
+use Rattle.tq_base.specs.RowValues.{value_at}
 use Rattle.tq_ops.specs.Ordinary.{HasInside, IsEmptyOutside}
 use Rattle.tq_agg.specs.Grouping.{Row, first_row}
 use Rattle.tq_plan.specs.declared.plans.QueryPlan.{QueryPlan}

@@ -10,7 +10,7 @@ use Rattle.tq_base.specs.Fragments.{copies}
 use Rattle.tq_base.specs.Layers.{IsLayers}
 use Rattle.tq_base.specs.RowLists.{RowList}
 use Rattle.tq_agg.specs.Grouping.{Row}
-use Rattle.tq_table.specs.Merging.{all_rows, AreOfWidth}
+use Rattle.tq_table.specs.Merging.{all_rows, AreInOrder, AreOfWidth}
 use Rattle.tq_plan.specs.declared.plans.Plan.{Plan}
 use Rattle.tq_plan.specs.Cuts.{Follow}
 use Rattle.tq_eval.specs.Answers.{times_at, times_by, ValidRows}
@@ -56,6 +56,15 @@ pieces_wide valid plan (p ∷ ps) [] len are = absurd (omega (arith, len))
 pieces_wide valid plan (p ∷ ps) (l ∷ ls) len are =
     All-cons (AreOfWidth (length plan.left.outputs)) l ls (are 0 l (omega arith) p).wide
     (pieces_wide valid plan ps ls (omega (arith, len)) (λ i e less d. are (suc i) e (omega (arith, less)) d))
+
+-- and in order
+pub pieces_ordered : (valid : ValidRows) (plan : Plan) (periods : List Period) (lists : List RowList) → length lists ≡ length periods → ArePieces valid plan periods lists → All AreInOrder lists
+pieces_ordered valid plan [] [] len are = All-nil AreInOrder
+pieces_ordered valid plan [] (l ∷ ls) len are = absurd (omega (arith, len))
+pieces_ordered valid plan (p ∷ ps) [] len are = absurd (omega (arith, len))
+pieces_ordered valid plan (p ∷ ps) (l ∷ ls) len are =
+    All-cons AreInOrder l ls (are 0 l (omega arith) p).ordered
+    (pieces_ordered valid plan ps ls (omega (arith, len)) (λ i e less d. are (suc i) e (omega (arith, less)) d))
 
 -- so the layers of all pieces are those of the plan's window
 pub pieces_answer : (valid : ValidRows) (plan : Plan) (periods : List Period) (lists : List RowList) (rows : List Fragment) → Follow plan.window.start plan.window.end periods → length lists ≡ length periods → ArePieces valid plan periods lists

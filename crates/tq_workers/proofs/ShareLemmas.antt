@@ -19,7 +19,7 @@ use Rattle.tq_base.specs.declared.key_range.KeyRange.{KeyRange}
 use Rattle.tq_base.specs.declared.period.Period.{Period}
 use Rattle.tq_event.specs.Tables.{lists_of, rows_in}
 use Rattle.tq_base.specs.Ranges.{layers_of_all, one_after_other, StandInOrder}
-use Rattle.tq_ops.specs.Conditions.{value_at}
+use Rattle.tq_base.specs.RowValues.{value_at}
 use Rattle.tq_plan.specs.declared.plans.Plan.{Plan}
 use Rattle.tq_plan.specs.Standing.{AreQueriesOver}
 use Rattle.tq_eval.specs.Answers.{in_tables, times_at, ValidRows}

@@ -6,7 +6,7 @@ use Rattle.tq_base.specs.declared.fragment.Fragment.{Fragment}
 use Rattle.tq_base.specs.declared.period.Period.{Period}
 use Rattle.tq_base.specs.Fragments.{at, occurrences}
 use Rattle.tq_base.specs.RowLists.{RowList}
-use Rattle.tq_ops.specs.Conditions.{value_at}
+use Rattle.tq_base.specs.RowValues.{value_at}
 use Rattle.tq_ops.specs.Ordinary.{HasInside, IsEmptyOutside}
 use Rattle.tq_plan.specs.declared.plans.QueryPlan.{QueryPlan}
 use Rattle.tq_plan.specs.Standing.{items_stand, no_group}

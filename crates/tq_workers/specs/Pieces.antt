@@ -4,13 +4,14 @@ use Rattle.tq_base.specs.declared.period.Period.{Period}
 use Rattle.tq_base.specs.Fragments.{copies}
 use Rattle.tq_base.specs.RowLists.{RowList}
 use Rattle.tq_agg.specs.Grouping.{Row}
-use Rattle.tq_table.specs.Merging.{AreOfWidth}
+use Rattle.tq_table.specs.Merging.{AreInOrder, AreOfWidth}
 use Rattle.tq_plan.specs.declared.plans.Plan.{Plan}
 use Rattle.tq_eval.specs.Answers.{times_within, ValidRows}
 
--- rows as wide as the plan's answer: at each instant of the period those of the statement, and none outside it
+-- ordered rows as wide as the plan's answer: at each instant of the period those of the statement, and none outside it
 pub record IsPiece (valid : ValidRows) (plan : Plan) (period : Period) (rows : RowList) : Type 0 where
   pub wide : AreOfWidth (length plan.left.outputs) rows
+  pub ordered : AreInOrder rows
   pub counted : (v : Row) (t : ℕ) → copies rows.items v t ≡ times_within valid plan period v t
 
 -- each list is the piece of the period at its place

@@ -8,7 +8,7 @@ use Rattle.tq_base.specs.declared.value.Value.{Value}
 use Rattle.tq_base.specs.Layers.{IsLayers}
 use Rattle.tq_base.specs.Ranks.{value_rank}
 use Rattle.tq_event.specs.Tables.{rows_in}
-use Rattle.tq_ops.specs.Conditions.{value_at}
+use Rattle.tq_base.specs.RowValues.{value_at}
 use Rattle.tq_plan.specs.declared.plans.Plan.{Plan}
 use Rattle.tq_eval.specs.Answers.{times_at, ValidRows}
 use Rattle.tq_eval.specs.Shares.{Columns, in_share}

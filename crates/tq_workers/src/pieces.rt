@@ -4,7 +4,7 @@ ghost use Rattle.std.specs.Prelude.{◌≡◌, All, IfOk, length};
 ghost use Rattle.tq_eval.specs.Answers.{IsAnswerOver, ValidRows};
 ghost use Rattle.tq_plan.specs.Cuts.{Tile};
 ghost use Rattle.tq_plan.specs.Standing.{AreQueriesOver};
-ghost use Rattle.tq_table.specs.Merging.{AreOfWidth};
+ghost use Rattle.tq_table.specs.Merging.{AreInOrder, AreOfWidth};
 ghost use Rattle.tq_workers.specs.Pieces.{ArePieces, IsPiece};
 
 use std::alloc::{AllocError, Global};
@@ -37,6 +37,7 @@ pub(crate) fn put_together<'a>(
     requires tile { Tile plan.now.window periods.now }
     requires many { length pieces.items ≡ length periods.now }
     requires wide { All (AreOfWidth (length plan.now.left.outputs)) pieces.items }
+    requires in_order { All AreInOrder pieces.items }
     ensures { (valid : ValidRows) → ArePieces valid plan.now periods.now pieces.items → IfOk result (IsAnswerOver valid plan.now) }
 {
     let rows = merge(alloc, plan.left.outputs.get().len(), pieces)?;

@@ -4,7 +4,7 @@ ghost use Rattle.std.specs.Prelude.{◌≡◌, ◌≤◌, ◌==◌, ℕ, IfOk, f
 ghost use Rattle.std.proofs.Props.{props};
 ghost use Rattle.tq_base.specs.declared.fragment.Fragment.{Fragment};
 ghost use Rattle.tq_event.specs.Tables.{lists_of, rows_in as table_of};
-ghost use Rattle.tq_ops.specs.Conditions.{value_at};
+ghost use Rattle.tq_base.specs.RowValues.{value_at};
 ghost use Rattle.tq_eval.specs.Answers.{in_tables};
 ghost use Rattle.tq_eval.specs.Shares.{in_share};
 ghost use Rattle.memchr.specs.Find.{is_byte, places};

@@ -3,7 +3,7 @@
 ghost use Rattle.std.specs.Prelude.{◌≡◌, ◌≤◌, ◌<◌, ◌+◌, ◌/◌, ◌++◌, IfOk, length, map, slice_index_or, take};
 ghost use Rattle.tq_base.specs.declared.fragment.Fragment.{Fragment};
 ghost use Rattle.tq_event.specs.Tables.{lists_of, rows_in};
-ghost use Rattle.tq_ops.specs.Conditions.{value_at};
+ghost use Rattle.tq_base.specs.RowValues.{value_at};
 ghost use Rattle.tq_table.specs.Sink.{bytes_of};
 ghost use Rattle.tq_workers.specs.Shares.{columns_in, share_of, stretch_start, AreTold, IsStretch, IsTold};
 

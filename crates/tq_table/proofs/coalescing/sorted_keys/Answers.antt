@@ -16,18 +16,17 @@ sort-requires c = record { keys = c.in_ok-add_keys.ensures.keys (rw c.new-keys.e
 moved : (s : SidesState) (rows : List Fragment) (gathered sorted : List Key) → map (held s) gathered ≡ held_on side.Left rows → IsPermutation (map (held s) gathered) (map (held s) sorted) → IsPermutation (held_on side.Left rows) (map (held s) sorted)
 moved s rows gathered sorted are same = subst (λ l. IsPermutation l (map (held s) sorted)) are same
 
-pub returns-clause-rows : goal.returns-clause-rows
-returns-clause-rows c =
+pub returns : goal.returns
+returns c =
     let s = state_of c.args.sides.now in
     let rows = c.args.sides.now.left.now.items in
     let sorted = c.sort.new.keys.items in
     let are : map (held s) c.add_keys.new.keys.items ≡ held_on side.Left rows = rw c.new-keys.ensures.items at c.in_ok-add_keys.ensures.rows in
-    rows_moved s sorted rows (moved s rows c.add_keys.new.keys.items sorted are c.in_ok-sort.ensures.rows)
-
-pub returns-clause-left : goal.returns-clause-left
-returns-clause-left c =
-    let s = state_of c.args.sides.now in
-    let rows = c.args.sides.now.left.now.items in
-    let sorted = c.sort.new.keys.items in
-    let are : map (held s) c.add_keys.new.keys.items ≡ held_on side.Left rows = rw c.new-keys.ensures.items at c.in_ok-add_keys.ensures.rows in
-    left_moved s sorted rows (moved s rows c.add_keys.new.keys.items sorted are c.in_ok-sort.ensures.rows)
+    let same = moved s rows c.add_keys.new.keys.items sorted are c.in_ok-sort.ensures.rows in
+    record {
+      rows = rows_moved s sorted rows same;
+      left = left_moved s sorted rows same;
+      keys_are = c.in_ok-sort.ensures.keys;
+      marks = c.in_ok-sort.ensures.marks;
+      rises = c.in_ok-sort.ensures.rises;
+    }

@@ -3,8 +3,7 @@ use Rattle.std.proofs.Common.{◌≡◌, ℕ, FitsSigned}
 use Rattle.std.specs.Prelude.{All}
 use Rattle.std.specs.Int.{w64}
 use Rattle.tq_base.specs.declared.fragment.Fragment.{Fragment}
-use Rattle.tq_ops.specs.Conditions.{value_at}
-use Rattle.tq_agg.specs.Grouping.{number_of}
+use Rattle.tq_base.specs.RowValues.{number_of, value_at}
 use Rattle.tq_tests_rows.proofs.grouping.pairs.Given as goal
 
 abbrev pub invariant-rows : goal.invariant-rows

@@ -3,7 +3,7 @@ use Rattle.std.proofs.lemmas.List.{length-map}
 use Rattle.std.proofs.lemmas.Result.{IfOk-weaker}
 use Rattle.tq_base.specs.declared.fragment.Fragment.{Fragment}
 use Rattle.tq_base.specs.RowLists.{RowList}
-use Rattle.tq_ops.specs.Conditions.{value_at}
+use Rattle.tq_base.specs.RowValues.{value_at}
 use Rattle.tq_workers.specs.Shares.{share_of}
 use Rattle.tq_workers.proofs.ShareLemmas.{no_table, table_rows, told_is}
 use Rattle.tq_workers.proofs.share.share_rows.Goals as goal

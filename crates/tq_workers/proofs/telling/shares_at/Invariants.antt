@@ -1,7 +1,7 @@
 -- The shares of the rows so far.
 use Rattle.std.proofs.Common.{◌≡◌, ◌++◌, map, take}
 use Rattle.tq_base.specs.declared.fragment.Fragment.{Fragment}
-use Rattle.tq_ops.specs.Conditions.{value_at}
+use Rattle.tq_base.specs.RowValues.{value_at}
 use Rattle.tq_workers.specs.Shares.{share_of}
 use Rattle.tq_workers.proofs.telling.shares_at.Given as goal
 

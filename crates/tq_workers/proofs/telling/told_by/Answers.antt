@@ -2,7 +2,7 @@ use Rattle.std.proofs.Common.{◌∙◌, ap, arith, map}
 use Rattle.std.proofs.lemmas.List.{take_all}
 use Rattle.std.proofs.lemmas.Result.{IfOk-weaker}
 use Rattle.tq_base.specs.declared.fragment.Fragment.{Fragment}
-use Rattle.tq_ops.specs.Conditions.{value_at}
+use Rattle.tq_base.specs.RowValues.{value_at}
 use Rattle.tq_workers.specs.Shares.{share_of}
 use Rattle.tq_workers.proofs.StretchLemmas.{stretches_told}
 use Rattle.tq_workers.proofs.telling.told_by.Goals as goal

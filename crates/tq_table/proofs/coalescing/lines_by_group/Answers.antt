@@ -1,6 +1,5 @@
 use Rattle.std.proofs.Common.{◌≡◌, ◌≢◌, ℕ, ◌+◌, ◌-◌, ◌<◌, ◌≤◌, List, [], ◌∷◌, refl, sym, ap, ◌∙◌, subst, arith, drop, take, get_or, length, map}
 use Rattle.std.specs.Prelude.{All}
-use Rattle.std.specs.List.{range_with_len}
 use Rattle.std.proofs.lemmas.List.{drop_all, drop-drop, drop-map, get_or-map, length-drop, length-map, take_rest, take-map}
 use Rattle.std.proofs.lemmas.List.Elements.{All-drop, All-head, All-nil, All-tail, All-take}
 use Rattle.tq_base.specs.declared.value.Value.{Value}
@@ -11,12 +10,13 @@ use Rattle.tq_base.specs.declared.sides.Key.{Key}
 use Rattle.tq_base.specs.declared.sides.Side.TheVariants as side
 use Rattle.tq_base.specs.Groups.{grouping_ends, Grouping}
 use Rattle.tq_base.specs.KeyLaws.{marks_rest}
+use Rattle.tq_base.specs.KeySides.{state_of}
 use Rattle.tq_base.specs.Keys.{key_row, key_values, no_row, rows_on, IsKey, SidesState}
 use Rattle.tq_base.specs.Layering.{AddsLayers}
 use Rattle.tq_base.specs.Relations.{line_of}
 use Rattle.tq_table.specs.Ahead.{periods_of_keys}
 use Rattle.tq_table.proofs.KeyGroups.{all_stand, all_whole, grouping_starts, end_key, takes_group, AreWhole}
-use Rattle.tq_table.proofs.coalescing.lines_of.Goals as goal
+use Rattle.tq_table.proofs.coalescing.lines_by_group.Goals as goal
 
 abbrev when : Fragment → Period
 when row = row.period
@@ -43,40 +43,38 @@ cut s keys periods start len are =
 
 pub groups-init : goal.groups-init
 groups-init c =
-    let rows = c.args.rows.now.items in
-    let keys = c.in_ok-keys.keys.items in
-    let s : SidesState = record { left = rows; right = rows; left_columns = c.deref.result.now; right_columns = c.deref-2.result.now } in
-    let columns : s.left_columns ≡ range_with_len 0 c.args.rows.now.width = c.deref.ensures.value ∙ c.in_ok-columns.ensures ∙ ap (range_with_len 0) c.width.ensures.width in
-    let are_whole : AreWhole s keys = all_whole s c.args.rows.now.width keys columns c.width.ensures.rows c.in_ok-keys.ensures.keys c.in_ok-keys.ensures.left in
+    let rows = c.args.sides.now.left.now.items in
+    let keys = c.args.keys.now in
+    let s : SidesState = state_of c.args.sides.now in
+    let are_whole : AreWhole s keys = all_whole s c.args.sides.now.left.now.width keys c.requires.columns c.width.ensures.rows c.requires.keys.keys_are c.requires.keys.left in
     record {
       within = omega arith;
       stand = rw c.in_ok-table.ensures (All-nil (λ (line : Line). line.row < length rows));
       from = rw c.new-ahead.ensures.from (omega arith);
       ahead = c.new-ahead.ensures.ahead (map when rows) keys;
-      grouping = rw c.in_ok-table.ensures (grouping_starts s rows keys c.in_ok-keys.ensures.rows are_whole c.in_ok-keys.ensures.rises);
+      grouping = rw c.in_ok-table.ensures (grouping_starts s rows keys c.requires.keys.rows are_whole c.requires.keys.rises);
     }
 
 pub run_len-requires : goal.run_len-requires
 run_len-requires c =
-    let rows = c.args.rows.now.items in
-    let keys = c.in_ok-keys.keys.items in
+    let rows = c.args.sides.now.left.now.items in
+    let keys = c.args.keys.now in
     let start = c.groups.start in
-    let s : SidesState = record { left = rows; right = rows; left_columns = c.deref.result.now; right_columns = c.deref-2.result.now } in
+    let s : SidesState = state_of c.args.sides.now in
     record {
-      keys = rw (c.deref-in-groups.ensures.value, take_rest keys start) (All-drop (IsKey s) start keys c.in_ok-keys.ensures.keys);
-      marks = rw (c.deref-in-groups.ensures.value, take_rest keys start) (marks_rest s keys start c.in_ok-keys.ensures.marks);
+      keys = rw (take_rest keys start) (All-drop (IsKey s) start keys c.requires.keys.keys_are);
+      marks = rw (take_rest keys start) (marks_rest s keys start c.requires.keys.marks);
     }
 
 pub add_layers-requires-clause-stand : goal.add_layers-requires-clause-stand
 add_layers-requires-clause-stand c =
-    let rows = c.args.rows.now.items in
-    let keys = c.in_ok-keys.keys.items in
+    let rows = c.args.sides.now.left.now.items in
+    let keys = c.args.keys.now in
     let start = c.groups.start in
     let len = c.groups.start + c.run_len.result - c.groups.start in
-    let s : SidesState = record { left = rows; right = rows; left_columns = c.deref.result.now; right_columns = c.deref-2.result.now } in
+    let s : SidesState = state_of c.args.sides.now in
     let Stands : Key → Type 0 = λ (k : Key). k.row < length rows in
-    subst (λ (l : List Key). All Stands (take len (drop start l))) (sym c.deref-in-groups-3.ensures.value)
-    (All-take Stands len (drop start keys) (All-drop Stands start keys (all_stand s keys c.in_ok-keys.ensures.keys c.in_ok-keys.ensures.left)))
+    All-take Stands len (drop start keys) (All-drop Stands start keys (all_stand s keys c.requires.keys.keys_are c.requires.keys.left))
 
 -- all keys name rows
 stand_all : (rows : List Fragment) (s : SidesState) (keys : List Key) (periods : List Period) (lent : List Key) → s.left ≡ rows → periods ≡ map when rows → lent ≡ keys
@@ -86,60 +84,59 @@ stand_all rows s keys periods lent same periods_are keys_are is left =
 
 pub look_up-requires-clause-stand : goal.look_up-requires-clause-stand
 look_up-requires-clause-stand c =
-    let rows = c.args.rows.now.items in
-    let keys = c.in_ok-keys.keys.items in
-    let s : SidesState = record { left = rows; right = rows; left_columns = c.deref.result.now; right_columns = c.deref-2.result.now } in
-    stand_all rows s keys c.periods-periods.result.now c.deref-in-groups-2.result.now refl c.periods-periods.ensures c.deref-in-groups-2.ensures.value c.in_ok-keys.ensures.keys c.in_ok-keys.ensures.left
+    let rows = c.args.sides.now.left.now.items in
+    let keys = c.args.keys.now in
+    let s : SidesState = state_of c.args.sides.now in
+    stand_all rows s keys c.periods-periods.result.now c.args.keys.now refl c.periods-periods.ensures refl c.requires.keys.keys_are c.requires.keys.left
 
 pub look_up-requires-clause-from : goal.look_up-requires-clause-from
 look_up-requires-clause-from c = c.groups.invariant.from
 
 pub look_up-requires-clause-ahead : goal.look_up-requires-clause-ahead
-look_up-requires-clause-ahead c = rw (c.periods-periods.ensures, c.deref-in-groups-2.ensures.value) c.groups.invariant.ahead
+look_up-requires-clause-ahead c = rw c.periods-periods.ensures c.groups.invariant.ahead
 
 pub add_layers-requires-clause-periods : goal.add_layers-requires-clause-periods
 add_layers-requires-clause-periods c =
-    let rows = c.args.rows.now.items in
-    let keys = c.in_ok-keys.keys.items in
+    let rows = c.args.sides.now.left.now.items in
+    let keys = c.args.keys.now in
     let start = c.groups.start in
     let len = c.groups.start + c.run_len.result - c.groups.start in
-    let s : SidesState = record { left = rows; right = rows; left_columns = c.deref.result.now; right_columns = c.deref-2.result.now } in
-    let stand : All (λ (k : Key). k.row < length rows) keys = all_stand s keys c.in_ok-keys.ensures.keys c.in_ok-keys.ensures.left in
-    let all = periods_of_keys c.periods-periods.result.now c.deref-in-groups-2.result.now in
-    let told : all ≡ map (λ (k : Key). get_or (map when rows) k.row no_row.period) keys = rw (c.periods-periods.ensures, c.deref-in-groups-2.ensures.value) refl in
-    let are = told ∙ periods_are s keys c.in_ok-keys.ensures.left stand in
-    c.between.ensures c.periods-periods.result.now c.deref-in-groups-2.result.now c.in_ok-look_up.ensures.ahead
-    ∙ rw c.deref-in-groups-3.ensures.value (cut s keys all start len are)
+    let s : SidesState = state_of c.args.sides.now in
+    let stand : All (λ (k : Key). k.row < length rows) keys = all_stand s keys c.requires.keys.keys_are c.requires.keys.left in
+    let all = periods_of_keys c.periods-periods.result.now c.args.keys.now in
+    let told : all ≡ map (λ (k : Key). get_or (map when rows) k.row no_row.period) keys = rw c.periods-periods.ensures refl in
+    let are = told ∙ periods_are s keys c.requires.keys.left stand in
+    c.between.ensures c.periods-periods.result.now c.args.keys.now c.in_ok-look_up.ensures.ahead
+    ∙ cut s keys all start len are
 
 pub groups-preserved : goal.groups-preserved
 groups-preserved c =
-    let rows = c.args.rows.now.items in
-    let keys = c.in_ok-keys.keys.items in
-    let s : SidesState = record { left = rows; right = rows; left_columns = c.deref.result.now; right_columns = c.deref-2.result.now } in
-    let columns : s.left_columns ≡ range_with_len 0 c.args.rows.now.width = c.deref.ensures.value ∙ c.in_ok-columns.ensures ∙ ap (range_with_len 0) c.width.ensures.width in
-    let are_whole : AreWhole s keys = all_whole s c.args.rows.now.width keys columns c.width.ensures.rows c.in_ok-keys.ensures.keys c.in_ok-keys.ensures.left in
+    let rows = c.args.sides.now.left.now.items in
+    let keys = c.args.keys.now in
+    let s : SidesState = state_of c.args.sides.now in
+    let are_whole : AreWhole s keys = all_whole s c.args.sides.now.left.now.width keys c.requires.columns c.width.ensures.rows c.requires.keys.keys_are c.requires.keys.left in
     let start = c.groups.start in
     let len = c.run_len.result in
     let rest = drop start keys in
     let table = map (line_of rows) c.groups.table in
     let new = map (line_of rows) c.add_layers.new.table in
-    let run_within : len ≤ length rest = rw (c.deref-in-groups.ensures.value, take_rest keys start) at c.run_len.ensures.within in
-    let alike : All (λ k. key_values s k ≡ key_values s (get_or rest 0 end_key)) (take len rest) = rw (c.deref-in-groups.ensures.value, take_rest keys start) at (c.run_len.ensures.alike end_key) in
-    let ends : len < length rest → key_values s (get_or rest len end_key) ≢ key_values s (get_or rest 0 end_key) = rw (c.deref-in-groups.ensures.value, take_rest keys start) at (c.run_len.ensures.ends end_key) in
+    let run_within : len ≤ length rest = rw (take_rest keys start) at c.run_len.ensures.within in
+    let alike : All (λ k. key_values s k ≡ key_values s (get_or rest 0 end_key)) (take len rest) = rw (take_rest keys start) at (c.run_len.ensures.alike end_key) in
+    let ends : len < length rest → key_values s (get_or rest len end_key) ≢ key_values s (get_or rest 0 end_key) = rw (take_rest keys start) at (c.run_len.ensures.ends end_key) in
     let len_is : start + len - start ≡ len = omega arith in
     let adds : (u : List Value) → All (λ k. (key_row s k).values ≡ u) (take len rest) → AddsLayers u (map (key_row s) (take len rest)) table new =
-    rw (c.deref-in-groups-3.ensures.value, len_is) at c.in_ok-add_layers.ensures.layers in
+    rw len_is at c.in_ok-add_layers.ensures.layers in
     record {
       within = omega (arith, run_within, length-drop start keys, c.groups.invariant.within);
       stand = c.in_ok-add_layers.ensures.within c.groups.invariant.stand;
       from = omega (arith, c.in_ok-look_up.ensures.from);
-      ahead = rw (c.periods-periods.ensures, c.deref-in-groups-2.ensures.value) at c.in_ok-look_up.ensures.ahead;
+      ahead = rw c.periods-periods.ensures at c.in_ok-look_up.ensures.ahead;
       grouping = subst (λ l. Grouping rows (map (key_row s) l) new) (drop-drop len start keys)
           (takes_group s rest len (All-drop (λ k. key_values s k ≡ (key_row s k).values) start keys are_whole) rows table new c.groups.invariant.grouping alike ends adds);
     }
 
 pub returns-clause-layers : goal.returns-clause-layers
 returns-clause-layers c =
-    let keys = c.in_ok-keys.keys.items in
-    let done : length keys ≤ c.groups.start = omega (arith, c.groups-test.false, c.len-in-groups.ensures) in
-    grouping_ends c.args.rows.now.items (map (line_of c.args.rows.now.items) c.groups.table) (rw (drop_all c.groups.start keys done) at c.groups.invariant.grouping)
+    let keys = c.args.keys.now in
+    let done : length keys ≤ c.groups.start = omega (arith, c.groups-test.false) in
+    grouping_ends c.args.sides.now.left.now.items (map (line_of c.args.sides.now.left.now.items) c.groups.table) (rw (drop_all c.groups.start keys done) at c.groups.invariant.grouping)

@@ -7,16 +7,16 @@ use Rattle.tq_base.specs.Keys.{key_row}
 use Rattle.tq_base.specs.KeySides.{state_of}
 use Rattle.tq_base.specs.Relations.{line_of}
 use Rattle.tq_table.specs.Ahead.{AreAhead}
-use Rattle.tq_table.proofs.coalescing.lines_of.Given as goal
+use Rattle.tq_table.proofs.coalescing.lines_by_group.Given as goal
 
 abbrev pub invariant-groups : goal.invariant-groups
 invariant-groups l = record {
-  within : l.start ≤ length l.keys.items;
-  stand : All (λ (line : Line). line.row < length l.fn.rows.items) l.table;
+  within : l.start ≤ length l.fn.keys;
+  stand : All (λ (line : Line). line.row < length l.fn.sides.left.now.items) l.table;
   from : l.ahead.from ≤ l.start;
-  ahead : AreAhead (map (λ (row : Fragment). row.period) l.fn.rows.items) l.keys.items l.ahead;
-  grouping : Grouping l.fn.rows.items (map (key_row (state_of l.sides)) (drop l.start l.keys.items)) (map (line_of l.fn.rows.items) l.table);
+  ahead : AreAhead (map (λ (row : Fragment). row.period) l.fn.sides.left.now.items) l.fn.keys l.ahead;
+  grouping : Grouping l.fn.sides.left.now.items (map (key_row (state_of l.fn.sides)) (drop l.start l.fn.keys)) (map (line_of l.fn.sides.left.now.items) l.table);
 }
 
 abbrev pub decreases-groups : goal.decreases-groups
-decreases-groups l = length l.keys.items - l.start
+decreases-groups l = length l.fn.keys - l.start
