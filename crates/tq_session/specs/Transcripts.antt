@@ -15,7 +15,7 @@ use Rattle.tq_plan.specs.Plans.{plan_of}
 use Rattle.tq_sql.specs.declared.fault.SqlFaultKind.TheVariants as sql
 use Rattle.tq_sql.specs.declared.statement.Statement.{Statement}
 use Rattle.tq_sql.specs.Reading.{IsSqlFault, Makes}
-use Rattle.tq_store.specs.OpenIndex.{next_row}
+use Rattle.tq_snapshot.specs.OpenIndex.{next_row}
 use Rattle.tq_table.specs.declared.table.Table.{Table}
 use Rattle.tq_table.specs.Text.{text_of}
 use Rattle.tq_eval.specs.Answers.{IsAnswer}

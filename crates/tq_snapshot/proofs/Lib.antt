@@ -2,3 +2,8 @@ pub mod FrontLemmas
 pub mod BookLemmas
 pub mod HandingLemmas
 pub mod WriterLemmas
+pub mod OpenRowsLemmas
+pub mod SetLemmas
+pub mod OpenLemmas
+pub mod FirstLemmas
+pub mod OpenIndexLemmas

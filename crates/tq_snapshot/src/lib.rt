@@ -7,11 +7,15 @@
 #![tactic(auto)]
 
 mod book;
+mod digest;
 mod entering;
 mod faults;
 mod handing;
+mod key;
 pub mod laws;
 mod note;
+mod open_index;
+mod open_rows;
 mod opening;
 mod published;
 mod reader;

@@ -6,13 +6,13 @@ ghost use Rattle.tq_event.specs.History.{IsHistory};
 use crate::book::{Naming, Opened};
 use crate::faults::OpenFault;
 use crate::handing::{SharedWriter, commit};
+use crate::open_index::OpenIndex;
 use crate::reader::Reader;
 use crate::shared::Shared;
 use crate::writer::Writer;
 use std::alloc::{AllocError, Global};
 use tq_base::Catalogue;
 use tq_event::Event;
-use tq_store::OpenIndex;
 
 impl<J: Naming> Writer<J> {
     // The writer of a store that holds these events.

@@ -15,15 +15,12 @@ use std::marker::Model;
 use std::thread::Threads;
 use tq_base::Catalogue;
 use tq_eval::answer;
-use tq_event::Event;
+use tq_event::{Event, MAX_EVENTS};
 use tq_plan::Plan;
 use tq_run::Gate;
 use tq_store::Db;
 use tq_table::Table;
 use tq_workers::answer_with;
-
-/// The most events that a store holds.
-const MAX_EVENTS: usize = 16_777_216;
 
 /// An event, beside the beginning of the history that ends with it.
 #[derive(Drop)]
@@ -163,7 +160,7 @@ impl Shared {
         ensures ok { OnOk result (self.new ≡ absorbed self.old entry.now) }
         ensures err { OnErr result (self.new ≡ self.old) }
     {
-        if self.db.events().len() >= MAX_EVENTS {
+        if self.db.events().len() >= MAX_EVENTS as usize {
             return Err(AllocError);
         }
         if !self.db.apply(&entry.event)? {

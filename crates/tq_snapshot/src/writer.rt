@@ -2,23 +2,23 @@
 
 ghost use Rattle.std.specs.Prelude.{◌≡◌, ◌-◌, ◌<◌, ◌≤◌, ◌∷◌, [], ◌++◌, length, slice_get, None, Some, IfSome, IsSomeAnd, OnOk, OnErr, MatchBool, MatchOption, MatchResult};
 ghost use Rattle.tq_event.specs.declared.event.Event.{Event};
-ghost use Rattle.tq_event.specs.History.{IsAdmissible, IsHistory, IsNotBefore, IsOpenBefore, time_of};
+ghost use Rattle.tq_event.specs.History.{IsAdmissible, IsHistory, IsNotBefore, IsOpenBefore};
 ghost use Rattle.tq_event.specs.Opening.{open_row};
 ghost use Rattle.tq_event.specs.Recorded.{HasTable};
-ghost use Rattle.tq_store.specs.OpenIndex.{next_row};
+ghost use Rattle.tq_snapshot.specs.OpenIndex.{next_row};
 ghost use Rattle.tq_snapshot.specs.Calls.{IsLater, MayEnd, MayStart, Precludes, RefusesEnd, RefusesStart, RefusesTable, Shown, all_of};
 
 use crate::book::{Book, Front, Naming};
 use crate::faults::AppendFault;
 use crate::handing::{SharedWriter, commit, hand_over, show};
 use crate::note::Note;
+use crate::open_index::OpenIndex;
 use core::mem::ManuallyDrop;
 use std::alloc::AllocError;
 use std::marker::{Model, PhantomData};
 use std::sync::Wait;
 use tq_base::{Catalogue, Instant, Values};
 use tq_event::Event;
-use tq_store::OpenIndex;
 
 /// The writer of the store: it appends events, which are pending until it publishes them. Contracts see it as its
 /// published events, its pending ones, and how many there may be in all.
@@ -34,7 +34,7 @@ pub struct Writer<J: Naming> {
 
 impl<J: Naming> Model for Writer<J> {
     ghost use Rattle.std.specs.Prelude.{◌≡◌, ◌++◌, drop, length};
-    ghost use Rattle.tq_store.specs.OpenIndex.{IsOpenIndex, table_count};
+    ghost use Rattle.tq_snapshot.specs.OpenIndex.{IsOpenIndex, table_count};
     ghost use Rattle.tq_snapshot.specs.Calls.{Shown};
     ghost use Rattle.tq_snapshot.specs.Sound.{IsSound};
 
@@ -77,22 +77,13 @@ fn fits(catalogue: &Catalogue, table: u32, values: &Values) -> Result<(), Append
     }
 }
 
-fn time(event: &Event) -> Instant
-    ensures { result ≡ time_of event.now }
-{
-    match event {
-        Event::Start { at, .. } => *at,
-        Event::End { at, .. } => *at,
-    }
-}
-
 // The time of the last event of both lists, where it is later than the instant.
 fn later(published: &[Event], pending: &[Event], at: Instant) -> Option<Instant>
     ensures { MatchOption result (IsNotBefore (published.now ++ pending.now) at) (λ last. IsLater (published.now ++ pending.now) at last) }
 {
     let last = match pending.last() {
-        Some(last) => time(last),
-        None => time(published.last()?),
+        Some(last) => last.at(),
+        None => published.last()?.at(),
     };
     if at < last { Some(last) } else { None }
 }

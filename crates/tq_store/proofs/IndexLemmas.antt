@@ -1,8 +1,7 @@
--- The index of a table after one more event, and which rows it tells to be open.
-use Rattle.std.proofs.Common.{◌≡◌, ◌≢◌, ℕ, zero, suc, ◌+◌, ◌*◌, ◌%◌, ◌<◌, ◌≤◌, ◌==◌, ◌&&◌, not, Bool, true, false, List, [], ◌∷◌, ◌++◌, Option, Some, None, length, map, slice_get, slice_set, refl, sym, ap, subst, ◌∙◌, ◌⊎◌, inl, inr, arith, rules, length-append}
-use Rattle.std.specs.Prelude.{◌||◌, IfSome, IsSomeAnd, FitsSigned, OnOk, OnErr, Result, Ok, Err, is_some}
-use Rattle.std.specs.Option.{option_map, option_map_or}
-use Rattle.std.specs.Ordering.{eq_by_cmp, nat_cmp}
+-- The index of a table after one more event, and which rows are open by it.
+use Rattle.std.proofs.Common.{◌≡◌, ◌≢◌, ℕ, zero, suc, ◌+◌, ◌*◌, ◌<◌, ◌≤◌, ◌==◌, Bool, true, false, List, [], ◌∷◌, ◌++◌, Option, Some, None, length, map, slice_get, slice_set, refl, sym, ap, subst, ◌∙◌, ◌⊎◌, inl, inr, arith, rules, length-append}
+use Rattle.std.specs.Prelude.{IfSome, IsSomeAnd, FitsSigned, OnOk, OnErr, Result, Ok, Err, is_some}
+use Rattle.std.specs.Option.{option_map}
 use Rattle.std.specs.Int.{w64}
 use Rattle.std.proofs.lemmas.Bool.{eqb-true}
 use Rattle.std.proofs.lemmas.Option.{slice_get-map, slice_get_within, slice_get_past}
@@ -21,11 +20,8 @@ use Rattle.tq_mvbt.specs.TreeState.{HasLife, TreeState, lives_of}
 use Rattle.tq_store.specs.declared.index.Index.{Index}
 use Rattle.tq_store.specs.declared.index.RowEvents.{RowEvents}
 use Rattle.tq_base.specs.KeyRanges.{key_of}
-use Rattle.tq_store.specs.Digests.{digest_of}
 use Rattle.tq_store.specs.Keys.{shifted, tree_key}
-use Rattle.tq_store.specs.Index.{AreIndexes, AreOpenRows, Begins, Ends, HasRows, IsIndexOf, IsKeyOf, IsOpenAt, IsRowLife, dead_of, ended, events_of, is_open_as, is_open_under, values_kept, values_of, widths_of}
-use Rattle.tq_store.specs.Open.{HasSame, has, place_key}
-use Rattle.tq_store.proofs.OpenRowsLemmas.{and-false, and-yes, number_other, or-false, place_row}
+use Rattle.tq_store.specs.Index.{AreIndexes, Begins, Ends, HasRows, IsIndexOf, IsKeyOf, IsOpenAt, IsRowLife, dead_of, ended, events_of, values_kept, values_of, widths_of}
 use Rattle.tq_store.proofs.LifeLemmas.{IsTold, StandsAt, ended_at, eqb-other, eqb-same, lives_end, lives_other, lives_start, lives_told}
 
 -- ---- lists
@@ -223,64 +219,6 @@ pub same_rows : (ls : List Life) (c version : ℕ) (nodes : List NodeState) → 
 same_rows ls c version nodes has =
     record { each = has.each; only = has.only; begun = has.begun; rows = has.rows; up_to = let le = has.up_to in omega (arith, le); few = let le = has.few in omega (arith, le) }
 
--- ---- open rows
-
-get_push_other : {X : Type 0} → (xs : List X) (y : X) (i : ℕ) → i ≢ length xs → slice_get (xs ++ y ∷ []) i ≡ slice_get xs i
-get_push_other [] y zero other = absurd (other refl)
-get_push_other [] y (suc i) other = refl
-get_push_other (x ∷ xs) y zero other = refl
-get_push_other (x ∷ xs) y (suc i) other = get_push_other xs y i (λ same. other (ap suc same))
-
--- whether the rows of a list with one more row are open
-pub open_push : (ls : List Life) (l : Life) (k : ℕ) → length ls < 4294967296 → is_open_under (ls ++ l ∷ []) k ≡ (is_open_under ls k || (not (is_some l.ending) && eq_by_cmp nat_cmp (place_key l.values (length ls)) k))
-open_push ls l k small = by (k % 4294967296 == length ls) refl
-  where
-    last : Bool
-    last = not (is_some l.ending) && eq_by_cmp nat_cmp (place_key l.values (length ls)) k
-
-    by : (b : Bool) → (k % 4294967296 == length ls) ≡ b → is_open_under (ls ++ l ∷ []) k ≡ (is_open_under ls k || (not (is_some l.ending) && eq_by_cmp nat_cmp (place_key l.values (length ls)) k))
-    by true is =
-        let at_last : k % 4294967296 ≡ length ls = eqb-true (k % 4294967296) (length ls) is in
-        let with_it : is_open_under (ls ++ l ∷ []) k ≡ last =
-        ap (λ r. option_map_or (is_open_as k) (slice_get (ls ++ l ∷ []) r) false) at_last ∙ ap (λ o. option_map_or (is_open_as k) o false) (get_last ls l)
-        ∙ ap (λ r. not (is_some l.ending) && eq_by_cmp nat_cmp (place_key l.values r) k) at_last in
-        let without : is_open_under ls k ≡ false =
-        ap (λ r. option_map_or (is_open_as k) (slice_get ls r) false) at_last ∙ ap (λ o. option_map_or (is_open_as k) o false) (slice_get_past ls (length ls) (omega arith)) in
-        with_it ∙ sym (ap (λ b. b || last) without)
-    by false is =
-        let other : k % 4294967296 ≢ length ls = λ same. let wrong : true ≡ false = sym (eqb-same (k % 4294967296)) ∙ ap (λ n. k % 4294967296 == n) same ∙ is in cc in
-        let away = number_other (place_key l.values (length ls)) k (λ same. other (sym (ap (λ n. n % 4294967296) same) ∙ place_row l.values (length ls) small)) in
-        ap (λ o. option_map_or (is_open_as k) o false) (get_push_other ls l (k % 4294967296) other) ∙ sym (or-false (is_open_under ls k))
-        ∙ sym (ap (λ b. is_open_under ls k || b) (ap (λ b. not (is_some l.ending) && b) away ∙ and-false (not (is_some l.ending))))
-
-shut : (a e : Bool) → ((a && e) && not e) ≡ false
-shut true true = refl
-shut true false = refl
-shut false true = refl
-shut false false = refl
-
--- whether the rows of a list are open of which one ended
-pub open_set : (ls : List Life) (i : ℕ) (l new : Life) (k : ℕ) → i < 4294967296 → slice_get ls i ≡ Some l → is_open_as k new ≡ false
-    → is_open_under (slice_set ls i new) k ≡ (is_open_under ls k && not (eq_by_cmp nat_cmp (place_key l.values i) k))
-open_set ls i l new k small stands ended = by (k % 4294967296 == i) refl
-  where
-    by : (b : Bool) → (k % 4294967296 == i) ≡ b → is_open_under (slice_set ls i new) k ≡ (is_open_under ls k && not (eq_by_cmp nat_cmp (place_key l.values i) k))
-    by true is =
-        let at_i : k % 4294967296 ≡ i = eqb-true (k % 4294967296) i is in
-        let test : Bool = eq_by_cmp nat_cmp (place_key l.values i) k in
-        let old_one : is_open_under ls k ≡ (not (is_some l.ending) && test) =
-        ap (λ r. option_map_or (is_open_as k) (slice_get ls r) false) at_i ∙ ap (λ o. option_map_or (is_open_as k) o false) stands
-        ∙ ap (λ r. not (is_some l.ending) && eq_by_cmp nat_cmp (place_key l.values r) k) at_i in
-        ap (λ r. option_map_or (is_open_as k) (slice_get (slice_set ls i new) r) false) at_i
-        ∙ ap (λ o. option_map_or (is_open_as k) o false) (get_set_same ls i new (slice_get_within ls i l stands)) ∙ ended
-        ∙ sym (shut (not (is_some l.ending)) test)
-        ∙ sym (ap (λ b. b && not test) old_one)
-    by false is =
-        let other : k % 4294967296 ≢ i = λ same. let wrong : true ≡ false = sym (eqb-same (k % 4294967296)) ∙ ap (λ n. k % 4294967296 == n) same ∙ is in cc in
-        let away = number_other (place_key l.values i) k (λ same. other (sym (ap (λ n. n % 4294967296) same) ∙ place_row l.values i small)) in
-        ap (λ o. option_map_or (is_open_as k) o false) (get_set_other ls i (k % 4294967296) new other) ∙ sym (and-yes (is_open_under ls k))
-        ∙ sym (ap (λ b. is_open_under ls k && not b) away)
-
 -- ---- the index of a table
 
 pub length_push : {X : Type 0} → (xs : List X) (x : X) → length (xs ++ x ∷ []) ≡ length xs + 1
@@ -294,22 +232,17 @@ rows_counted es t index is = ap length is.rows ∙ mapped (row_lives es t)
     mapped (l ∷ ls) = ap suc (mapped ls)
 
 pub index_start : (es : List Event) (t : ℕ) (v : List Value) (at : ℕ) (old new : Index) → length es < 16777216 → IsIndexOf es t old → FitsSigned w64 (key_of v) → at < FOREVER
-    → new.rows.items ≡ old.rows.items ++ record { start = length es; end = None; digest = digest_of v; from = at; to = FOREVER; key = shifted (key_of v) } ∷ [] → Begins old.tree new.tree (tree_key v (length old.rows.items)) (length es + 1)
-    → ((k : ℕ) → has new.opened k ≡ (has old.opened k || eq_by_cmp nat_cmp (place_key v (length old.rows.items)) k))
+    → new.rows.items ≡ old.rows.items ++ record { start = length es; end = None; from = at; to = FOREVER; key = shifted (key_of v) } ∷ [] → Begins old.tree new.tree (tree_key v (length old.rows.items)) (length es + 1)
     → values_of new.kept.items ≡ values_of old.kept.items ++ v ∷ []
     → IsIndexOf (es ++ Start t v at ∷ []) t new
-index_start es t v at old new small is fits less rows begins opened kept = record {
-  rows = rows ∙ ap (λ r. r ++ record { start = length es; end = None; digest = digest_of v; from = at; to = FOREVER; key = shifted (key_of v) } ∷ []) is.rows ∙ sym (map-append events_of (row_lives es t) (l ∷ [])) ∙ sym (ap (map events_of) more);
+index_start es t v at old new small is fits less rows begins kept = record {
+  rows = rows ∙ ap (λ r. r ++ record { start = length es; end = None; from = at; to = FOREVER; key = shifted (key_of v) } ∷ []) is.rows ∙ sym (map-append events_of (row_lives es t) (l ∷ [])) ∙ sym (ap (map events_of) more);
   kept = kept ∙ ap (λ vs. vs ++ v ∷ []) is.kept ∙ sym (map-append (λ (x : Life). x.values) (row_lives es t) (l ∷ [])) ∙ sym (ap (map (λ (x : Life). x.values)) more);
   tree = subst (λ ls. HasRows ls (length (es ++ Start t v at ∷ [])) new.tree.version new.tree.nodes) (sym more)
       (subst (λ c. HasRows (row_lives es t ++ l ∷ []) c new.tree.version new.tree.nodes) (sym (length_push es (Start t v at)))
       (begun_rows (row_lives es t) (length es) old.tree new.tree l small is.tree
       (subst (λ n. Begins old.tree new.tree (tree_key v n) (length es + 1)) (rows_counted es t old is) begins) refl refl
       (record { key = fits; finite = less; lasts = tt; ends = tt })));
-  opened = λ k.
-      opened k ∙ ap (λ b. b || eq_by_cmp nat_cmp (place_key v (length old.rows.items)) k) (is.opened k)
-      ∙ ap (λ n. is_open_under (row_lives es t) k || eq_by_cmp nat_cmp (place_key v n) k) (rows_counted es t old is)
-      ∙ sym (open_push (row_lives es t) l k (let le = is.tree.few in omega (arith, le, small))) ∙ sym (ap (λ ls. is_open_under ls k) more);
 }
   where
     l : Life
@@ -321,10 +254,9 @@ index_start es t v at old new small is fits less rows begins opened kept = recor
 pub index_end : (es : List Event) (t row at : ℕ) (old new : Index) (l : Life) → length es < 16777216 → IsIndexOf es t old → at < FOREVER
     → slice_get (row_lives es t) row ≡ Some l → l.ending ≡ None → l.from < at
     → new.rows.items ≡ slice_set old.rows.items row (ended (length es) at (events_of l)) → Ends old.tree new.tree (tree_key l.values row) (length es + 1)
-    → ((k : ℕ) → has new.opened k ≡ (has old.opened k && not (eq_by_cmp nat_cmp (place_key l.values row) k)))
     → new.kept ≡ old.kept
     → IsIndexOf (es ++ End t row at ∷ []) t new
-index_end es t row at old new l small is finite stands none less rows ends opened kept = record {
+index_end es t row at old new l small is finite stands none less rows ends kept = record {
   rows = rows ∙ ap (λ r. slice_set r row (ended (length es) at (events_of l))) is.rows ∙ sym (map_set events_of (row_lives es t) row (ended_at (length es) at l)) ∙ sym (ap (map events_of) more);
   kept = ap (λ (r : RowList). values_of r.items) kept ∙ is.kept
       ∙ sym (set_same (values_kept es t) row l.values (slice_get-map (λ (x : Life). x.values) (row_lives es t) row ∙ ap (option_map (λ (x : Life). x.values)) stands))
@@ -333,10 +265,6 @@ index_end es t row at old new l small is finite stands none less rows ends opene
       (subst (λ c. HasRows (slice_set (row_lives es t) row (ended_at (length es) at l)) c new.tree.version new.tree.nodes) (sym (length_push es (End t row at)))
       (ended_rows (row_lives es t) (length es) row at old.tree new.tree l small is.tree stands none ends
       (record { key = good.key; finite = good.finite; lasts = (less, earlier); ends = finite })));
-  opened = λ k.
-      opened k ∙ ap (λ b. b && not (eq_by_cmp nat_cmp (place_key l.values row) k)) (is.opened k)
-      ∙ sym (open_set (row_lives es t) row l (ended_at (length es) at l) k (let within = slice_get_within (row_lives es t) row l stands in let le = is.tree.few in omega (arith, within, le, small)) stands refl)
-      ∙ sym (ap (λ ls. is_open_under ls k) more);
 }
   where
     good : IsRowLife l
@@ -354,20 +282,17 @@ index_other es t e index is other = record {
   kept = is.kept ∙ sym (ap (map (λ (x : Life). x.values)) same);
   tree = subst (λ ls. HasRows ls (length (es ++ e ∷ [])) index.tree.version index.tree.nodes) (sym same)
       (subst (λ c. HasRows (row_lives es t) c index.tree.version index.tree.nodes) (sym (length_push es e)) (same_rows (row_lives es t) (length es) index.tree.version index.tree.nodes is.tree));
-  opened = λ k. is.opened k ∙ sym (ap (λ ls. is_open_under ls k) same);
 }
   where
     same : row_lives (es ++ e ∷ []) t ≡ row_lives es t
     same = lives_other t 0 0 es e other
 
 -- an index that is seen as another one
-pub index_like : (es : List Event) (t : ℕ) (old new : Index) → new.tree ≡ old.tree → new.rows.items ≡ old.rows.items → new.kept.items ≡ old.kept.items → HasSame old.opened new.opened → IsIndexOf es t old
-    → IsIndexOf es t new
-index_like es t old new tree rows kept open_like is = record {
+pub index_like : (es : List Event) (t : ℕ) (old new : Index) → new.tree ≡ old.tree → new.rows.items ≡ old.rows.items → new.kept.items ≡ old.kept.items → IsIndexOf es t old → IsIndexOf es t new
+index_like es t old new tree rows kept is = record {
   rows = rows ∙ is.rows;
   kept = ap values_of kept ∙ is.kept;
   tree = subst (λ (s : TreeState). HasRows (row_lives es t) (length es) s.version s.nodes) (sym tree) is.tree;
-  opened = λ k. open_like k ∙ is.opened k;
 }
 
 -- ---- the indexes of all tables
@@ -419,29 +344,7 @@ end_stands es t row l e stands is =
     let told = subst (λ o. IfSome o (λ (x : Ending). StandsAt es 0 x.event (End t row x.at))) is (row_told es t row l stands).ending in
     ap (slice_get es) (let number = told.number_is in omega (arith, number)) ∙ told.event_is
 
--- the keys of the open rows are those of the table
-pub open_rows : (es : List Event) (t : ℕ) (index : Index) → IsIndexOf es t index → AreOpenRows es t index.opened
-open_rows es t index is = record { few = is.tree.few; opened = is.opened }
-
--- no open row has the number of the next one
-pub not_yet_open : (es : List Event) (t : ℕ) (index : Index) → length es < 16777216 → IsIndexOf es t index → (v : List Value) → has index.opened (place_key v (length index.rows.items)) ≡ false
-not_yet_open es t index small is v =
-    let key : ℕ = place_key v (length index.rows.items) in
-    let len = rows_counted es t index is in
-    let le = is.tree.few in
-    is.opened key
-    ∙ ap (λ r. option_map_or (is_open_as key) (slice_get (row_lives es t) r) false) (place_row v (length index.rows.items) (omega (arith, len, le, small)))
-    ∙ ap (λ o. option_map_or (is_open_as key) o false) (slice_get_past (row_lives es t) (length index.rows.items) (omega (arith, len)))
-
 -- ---- results
-
-pub on_four : {T E : Type 0} → (r : Result T E) {P Q R S U : Type 0} → OnOk r P → OnOk r Q → OnOk r R → OnOk r S → (P → Q → R → S → U) → OnOk r U
-on_four (Ok x) p q s t step = step p q s t
-on_four (Err e) p q s t step = p
-
-pub on_four_err : {T E : Type 0} → (r : Result T E) {P Q R S U : Type 0} → OnErr r P → OnErr r Q → OnErr r R → OnErr r S → (P → Q → R → S → U) → OnErr r U
-on_four_err (Ok x) p q s t step = p
-on_four_err (Err e) p q s t step = step p q s t
 
 pub on_ok : {T E : Type 0} → (r : Result T E) {P Q : Type 0} → OnOk r P → (P → Q) → OnOk r Q
 on_ok (Ok x) is step = step is
@@ -462,6 +365,10 @@ on_three (Err e) p q s step = p
 pub on_three_err : {T E : Type 0} → (r : Result T E) {P Q R S : Type 0} → OnErr r P → OnErr r Q → OnErr r R → (P → Q → R → S) → OnErr r S
 on_three_err (Ok x) p q s step = p
 on_three_err (Err e) p q s step = step p q s
+
+pub on_both_err : {T E : Type 0} → (r : Result T E) {P Q R : Type 0} → OnErr r P → OnErr r Q → (P → Q → R) → OnErr r R
+on_both_err (Ok x) p q step = p
+on_both_err (Err e) p q step = step p q
 
 -- ---- the rows of an index
 

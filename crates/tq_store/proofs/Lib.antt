@@ -5,12 +5,8 @@ pub mod VersionLemmas
 pub mod KeyLemmas
 pub mod RowLemmas
 pub mod PartLemmas
-pub mod OpenRowsLemmas
-pub mod SetLemmas
 pub mod OpenLemmas
-pub mod FirstLemmas
 pub mod CountLemmas
 pub mod ValidLemmas
 pub mod LeafLemmas
 pub mod ReadLemmas
-pub mod OpenIndexLemmas

@@ -173,7 +173,7 @@ module _ (es : List Event) (t : ℕ) (index : Index) (is : IsIndexOf es t index)
         key = get_or keys k d
 
         none : RowEvents
-        none = record { start = 0; end = None; digest = 0; from = 0; to = 0; key = 0 }
+        none = record { start = 0; end = None; from = 0; to = 0; key = 0 }
 
         by : (o : Option RowEvents) → slice_get index.rows.items (key % 4294967296) ≡ o → IsSomeAnd o (IsStored es) → put (times_of_key index.rows.items n key) ≡ unnumbered (row_of_key es index.rows.items n key)
         by None here is_there = absurd is_there

@@ -351,8 +351,8 @@ module _ (es : List Event) (n t : ℕ) (range : KeyRange) (period : Period) (nod
   read_is : (key : ℕ) → (found : IsFoundRow es n t range period p key) → row_of_key es (rows_kept es t) n key ≡ as_of n found.row found.life
   read_is key found =
       let at_row : key % 4294967296 ≡ found.row = ap (λ k. k % 4294967296) found.same ∙ tree_key_row found.life.values found.row found.small in
-      ap (λ r. stored_row es n r (get_or (rows_kept es t) r (record { start = 0; end = None; digest = 0; from = 0; to = 0; key = 0 }))) at_row
-      ∙ ap (stored_row es n found.row) (get_or_from_slice_get (rows_kept es t) found.row (events_of found.life) (record { start = 0; end = None; digest = 0; from = 0; to = 0; key = 0 }) (kept found.row found.life found.stands))
+      ap (λ r. stored_row es n r (get_or (rows_kept es t) r (record { start = 0; end = None; from = 0; to = 0; key = 0 }))) at_row
+      ∙ ap (stored_row es n found.row) (get_or_from_slice_get (rows_kept es t) found.row (events_of found.life) (record { start = 0; end = None; from = 0; to = 0; key = 0 }) (kept found.row found.life found.stands))
       ∙ stored_is es t n found.row found.life found.stands
 
   pub readable : (key : ℕ) → FoundIn nodes w p key → IsReadable es (rows_kept es t) key
@@ -387,8 +387,8 @@ module _ (es : List Event) (n t : ℕ) (range : KeyRange) (period : Period) (nod
       let of_row = life_of_row es t n row is.known in
       let small = few_rows row.number of_row.life of_row.stands in
       let at_row : row_key row % 4294967296 ≡ row.number = tree_key_row row.values row.number small in
-      ap (λ r. stored_row es n r (get_or (rows_kept es t) r (record { start = 0; end = None; digest = 0; from = 0; to = 0; key = 0 }))) at_row
-      ∙ ap (stored_row es n row.number) (get_or_from_slice_get (rows_kept es t) row.number (events_of of_row.life) (record { start = 0; end = None; digest = 0; from = 0; to = 0; key = 0 }) (kept row.number of_row.life of_row.stands))
+      ap (λ r. stored_row es n r (get_or (rows_kept es t) r (record { start = 0; end = None; from = 0; to = 0; key = 0 }))) at_row
+      ∙ ap (stored_row es n row.number) (get_or_from_slice_get (rows_kept es t) row.number (events_of of_row.life) (record { start = 0; end = None; from = 0; to = 0; key = 0 }) (kept row.number of_row.life of_row.stands))
       ∙ stored_is es t n row.number of_row.life of_row.stands
       ∙ sym of_row.same
 

@@ -1,7 +1,6 @@
 -- The rows of all of a window are valid at each instant of the period just as those of the definition are.
 use Rattle.std.proofs.Common.{◌≡◌, ℕ, zero, suc, ◌+◌, ◌-◌, ◌*◌, ◌<◌, ◌≤◌, ◌&&◌, max, Bool, true, false, List, [], ◌∷◌, ◌++◌, Option, Some, None, length, map, take, get_or, slice_get, nat_lt, nat_le, refl, sym, ap, subst, ◌∙◌, append_assoc, append-nil, arith, rules, count_by}
-use Rattle.std.specs.Prelude.{All, Contains, FitsSigned, IsSomeAnd, if◌then◌else◌, ◌==◌}
-use Rattle.std.specs.Int.{w64}
+use Rattle.std.specs.Prelude.{All, Contains, IsSomeAnd, if◌then◌else◌, ◌==◌}
 use Rattle.std.specs.Option.{option_map_or}
 use Rattle.std.specs.Ordering.{eq_by_cmp}
 use Rattle.std.specs.List.Sorted.{IsNonDecreasingBy}
@@ -15,20 +14,19 @@ use Rattle.tq_base.specs.declared.fragment.Fragment.{Fragment}
 use Rattle.tq_base.specs.declared.period.Period.{Period}
 use Rattle.tq_base.specs.declared.value.Value.{Value}
 use Rattle.tq_base.specs.Catalogues.{Fit}
-use Rattle.tq_base.specs.Fragments.{copies, occurrences}
 use Rattle.tq_base.specs.Periods.{holds}
 use Rattle.tq_base.specs.ValueOrder.{values_cmp, same_from_eq}
 use Rattle.tq_event.specs.declared.event.Event.{Event}
 use Rattle.tq_event.specs.declared.event.Event.TheVariants.{Start, End}
-use Rattle.tq_event.specs.History.{IsHistory, Row, end_of, rows_from, rows_of, time_of, valid_at}
+use Rattle.tq_event.specs.History.{IsHistory, Row, end_of, rows_from, rows_of, time_of}
 use Rattle.tq_event.specs.Recorded.{HasTable}
 use Rattle.tq_event.specs.Versions.{Life, birth_of, version_at}
 use Rattle.tq_base.specs.declared.key_range.KeyRange.{KeyRange}
 use Rattle.tq_base.specs.KeyRanges.{key_of}
 use Rattle.tq_store.specs.Keys.{shifted}
 use Rattle.tq_store.specs.Rows.{HasPartRows, HasReference, IsPartRow, row_key, window_part}
-use Rattle.tq_store.specs.Valid.{AreValid, AreValidIn, AreWhole, HasKeyIn, Shown, fragment_at, row_at}
-use Rattle.tq_store.proofs.AdmissibleLemmas.{fit_key, ordered_push}
+use Rattle.tq_store.specs.Valid.{AreValidIn, AreWhole, HasKeyIn, Shown, fragment_at, row_at}
+use Rattle.tq_store.proofs.AdmissibleLemmas.{ordered_push}
 use Rattle.tq_store.proofs.CountLemmas.{IsThere, apart_pairs, apart_placed, at_most, count_kept, count_made}
 use Rattle.tq_store.proofs.IndexLemmas.{start_stands}
 use Rattle.tq_store.proofs.KeyLemmas.{shifted-le}
@@ -104,13 +102,6 @@ module _ (c : Catalogue) (es : List Event) (history : IsHistory c es) (n t : ℕ
   pub no_rows : slice_get c.tables t ≡ None → (row : Row) → Contains (rows_of es n t) row → ⊥
   no_rows none row there = subst (λ o. IsSomeAnd o (λ (s : Schema). Fit s.columns row.values)) none (row_fits row there)
 
-  row_key_fits : (row : Row) → Contains (rows_of es n t) row → FitsSigned w64 (key_of row.values)
-  row_key_fits row there = by (slice_get c.tables t) (row_fits row there)
-    where
-      by : (o : Option Schema) → IsSomeAnd o (λ (s : Schema). Fit s.columns row.values) → FitsSigned w64 (key_of row.values)
-      by None fits = absurd fits
-      by (Some s) fits = fit_key s.columns row.values fits
-
 lt_from : (a b : ℕ) → nat_lt a b ≡ true → a < b
 lt_from a b is = search (rules, nat_tests, is)
 
@@ -182,9 +173,9 @@ module _ (c : Catalogue) (es : List Event) (history : IsHistory c es) (few : len
 
   -- as many rows of these values are valid at the instant
   same_count : (rows : List Row) → HasPartRows es n t range period (window_part es n range period) rows → (at : ℕ) (v : List Value) → holds period at ≡ true
-      → ((row : Row) → Contains (rows_of es n t) row → row.values ≡ v → HasKeyIn range row.values)
+      → HasKeyIn range v
       → count_by (counts at v) rows ≡ count_by (counts at v) (rows_of es n t)
-  same_count rows are at v inside keys =
+  same_count rows are at v inside in_range =
       let one = at_most row_key (counts at v) rows (rows_of es n t) (apart_pairs row_key rows are.apart)
       (λ i row pass here. there_of (rows_of es n t) row ((are.just row).0 (contains_of rows i row here)).known) in
       let other = at_most (λ (row : Row). row.number) (counts at v) (rows_of es n t) rows (apart_placed (λ (row : Row). row.number) (rows_of es n t) (λ i row here. let number = numbered t 0 (take n es) i row here in omega (arith, number)))
@@ -200,31 +191,23 @@ module _ (c : Catalogue) (es : List Event) (history : IsHistory c es) (few : len
           let to = lt_from at row.to times.1 in
           let start = le_from period.start at window.0 in
           let end = lt_from at period.end window.1 in
-          let key = keys row there (same_from_eq row.values v sides.1) in
+          let key = subst (HasKeyIn range) (sym (same_from_eq row.values v sides.1)) in_range in
           let begins : row.from < period.end = omega (arith, from, end) in
           record { known = there; low = key.low; high = key.high; begins = begins; lasts = omega (arith, start, to); reference = in_whole row there key begins }
 
   -- of the rows as they are handed out
-  same_copies : (fragments : List Fragment) → AreWhole es n t range period fragments → (at : ℕ) (v : List Value) → holds period at ≡ true
-      → ((row : Row) → Contains (rows_of es n t) row → row.values ≡ v → HasKeyIn range row.values)
-      → copies fragments v at ≡ occurrences (valid_at es n t at) v
-  same_copies fragments whole at v inside keys =
+  pub valid_in : (fragments : List Fragment) → AreWhole es n t range period fragments → AreValidIn es n t range period fragments
+  valid_in fragments whole at v in_range inside =
       count_kept (λ u. eq_by_cmp values_cmp u v) (λ (f : Fragment). f.values) (λ (f : Fragment). holds f.period at) fragments
       ∙ sym (count_made stands (fragment_at at) fragments)
       ∙ ap (count_by stands) (whole.same at inside)
       ∙ count_made stands (row_at at) whole.rows
-      ∙ same_count whole.rows whole.are at v inside keys
+      ∙ same_count whole.rows whole.are at v inside in_range
       ∙ sym (count_kept (λ u. eq_by_cmp values_cmp u v) (λ (row : Row). row.values) (λ (row : Row). nat_le row.from at && nat_lt at row.to) (rows_of es n t))
     where
       -- whether what is shown is valid and has these values
       stands : Shown → Bool
       stands x = x.valid && eq_by_cmp values_cmp x.values v
-
-  pub valid_in : (fragments : List Fragment) → AreWhole es n t range period fragments → AreValidIn es n t range period fragments
-  valid_in fragments whole at v key inside = same_copies fragments whole at v inside (λ row there same. subst (HasKeyIn range) (sym same) key)
-
-  pub all_valid : ((v : List Value) → FitsSigned w64 (key_of v) → HasKeyIn range v) → (fragments : List Fragment) → AreWhole es n t range period fragments → AreValid es n t period fragments
-  all_valid all fragments whole at v inside = same_copies fragments whole at v inside (λ row there same. all row.values (row_key_fits c es history n t row there))
 
 -- ---- all rows that are handed out
 

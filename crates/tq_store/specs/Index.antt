@@ -1,15 +1,13 @@
 -- The tree of a table, and the events of its rows: what holds of them by the events so far. This project's own.
-use Rattle.std.specs.Prelude.{◌≡◌, ◌≢◌, ℕ, ◌+◌, ◌*◌, ◌%◌, ◌<◌, ◌≤◌, ◌&&◌, not, is_some, Bool, List, map, length, slice_get, slice_index_or, true, false, Option, Some, None, IsSomeAnd, IfSome, FitsSigned, ⊤}
+use Rattle.std.specs.Prelude.{◌≡◌, ◌≢◌, ℕ, ◌+◌, ◌*◌, ◌<◌, ◌≤◌, List, map, length, slice_get, slice_index_or, true, Option, Some, None, IsSomeAnd, IfSome, FitsSigned, ⊤}
 use Rattle.std.specs.Int.{w64}
 use Rattle.std.specs.List.Sorted.{IsNonDecreasingBy}
 use Rattle.std.specs.Option.{option_map, option_map_or}
-use Rattle.std.specs.Ordering.{eq_by_cmp, nat_cmp}
 use Rattle.tq_base.specs.declared.catalogue.Catalogue.{Catalogue}
 use Rattle.tq_base.specs.declared.catalogue.Schema.{Schema}
 use Rattle.tq_base.specs.declared.fragment.Fragment.{Fragment}
 use Rattle.tq_base.specs.declared.period.TheConstants.{FOREVER}
 use Rattle.tq_base.specs.declared.value.Value.{Value}
-use Rattle.tq_base.specs.ValueOrder.{values_cmp}
 use Rattle.tq_event.specs.declared.event.Event.{Event}
 use Rattle.tq_event.specs.declared.event.Event.TheVariants.{Start, End}
 use Rattle.tq_event.specs.History.{IsHistory, time_of}
@@ -21,27 +19,20 @@ use Rattle.tq_mvbt.specs.TreeState.{HasLife, TreeState, lives_of}
 use Rattle.tq_store.specs.declared.index.Index.{Index}
 use Rattle.tq_store.specs.declared.index.RowEvents.{RowEvents}
 use Rattle.tq_base.specs.KeyRanges.{key_of}
-use Rattle.tq_store.specs.Digests.{digest_of}
 use Rattle.tq_store.specs.Keys.{shifted, tree_key}
-use Rattle.tq_store.specs.declared.open.OpenRows.{OpenRows}
-use Rattle.tq_store.specs.Open.{has, place_key}
 
 -- the first version at which a row that so ends is dead
 abbrev pub dead_of : Option Ending → ℕ
 dead_of None = now
 dead_of (Some e) = e.event + 1
 
--- the events of a row, its key and the digest of its values
+-- the events of a row, and its key
 abbrev pub events_of : Life → RowEvents
-events_of l = record { start = l.start; end = option_map (λ e. e.event) l.ending; digest = digest_of l.values; from = l.from; to = option_map_or (λ e. e.at) l.ending FOREVER; key = shifted (key_of l.values) }
+events_of l = record { start = l.start; end = option_map (λ e. e.event) l.ending; from = l.from; to = option_map_or (λ e. e.at) l.ending FOREVER; key = shifted (key_of l.values) }
 
 -- the key that the tree has for the row of this number
 abbrev pub tree_key_of : RowEvents → ℕ → ℕ
 tree_key_of known row = known.key * 4294967296 + row
-
--- the key under which it stands as an open one
-abbrev pub place_key_of : RowEvents → ℕ → ℕ
-place_key_of known row = (known.key * 4294967296 + known.digest) * 4294967296 + row
 
 -- the events of each row of the table
 abbrev pub rows_kept : List Event → ℕ → List RowEvents
@@ -54,22 +45,6 @@ values_kept events table = map (λ (l : Life). l.values) (row_lives events table
 -- the values of rows that stand side by side
 abbrev pub values_of : List Fragment → List (List Value)
 values_of rows = map (λ (row : Fragment). row.values) rows
-
--- whether a row of this life is open and has these values
-abbrev pub is_open_of : List Value → Life → Bool
-is_open_of values l = not (is_some l.ending) && eq_by_cmp values_cmp l.values values
-
--- whether the row of this number is
-abbrev pub is_open_at : List Life → List Value → ℕ → Bool
-is_open_at lives values row = option_map_or (is_open_of values) (slice_get lives row) false
-
--- whether a row of this life is open under the key, which has its number
-abbrev pub is_open_as : ℕ → Life → Bool
-is_open_as key l = not (is_some l.ending) && eq_by_cmp nat_cmp (place_key l.values (key % 4294967296)) key
-
--- whether the row of the key's number is
-abbrev pub is_open_under : List Life → ℕ → Bool
-is_open_under lives key = option_map_or (is_open_as key) (slice_get lives (key % 4294967296)) false
 
 -- the row, ended by the event of this number and time
 abbrev pub ended : ℕ → ℕ → RowEvents → RowEvents
@@ -102,17 +77,11 @@ pub record HasRows (lives : List Life) (count version : ℕ) (nodes : List NodeS
 abbrev pub AreRowLives : List Event → ℕ → Type 0
 AreRowLives events table = (row : ℕ) (l : Life) → slice_get (row_lives events table) row ≡ Some l → IsRowLife l
 
--- the keys of the open rows of the table
-pub record AreOpenRows (events : List Event) (table : ℕ) (rows : OpenRows) : Type 0 where
-  pub few : length (row_lives events table) ≤ length events
-  pub opened : (key : ℕ) → has rows key ≡ is_open_under (row_lives events table) key
-
--- the tree, the rows, their values and the open ones among them are those of the table by these events
+-- the tree, the rows and their values are those of the table by these events
 pub record IsIndexOf (events : List Event) (table : ℕ) (index : Index) : Type 0 where
   pub rows : index.rows.items ≡ rows_kept events table
   pub kept : values_of index.kept.items ≡ values_kept events table
   pub tree : HasRows (row_lives events table) (length events) index.tree.version index.tree.nodes
-  pub opened : (key : ℕ) → has index.opened key ≡ is_open_under (row_lives events table) key
 
 -- they are the indexes of the tables of their numbers
 pub record AreIndexes (events : List Event) (indexes : List Index) : Type 0 where

@@ -1,9 +1,6 @@
 pub mod Keys
-pub mod Digests
-pub mod Open
 pub mod Index
 pub mod Rows
 pub mod Stored
 pub mod Valid
 pub mod Laws
-pub mod OpenIndex

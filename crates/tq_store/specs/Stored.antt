@@ -1,5 +1,5 @@
 -- What the events tell of a row whose start and end they are. This project's own.
-use Rattle.std.specs.Prelude.{◌≡◌, ℕ, ◌%◌, ◌<◌, ◌&&◌, ◌==◌, not, is_some, Bool, false, List, [], map, slice_get, slice_index_or, nat_le, nat_lt, if◌then◌else◌, Option, Some, None, IsSomeAnd, IsTrue, ⊤}
+use Rattle.std.specs.Prelude.{◌≡◌, ℕ, ◌%◌, ◌<◌, ◌&&◌, ◌==◌, Bool, false, List, [], map, slice_get, slice_index_or, nat_le, nat_lt, if◌then◌else◌, Option, Some, None, IsSomeAnd, IsTrue, ⊤}
 use Rattle.std.specs.Option.{option_map_or}
 use Rattle.std.specs.Ordering.{eq_by_cmp}
 use Rattle.tq_base.specs.declared.period.Period.{Period}
@@ -53,7 +53,7 @@ IsReadable events rows key = IsSomeAnd (slice_get rows (key % 4294967296)) (IsSt
 -- the row of the key as of the first n events
 abbrev pub row_of_key : List Event → List RowEvents → ℕ → ℕ → Row
 row_of_key events rows n key =
-    stored_row events n (key % 4294967296) (slice_index_or rows (key % 4294967296) (record { start = 0; end = None; digest = 0; from = 0; to = 0; key = 0 }))
+    stored_row events n (key % 4294967296) (slice_index_or rows (key % 4294967296) (record { start = 0; end = None; from = 0; to = 0; key = 0 }))
 
 -- the key is that of a row, which ends later than it starts
 abbrev pub IsLasting : List RowEvents → ℕ → Type 0
@@ -115,7 +115,3 @@ starts_of table (End t r at) = false
 abbrev pub ends_row : ℕ → ℕ → Event → Bool
 ends_row table row (Start t v at) = false
 ends_row table row (End t r at) = t == table && r == row
-
--- whether the row is open, started before the instant, and has these values
-abbrev pub open_like : List Event → List Value → ℕ → RowEvents → Bool
-open_like events values at row = option_map_or (λ e. not (is_some row.end) && starts_like values at e) (slice_get events row.start) false

@@ -16,12 +16,8 @@ pub record HasKeyIn (range : KeyRange) (values : List Value) : Type 0 where
   pub low : range.low ≤ℤ key_of values
   pub high : key_of values ≤ℤ range.high
 
--- at each instant of the period each row is valid as often in the list as it is by the first n events
-abbrev pub AreValid : List Event → ℕ → ℕ → Period → List Fragment → Type 0
-AreValid history n table period rows =
-    (t : ℕ) (v : List Value) → IsTrue (holds period t) → copies rows v t ≡ occurrences (valid_at history n table t) v
-
--- the same of each row with a key of the range
+-- at each instant of the period each row with a key of the range is valid as often in the list as it is by the first n
+-- events
 abbrev pub AreValidIn : List Event → ℕ → ℕ → KeyRange → Period → List Fragment → Type 0
 AreValidIn history n table range period rows =
     (t : ℕ) (v : List Value) → HasKeyIn range v → IsTrue (holds period t) → copies rows v t ≡ occurrences (valid_at history n table t) v

@@ -3,7 +3,6 @@
 ghost use Rattle.std.specs.Prelude.{ℕ, All, ◌≡◌, ◌↔◌, ◌+◌, ◌*◌, ◌/◌, ◌<◌, ◌≤◌, ◌∷◌, ◌++◌, [], IsTrue, IfOk, OnOk, OnErr, if◌then◌else◌, length, map, min};
 ghost use Rattle.tq_base.specs.declared.period.TheConstants.{FOREVER};
 ghost use Rattle.tq_event.specs.History.{CanHappen, IsAdmissible, IsHistory, IsNotBefore, time_of};
-ghost use Rattle.tq_event.specs.Opening.{open_row};
 ghost use Rattle.tq_event.specs.Recorded.{HasTable};
 ghost use Rattle.tq_event.specs.Versions.{version_at};
 ghost use Rattle.tq_scan.specs.Windows.{whole_of};
@@ -15,12 +14,11 @@ ghost use Rattle.tq_store.specs.Valid.{AreWhole};
 use crate::index::{Index, no_indexes, take};
 use crate::read::{find_version, lines_in, make_window, read_rows};
 use crate::row::Row;
-use crate::stored::time;
 use std::alloc::{AllocError, Global};
 use std::marker::Model;
 use tq_arena::Meter;
 use tq_base::{Catalogue, Instant, KeyRange, Period, Relation, Values};
-use tq_event::Event;
+use tq_event::{Event, can_start, is_not_before};
 use tq_mvbt::trees_tile;
 use tq_scan::{Found, Part, Window, scan, scan_unsorted};
 
@@ -44,26 +42,6 @@ impl Model for Db {
     ghost invariant = { λ d. IsDb d.catalogue d.events.items d.indexes.items };
 }
 
-// Whether the last event is no later than the instant.
-fn is_not_before(events: &[Event], at: Instant) -> bool
-    ensures { IsTrue result ↔ IsNotBefore events.now at }
-{
-    match events.last() {
-        Some(last) => time(last) <= at,
-        None => true,
-    }
-}
-
-// Whether the table takes the values.
-fn can_start(catalogue: &Catalogue, table: u32, values: &Values) -> bool
-    ensures { IsTrue result ↔ HasTable catalogue.now table values.now }
-{
-    match catalogue.tables.get().get(table as usize) {
-        Some(schema) => schema.fits(values),
-        None => false,
-    }
-}
-
 // Whether the row is open, and started before the instant.
 fn can_end(indexes: &[Index], events: &[Event], table: u32, row: u32, at: Instant) -> bool
     requires { AreIndexes events.now indexes.now }
@@ -82,7 +60,8 @@ fn is_admissible(catalogue: &Catalogue, events: &[Event], indexes: &[Index], eve
     ensures admissible { IsTrue result ↔ IsAdmissible catalogue.now events.now event.now }
     ensures finite { time_of event.now < FOREVER }
 {
-    if !is_not_before(events, time(event)) {
+    let at = event.at();
+    if !is_not_before(events, at) {
         return false;
     }
     match event {
@@ -151,15 +130,6 @@ impl Db {
         take(&mut self.indexes, &self.events, event)?;
         self.events.push_reserved(copy);
         Ok(true)
-    }
-
-    /// The number of the table's first row of these values that is open and started before the instant.
-    pub fn open_row(&self, table: u32, values: &Values, at: Instant) -> Option<u32>
-        requires { table < length self.now.catalogue.tables }
-        ensures { result ≡ open_row self.now.events table values.now at }
-    {
-        let index = &self.indexes[table as usize];
-        index.first_open(&self.events, table, values, at)
     }
 
     /// How many of the first n events are no later than the instant: the version of the tables that holds then.

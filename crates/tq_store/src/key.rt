@@ -1,12 +1,10 @@
-//! The keys under which a tree has rows, and those under which open rows stand.
+//! The keys under which a tree has rows.
 
 ghost use Rattle.std.specs.Prelude.{◌≡◌, ◌+◌, ◌*◌, ◌<◌, ◌^◌};
 ghost use Rattle.tq_base.specs.KeyRanges.{key_of};
 ghost use Rattle.tq_store.specs.Keys.{shifted};
-ghost use Rattle.tq_store.specs.Open.{place_key};
 
-use crate::digest::digest;
-use tq_base::{Seen, Value, Values};
+use tq_base::{Seen, Value};
 
 /// How far the numbers of 64 signed bits go beyond 0: 2^63.
 const SPAN: i128 = 0x8000_0000_0000_0000;
@@ -14,8 +12,9 @@ const SPAN: i128 = 0x8000_0000_0000_0000;
 /// How many tree keys there are for each key, one for each number that a row can have.
 pub(crate) const ROWS: u128 = 4_294_967_296;
 
-// The number, from 0 on in place of the least number of 64 signed bits.
-pub(crate) fn shift(number: i128) -> u128
+/// The number, counted from the least number of 64 signed bits: the least one gives 0. A wider number counts as the
+/// nearest number of 64 signed bits.
+pub fn shift(number: i128) -> u128
     ensures value { result ≡ shifted number }
     ensures small { result < 2 ^ 64 }
 {
@@ -43,8 +42,8 @@ fn key(values: &[Value]) -> i128
     }
 }
 
-// The key of a row of these values, from 0 on in place of the least one.
-pub(crate) fn first_key(values: &[Value]) -> u64
+/// The key of a row of these values, counted from the least key. It is the upper part of the row's key in the tree.
+pub fn first_key(values: &[Value]) -> u64
     ensures { result ≡ shifted (key_of values.now) }
 {
     shift(key(values)) as u64
@@ -56,18 +55,4 @@ pub(crate) fn row_key(key: u64, row: u32) -> u128
     ensures small { result < 2 ^ 96 }
 {
     u128::from(key) * ROWS + u128::from(row)
-}
-
-// The key under which the open row of this number stands, with a key from 0 on and a digest of its values.
-pub(crate) fn place(key: u64, digest: u32, row: u32) -> u128
-    ensures { result ≡ (key * 4294967296 + digest) * 4294967296 + row }
-{
-    (u128::from(key) * ROWS + u128::from(digest)) * ROWS + u128::from(row)
-}
-
-// The key under which the open row of these values and this number stands.
-pub(crate) fn open_key(values: &Values, row: u32) -> u128
-    ensures { result ≡ place_key values.now row }
-{
-    place(first_key(values.get()), digest(values), row)
 }

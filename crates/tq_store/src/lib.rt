@@ -7,12 +7,9 @@
 #![tactic(auto)]
 
 mod db;
-mod digest;
 mod index;
 mod key;
 mod laws;
-mod open;
-mod open_index;
 mod opening;
 mod read;
 mod row;
@@ -20,8 +17,8 @@ mod stored;
 mod valid;
 
 pub use db::Db;
+pub use key::{first_key, shift};
 pub use laws::rows_come_once;
-pub use open_index::OpenIndex;
 pub use opening::open_row;
 pub use row::Row;
 pub use tq_base::KeyRange;

@@ -6,7 +6,6 @@ ghost use Rattle.tq_event.specs.History.{end_of, time_of};
 ghost use Rattle.tq_event.specs.Opening as opening;
 ghost use Rattle.tq_store.specs.Stored.{ends_row, starts_like, starts_of};
 
-use crate::stored::time;
 use tq_base::{Instant, Values};
 use tq_event::Event;
 
@@ -39,7 +38,7 @@ fn ends(event: &Event, table: u32, row: u32) -> bool
     ensures ends { result ≡ ends_row table row event.now }
     ensures finite { time_of event.now < FOREVER }
 {
-    let _time = time(event).number();
+    let _time = event.at().number();
     match event {
         Event::Start { .. } => false,
         Event::End {

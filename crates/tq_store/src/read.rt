@@ -14,7 +14,7 @@ ghost use Rattle.tq_store.specs.Stored.{IsLasting, IsMet, IsReadable, StandIn, l
 use crate::index::RowEvents;
 use crate::key::{ROWS, shift_key};
 use crate::row::Row;
-use crate::stored::{period, read_row, time};
+use crate::stored::{period, read_row};
 use std::alloc::{AllocError, Global};
 use tq_base::{KeyRange, Line, Period};
 use tq_event::Event;
@@ -27,7 +27,7 @@ pub(crate) fn find_version(events: &[Event], n: u32, at: u64) -> u32
     ensures value { result ≡ version_at events.now n at }
     ensures within { result ≤ n }
 {
-    events[..n as usize].partition_point(|event| time(event).number() <= at) as u32
+    events[..n as usize].partition_point(|event| event.at().number() <= at) as u32
 }
 
 // Whether the period has one instant alone.

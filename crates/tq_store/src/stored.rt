@@ -12,24 +12,6 @@ use std::alloc::AllocError;
 use tq_base::{Bound, FOREVER, Instant, Period, Values};
 use tq_event::Event;
 
-pub(crate) fn time(event: &Event) -> Instant
-    ensures { result ≡ time_of event.now }
-{
-    match event {
-        Event::Start { at, .. } => *at,
-        Event::End { at, .. } => *at,
-    }
-}
-
-pub(crate) fn table(event: &Event) -> u32
-    ensures { result ≡ table_of event.now }
-{
-    match event {
-        Event::Start { table, .. } => *table,
-        Event::End { table, .. } => *table,
-    }
-}
-
 // The values of the row that the event of this number starts.
 pub(crate) fn values(events: &[Event], start: u32) -> &Values
     requires { IsSomeAnd (slice_get events.now start) IsStart }

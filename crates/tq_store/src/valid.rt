@@ -1,22 +1,12 @@
 //! The rows of a table at the instants of a period, their values lent.
 
-ghost use Rattle.std.specs.Prelude.{◌≤◌, All, FitsSigned, IfOk, List, length};
-ghost use Rattle.std.specs.Int.{w64};
+ghost use Rattle.std.specs.Prelude.{◌≤◌, All, IfOk, length};
 ghost use Rattle.tq_base.specs.declared.fragment.Fragment.{Fragment};
-ghost use Rattle.tq_base.specs.declared.value.Value.{Value};
-ghost use Rattle.tq_base.specs.KeyRanges.{key_of};
-ghost use Rattle.tq_store.specs.Valid.{AreValid, AreValidIn, AreWhole, HasKeyIn};
+ghost use Rattle.tq_store.specs.Valid.{AreValidIn, AreWhole, HasKeyIn};
 
 use crate::db::Db;
 use std::alloc::{AllocError, Global};
 use tq_base::{KeyRange, Period, Relation, Rows};
-
-// The keys of 64 signed bits.
-fn all_keys() -> KeyRange
-    ensures { (v : List Value) → FitsSigned w64 (key_of v) → HasKeyIn result v }
-{
-    KeyRange::new(i64::MIN, i64::MAX).unwrap()
-}
 
 // The rows of all of the window of the range and the period.
 fn whole_rows<'a>(
@@ -55,20 +45,5 @@ impl Db {
     {
         let _count = self.count();
         whole_rows(alloc, self, n, table, range, period)
-    }
-
-    /// The same of all keys.
-    pub fn rows_over(
-        &self,
-        alloc: Global,
-        n: u32,
-        table: u32,
-        period: &Period,
-    ) -> Result<Relation<'_>, AllocError>
-        requires { n ≤ length self.now.events }
-        ensures { IfOk result (λ rows. AreValid self.now.events n table period.now rows.items) }
-    {
-        let _count = self.count();
-        whole_rows(alloc, self, n, table, &all_keys(), period)
     }
 }

@@ -1,6 +1,6 @@
 //! A history that a script makes and asks.
 
-use crate::asking::{instant_of, period_of, question_of};
+use crate::asking::{instant_of, question_of};
 use crate::opening::{random_open, tell_open};
 use crate::random::random_rows;
 use crate::telling::{tell_list, tell_nothing, tell_reads, tell_rows, tell_version};
@@ -162,20 +162,13 @@ impl Session {
 
     // The rows of a question, or of all keys, side by side.
     fn list(&self, alloc: Global, numbers: &[i64], out: &mut String) -> Result<(), AllocError> {
-        if let [n, table, start, end] = numbers {
-            return match (
-                u32::try_from(*n),
-                u32::try_from(*table),
-                period_of(*start, *end),
-            ) {
-                (Ok(n), Ok(table), Some(period)) if n <= self.db.count() => {
-                    let rows = self.db.rows_over(alloc, n, table, &period)?;
-                    tell_list(&rows.copied(alloc)?, out)
-                }
-                _ => tell_nothing(out),
-            };
-        }
-        match question_of(numbers) {
+        let question = match numbers {
+            [n, table, start, end] => {
+                question_of(&[*n, *table, i64::MIN, i64::MAX, *start, *end])
+            }
+            _ => question_of(numbers),
+        };
+        match question {
             Some(it) if it.n <= self.db.count() => {
                 let rows = self
                     .db

@@ -7,7 +7,7 @@ pub returns-in-End-clause-admissible : goal.returns-in-End-clause-admissible
 returns-in-End-clause-admissible c = (
   λ can.
       let possible = end_possible c.args.catalogue.now c.args.events.now c.args.indexes.now c.in-End.table c.in-End.row c.in-End.at c.requires.tables (c.can_end.ensures.0 can) in (
-        subst (IsNotBefore c.args.events.now) c.time.ensures (c.is_not_before.ensures.0 c.if-not-is_not_before.false),
+        subst (IsNotBefore c.args.events.now) c.at-at.ensures (c.is_not_before.ensures.0 c.if-not-is_not_before.false),
         subst (CanHappen c.args.catalogue.now c.args.events.now) (sym c.in-End.is) possible,
       ),
   λ fits.

@@ -7,7 +7,7 @@ use Rattle.tq_store.proofs.read.read_lines.Goals as goal
 pub keys-preserved : goal.keys-preserved
 keys-preserved c =
     let key : ℕ = get_or c.args.keys.now c.keys.key-index 0 in
-    let there = row_there (λ (row : RowEvents). row.from < row.to) c.args.rows.now key c.index-rows-number.result (record { start = 0; end = None; digest = 0; from = 0; to = 0; key = 0 }) (c.requires c.keys.key-index 0 c.keys-test.true) c.index-rows-number.is in
+    let there = row_there (λ (row : RowEvents). row.from < row.to) c.args.rows.now key c.index-rows-number.result (record { start = 0; end = None; from = 0; to = 0; key = 0 }) (c.requires c.keys.key-index 0 c.keys-test.true) c.index-rows-number.is in
     let number : ℕ = key % 4294967296 in
     let same =
     ap (λ f. record { number = number; from = f; to = c.period.result.end }) c.period.ensures.start

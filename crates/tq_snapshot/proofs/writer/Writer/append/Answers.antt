@@ -1,7 +1,7 @@
 use Rattle.std.proofs.Common.{◌≡◌, ◌<◌, ◌++◌, ◌∷◌, [], List, length, sym, ap, subst, ◌∙◌, append_assoc}
 use Rattle.tq_event.specs.declared.event.Event.{Event}
 use Rattle.tq_event.specs.History.{IsAdmissible}
-use Rattle.tq_store.specs.OpenIndex.{IsOpenIndex}
+use Rattle.tq_snapshot.specs.OpenIndex.{IsOpenIndex}
 use Rattle.tq_snapshot.specs.Calls.{Shown, all_of}
 use Rattle.tq_snapshot.specs.Held.{Held}
 use Rattle.tq_snapshot.proofs.WriterLemmas.{sound_grows}

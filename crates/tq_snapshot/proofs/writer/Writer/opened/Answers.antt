@@ -1,7 +1,7 @@
 use Rattle.std.proofs.Common.{◌≡◌, ◌++◌, List, length, refl, sym, ap, subst, ◌∙◌, append-nil}
 use Rattle.tq_base.specs.declared.catalogue.Catalogue.{Catalogue}
 use Rattle.tq_event.specs.declared.event.Event.{Event}
-use Rattle.tq_store.specs.OpenIndex.{IsOpenIndex}
+use Rattle.tq_snapshot.specs.OpenIndex.{IsOpenIndex}
 use Rattle.tq_snapshot.specs.Held.{Held, Known, held, known}
 use Rattle.tq_snapshot.proofs.WriterLemmas.{sound_shown}
 use Rattle.tq_snapshot.proofs.writer.Writer.opened.Goals as goal

@@ -1,6 +1,6 @@
 use Rattle.std.proofs.Common.{◌≡◌, ◌++◌, List, refl, sym, ap, subst, ◌∙◌, append-nil}
 use Rattle.tq_event.specs.declared.event.Event.{Event}
-use Rattle.tq_store.specs.OpenIndex.{IsOpenIndex}
+use Rattle.tq_snapshot.specs.OpenIndex.{IsOpenIndex}
 use Rattle.tq_snapshot.specs.Held.{Held, held}
 use Rattle.tq_snapshot.proofs.WriterLemmas.{sound_shown}
 use Rattle.tq_snapshot.proofs.writer.Writer.publish.Goals as goal

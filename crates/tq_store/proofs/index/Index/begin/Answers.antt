@@ -1,12 +1,20 @@
-use Rattle.std.proofs.Common.{◌≡◌, ◌&&◌, not, ◌∙◌, ap, false, subst}
-use Rattle.std.specs.Ordering.{eq_by_cmp, nat_cmp}
-use Rattle.tq_store.specs.Open.{has}
-use Rattle.tq_store.proofs.OpenRowsLemmas.{same_number, undone}
+use Rattle.std.proofs.Common.{◌++◌, ◌∷◌, ◌∙◌, [], length, take, ap}
+use Rattle.std.proofs.Math.Seq.{take-append_seam}
+use Rattle.std.proofs.lemmas.List.{map-append}
+use Rattle.tq_base.specs.declared.fragment.Fragment.{Fragment}
+use Rattle.tq_store.specs.Index.{values_of}
 use Rattle.tq_store.proofs.index.Index.begin.Goals as goal
 
-pub returns-in-Err-clause-same_opened : goal.returns-in-Err-clause-same_opened
-returns-in-Err-clause-same_opened c = λ k.
-    c.remove.ensures k
-    ∙ ap (λ b. b && not (eq_by_cmp nat_cmp c.args.place k)) (c.in_ok-insert.ensures.ok k)
-    ∙ undone (has c.args.self.now.opened k) (eq_by_cmp nat_cmp c.args.place k)
-    (λ same. subst (λ n. has c.args.self.now.opened n ≡ false) (same_number c.args.place k same) c.requires.new)
+pub returns-in-Ok-clause-kept : goal.returns-in-Ok-clause-kept
+returns-in-Ok-clause-kept c =
+    ap values_of c.in_ok-push_copy.ensures.pushed
+    ∙ map-append (λ (f : Fragment). f.values) c.args.self.now.kept.items (record { values = c.get.result.now; period = c.from_now_on.result } ∷ [])
+    ∙ ap (λ v. values_of c.args.self.now.kept.items ++ v ∷ []) c.get.ensures
+
+pub returns-in-Err-clause-same_kept : goal.returns-in-Err-clause-same_kept
+returns-in-Err-clause-same_kept c =
+    let before = c.args.self.now.kept.items in
+    c.truncate.ensures.rows
+    ∙ ap (λ n. take n c.push_copy.new.self.items) c.len-before.ensures.len
+    ∙ ap (take (length before)) c.in_ok-push_copy.ensures.pushed
+    ∙ take-append_seam before (record { values = c.get.result.now; period = c.from_now_on.result } ∷ [])

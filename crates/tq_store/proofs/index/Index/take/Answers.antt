@@ -1,6 +1,5 @@
-use Rattle.std.proofs.Common.{◌≡◌, ◌&&◌, not, ◌++◌, ◌∷◌, ◌<◌, ◌+◌, ◌∙◌, [], length, subst, sym, ap, true, ℕ, List}
+use Rattle.std.proofs.Common.{◌≡◌, ◌++◌, ◌∷◌, ◌<◌, ◌+◌, ◌∙◌, [], length, subst, sym, ap, true, ℕ, List}
 use Rattle.std.specs.Prelude.{slice_index_or, slice_set}
-use Rattle.std.specs.Ordering.{eq_by_cmp, nat_cmp}
 use Rattle.std.proofs.lemmas.Option.{get_or_from_slice_get}
 use Rattle.tq_base.specs.RowLists.{RowList}
 use Rattle.tq_event.specs.declared.event.Event.{Event}
@@ -9,9 +8,8 @@ use Rattle.tq_event.specs.Recorded.{table_of}
 use Rattle.tq_mvbt.specs.TreeState.{lives_of}
 use Rattle.tq_store.specs.declared.index.Index.{Index}
 use Rattle.tq_store.specs.declared.index.RowEvents.{RowEvents}
-use Rattle.tq_store.specs.Index.{CanTake, HasWidth, IsIndexOf, Ends, ended, events_of, place_key_of, tree_key_of}
-use Rattle.tq_store.specs.Open.{has}
-use Rattle.tq_store.proofs.IndexLemmas.{IsOpenRow, index_end, index_like, index_start, not_yet_open, on_four, on_four_err, on_three, on_three_err, open_row}
+use Rattle.tq_store.specs.Index.{CanTake, HasWidth, IsIndexOf, Ends, ended, events_of, tree_key_of}
+use Rattle.tq_store.proofs.IndexLemmas.{IsOpenRow, index_end, index_like, index_start, on_both, on_both_err, on_three, on_three_err, open_row}
 use Rattle.tq_store.proofs.index.Index.take.Goals as goal
 
 -- the row that an end ends
@@ -30,15 +28,15 @@ end-requires-clause-alive c =
     subst (λ (k : RowEvents). lives_of c.args.self.now.tree.nodes (tree_key_of k c.in-End.row) c.args.self.now.tree.version ≡ true) (sym same) row.alive
 
 pub returns-in-Start-clause-ok : goal.returns-in-Start-clause-ok
-returns-in-Start-clause-ok c = on_four c.start.result c.start.ensures.rows c.start.ensures.tree c.start.ensures.opened c.start.ensures.kept (λ rows tree opened kept.
+returns-in-Start-clause-ok c = on_three c.start.result c.start.ensures.rows c.start.ensures.tree c.start.ensures.kept (λ rows tree kept.
     let es = c.args.events.now in
     let of_table = subst (λ e. IsIndexOf es (table_of e) c.args.self.now) c.in-Start.is c.requires.index in
     let can = subst (CanTake es) c.in-Start.is c.requires.can in
     subst (λ e. IsIndexOf (es ++ e ∷ []) (table_of e) c.start.new.self) (sym c.in-Start.is)
-    (index_start es c.in-Start.table c.in-Start.values c.in-Start.at c.args.self.now c.start.new.self c.requires.few of_table can.0 can.1 rows tree opened kept))
+    (index_start es c.in-Start.table c.in-Start.values c.in-Start.at c.args.self.now c.start.new.self c.requires.few of_table can.0 can.1 rows tree kept))
 
 pub returns-in-End-clause-ok : goal.returns-in-End-clause-ok
-returns-in-End-clause-ok c = on_three c.end.result c.end.ensures.rows c.end.ensures.tree c.end.ensures.opened (λ rows tree opened.
+returns-in-End-clause-ok c = on_both c.end.result c.end.ensures.rows c.end.ensures.tree (λ rows tree.
     let es = c.args.events.now in
     let row = ending_row es c.args.event.now c.in-End.table c.in-End.row c.in-End.at c.args.self.now c.in-End.is c.requires.few c.requires.index c.requires.can in
     let same = known es c.in-End.table c.in-End.row c.in-End.at c.args.self.now c.index-known.result.now row c.index-known.ensures in
@@ -48,18 +46,15 @@ returns-in-End-clause-ok c = on_three c.end.result c.end.ensures.rows c.end.ensu
     (index_end es c.in-End.table c.in-End.row c.in-End.at c.args.self.now c.end.new.self row.life c.requires.few of_table can.1 row.stands row.none row.from
     (rows ∙ ap (λ (k : RowEvents). slice_set c.args.self.now.rows.items c.in-End.row (ended (length es) c.in-End.at k)) same)
     (subst (λ (k : RowEvents). Ends c.args.self.now.tree c.end.new.self.tree (tree_key_of k c.in-End.row) (length es + 1)) same tree)
-    (subst (λ (k : RowEvents). (p : ℕ) → has c.end.new.self.opened p ≡ (has c.args.self.now.opened p && not (eq_by_cmp nat_cmp (place_key_of k c.in-End.row) p))) same opened) c.end.ensures.kept))
+    c.end.ensures.kept))
 
 pub start-requires-clause-width : goal.start-requires-clause-width
 start-requires-clause-width c = subst (HasWidth c.args.self.now.kept.width) c.in-Start.is c.requires.width
 
-pub start-requires-clause-new : goal.start-requires-clause-new
-start-requires-clause-new c = not_yet_open c.args.events.now (table_of c.args.event.now) c.args.self.now c.requires.few c.requires.index c.in-Start.values
-
 pub returns-in-Start-clause-err : goal.returns-in-Start-clause-err
-returns-in-Start-clause-err c = on_four_err c.start.result c.start.ensures.same_tree c.start.ensures.same_rows c.start.ensures.same_kept c.start.ensures.same_opened (λ tree rows kept same.
-    index_like c.args.events.now (table_of c.args.event.now) c.args.self.now c.start.new.self tree rows kept same c.requires.index)
+returns-in-Start-clause-err c = on_three_err c.start.result c.start.ensures.same_tree c.start.ensures.same_rows c.start.ensures.same_kept (λ tree rows kept.
+    index_like c.args.events.now (table_of c.args.event.now) c.args.self.now c.start.new.self tree rows kept c.requires.index)
 
 pub returns-in-End-clause-err : goal.returns-in-End-clause-err
-returns-in-End-clause-err c = on_three_err c.end.result c.end.ensures.same_tree c.end.ensures.same_rows c.end.ensures.same_opened (λ tree rows same.
-    index_like c.args.events.now (table_of c.args.event.now) c.args.self.now c.end.new.self tree rows (ap (λ (r : RowList). r.items) c.end.ensures.kept) same c.requires.index)
+returns-in-End-clause-err c = on_both_err c.end.result c.end.ensures.same_tree c.end.ensures.same_rows (λ tree rows.
+    index_like c.args.events.now (table_of c.args.event.now) c.args.self.now c.end.new.self tree rows (ap (λ (r : RowList). r.items) c.end.ensures.kept) c.requires.index)

@@ -1,0 +1,324 @@
+//! The open rows of every table by their values. Their events are in two lists, published and pending, which each call
+//! borrows.
+
+ghost use Rattle.std.specs.Prelude.{All, ◌≡◌, ◌↔◌, ℕ, ◌+◌, ◌<◌, ◌≤◌, ◌&&◌, ◌||◌, ◌∷◌, ◌++◌, [], true, false, not, length, slice_get, Some, IsSomeAnd, IsTrue, IfOk, IfSome, MatchOption, OnOk, OnErr};
+ghost use Rattle.std.specs.List.Sorted.{IsNonDecreasingBy};
+ghost use Rattle.std.specs.Ordering.{eq_by_cmp, nat_cmp};
+ghost use Rattle.tq_base.specs.ValueOrder.{values_cmp};
+ghost use Rattle.tq_event.specs.declared.event.Event.{Event as Happening};
+ghost use Rattle.tq_event.specs.History.{IsHistory, IsOpenBefore, time_of};
+ghost use Rattle.tq_event.specs.Opening as opening;
+ghost use Rattle.tq_event.specs.Recorded.{table_of};
+ghost use Rattle.tq_event.specs.Versions.{Life, row_lives};
+ghost use Rattle.tq_store.specs.Index.{CanTake, IsOpenAt};
+ghost use Rattle.tq_snapshot.specs.OpenIndex.{AreTableRows, IsOpenIndex, MayFollow, is_open_at, next_row, table_count};
+ghost use Rattle.tq_snapshot.specs.OpenRows.{HasSame, IsNear, has, place_key};
+ghost use Rattle.tq_store.specs.Stored.{IsStart, values_in};
+
+use crate::key::{ROWS, open_key};
+use crate::open_rows::OpenRows;
+use std::alloc::{AllocError, Global};
+use std::collections::BTreeSet;
+use tq_base::{Catalogue, Instant, Values};
+use tq_event::Event;
+
+/// The rows of a table: the numbers of the events that start them, and the keys of the open ones.
+#[derive(Drop)]
+pub struct TableRows {
+    pub starts: Vec<u32>,
+    pub opened: OpenRows,
+}
+
+// The event of this number, of both lists.
+fn event_of<'a>(published: &'a [Event], pending: &'a [Event], number: u32) -> &'a Event
+    requires { number < length (published.now ++ pending.now) }
+    ensures { slice_get (published.now ++ pending.now) number ≡ Some result.now }
+{
+    let number = number as usize;
+    if number < published.len() {
+        &published[number]
+    } else {
+        &pending[number - published.len()]
+    }
+}
+
+// The values of the row that the event starts.
+fn values_of(event: &Event) -> &Values
+    requires { IsStart event.now }
+    ensures { result.now ≡ values_in event.now }
+{
+    match event {
+        Event::Start { values, .. } => values,
+        Event::End { .. } => unreachable!(),
+    }
+}
+
+impl TableRows {
+    // No rows.
+    fn new(alloc: Global) -> TableRows
+        ensures { (table : ℕ) → AreTableRows [] table result }
+    {
+        TableRows {
+            starts: Vec::new(alloc),
+            opened: OpenRows::new(alloc),
+        }
+    }
+
+    // A row of these values starts by the event of this number. Out of memory: all is as before.
+    fn start(&mut self, number: u32, values: &Values) -> Result<(), AllocError>
+        requires { length self.old.starts.items < 4294967296 }
+        ensures starts { OnOk result (self.new.starts.items ≡ self.old.starts.items ++ number ∷ []) }
+        ensures opened { OnOk result ((k : ℕ) → has self.new.opened k ≡ (has self.old.opened k || eq_by_cmp nat_cmp (place_key values.now (length self.old.starts.items)) k)) }
+        ensures same_starts { OnErr result (self.new.starts.items ≡ self.old.starts.items) }
+        ensures same_opened { OnErr result (HasSame self.old.opened self.new.opened) }
+    {
+        self.starts.reserve(1)?;
+        let row = self.starts.len() as u32;
+        self.opened.insert(open_key(values, row))?;
+        self.starts.push_reserved(number);
+        Ok(())
+    }
+
+    // The event that starts the row, which is one of the table.
+    fn start_of<'a>(
+        &self,
+        published: &'a [Event],
+        pending: &'a [Event],
+        table: u32,
+        row: u32,
+    ) -> &'a Event
+        requires rows { AreTableRows (published.now ++ pending.now) table self.now }
+        requires row { row < length self.now.starts.items }
+        ensures start { IsStart result.now }
+        ensures life { (life : Life) → slice_get (row_lives (published.now ++ pending.now) table) row ≡ Some life → result.now ≡ Happening.Start table life.values life.from }
+    {
+        event_of(published, pending, self.starts[row as usize])
+    }
+
+    // The event starts or ends a row of the table. Out of memory: all is as before.
+    fn take(
+        &mut self,
+        published: &[Event],
+        pending: &[Event],
+        event: &Event,
+    ) -> Result<(), AllocError>
+        requires rows { AreTableRows (published.now ++ pending.now) (table_of event.now) self.old }
+        requires few { length (published.now ++ pending.now) < 16777216 }
+        requires can { CanTake (published.now ++ pending.now) event.now }
+        ensures ok { OnOk result (AreTableRows ((published.now ++ pending.now) ++ event.now ∷ []) (table_of event.now) self.new) }
+        ensures err { OnErr result (AreTableRows (published.now ++ pending.now) (table_of event.now) self.new) }
+    {
+        match event {
+            Event::Start { values, .. } => {
+                let number = (published.len() + pending.len()) as u32;
+                self.start(number, values)
+            }
+            Event::End { table, row, .. } => {
+                let start = self.start_of(published, pending, *table, *row);
+                self.opened.remove(open_key(values_of(start), *row));
+                Ok(())
+            }
+        }
+    }
+
+    // Whether the row, which is one of the table, has these values.
+    fn is_like(
+        &self,
+        published: &[Event],
+        pending: &[Event],
+        table: u32,
+        row: u32,
+        wanted: &Values,
+    ) -> bool
+        requires rows { AreTableRows (published.now ++ pending.now) table self.now }
+        requires row { row < length self.now.starts.items }
+        ensures { (life : Life) → slice_get (row_lives (published.now ++ pending.now) table) row ≡ Some life → result ≡ eq_by_cmp values_cmp life.values wanted.now }
+    {
+        values_of(self.start_of(published, pending, table, row)) == wanted
+    }
+
+    // The number of the first open row of these values, which stands among these keys if there is one.
+    fn first_among(
+        &self,
+        published: &[Event],
+        pending: &[Event],
+        table: u32,
+        wanted: &Values,
+        keys: &BTreeSet<u128>,
+    ) -> Option<u32>
+        requires rows { AreTableRows (published.now ++ pending.now) table self.now }
+        requires few { length (published.now ++ pending.now) ≤ 16777216 }
+        requires near { IsNear self.now.opened wanted.now keys.now }
+        ensures member { MatchOption result ((r : ℕ) → is_open_at (row_lives (published.now ++ pending.now) table) wanted.now r ≡ false) (λ first. is_open_at (row_lives (published.now ++ pending.now) table) wanted.now first ≡ true) }
+        ensures least { MatchOption result ((r : ℕ) → is_open_at (row_lives (published.now ++ pending.now) table) wanted.now r ≡ false) (λ first. (r : ℕ) → is_open_at (row_lives (published.now ++ pending.now) table) wanted.now r ≡ true → first ≤ r) }
+    {
+        let least = open_key(wanted, 0);
+        'keys: for key in keys.range(least..=least + (ROWS - 1)) {
+            let row = (*key % ROWS) as u32;
+            if self.is_like(published, pending, table, row, wanted) {
+                return Some(row);
+            }
+        }
+        None
+    }
+
+    // The number of the first open row of these values.
+    fn first_like(
+        &self,
+        published: &[Event],
+        pending: &[Event],
+        table: u32,
+        wanted: &Values,
+    ) -> Option<u32>
+        requires rows { AreTableRows (published.now ++ pending.now) table self.now }
+        requires few { length (published.now ++ pending.now) ≤ 16777216 }
+        ensures member { MatchOption result ((r : ℕ) → is_open_at (row_lives (published.now ++ pending.now) table) wanted.now r ≡ false) (λ first. is_open_at (row_lives (published.now ++ pending.now) table) wanted.now first ≡ true) }
+        ensures least { MatchOption result ((r : ℕ) → is_open_at (row_lives (published.now ++ pending.now) table) wanted.now r ≡ false) (λ first. (r : ℕ) → is_open_at (row_lives (published.now ++ pending.now) table) wanted.now r ≡ true → first ≤ r) }
+    {
+        match self.opened.near(open_key(wanted, 0)) {
+            Some(keys) => self.first_among(published, pending, table, wanted, keys),
+            None => None,
+        }
+    }
+
+    // Whether the row, which is open, started before the instant.
+    fn is_before(
+        &self,
+        published: &[Event],
+        pending: &[Event],
+        table: u32,
+        values: &Values,
+        row: u32,
+        at: Instant,
+    ) -> bool
+        requires rows { AreTableRows (published.now ++ pending.now) table self.now }
+        requires opened { is_open_at (row_lives (published.now ++ pending.now) table) values.now row ≡ true }
+        ensures { IsTrue result ↔ IsOpenAt (published.now ++ pending.now) table row at }
+    {
+        self.start_of(published, pending, table, row).at() < at
+    }
+
+    // The number of the first open row of these values, if it started before the instant.
+    fn first_open(
+        &self,
+        published: &[Event],
+        pending: &[Event],
+        table: u32,
+        values: &Values,
+        at: Instant,
+    ) -> Option<u32>
+        requires rows { AreTableRows (published.now ++ pending.now) table self.now }
+        requires ordered { IsNonDecreasingBy time_of (published.now ++ pending.now) }
+        requires few { length (published.now ++ pending.now) ≤ 16777216 }
+        ensures row { result ≡ opening.open_row (published.now ++ pending.now) table values.now at }
+        ensures opened { IfSome result (λ row. IsOpenBefore (published.now ++ pending.now) table row at) }
+    {
+        match self.first_like(published, pending, table, values) {
+            Some(row) => {
+                if self.is_before(published, pending, table, values, row, at) {
+                    Some(row)
+                } else {
+                    None
+                }
+            }
+            None => None,
+        }
+    }
+}
+
+/// The open rows of every table by their values. The events that start them lie elsewhere, in two lists, one behind
+/// the other, which are lent to each call.
+#[derive(Drop)]
+pub struct OpenIndex {
+    tables: Vec<TableRows>,
+}
+
+// No rows of so many tables.
+fn no_tables(alloc: Global, tables: usize) -> Result<Vec<TableRows>, AllocError>
+    ensures len { IfOk result (λ none. length none.items ≡ tables) }
+    ensures rows { IfOk result (λ none. All (λ rows. (table : ℕ) → AreTableRows [] table rows) none.items) }
+{
+    let mut none = Vec::with_capacity(alloc, tables)?;
+    'tables: for _ in 0..tables {
+        none.push(TableRows::new(alloc))?;
+    }
+    Ok(none)
+}
+
+impl OpenIndex {
+    // No rows of so many tables.
+    fn new(alloc: Global, tables: usize) -> Result<OpenIndex, AllocError>
+        ensures tables { IfOk result (λ index. table_count index ≡ tables) }
+        ensures index { IfOk result (IsOpenIndex []) }
+    {
+        Ok(OpenIndex {
+            tables: no_tables(alloc, tables)?,
+        })
+    }
+
+    /// Those of the events, which are a history over the catalogue. `AllocError` where a growth was refused.
+    pub fn of(
+        alloc: Global,
+        catalogue: &Catalogue,
+        events: &[Event],
+    ) -> Result<OpenIndex, AllocError>
+        requires history { IsHistory catalogue.now events.now }
+        requires few { length events.now ≤ 16777216 }
+        ensures tables { IfOk result (λ index. table_count index ≡ length catalogue.now.tables) }
+        ensures index { IfOk result (IsOpenIndex events.now) }
+    {
+        let mut index = OpenIndex::new(alloc, catalogue.tables.get().len())?;
+        'events: for place in 0..events.len() {
+            index.take(&events[..place], &[], &events[place])?;
+        }
+        Ok(index)
+    }
+
+    /// Takes in an event that may follow the events. Out of memory: all is as before.
+    pub fn take(
+        &mut self,
+        published: &[Event],
+        pending: &[Event],
+        event: &Event,
+    ) -> Result<(), AllocError>
+        requires index { IsOpenIndex (published.now ++ pending.now) self.old }
+        requires room { length (published.now ++ pending.now) < 16777216 }
+        requires follows { MayFollow (table_count self.old) (published.now ++ pending.now) event.now }
+        ensures tables { table_count self.new ≡ table_count self.old }
+        ensures ok { OnOk result (IsOpenIndex ((published.now ++ pending.now) ++ event.now ∷ []) self.new) }
+        ensures err { OnErr result (IsOpenIndex (published.now ++ pending.now) self.new) }
+    {
+        let _finite = event.at().number();
+        let rows = &mut self.tables[event.table() as usize];
+        rows.take(published, pending, event)
+    }
+
+    /// The number that the table's next row will have: how many of its rows the events start.
+    pub fn next_row(&self, published: &[Event], pending: &[Event], table: u32) -> u32
+        requires index { IsOpenIndex (published.now ++ pending.now) self.now }
+        requires table { table < table_count self.now }
+        ensures { result ≡ next_row (published.now ++ pending.now) table }
+    {
+        let _count = published.len() + pending.len();
+        self.tables[table as usize].starts.len() as u32
+    }
+
+    /// The number of the table's first row of these values that is open and started before the instant, in
+    /// O(log n) and a look at each open row before it with the same key and digest.
+    pub fn open_row(
+        &self,
+        published: &[Event],
+        pending: &[Event],
+        table: u32,
+        values: &Values,
+        at: Instant,
+    ) -> Option<u32>
+        requires index { IsOpenIndex (published.now ++ pending.now) self.now }
+        requires table { table < table_count self.now }
+        ensures row { result ≡ opening.open_row (published.now ++ pending.now) table values.now at }
+        ensures opened { IfSome result (λ row. IsOpenBefore (published.now ++ pending.now) table row at) }
+    {
+        let rows = &self.tables[table as usize];
+        rows.first_open(published, pending, table, values, at)
+    }
+}

@@ -1,6 +1,0 @@
-use Rattle.std.proofs.Common.{◌≡◌, drop}
-use Rattle.tq_store.specs.Digests.{values_mixed}
-use Rattle.tq_store.proofs.digest.digest.Given as goal
-
-abbrev pub invariant-values : goal.invariant-values
-invariant-values l = values_mixed l.mixed (drop l.value-index l.values) ≡ values_mixed 0 l.values
