@@ -1,7 +1,7 @@
 //! The core machine's oracle: a question is a plan, and its answer is the table.
 //!
-//! With it the machine's promise is whole: for every list of steps, in whatever order, an answer to a plan as of n
-//! events is the answer of the statement over the first n events that were published in the end (`Plain::answers`).
+//! For every list of steps, in whatever order, an answer to a plan as of n events is the answer of that plan over
+//! the first n events that are published in the end (the law `Plain::runs_answer_plans`).
 #![tactic(auto)]
 
 mod plain;

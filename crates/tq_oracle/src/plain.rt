@@ -7,6 +7,7 @@ ghost use Rattle.tq_plan.specs.declared.plans.Plan.{Plan as AnyPlan};
 ghost use Rattle.tq_plan.specs.Standing.{IsPlanOver};
 ghost use Rattle.tq_eval.specs.Answers.{IsPlanAnswer};
 ghost use Rattle.tq_oracle.specs.Plain.{decided_prop, plain_answer, AnswersAreDecided};
+ghost use Rattle.tq_oracle.specs.Runs.{RunsAnswerPlans};
 
 use std::alloc::{AllocError, Global};
 use tq_base::Catalogue;
@@ -37,6 +38,13 @@ impl Plain {
     /// What it answers over the events of a history is the answer of the plan as of all of them. It does nothing.
     pub fn answers(&self)
         ensures { (events : List AnyEvent) (plan : AnyPlan) → IsPlanAnswer events (length events) plan (plain_answer self.now.decided events plan) }
+    {}
+
+    /// Each answer of `World::run` with this oracle is the answer of the plan as of the `n` events that were asked
+    /// for, over the events that are published after the run. The law turns the clause `answers` of `World::run`
+    /// into this. It does nothing.
+    pub fn runs_answer_plans(&self)
+        ensures { RunsAnswerPlans self.now.decided }
     {}
 }
 

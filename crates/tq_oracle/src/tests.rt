@@ -1,21 +1,29 @@
-// What is answered to a plan over the events of a file.
+// Plans over the events of a file, asked of the oracle and in a run of the core machine.
 
-ghost use Rattle.std.specs.Prelude.{◌≤◌, IfOk, length};
+ghost use Rattle.std.specs.Prelude.{◌≤◌, All, IfOk, length};
 ghost use Rattle.tq_base.specs.Catalogues.{IsCatalogue};
+ghost use Rattle.tq_core.specs.Machine.{AsksFittingly};
 ghost use Rattle.tq_event.specs.History.{IsHistory};
+ghost use Rattle.tq_oracle.specs.Runs.{PlansAreAnswered};
 ghost use Rattle.tq_plan.specs.Standing.{IsPlanOver};
 
 use crate::plain::Plain;
-use std::alloc::Global;
+use std::alloc::{AllocError, Global};
+use std::fmt::Write;
 use std::test::Fail;
 use tq_base::{Catalogue, Form, Items};
-use tq_core::Oracle;
+use tq_core::{Oracle, Reply, Step, World};
 use tq_event::{Event, FileBytes, MAX_EVENTS, TableFile, laws, load};
 use tq_plan::{Plan, plan};
 use tq_sql::read;
-use tq_table::table_text;
+use tq_table::{Table, table_text};
 
-const EMP: &[u8] = b"emp:int,name:text,from,to\n1,ann,10,20\n2,bob,15,25\n3,cat,5,forever\n";
+const EMP: &[u8] = b"emp:int,name:text,dept:text,from,to
+1,ann,toys,10,20
+1,ann,toys,20,30
+2,bob,toys,15,25
+3,cat,food,5,forever
+";
 
 // The file of one table.
 fn files(alloc: Global) -> Result<Vec<TableFile>, Fail> {
@@ -67,5 +75,97 @@ fn a_plan_is_answered_as_of_the_first_events(rt: HostRuntime) -> Result<(), Fail
     let text = answered(alloc, &loaded.catalogue, events, n, &plan)?;
     let wanted = b"name,from,to\nann,10,forever\nbob,15,forever\ncat,5,forever\n";
     assert_eq!(rt; text.as_slice(), wanted.as_slice());
+    Ok(())
+}
+
+// The replies to steps: each answer is that of its plan.
+fn replies_to(
+    world: &mut World,
+    plain: &Plain,
+    steps: &[Step<Plan>],
+) -> Result<Vec<Reply<Table<'static>>>, AllocError>
+    requires { All (AsksFittingly IsPlanOver world.old.catalogue) steps.now }
+    ensures { IfOk result (λ replies. PlansAreAnswered steps.now replies.items world.new) }
+{
+    let replies = world.run(plain, steps)?;
+    plain.runs_answer_plans();
+    Ok(replies)
+}
+
+// A line for the reply; an answer is its table's lines.
+fn write_reply(alloc: Global, reply: &Reply<Table<'static>>, out: &mut String) -> Result<(), Fail> {
+    match reply {
+        Reply::Done => out.push_str("done\n")?,
+        Reply::Length(length) => writeln!(out, "length {length}")?,
+        Reply::Answer(table) => {
+            let text = table_text(alloc, table, Form::Numbers)?;
+            out.push_str(str::from_utf8(&text).unwrap_or("?"))?;
+        }
+        Reply::TooNew { seen } => writeln!(out, "too new {seen}")?,
+        Reply::Piece(Some(piece)) => writeln!(out, "piece {piece}")?,
+        Reply::Piece(None) => out.push_str("piece none\n")?,
+        Reply::Order(order) => {
+            for (piece, worker) in order.get() {
+                writeln!(out, "piece {piece} by worker {worker}")?;
+            }
+        }
+        Reply::Refused => out.push_str("refused\n")?,
+    }
+    Ok(())
+}
+
+// The first event is published between two questions, of which only the second may see it.
+#[test]
+fn a_run_answers_a_plan_as_of_what_its_reader_has_seen(rt: HostRuntime) -> Result<(), Fail> {
+    let alloc = rt.alloc();
+    let loaded = load(alloc, files(alloc)?, MAX_EVENTS, Form::Numbers)?;
+    laws::loaded_is_catalogue();
+    let [first, ..] = loaded.events.get() else {
+        return Err(Fail::new("the file has no event"));
+    };
+    let steps = [
+        Step::Append(first.try_copy()?),
+        Step::Enter { reader: 0, at: 0 },
+        Step::Publish,
+        Step::Ask {
+            reader: 0,
+            n: 1,
+            query: question(alloc, &loaded.catalogue)?,
+            pieces: 2,
+        },
+        Step::Enter { reader: 0, at: 1 },
+        Step::Ask {
+            reader: 0,
+            n: 1,
+            query: question(alloc, &loaded.catalogue)?,
+            pieces: 2,
+        },
+        Step::Claim { work: 0, worker: 0 },
+        Step::Claim { work: 0, worker: 1 },
+        Step::Claim { work: 0, worker: 0 },
+        Step::Finish { work: 0 },
+        Step::Finish { work: 0 },
+    ];
+    let mut world = World::new(alloc, loaded.catalogue.try_copy(alloc)?, 1)?;
+    let replies = replies_to(&mut world, &Plain::new(), &steps)?;
+    let mut text = String::new(alloc);
+    for reply in &replies {
+        write_reply(alloc, reply, &mut text)?;
+    }
+    let wanted = "done
+length 0
+length 1
+too new 0
+length 1
+name,from,to
+cat,5,forever
+piece 0
+piece 1
+piece none
+piece 0 by worker 0
+piece 1 by worker 1
+refused
+";
+    assert_eq!(rt; text.as_str(), wanted);
     Ok(())
 }

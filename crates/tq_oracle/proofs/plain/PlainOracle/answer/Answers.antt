@@ -1,4 +1,4 @@
-use Rattle.std.proofs.Common.{◌≡◌, List, length, take, subst, sym, arith}
+use Rattle.std.proofs.Common.{◌≡◌, List, length, take, subst, arith}
 use Rattle.std.proofs.lemmas.List.{length-take}
 use Rattle.tq_event.specs.declared.event.Event.{Event}
 use Rattle.tq_event.specs.Recorded.{Recorded}
