@@ -19,6 +19,7 @@ use Rattle.tq_event.specs.declared.file.Tables.{Tables}
 use Rattle.tq_plan.specs.declared.fault.PlanFault.{PlanFault}
 use Rattle.tq_session.specs.declared.transcript.SessionFault.{SessionFault}
 use Rattle.tq_session.specs.declared.transcript.SessionFault.TheVariants as session
+use Rattle.tq_shown.specs.Shown.{shown_text}
 use Rattle.tq.specs.declared.report.Refusal.{Refusal}
 use Rattle.tq.specs.declared.report.Refusal.TheVariants.{BadCommandLine, CannotRead, Load, Statement, Plan, NoPlace, ReadFailed, WriteFailed, OutOfMemory}
 
@@ -95,7 +96,7 @@ status_of OutOfMemory = 1
 -- The line that tells a refusal. (This project's own.)
 abbrev pub line_of : Refusal → List ℕ
 line_of BadCommandLine = codes "tq: BadCommandLine\n"
-line_of (CannotRead path) = codes "tq: cannot read " ++ path.items ++ codes "\n"
+line_of (CannotRead path) = codes "tq: cannot read " ++ shown_text path.items ++ codes "\n"
 line_of (Load fault) =
     codes "tq: load " ++ load_name fault.kind ++ codes " table " ++ decimal fault.table ++ codes " record " ++ decimal fault.number ++ codes "\n"
 line_of (Statement fault) = codes "tq: statement " ++ sql_name fault.kind ++ codes " at " ++ decimal fault.at ++ codes "\n"

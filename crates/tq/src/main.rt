@@ -46,7 +46,7 @@ use std::time::Clock;
 use tq_base::Form;
 use tq_check::check;
 use tq_draw::{draw, draw_svg};
-use tq_engine::{AnswerFault, Source, answer};
+use tq_engine::{AnswerFault, FileFault, Source, answer};
 use tq_explain::explain_records;
 use tq_session::{SessionFault, session};
 use tq_table::Sink;
@@ -76,7 +76,10 @@ fn ask<
     let tables = read_explained(rt, options, workers, explain, progress)?;
     let heads = heads_where(rt.alloc(), &tables, explain);
     progress.load();
-    match ask_watched(rt, tables, &statement, workers, form, progress, is_told) {
+    let mut sink = Sink::over(io::writer(rt));
+    match ask_watched(
+        rt, tables, &statement, workers, &mut sink, form, progress, is_told,
+    ) {
         Ok(()) => Ok(()),
         Err(fault) => Err(refused(
             rt, fault, &statement, &paths, heads, form, explain, progress,
@@ -123,7 +126,8 @@ fn draw_answer<
     }
 }
 
-// What is told of the records at fault of a file. It is read once more, where its bytes were not kept.
+// What is told of the records at fault of a file. It is read once more, where its bytes were not kept; nothing is told of one
+// that cannot be read again.
 fn records_at_fault<R: Files + AllocGlobal + Input>(
     rt: &R,
     kept: &Kept,
@@ -135,26 +139,27 @@ fn records_at_fault<R: Files + AllocGlobal + Input>(
     }
     match read_path(rt, &kept.path, progress) {
         Ok(bytes) => explain_records(rt.alloc(), &kept.name, &bytes, form),
-        Err(_) => Ok(Vec::new(rt.alloc())),
+        Err(FileFault::OutOfMemory) => Err(AllocError),
+        Err(FileFault::Read | FileFault::TooLarge) => Ok(Vec::new(rt.alloc())),
     }
 }
 
-// Lists the records at fault of each of the files on standard output.
-fn list_faults<R: Files + AllocGlobal + Input + Print + Wait>(
+// What is told of the records at fault of all files, one file after the other.
+fn list_faults<R: Files + AllocGlobal + Input>(
     rt: &R,
     files: &[Kept],
     form: Form,
     progress: &Progress,
-) -> Result<(), Refusal> {
-    progress.end(rt);
+) -> Result<Vec<u8>, AllocError> {
+    let mut list = Vec::new(rt.alloc());
     'files: for kept in files {
-        print_bytes(rt, &records_at_fault(rt, kept, form, progress)?)?;
+        list.extend_from_slice(&records_at_fault(rt, kept, form, progress)?)?;
     }
-    Ok(())
+    Ok(list)
 }
 
-// Tells on standard output what the tables are, once all files are read; where records are at fault, these. A file that is
-// refused is explained where a person sees it.
+// Tells on standard output what the tables are, once all files are read; where records are at fault, these, once the list of
+// all of them is made. A file that is refused is explained where a person sees it.
 fn check_tables<
     R: Files<File: FileExt + Send + Sync, Dir: Send>
         + AllocGlobal
@@ -180,8 +185,10 @@ fn check_tables<
         }
         Err(fault) => {
             if is_listed(fault) {
+                progress.end(rt);
+                let list = list_faults(rt, &kept, form, progress)?;
                 // Where the list cannot be printed, the line of the refusal still tells.
-                let _ = list_faults(rt, &kept, form, progress);
+                let _ = print_bytes(rt, &list);
             }
             let fault = AnswerFault::from(fault);
             Err(refused(rt, fault, b"", &paths, None, form, seen, progress))

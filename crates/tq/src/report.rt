@@ -17,6 +17,7 @@ use tq_event::LoadFault;
 use tq_explain::{explain_file, explain_plan, explain_statement};
 use tq_plan::PlanFault;
 use tq_session::SessionFault;
+use tq_shown::write_shown;
 use tq_sql::SqlFault;
 
 /// Why the program gave no answer: one of the lines that it prints.
@@ -103,7 +104,8 @@ impl Refusal {
         }
     }
 
-    /// Prints the one line of the refusal. A fault is printed by its name, a path as its bytes.
+    /// Prints the one line of the refusal. A fault is printed by its name, a path with a question mark for each hidden
+    /// character but the tab. It takes no memory.
     pub fn print<W: Write>(&self, errors: &mut W) -> io::Result<()>
         ensures { OnOk result (Appends (W.contents errors.old) (W.contents errors.new) (line_of self.now)) }
     {
@@ -111,7 +113,7 @@ impl Refusal {
             Refusal::BadCommandLine => errors.write_all(b"tq: BadCommandLine\n"),
             Refusal::CannotRead(path) => {
                 errors.write_all(b"tq: cannot read ")?;
-                errors.write_all(path)?;
+                write_shown(errors, path)?;
                 errors.write_all(b"\n")
             }
             Refusal::Load(

@@ -4,3 +4,4 @@ pub mod EdgeLemmas
 pub mod NumberLemmas
 pub mod ScaleLemmas
 pub mod Steps
+mod LabelLemmas

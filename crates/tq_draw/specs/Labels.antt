@@ -1,24 +1,35 @@
 -- How names and values are shown in a picture. This project's own.
 use Rattle.std.specs.Prelude.{ℕ, ◌+◌, ◌-◌, ◌/◌, ◌%◌, ◌==◌, nat_le, nat_lt, if◌then◌else◌, List, [], ◌∷◌, ◌++◌, length, replicate, slice_index}
-use Rattle.std.specs.Char.{is_ascii_control}
 use Rattle.std.specs.Fmt.{is_char_start, take_chars}
 use Rattle.std.specs.List.{count_by, flat_map, range_with_len}
 use Rattle.tq_draw.specs.declared.labels.TheConstants.{LABEL}
+use Rattle.tq_shown.specs.Shown.{hidden_len}
 
 -- `0` to `9` and `a` to `f`
 abbrev pub hex_digit : ℕ → ℕ
 hex_digit digit = if nat_lt digit 10 then 48 + digit else 87 + digit
 
--- a control byte as `\x` and its two hexadecimal digits, a backslash twice, every other byte as it is
-abbrev pub shown_byte : ℕ → List ℕ
-shown_byte byte =
-    if is_ascii_control byte
+-- a byte where `hidden` bytes are left of a hidden character, this one counted: in one `\x` and two hexadecimal digits, and
+-- else a backslash twice and every other byte as it is
+abbrev pub shown_byte : ℕ → ℕ → List ℕ
+shown_byte hidden byte =
+    if nat_lt 0 hidden
     then 92 ∷ 120 ∷ hex_digit (byte / 16) ∷ hex_digit (byte % 16) ∷ []
     else (if byte == 92 then 92 ∷ 92 ∷ [] else byte ∷ [])
 
+-- how many bytes are left of a hidden character: `hidden`, or those of one that begins here
+abbrev pub hidden_left : ℕ → List ℕ → ℕ
+hidden_left hidden bytes = if hidden == 0 then hidden_len bytes else hidden
+
+-- each byte as it is shown, where the first `hidden` bytes are the rest of a hidden character
+abbrev pub shown_behind : ℕ → List ℕ → List ℕ
+shown_behind hidden [] = []
+shown_behind hidden (byte ∷ bytes) =
+    shown_byte (hidden_left hidden (byte ∷ bytes)) byte ++ shown_behind (hidden_left hidden (byte ∷ bytes) - 1) bytes
+
 -- each byte of a text as it is shown
 abbrev pub shown : List ℕ → List ℕ
-shown bytes = flat_map shown_byte bytes
+shown bytes = shown_behind 0 bytes
 
 -- how many characters begin in these bytes of UTF-8
 abbrev pub chars_in : List ℕ → ℕ

@@ -1,8 +1,10 @@
 -- A table as a picture. This project's own.
-use Rattle.std.specs.Prelude.{ℕ, ◌+◌, ◌-◌, ◌*◌, ◌==◌, max, if◌then◌else◌, List, [], ◌∷◌, ◌++◌, length, map, codes, slice_index_or}
+use Rattle.std.specs.Prelude.{ℕ, ◌+◌, ◌-◌, ◌*◌, ◌==◌, nat_le, max, Bool, true, if◌then◌else◌, List, [], ◌∷◌, ◌++◌, length, map, codes, slice_index_or}
 use Rattle.std.specs.List.{flat_map, fold, range_with_len}
-use Rattle.tq_base.specs.Keys.{value_at}
+use Rattle.tq_base.specs.RowValues.{value_at}
+use Rattle.tq_base.specs.declared.dates.TheConstants.{LAST_DAY}
 use Rattle.tq_base.specs.declared.form.Form.{Form}
+use Rattle.tq_base.specs.declared.form.Form.TheVariants.{Dates, Numbers}
 use Rattle.tq_base.specs.declared.fragment.Fragment.{Fragment}
 use Rattle.tq_base.specs.declared.value.Value.{Value}
 use Rattle.tq_draw.specs.Bars.{arrow_of, bar_of, marks_on, ruler_of}
@@ -29,9 +31,18 @@ width_of columns rows column =
 abbrev pub widths_of : Table → List ℕ
 widths_of table = map (width_of table.columns table.rows) (range_with_len 0 (length table.columns))
 
+-- whether a bound has a date, where bounds are written as dates
+abbrev pub is_written : Form → ℕ → Bool
+is_written Numbers bound = true
+is_written Dates bound = nat_le bound LAST_DAY
+
+-- a bound as answers write it; nothing for one that has no date, where bounds are written as dates
+abbrev pub mark_label : Form → ℕ → List ℕ
+mark_label form bound = if is_written form bound then bound_field form bound else []
+
 -- the instant at which a mark stands, from its cell on
 abbrev pub mark_text : Form → Scale → ℕ → List ℕ
-mark_text form scale mark = filled 16 (bound_field form (edge scale (mark * 16)))
+mark_text form scale mark = filled 16 (mark_label form (edge scale (mark * 16)))
 
 -- the same of all marks but the last
 abbrev pub others_text : Form → Scale → List ℕ
@@ -40,7 +51,7 @@ others_text form scale = flat_map (mark_text form scale) (range_with_len 0 (mark
 -- the instants at which the marks stand, and the last bound up to the end
 abbrev pub marks_text : Form → Scale → List ℕ
 marks_text form scale = let last = (marks_on scale.cells - 1) * 16 in
-    others_text form scale ++ parted (scale.cells + 1 - last) (bound_field form (edge scale last)) (bound_field form scale.last)
+    others_text form scale ++ parted (scale.cells + 1 - last) (mark_label form (edge scale last)) (mark_label form scale.last)
 
 -- two lines above the rows: the instants of the scale; the names of the columns, and a ruler
 abbrev pub head_text : Form → List (List ℕ) → List ℕ → Scale → List ℕ

@@ -30,7 +30,7 @@ opening width height =
     codes "<svg xmlns=\"http://www.w3.org/2000/svg\" width=\"" ++ decimal width ++ codes "\" height=\"" ++ decimal height
     ++ codes "\" font-family=\"monospace\" font-size=\"15\">\n<rect width=\"100%\" height=\"100%\" fill=\"#fff\"/>\n<text xml:space=\"preserve\">"
 
--- a stroke as long as a cell for a cell that is filled, three short ones for an arrow, and a step for another cell
+-- a stroke as long as a cell for a cell that is filled, two short ones for an arrow, and a step for another cell
 abbrev pub stroke : ℕ → List ℕ
 stroke byte =
     if byte == 35 then codes "h9" else

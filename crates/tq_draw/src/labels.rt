@@ -3,11 +3,13 @@
 ghost use Rattle.std.specs.Prelude.{◌≡◌, ◌++◌, ◌<◌, ◌≤◌, IfOk, OnOk, replicate};
 ghost use Rattle.std.specs.Fmt.{is_char_start, take_chars};
 ghost use Rattle.tq_draw.specs.Labels.{chars_in, filled, hex_digit, label_of, parted, shown, shown_byte};
-ghost use Rattle.tq_table.specs.Text.{bound_field, value_field};
+ghost use Rattle.tq_draw.specs.Pictures.{is_written, mark_label};
+ghost use Rattle.tq_table.specs.Text.{value_field};
 
 use itoa::Buffer;
 use std::alloc::{AllocError, Global};
-use tq_base::{Form, Instant, Seen, Value, put_instant};
+use tq_base::{Form, Instant, LAST_DAY, Seen, Value, put_instant};
+use tq_shown::hidden_len;
 
 /// The most characters of a label.
 pub(crate) const LABEL: usize = 24;
@@ -23,10 +25,11 @@ fn hex_digit(digit: u8) -> u8
     }
 }
 
-fn push_shown(text: &mut Vec<u8>, byte: u8) -> Result<(), AllocError>
-    ensures { OnOk result (text.new.items ≡ text.old.items ++ shown_byte byte) }
+// Writes a byte as it is shown; `hidden` bytes are left of a hidden character, this one counted.
+fn push_byte(text: &mut Vec<u8>, hidden: usize, byte: u8) -> Result<(), AllocError>
+    ensures { OnOk result (text.new.items ≡ text.old.items ++ shown_byte hidden byte) }
 {
-    if byte.is_ascii_control() {
+    if hidden > 0 {
         let digits = [b'\\', b'x', hex_digit(byte / 16), hex_digit(byte % 16)];
         return text.extend_from_slice(&digits);
     }
@@ -41,8 +44,13 @@ fn shown(alloc: Global, bytes: &[u8]) -> Result<Vec<u8>, AllocError>
     ensures { IfOk result (λ text. text.items ≡ shown bytes.now) }
 {
     let mut text = Vec::new(alloc);
-    'bytes: for byte in bytes {
-        push_shown(&mut text, *byte)?;
+    let mut hidden = 0;
+    'bytes: for (place, byte) in bytes.iter().enumerate() {
+        if hidden == 0 {
+            hidden = hidden_len(&bytes[place..]);
+        }
+        push_byte(&mut text, hidden, *byte)?;
+        hidden = hidden.saturating_sub(1);
     }
     Ok(text)
 }
@@ -101,11 +109,24 @@ pub(crate) fn value_label(alloc: Global, value: &Value) -> Result<Vec<u8>, Alloc
     }
 }
 
-/// A bound as answers write it.
-pub(crate) fn bound_label(alloc: Global, bound: u64, form: Form) -> Result<Vec<u8>, AllocError>
-    requires { bound ≤ 1000000000000 }
-    ensures { IfOk result (λ label. label.items ≡ bound_field form bound) }
+// Whether the bound has a date, where bounds are written as dates.
+fn is_written(bound: u64, form: Form) -> bool
+    ensures { result ≡ is_written form bound }
 {
+    match form {
+        Form::Numbers => true,
+        Form::Dates => bound <= LAST_DAY,
+    }
+}
+
+/// A bound as answers write it; nothing for one that has no date, where bounds are written as dates.
+pub(crate) fn mark_label(alloc: Global, bound: u64, form: Form) -> Result<Vec<u8>, AllocError>
+    requires { bound ≤ 1000000000000 }
+    ensures { IfOk result (λ label. label.items ≡ mark_label form bound) }
+{
+    if !is_written(bound, form) {
+        return Ok(Vec::new(alloc));
+    }
     match Instant::new(bound) {
         Some(instant) => {
             let mut text = [0; 12];

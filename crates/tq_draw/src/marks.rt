@@ -5,7 +5,7 @@ ghost use Rattle.tq_draw.specs.Bars.{marks_on, ruler_byte, ruler_of};
 ghost use Rattle.tq_draw.specs.Pictures.{marks_text, others_text};
 ghost use Rattle.tq_draw.specs.Scales.{IsScale};
 
-use crate::labels::{bound_label, push_filled, push_parted};
+use crate::labels::{mark_label, push_filled, push_parted};
 use crate::scale::Scale;
 use std::alloc::{AllocError, Global};
 use tq_base::Form;
@@ -49,7 +49,7 @@ fn push_others(
     ensures { OnOk result (text.new.items ≡ text.old.items ++ others_text form scale.now) }
 {
     'marks: for mark in 0..marks_on(scale.cells) - 1 {
-        let label = bound_label(alloc, scale.edge(mark * 16), form)?;
+        let label = mark_label(alloc, scale.edge(mark * 16), form)?;
         push_filled(text, &label, 16)?;
     }
     Ok(())
@@ -67,7 +67,7 @@ pub(crate) fn push_marks(
 {
     push_others(alloc, text, scale, form)?;
     let mark = (marks_on(scale.cells) - 1) * 16;
-    let begin = bound_label(alloc, scale.edge(mark), form)?;
-    let end = bound_label(alloc, scale.last, form)?;
+    let begin = mark_label(alloc, scale.edge(mark), form)?;
+    let end = mark_label(alloc, scale.last, form)?;
     push_parted(text, &begin, &end, scale.cells + 1 - mark)
 }

@@ -20,15 +20,28 @@ use Rattle.tq_eval.specs.Fitting.{AreAllFitting, HeldRowsFit}
 use Rattle.tq_eval.specs.Named.{KeptTablesAnswer, Serve}
 use Rattle.tq_eval.specs.TableAnswers.{TablesAnswer}
 use Rattle.tq_table.specs.declared.table.Table.{Table}
-use Rattle.tq_engine.specs.Answers.{HasAnswer, IsAsked, ServesAsked}
+use Rattle.tq_engine.specs.Answers.{AskedIsAnswered, AskedIsRefused, IsAsked, IsStatementFault, ServesAsked}
+use Rattle.tq_engine.proofs.FaultLemmas.{statement_fault}
 use Rattle.tq_engine.proofs.UniqueLemmas.{same_catalogue, same_statement}
 
--- what answers a plan of the statement over the tables is the answer
-pub answers_asked : TablesAnswer → (form : Form) (files : List TableFile) (bytes : List ℕ) (tables : Tables) (statement : Statement) (plan : Plan) (table : Table) → IsAsked form files bytes tables statement
-    → plan_of form tables.catalogue statement ≡ Ok plan → IsTablesAnswer (lists_of tables.rows) plan table → HasAnswer form files bytes table
-answers_asked tables_answer form files bytes tables statement plan table asked planned is =
-    let of : AreLoaded form files 16777216 asked.whole = asked.loaded in
-    let over : plan_of form of.loaded.catalogue statement ≡ Ok plan = subst (λ (catalogue : Catalogue). plan_of form catalogue statement ≡ Ok plan) (asked.kept.catalogue ∙ sym of.catalogue) planned in
+-- rows of whole tables fit the tables of the files
+pub whole_fit : HeldRowsFit → LoadedIsHistory → (form : Form) (files : List TableFile) (whole : Tables) → AreLoaded form files 16777216 whole → AreAllFitting whole.catalogue (lists_of whole.rows)
+whole_fit held is_history form files whole of =
+    subst (λ (catalogue : Catalogue). AreAllFitting catalogue (lists_of whole.rows)) of.catalogue
+    (held of.loaded.catalogue (lists_of whole.rows) of.loaded.events (length of.loaded.events) (is_history form files 16777216 of.loaded of.is_loaded) of.hold)
+
+-- what answers the statement's plan over the tables answers it over the whole ones, and is the answer
+pub answers_asked : TablesAreLoaded → LoadedIsHistory → HeldRowsFit → QueriesStand → KeptTablesAnswer → TablesAnswer → AskedIsAnswered
+answers_asked are_loaded is_history held stand kept_answer tables_answer form files bytes tables statement plan table asked planned is =
+    let wanted = asked.of_files in
+    let whole = wanted.whole in
+    let of : AreLoaded form files 16777216 whole = are_loaded form files 16777216 whole wanted.of_files in
+    let fit : AreAllFitting whole.catalogue (lists_of whole.rows) = whole_fit held is_history form files whole of in
+    let of_whole : plan_of form whole.catalogue statement ≡ Ok plan = subst (λ (catalogue : Catalogue). plan_of form catalogue statement ≡ Ok plan) wanted.kept.catalogue planned in
+    let over : plan_of form of.loaded.catalogue statement ≡ Ok plan = subst (λ (catalogue : Catalogue). plan_of form catalogue statement ≡ Ok plan) (sym of.catalogue) of_whole in
+    let of_tables : IsTablesAnswer (lists_of whole.rows) plan table =
+    kept_answer asked.wanted whole.catalogue (lists_of whole.rows) (lists_of tables.rows) plan table wanted.kept.rows fit
+    (stand whole.catalogue plan (record { form = form; statement = statement; planned = of_whole })) (asked.serves plan planned) is in
     record {
       loaded = of.loaded;
       is_loaded = of.is_loaded;
@@ -37,34 +50,32 @@ answers_asked tables_answer form files bytes tables statement plan table asked p
       is_answer = record {
         plan = plan;
         planned = over;
-        is_answer = tables_answer (lists_of asked.whole.rows) of.loaded.events (length of.loaded.events) plan table
+        is_answer = tables_answer (lists_of whole.rows) of.loaded.events (length of.loaded.events) plan table
             (record { form = form; catalogue = of.loaded.catalogue; statement = statement; planned = over })
             (λ k d less. of.hold (get_or (tables_read plan) k d))
-            (asked.same plan table planned is);
+            of_tables;
       };
     }
 
--- the tables that were loaded, and the statement that was read, are what is asked
-pub is_asked : TablesAreLoaded → QueriesStand → KeptTablesAnswer → (form : Form) (files : List TableFile) (bytes : List ℕ) (wanted : List (List Bool)) (tables : Tables) (statement : Statement)
-    → ServesAsked form files bytes wanted → (of : AreWantedTables form files 16777216 wanted tables) → AreAllFitting of.whole.catalogue (lists_of of.whole.rows) → Makes bytes statement → IsAsked form files bytes tables statement
-is_asked are_loaded stand kept_answer form files bytes wanted tables statement serves of fit makes = record {
-  whole = of.whole;
-  loaded = are_loaded form files 16777216 of.whole of.of_files;
-  wanted = wanted;
-  kept = of.kept;
-  makes = makes;
-  same = λ plan table planned is.
-      let over : plan_of form of.whole.catalogue statement ≡ Ok plan = subst (λ (catalogue : Catalogue). plan_of form catalogue statement ≡ Ok plan) of.kept.catalogue planned in
-      kept_answer wanted of.whole.catalogue (lists_of of.whole.rows) (lists_of tables.rows) plan table of.kept.rows fit
-      (stand of.whole.catalogue plan (record { form = form; statement = statement; planned = over }))
-      (serves of.of_files.contents of.whole.catalogue statement plan of.of_files.is_contents of.of_files.catalogue makes over) is;
-}
+-- a fault of the statement over the tables is the first fault
+pub faults_asked : TablesAreLoaded → AskedIsRefused
+faults_asked are_loaded form files bytes tables statement fault asked is =
+    let whole = asked.of_files.whole in
+    let of : AreLoaded form files 16777216 whole = are_loaded form files 16777216 whole asked.of_files.of_files in
+    statement_fault form files bytes of.loaded statement fault of.is_loaded asked.makes
+    (subst (λ (catalogue : Catalogue). IsStatementFault form catalogue statement fault) (asked.of_files.kept.catalogue ∙ sym of.catalogue) is)
 
--- rows of whole tables fit the tables of the files
-pub whole_fit : HeldRowsFit → LoadedIsHistory → (form : Form) (files : List TableFile) (whole : Tables) → AreLoaded form files 16777216 whole → AreAllFitting whole.catalogue (lists_of whole.rows)
-whole_fit held is_history form files whole of =
-    subst (λ (catalogue : Catalogue). AreAllFitting catalogue (lists_of whole.rows)) of.catalogue
-    (held of.loaded.catalogue (lists_of whole.rows) of.loaded.events (length of.loaded.events) (is_history form files 16777216 of.loaded of.is_loaded) of.hold)
+-- the tables that were loaded, and the statement that was read, are what is asked
+pub is_asked : (form : Form) (files : List TableFile) (bytes : List ℕ) (wanted : List (List Bool)) (tables : Tables) (statement : Statement)
+    → ServesAsked form files bytes wanted → AreWantedTables form files 16777216 wanted tables → Makes bytes statement → IsAsked form files bytes tables statement
+is_asked form files bytes wanted tables statement serves of makes = record {
+  wanted = wanted;
+  of_files = of;
+  makes = makes;
+  serves = λ plan planned.
+      let over : plan_of form of.whole.catalogue statement ≡ Ok plan = subst (λ (catalogue : Catalogue). plan_of form catalogue statement ≡ Ok plan) of.kept.catalogue planned in
+      serves of.of_files.contents of.whole.catalogue statement plan of.of_files.is_contents of.of_files.catalogue makes over;
+}
 
 -- a result is one value
 abbrev ok_or : {A E : Type 0} → A → Result A E → A

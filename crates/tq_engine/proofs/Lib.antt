@@ -2,3 +2,4 @@ pub mod AskedLemmas
 pub mod DatedLemmas
 pub mod UniqueLemmas
 pub mod FaultLemmas
+pub mod OutcomeLemmas

@@ -1,5 +1,5 @@
 -- The answer of a statement over the tables of files, and the first fault where there is none.
-use Rattle.std.specs.Prelude.{◌≡◌, ◌≢◌, ℕ, Bool, List, [], length, All, Err, Ok}
+use Rattle.std.specs.Prelude.{◌≡◌, ◌≢◌, ℕ, Bool, List, [], length, All, Result, Err, Ok}
 use Rattle.tq_base.specs.declared.form.Form.{Form}
 use Rattle.tq_base.specs.declared.form.Form.TheVariants.{Dates}
 use Rattle.tq_base.specs.declared.fragment.Fragment.{Fragment}
@@ -8,9 +8,9 @@ use Rattle.tq_base.specs.declared.catalogue.Catalogue.{Catalogue}
 use Rattle.tq_event.specs.declared.file.Loaded.{Loaded}
 use Rattle.tq_event.specs.declared.file.TableFile.{TableFile}
 use Rattle.tq_event.specs.declared.file.Tables.{Tables}
-use Rattle.tq_event.specs.Keeping.{AreKept}
+use Rattle.tq_event.specs.Keeping.{AreWantedTables}
 use Rattle.tq_event.specs.Loading.{Contents, IsLoaded, contents_of}
-use Rattle.tq_event.specs.Tables.{AreLoaded, lists_of}
+use Rattle.tq_event.specs.Tables.{lists_of}
 use Rattle.tq_eval.specs.Answers.{IsAnswer, IsTablesAnswer}
 use Rattle.tq_eval.specs.Named.{Serve}
 use Rattle.tq_plan.specs.Plans.{plan_of}
@@ -31,17 +31,15 @@ pub record HasAnswer (form : Form) (files : List TableFile) (bytes : List ℕ) (
   pub makes : Makes bytes statement
   pub is_answer : IsAnswer form loaded.catalogue statement loaded.events (length loaded.events) table
 
--- the statement is the one that the bytes make, and the tables are those of the files, row by row, of which values may be left out that
--- it does not name: what answers a plan of it over these tables answers it over the whole ones
+-- the tables are those of the files, record by record, with the values of the wanted columns; the statement is the one that the bytes make;
+-- and the wanted columns are all columns, or include those that the statement's plan names
 pub record IsAsked (form : Form) (files : List TableFile) (bytes : List ℕ) (tables : Tables) (statement : Statement) : Type 0 where
-  pub whole : Tables
-  pub loaded : AreLoaded form files 16777216 whole
   pub wanted : List (List Bool)
-  pub kept : AreKept wanted whole tables
+  pub of_files : AreWantedTables form files 16777216 wanted tables
   pub makes : Makes bytes statement
-  pub same : (plan : Plan) (table : Table) → plan_of form tables.catalogue statement ≡ Ok plan → IsTablesAnswer (lists_of tables.rows) plan table → IsTablesAnswer (lists_of whole.rows) plan table
+  pub serves : (plan : Plan) → plan_of form tables.catalogue statement ≡ Ok plan → wanted ≢ [] → Serve wanted plan
 
--- the tables are such tables, and the plan is that of the statement
+-- the tables and the statement are such, and the plan is that of the statement
 pub record IsPlanned (form : Form) (files : List TableFile) (bytes : List ℕ) (tables : Tables) (plan : Plan) : Type 0 where
   pub statement : Statement
   pub asked : IsAsked form files bytes tables statement
@@ -91,3 +89,28 @@ IsFault form files bytes answer.OutOfMemory = Unit {0}
 abbrev pub AnswersAreDated : Type 0
 AnswersAreDated = (files : List TableFile) (bytes : List ℕ) (table : Table) → HasAnswer Dates files bytes table
     → All (λ (row : Fragment). IsDated row.period.start × IsDated row.period.end) table.rows
+
+-- what answers the plan of the statement over the tables that are asked is the answer
+abbrev pub AskedIsAnswered : Type 0
+AskedIsAnswered = (form : Form) (files : List TableFile) (bytes : List ℕ) (tables : Tables) (statement : Statement) (plan : Plan) (table : Table) → IsAsked form files bytes tables statement
+    → plan_of form tables.catalogue statement ≡ Ok plan → IsTablesAnswer (lists_of tables.rows) plan table → HasAnswer form files bytes table
+
+-- and a fault of the statement over these tables is the first fault
+abbrev pub AskedIsRefused : Type 0
+AskedIsRefused = (form : Form) (files : List TableFile) (bytes : List ℕ) (tables : Tables) (statement : Statement) (fault : AnswerFault) → IsAsked form files bytes tables statement
+    → IsStatementFault form tables.catalogue statement fault → IsFault form files bytes fault
+
+-- ---- just one outcome
+
+-- what comes of files and a statement where there is memory and the output fails nowhere: the answer, or the first fault
+abbrev pub IsOutcome : Form → List TableFile → List ℕ → Result Table AnswerFault → Type 0
+IsOutcome form files bytes (Ok table) = HasAnswer form files bytes table
+IsOutcome form files bytes (Err fault) = IsFault form files bytes fault × (fault ≢ answer.OutOfMemory)
+
+-- files and a statement have an outcome
+abbrev pub OutcomesExist : Type 0
+OutcomesExist = (form : Form) (files : List TableFile) (bytes : List ℕ) → (outcome : Result Table AnswerFault) × IsOutcome form files bytes outcome
+
+-- and no second one
+abbrev pub OutcomesAreUnique : Type 0
+OutcomesAreUnique = (form : Form) (files : List TableFile) (bytes : List ℕ) (a b : Result Table AnswerFault) → IsOutcome form files bytes a → IsOutcome form files bytes b → a ≡ b

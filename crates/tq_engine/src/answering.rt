@@ -10,17 +10,17 @@ ghost use Rattle.tq_engine.specs.Answers.{HasAnswer, IsAsked, IsFault, IsStateme
 ghost use Rattle.tq_eval.specs.Answers.{IsTablesAnswer};
 ghost use Rattle.tq_eval.specs.Fitting.{AreAllFitting};
 
+use crate::laws::asked_is_answered;
 use crate::named::named_columns;
 use std::alloc::{AllocError, Global};
 use std::thread::Threads;
 use thiserror::Error;
 use tq_base::Form;
 use tq_eval::detached;
-use tq_eval::laws::{held_rows_fit, kept_rows_fit, kept_tables_answer, tables_answer};
+use tq_eval::laws::{held_rows_fit, kept_rows_fit};
 use tq_event::laws::{loaded_is_history, tables_are_loaded};
 use tq_event::{LoadFault, LoadFaultKind, MAX_EVENTS, TableFile, Tables};
 use tq_loading::load_wanted_among;
-use tq_plan::laws::queries_stand;
 use tq_plan::{Plan, PlanFault, plan};
 use tq_run::{Gate, Open};
 use tq_sql::{SqlFault, SqlFaultKind, Statement, read};
@@ -127,9 +127,7 @@ pub(crate) fn asked<R: Threads + Sync, G: Gate + Sync>(
     tables_are_loaded();
     loaded_is_history();
     held_rows_fit();
-    queries_stand();
     kept_rows_fit();
-    kept_tables_answer();
     let statement = read(alloc, bytes)?;
     Ok(Question { tables, statement })
 }
@@ -192,7 +190,7 @@ fn answered<'a, R: Threads + Sync>(
     ensures answer { (files : List AnyFile) (bytes : List ℕ) → IsAsked form files bytes question.now.tables question.now.statement → IfOk result (HasAnswer form files bytes) }
     ensures fault { (files : List AnyFile) (bytes : List ℕ) → IsAsked form files bytes question.now.tables question.now.statement → IfErr result (IsFault form files bytes) }
 {
-    tables_answer();
+    asked_is_answered();
     answer_statement(
         rt,
         alloc,
@@ -220,7 +218,7 @@ pub(crate) fn answered_text<R: Threads + Sync, G: Gate + Sync>(
     ensures answer { (files : List AnyFile) (bytes : List ℕ) → IsAsked form files bytes question.now.tables question.now.statement → IfOk result (λ found. IsTextOf form (HasAnswer form files bytes) found.1) }
     ensures fault { (files : List AnyFile) (bytes : List ℕ) → IsAsked form files bytes question.now.tables question.now.statement → IfErr result (IsFault form files bytes) }
 {
-    tables_answer();
+    asked_is_answered();
     statement_text(
         rt,
         alloc,

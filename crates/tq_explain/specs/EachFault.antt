@@ -9,7 +9,7 @@ use Rattle.tq_explain.specs.Faults.{is_faulty}
 use Rattle.tq_explain.specs.Fields.{record_detail}
 use Rattle.tq_explain.specs.Files.{IsColumnWhere, file_meaning, is_header_at_fault}
 use Rattle.tq_explain.specs.Lines.{record_line}
-use Rattle.tq_explain.specs.Pointing.{shown_byte}
+use Rattle.tq_shown.specs.Shown.{shown_text}
 use Rattle.tq_explain.specs.Records.{line_text}
 
 -- a record at fault, and its number, from 1
@@ -32,7 +32,7 @@ faulty_of form columns bytes = faulty_from form columns 2 (drop 1 (csv_records b
 
 -- a table, the number of one of its records, and the line on which that begins, where there is one
 abbrev pub record_head : List ℕ → ℕ → Option ℕ → List ℕ
-record_head name number line = map shown_byte name ++ codes " record " ++ decimal number ++ line_text line ++ codes ": "
+record_head name number line = shown_text name ++ codes " record " ++ decimal number ++ line_text line ++ codes ": "
 
 -- what is told of a record at fault with this number and line
 abbrev pub fault_told : Form → List Column → List ℕ → ℕ → Option ℕ → List (List ℕ) → List ℕ
@@ -50,8 +50,8 @@ told_where told text = if told then text else []
 abbrev pub rest_text : List ℕ → ℕ → List ℕ
 rest_text name count =
     if count == 0 then []
-    else (if count == 1 then map shown_byte name ++ codes ": 1 more record is at fault\n"
-    else map shown_byte name ++ codes ": " ++ decimal count ++ codes " more records are at fault\n")
+    else (if count == 1 then shown_text name ++ codes ": 1 more record is at fault\n"
+    else shown_text name ++ codes ": " ++ decimal count ++ codes " more records are at fault\n")
 
 -- what is told of records at fault: of the first hundred each by itself, and how many more there are
 abbrev pub faults_text : Form → List Column → List ℕ → List ℕ → List Faulty → List ℕ

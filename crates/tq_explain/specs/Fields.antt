@@ -9,13 +9,13 @@ use Rattle.tq_base.specs.declared.value.Value.{Value}
 use Rattle.tq_event.specs.Loading.{value_of}
 use Rattle.tq_event.specs.declared.fault.LoadFaultKind.{LoadFaultKind}
 use Rattle.tq_event.specs.declared.fault.LoadFaultKind.TheVariants.{BadHeader, BadInt, BadPeriod, DuplicateName, FieldCount, NotUtf8, OutOfMemory, TextTooLong, TooManyColumns, TooManyEvents, TooManyTables}
-use Rattle.tq_explain.specs.Pointing.{shown_byte}
+use Rattle.tq_shown.specs.Shown.{shown_text}
 
 -- ---- a field
 
--- a value as it is shown: its control bytes as `?`, and of more than 60 bytes the first 60 and two dots
+-- a value as it is shown: each hidden character but the tab as `?`, and of more than 60 bytes the first 60 and two dots
 abbrev pub shown : List ℕ → List ℕ
-shown value = map shown_byte (take (min (length value) 60) value) ++ (if nat_lt 60 (length value) then codes ".." else [])
+shown value = shown_text (take (min (length value) 60) value) ++ (if nat_lt 60 (length value) then codes ".." else [])
 
 -- what is said of a value, or that there is none
 abbrev pub says_of : List ℕ → List ℕ → List ℕ

@@ -9,7 +9,7 @@ use Rattle.tq_event.specs.declared.fault.LoadFaultKind.TheVariants.{BadHeader, B
 use Rattle.tq_explain.specs.Faults.{further_where}
 use Rattle.tq_explain.specs.Fields.{record_detail}
 use Rattle.tq_explain.specs.Headers.{IsColumn}
-use Rattle.tq_explain.specs.Pointing.{shown_byte}
+use Rattle.tq_shown.specs.Shown.{shown_text}
 use Rattle.tq_explain.specs.Records.{IsLine, line_text, record_of}
 
 -- what is wrong with a record by the columns of a header, where it names some
@@ -106,5 +106,5 @@ abbrev pub IsFileDetail : Form → List ℕ → List ℕ → LoadFault → List 
 IsFileDetail form path bytes fault text =
     (line : Option ℕ) × IfSome line (IsLine bytes fault.number)
     × ((column : List ℕ) × IsColumnWhere (is_header_at_fault fault.kind bytes fault.number) bytes column
-    × (text ≡ codes "  " ++ map shown_byte path ++ line_text line ++ codes ": " ++ column ++ meaning_of fault.kind form bytes fault.number
+    × (text ≡ codes "  " ++ shown_text path ++ line_text line ++ codes ": " ++ column ++ meaning_of fault.kind form bytes fault.number
     ++ further_where (is_of_fields fault.kind) form bytes fault.number ++ codes "\n"))

@@ -1,8 +1,8 @@
 -- A line of a text, with a caret below one of its characters. This project's own.
-use Rattle.std.specs.Prelude.{ℕ, ◌+◌, ◌-◌, Bool, ◌==◌, nat_lt, not, if◌then◌else◌, List, [], ◌∷◌, ◌++◌, codes, count_by, drop, map, min, take}
-use Rattle.std.specs.Char.{is_ascii_control}
+use Rattle.std.specs.Prelude.{ℕ, ◌+◌, ◌-◌, Bool, ◌==◌, nat_lt, not, if◌then◌else◌, List, [], ◌∷◌, ◌++◌, codes, count_by, drop, min, take}
 use Rattle.std.specs.Fmt.{is_char_start}
 use Rattle.std.specs.List.{flat_map, fold, prefix_len}
+use Rattle.tq_shown.specs.Shown.{shown_text}
 
 -- every byte but a line feed
 abbrev pub is_in_line : ℕ → Bool
@@ -19,10 +19,6 @@ last_line bytes = fold line_after [] bytes
 -- the bytes before the first line feed
 abbrev pub first_line : List ℕ → List ℕ
 first_line bytes = take (prefix_len is_in_line bytes) bytes
-
--- a tab as it is, every other control byte as `?`, and all else as it is
-abbrev pub shown_byte : ℕ → ℕ
-shown_byte byte = if is_ascii_control byte then (if byte == 9 then 9 else 63) else byte
 
 -- below a tab a tab, below every other character a space
 abbrev pub blank_byte : ℕ → List ℕ
@@ -57,8 +53,8 @@ where_cut count bytes mark = if nat_lt count (char_count bytes) then mark else [
 -- what is shown of a line: so many characters before a place, and so many from it on, with two dots at each end that is cut
 abbrev pub window : ℕ → ℕ → List ℕ → List ℕ → List ℕ
 window before behind front rest =
-    codes "  " ++ where_cut before front (codes "..") ++ map shown_byte (last_chars before front)
-    ++ map shown_byte (first_chars behind rest) ++ where_cut behind rest (codes "..") ++ codes "\n"
+    codes "  " ++ where_cut before front (codes "..") ++ shown_text (last_chars before front)
+    ++ shown_text (first_chars behind rest) ++ where_cut behind rest (codes "..") ++ codes "\n"
 
 -- a caret below what begins behind so many characters that are shown
 abbrev pub caret : ℕ → List ℕ → List ℕ

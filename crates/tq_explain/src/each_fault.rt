@@ -8,18 +8,18 @@ ghost use Rattle.tq_event.specs.Reading.{HasLeft};
 ghost use Rattle.tq_explain.specs.EachFault.{IsRecordsText, fault_text, fault_told, faults_text, faulty_of, header_text, record_head, rest_text, told_where};
 ghost use Rattle.tq_explain.specs.Faults.{fault_count, is_faulty};
 ghost use Rattle.tq_explain.specs.Files.{IsColumnWhere, is_header_at_fault};
-ghost use Rattle.tq_explain.specs.Pointing.{shown_byte};
+ghost use Rattle.tq_shown.specs.Shown.{shown_text};
 
 use crate::faults::{is_faulty, read_columns};
 use crate::fields::{push_number, push_record_detail};
 use crate::files::{column_where, file_meaning, is_header_at_fault, push_line};
 use crate::lines::{first_walk, next_line};
-use crate::pointing::push_shown;
 use csv::{ByteRecord, Reader};
 use std::alloc::{AllocError, Global};
 use tq_base::{Column, Form, Value};
 use tq_event::LoadFaultKind;
 use tq_event::steps::{is_marked_twice, next_record, record_reader};
+use tq_shown::push_shown;
 
 // How many records at fault are told each by itself.
 const EACH: usize = 100;
@@ -102,7 +102,7 @@ fn push_where_faulty(
 
 // So many more, which are several.
 fn push_several(text: &mut Vec<u8>, name: &[u8], count: usize) -> Result<(), AllocError>
-    ensures { OnOk result (text.new.items ≡ text.old.items ++ (map shown_byte name.now ++ codes ": " ++ decimal count ++ codes " more records are at fault\n")) }
+    ensures { OnOk result (text.new.items ≡ text.old.items ++ (shown_text name.now ++ codes ": " ++ decimal count ++ codes " more records are at fault\n")) }
 {
     push_shown(text, name)?;
     text.extend_from_slice(b": ")?;
@@ -112,7 +112,7 @@ fn push_several(text: &mut Vec<u8>, name: &[u8], count: usize) -> Result<(), All
 
 // One more.
 fn push_single(text: &mut Vec<u8>, name: &[u8]) -> Result<(), AllocError>
-    ensures { OnOk result (text.new.items ≡ text.old.items ++ (map shown_byte name.now ++ codes ": 1 more record is at fault\n")) }
+    ensures { OnOk result (text.new.items ≡ text.old.items ++ (shown_text name.now ++ codes ": 1 more record is at fault\n")) }
 {
     push_shown(text, name)?;
     text.extend_from_slice(b": 1 more record is at fault\n")

@@ -4,13 +4,13 @@ ghost use Rattle.std.specs.Prelude.{◌≡◌, ◌+◌, ◌<◌, ◌≤◌, ◌+
 ghost use Rattle.csv.specs.Records.{fields_of};
 ghost use Rattle.tq_explain.specs.Fields as spec;
 
-use crate::pointing::push_shown;
 use csv::ByteRecord;
 use itoa::Buffer;
 use std::alloc::AllocError;
 use std::str;
 use tq_base::{Column, Form, Kind, MAX_TEXT, read_bound, read_instant, read_int};
 use tq_event::LoadFaultKind;
+use tq_shown::push_shown;
 
 // How much of a value is shown, in bytes.
 const SHOWN: usize = 60;

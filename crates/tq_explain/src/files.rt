@@ -10,13 +10,13 @@ ghost use Rattle.tq_explain.specs.Records.{line_text, record_of};
 use crate::faults::push_further;
 use crate::fields::{push_number, push_record_detail};
 use crate::headers::column_of;
-use crate::pointing::push_shown;
 use crate::records::{line_of, read_record};
 use csv::ByteRecord;
 use std::alloc::{AllocError, Global};
 use tq_base::Form;
 use tq_event::steps::{is_marked_twice, read_header};
 use tq_event::{LoadFault, LoadFaultKind};
+use tq_shown::push_shown;
 
 // What is wrong with a record by a header.
 fn push_under_header(

@@ -1,11 +1,12 @@
 // The line of a text in which a byte stands, and a caret below that byte.
 
-ghost use Rattle.std.specs.Prelude.{◌≡◌, ◌≤◌, ◌++◌, IfOk, OnOk, length, map};
+ghost use Rattle.std.specs.Prelude.{◌≡◌, ◌≤◌, ◌++◌, IfOk, OnOk, length};
 ghost use Rattle.std.specs.Fmt.{is_char_start};
 ghost use Rattle.std.specs.List.{flat_map, prefix_len};
-ghost use Rattle.tq_explain.specs.Pointing.{blank_byte, caret, char_count, chars_len, first_chars, is_in_line, last_chars, last_line, pointed, pointed_between, shown_byte, shown_count, where_cut, window};
+ghost use Rattle.tq_explain.specs.Pointing.{blank_byte, caret, char_count, chars_len, first_chars, is_in_line, last_chars, last_line, pointed, pointed_between, shown_count, where_cut, window};
 
 use std::alloc::{AllocError, Global};
+use tq_shown::push_shown;
 
 // The most characters of a line that are shown.
 const SHOWN: usize = 72;
@@ -36,26 +37,6 @@ fn last_line(alloc: Global, bytes: &[u8]) -> Result<Vec<u8>, AllocError>
         }
     }
     Ok(line)
-}
-
-fn shown_byte(byte: u8) -> u8
-    ensures { result ≡ shown_byte byte }
-{
-    if byte.is_ascii_control() && byte != b'\t' {
-        b'?'
-    } else {
-        byte
-    }
-}
-
-/// The bytes of a line, each control byte but the tab as a question mark.
-pub(crate) fn push_shown(text: &mut Vec<u8>, bytes: &[u8]) -> Result<(), AllocError>
-    ensures { OnOk result (text.new.items ≡ text.old.items ++ map shown_byte bytes.now) }
-{
-    'bytes: for byte in bytes {
-        text.push(shown_byte(*byte))?;
-    }
-    Ok(())
 }
 
 // Whether a character begins with the byte.

@@ -1,6 +1,6 @@
-use Rattle.std.proofs.Common.{◌≡◌, ◌∙◌, List, ℕ, ◌++◌, ap}
+use Rattle.std.proofs.Common.{◌∙◌, List, ℕ, ◌++◌, ap}
 use Rattle.std.specs.Prelude.{codes}
-use Rattle.std.specs.Prelude.{◌+◌, ◌*◌, []}
+use Rattle.std.specs.Prelude.{◌+◌, ◌*◌}
 use Rattle.tq_draw.specs.Labels.{columns_text}
 use Rattle.tq_draw.specs.Pictures.{name_label}
 use Rattle.tq_draw.specs.Svg.{empty_image, line_element, opening}

@@ -1,4 +1,4 @@
-use Rattle.std.proofs.Common.{◌≡◌, ◌∙◌, List, ℕ, ◌++◌, ap}
+use Rattle.std.proofs.Common.{◌∙◌, List, ℕ, ◌++◌, ap}
 use Rattle.std.specs.Prelude.{codes}
 use Rattle.std.specs.Prelude.{◌+◌, ◌*◌, length, max}
 use Rattle.tq_draw.specs.Svg.{bars_path, image_over, marks_element, names_element, opening, path_start, values_elements}

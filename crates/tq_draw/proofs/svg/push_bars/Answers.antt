@@ -1,4 +1,4 @@
-use Rattle.std.proofs.Common.{◌≡◌, ◌∙◌, List, ℕ, ◌<◌, ◌++◌, ap, arith, get_or, length, take}
+use Rattle.std.proofs.Common.{◌∙◌, List, ℕ, ◌<◌, ◌++◌, ap, arith, length, take}
 use Rattle.std.specs.List.{flat_map}
 use Rattle.tq_base.specs.Keys.{no_row}
 use Rattle.tq_base.specs.declared.fragment.Fragment.{Fragment}

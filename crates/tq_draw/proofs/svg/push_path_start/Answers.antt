@@ -1,4 +1,4 @@
-use Rattle.std.proofs.Common.{◌≡◌, ◌∙◌, List, ℕ, ◌++◌, ap}
+use Rattle.std.proofs.Common.{◌∙◌, List, ℕ, ◌++◌, ap}
 use Rattle.std.specs.Prelude.{codes}
 use Rattle.std.specs.Prelude.{◌+◌, ◌*◌, decimal}
 use Rattle.tq_draw.specs.Svg.{path_start}

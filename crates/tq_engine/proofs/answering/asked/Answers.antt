@@ -19,13 +19,8 @@ returns-in_err-statement-clause-fault g c =
 
 pub returns-clause-asked : goal.returns-clause-asked
 returns-clause-asked g c =
-    let files = c.args.files.items in
-    let kept = c.in_ok-tables.ensures.tables in
-    let of : AreLoaded c.args.form files 16777216 kept.whole = c.tables_are_loaded.ensures c.args.form files 16777216 kept.whole kept.of_files in
-    let fit : AreAllFitting kept.whole.catalogue (lists_of kept.whole.rows) =
-    whole_fit c.held_rows_fit.ensures c.loaded_is_history.ensures c.args.form files kept.whole of in
-    is_asked c.tables_are_loaded.ensures c.queries_stand.ensures c.kept_tables_answer.ensures c.args.form files c.args.bytes.now (wanted_lists c.deref-2.result.now) c.in_ok-tables.tables c.in_ok-statement.statement
-    (rw (c.deref-2.ensures.value) (rw (c.deref.ensures.value) at c.named_columns-named.ensures)) kept fit c.in_ok-statement.ensures.statement
+    is_asked c.args.form c.args.files.items c.args.bytes.now (wanted_lists c.deref-2.result.now) c.in_ok-tables.tables c.in_ok-statement.statement
+    (rw (c.deref-2.ensures.value) (rw (c.deref.ensures.value) at c.named_columns-named.ensures)) c.in_ok-tables.ensures.tables c.in_ok-statement.ensures.statement
 
 pub returns-clause-fit : goal.returns-clause-fit
 returns-clause-fit g c =

@@ -2,13 +2,16 @@ use Rattle.std.proofs.KnownBytes.{Appends-trans}
 use Rattle.std.proofs.lemmas.Result.{on_ok_weaker}
 use Rattle.tq.proofs.report.Refusal.print.Goals as goal
 
-pub returns-in_ok-write_all-in-CannotRead-2 : goal.returns-in_ok-write_all-in-CannotRead-2
-returns-in_ok-write_all-in-CannotRead-2 g c =
-    let path = rw c.deref.ensures.value at c.in_ok-write_all-in-CannotRead-2.ensures.bytes in
+pub returns-in_ok-write_shown-in-CannotRead : goal.returns-in_ok-write_shown-in-CannotRead
+returns-in_ok-write_shown-in-CannotRead g c =
+    let path = rw c.deref.ensures.value at c.in_ok-write_shown-in-CannotRead.ensures in
     rw c.in-CannotRead.is
-    (on_ok_weaker c.write_all-in-CannotRead-3.result
+    (on_ok_weaker c.write_all-in-CannotRead-2.result
     (λ end. Appends-trans _ _ _ _ _ c.in_ok-write_all-in-CannotRead.ensures.bytes (Appends-trans _ _ _ _ _ path end))
-    c.write_all-in-CannotRead-3.ensures.bytes)
+    c.write_all-in-CannotRead-2.ensures.bytes)
+
+pub returns-in-NoPlace : goal.returns-in-NoPlace
+returns-in-NoPlace g c = rw c.in-NoPlace.is c.write_all-in-NoPlace.ensures.bytes
 
 pub returns-in-WriteFailed : goal.returns-in-WriteFailed
 returns-in-WriteFailed g c = rw c.in-WriteFailed.is c.write_all-in-WriteFailed.ensures.bytes
