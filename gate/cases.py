@@ -202,6 +202,9 @@ def paths():
         word = b"emp=" + shown if isinstance(path, bytes) else f"emp={path}"
         words = ["ask", "--table", word, "#"]
         yield Case(f"no file: {path!r}", words, err=b"tq: cannot read " + shown + b"\n", status=1, files={"emp.csv": EMP})
+    for path, shown in (("none\ntq: OutOfMemory", "none?tq: OutOfMemory"), ("a\rb\x7f\x85\u202e\u2069c\td", "a?b????c\td")):
+        for words in (["ask"], ["ask", "--workers", "2"]):
+            yield Case(f"no file: {path!a} {len(words)}", [*words, "--table", f"emp=ROOM/{path}", "#"], err=f"tq: cannot read ROOM/{shown}\n".encode(), status=1)
     bad = ["--table", "bad=ROOM/bad.csv", "--table", "emp=ROOM/none.csv"]
     yield Case("a table from standard input", ["ask", "--table", "emp=-", ALL_NAMES], out=NAMES, taken=EMP)
     yield Case("a file that is named as standard input is", ["ask", "--table", "emp=./-", ALL_NAMES], err=b"tq: cannot read ./-\n", status=1, taken=EMP)
@@ -477,6 +480,20 @@ def pictures():
     yield Case("a picture of no rows in SVG", [*emp, "--svg", nobody], out=None, holds=[b'width="', b">name  dept  (no rows)</tspan", b"</text>\n</svg>\n"])
     signs = SMALL + b"1,<a&b>,1,2\n"
     yield Case("signs in SVG", ["draw", "--svg", "--table", "d=ROOM/d.csv", "VALIDTIME SELECT v FROM d"], files={"d.csv": signs}, out=None, holds=[b">&lt;a&amp;b&gt;  </tspan"])
+    for sign in ("\x80", "\x85", "\x9f", "\u061c", "\u200e", "\u200f", "\u202a", "\u202e", "\u2066", "\u2069", "\ufffe", "\uffff"):
+        hidden = {"d.csv": SMALL + f"1,a{sign}b,1,2\n".encode()}
+        shown = "".join(f"\\x{byte:02x}" for byte in sign.encode()).encode()
+        drawn = ["--table", "d=ROOM/d.csv", "VALIDTIME SELECT v FROM d"]
+        picture = b" " * (4 + len(shown)) + b"1 2\nv " + b" " * (2 + len(shown)) + b"||\na" + shown + b"b  #\n"
+        yield Case(f"a picture of {sign!a}", ["draw", *drawn], files=hidden, out=picture)
+        yield Case(f"a picture of {sign!a} in SVG", ["draw", "--svg", *drawn], files=hidden, out=None, holds=[b">a" + shown + b"b  </tspan"])
+    for sign in ("\xa0", "\u200d", "\u2028", "\u2065", "\ufffd"):
+        plain = {"d.csv": SMALL + f"1,{sign},1,2\n".encode()}
+        yield Case(f"a picture of {sign!a}", ["draw", "--table", "d=ROOM/d.csv", "VALIDTIME SELECT v FROM d"], files=plain, out="   1 2\nv  ||\n{}  #\n".format(sign).encode())
+    latest = {"d.csv": SMALL + b"1,x,9999-12-31,forever\n"}
+    for words in (["draw"], ["draw", "--svg"]):
+        out = None if "--svg" in words else b"   9999-12-31 \nv  ||\nx  #>\n"
+        yield Case(f"a picture from the last date on: {words}", [*words, "--dates", "--table", "d=ROOM/d.csv", "VALIDTIME SELECT v FROM d"], files=latest, out=out, holds=[b"   9999-12-31 "])
     yield Case("a picture of no rows", [*emp, nobody], out=b"name  dept  (no rows)\n")
     yield Case("a picture of an unknown column", [*emp, "VALIDTIME SELECT age FROM emp"], err=b"tq: plan UnknownColumn\n", status=1)
     for width in ("-1", "x", "", "4294967296"):
@@ -610,6 +627,10 @@ def long_statements():
             line = " " * at + "#" + " " * (length - at - 1)
             err = b"tq: statement BadByte at %d\n" % at + pointed(line, at) + said
             yield Case(f"{length} characters, at {at}", [*emp, line], err=err, status=1)
+    begin = "VALIDTIME SELECT name FROM emp WHERE name = '{}' "
+    hidden = begin.format("\x9b\u202e\u2066")
+    err = b"tq: statement BadByte at %d\n" % len(hidden.encode()) + pointed(begin.format("???") + "#", len(hidden)) + said
+    yield Case("hidden characters in a statement", [*emp, hidden + "#"], err=err, status=1)
     whole = b"  " + 71 * b" " + b"#\n  " + 71 * b" " + b"^\n"
     yield Case("72 characters are shown whole", [*emp, 71 * " " + "#"], err=b"tq: statement BadByte at 71\n" + whole + said, status=1)
     cut = b"  #" + 71 * b" " + b"..\n  ^\n"
@@ -902,6 +923,8 @@ def each_fault():
     yield check("two byte order marks", [("c", 2 * b"\xef\xbb\xbf" + SMALL)], out=out, err=b"tq: load BadHeader table 0 record 1\n", status=1)
     out = b"c record 2, line 2: k `x` is no int: " + AN_INT + b"\n"
     yield check("a byte order mark", [("c", b"\xef\xbb\xbf" + SMALL + b"x,x,0,1\n")], out=out, err=b"tq: load BadInt table 0 record 2\n", status=1)
+    out = b"c record 2, line 2: k `?1?` is no int: " + AN_INT + b"\n"
+    yield check("hidden characters in a record at fault", [("c", SMALL + "\u202e1\x85,x,0,1\n".encode())], out=out, err=b"tq: load BadInt table 0 record 2\n", status=1)
     yield check("a name at fault, and a record", [("select", SMALL + b"1\n")], err=b"tq: load BadHeader table 0 record 0\n", status=1)
     out = b"d record 2, line 2: from `0` is no date: a day of the calendar, YYYY-MM-DD\n"
     yield check("records at fault in dates", [("d", SMALL + good)], ["--dates"], out=out, err=b"tq: load BadPeriod table 0 record 2\n", status=1)

@@ -10,9 +10,16 @@
 //!     close N W ASKS          the same, and the writer closes the store
 //!     soak SEED EVENTS ASKS   so many random events, each published by itself, and eight readers, who ask so many
 //!                             times each, as of old counts and of the newest ones, by 0 to 16 workers
-//!     pieces W                five squares by so many workers; the same with each growth of memory refused in turn
+//!     pieces W                five squares by so many workers
+//!     refused-open READERS    what the last of the readers finds of a store of the files' events
+//!     refused N STEP          what a reader of such a store finds before the step (below) and what the step comes to,
+//!                             with four rows pending; then how many events are published with all pending ones, and
+//!                             how many rows of each name there are as of the first N events, but for those of the files
 //!     around N TABLE AT ROW STATEMENT    the answer as of the first N events of a store, and the same once a row of
 //!                             these values was started and published and the reader was told of it
+//!
+//! `refused` takes any step but `pass`. The calls of `pieces`, `refused-open` and `refused` are made again with each
+//! growth of memory refused in turn (tq_tests_help), and again with ample memory where they answer that there is none.
 //!
 //! `open` and the lines after it, up to an empty one, are steps of one store, taken one after another:
 //!
@@ -39,14 +46,16 @@
 mod agreeing;
 mod around;
 mod asker;
+mod calls;
 mod crowd;
 mod gates;
 mod history;
 mod pieces;
+mod refused;
 mod rounds;
 mod steps;
 
-use pieces::Pieces;
+use calls::CrowdCalls;
 use rounds::{tell_line, tell_steps};
 use std::alloc::{AllocError, Global};
 use std::fmt::Write;
@@ -59,7 +68,7 @@ use tq_tests_help::Script;
 fn take_line<R: Threads + Wait + Sync>(
     rt: &R,
     alloc: Global,
-    script: &mut Script<Pieces>,
+    script: &mut Script<CrowdCalls>,
     steps: &mut Vec<String>,
     line: String,
     out: &mut String,
@@ -77,7 +86,7 @@ fn take_line<R: Threads + Wait + Sync>(
 
 fn main(rt: HostRuntime) -> io::Result<()> {
     let alloc = rt.alloc();
-    let mut script = Script::new(alloc, Pieces);
+    let mut script = Script::new(alloc, CrowdCalls);
     let mut steps = Vec::new(alloc);
     for line in rt.lines(alloc) {
         let mut out = String::new(alloc);

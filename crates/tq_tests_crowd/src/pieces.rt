@@ -2,9 +2,10 @@
 
 use std::alloc::{AllocError, Global};
 use std::fmt::Write;
+use std::sync::Wait;
 use std::thread::Threads;
 use tq_run::{Open, Work, run_with};
-use tq_tests_help::{Call, Calls, Files, Refusal, Tried, attempt};
+use tq_tests_help::{Call, Refusal, Tried, attempt};
 
 // The square of each piece's number.
 #[derive(Drop)]
@@ -36,7 +37,7 @@ struct Sharing {
 }
 
 impl Call for Sharing {
-    fn make<R: Threads + Sync>(&mut self, rt: &R, alloc: Global) -> Result<(), AllocError> {
+    fn make<R: Threads + Wait + Sync>(&mut self, rt: &R, alloc: Global) -> Result<(), AllocError> {
         self.squares = run_with(rt, alloc, self.workers.clamp(1, 16), &Squares, &Open)?;
         Ok(())
     }
@@ -50,27 +51,16 @@ impl Call for Sharing {
     }
 }
 
-/// The call that shares pieces of work.
-#[derive(Drop)]
-pub(crate) struct Pieces;
-
-impl Calls for Pieces {
-    fn attempt<R: Threads + Sync>(
-        &self,
-        rt: &R,
-        alloc: Global,
-        _files: &Files,
-        word: &str,
-        text: &str,
-        refusal: Refusal,
-    ) -> Result<Option<Tried>, AllocError> {
-        if word != "pieces" {
-            return Ok(None);
-        }
-        let mut sharing = Sharing {
-            workers: text.parse().unwrap_or(1),
-            squares: Vec::new(alloc),
-        };
-        Ok(Some(attempt(rt, alloc, &mut sharing, refusal)?))
-    }
+/// The squares, by so many workers.
+pub(crate) fn try_pieces<R: Threads + Wait + Sync>(
+    rt: &R,
+    alloc: Global,
+    workers: u32,
+    refusal: Refusal,
+) -> Result<Tried, AllocError> {
+    let mut sharing = Sharing {
+        workers,
+        squares: Vec::new(alloc),
+    };
+    attempt(rt, alloc, &mut sharing, refusal)
 }

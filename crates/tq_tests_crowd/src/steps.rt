@@ -12,13 +12,15 @@ use std::sync::Wait;
 use std::thread::{Threads, join};
 use tq_base::{Catalogue, Form, Instant, Value, Values};
 use tq_event::{Loaded, MAX_EVENTS};
-use tq_snapshot::{AppendFault, AskFault, Closed, Naming, Note, Opened, Reader, Writer, open};
+use tq_snapshot::{
+    AppendFault, AskFault, Closed, Naming, Note, OpenFault, Opened, Reader, Writer, open,
+};
 use tq_table::table_text;
 use tq_tests_help::number_and;
 
-// What a step comes to.
+/// What a step comes to.
 #[derive(Drop)]
-enum Came {
+pub(crate) enum Came {
     Nothing,
     Row(u32),
     Events(u32),
@@ -28,7 +30,8 @@ enum Came {
 }
 
 impl Came {
-    fn tell(&self, out: &mut String) -> Result<(), AllocError> {
+    /// Writes it.
+    pub(crate) fn tell(&self, out: &mut String) -> Result<(), AllocError> {
         match self {
             Came::Nothing => Ok(()),
             Came::Row(row) => writeln!(out, "    row {row}"),
@@ -44,9 +47,9 @@ impl Came {
     }
 }
 
-// The writer of a store, until it is closed, and its readers.
+/// The writer of a store, until it is closed, and its readers.
 #[derive(Drop)]
-struct Stage<J: Naming> {
+pub(crate) struct Stage<J: Naming> {
     writer: Option<Writer<J>>,
     readers: Vec<Reader<J>>,
 }
@@ -147,7 +150,8 @@ impl<J: Naming> Stage<J> {
         Came::Nothing
     }
 
-    fn snapshot(&mut self, place: usize) -> Came {
+    /// How many events the reader finds.
+    pub(crate) fn snapshot(&mut self, place: usize) -> Came {
         match self.readers.get_mut(place) {
             Some(reader) => match reader.snapshot() {
                 Ok(count) => Came::Events(count),
@@ -192,6 +196,7 @@ impl<J: Naming> Stage<J> {
         Came::Nothing
     }
 
+    // The step of the line, if it is none in which threads pass something on.
     fn step<R: Threads + Wait + Sync>(
         &mut self,
         rt: &R,
@@ -200,8 +205,6 @@ impl<J: Naming> Stage<J> {
         gate: &Turns,
         line: &str,
     ) -> Came
-    where
-        J: Send + Sync,
         requires { catalogue.now ≡ J.catalogue }
     {
         let (word, text) = line.split_once(' ').unwrap_or((line, ""));
@@ -211,11 +214,29 @@ impl<J: Naming> Stage<J> {
             "end" => self.append(alloc, false, text),
             "publish" => self.publish(rt),
             "learn" => self.learn(place),
-            "pass" => self.pass(rt),
             "snapshot" => self.snapshot(place),
             "ask" | "gated" => self.ask(rt, alloc, catalogue, gate, text),
             "close" => self.close(rt),
             _ => Came::Nothing,
+        }
+    }
+
+    /// The step of the line. `AllocError` where it answers that there is no memory, or has none for its arguments.
+    pub(crate) fn try_step<R: Threads + Wait + Sync>(
+        &mut self,
+        rt: &R,
+        alloc: Global,
+        line: &str,
+    ) -> Result<Came, AllocError> {
+        let catalogue = match &self.writer {
+            Some(writer) => writer.catalogue().try_copy(alloc)?,
+            None => return Err(AllocError),
+        };
+        match self.step(rt, alloc, &catalogue, &Turns::new(false), line) {
+            Came::Nothing
+            | Came::NotAppended(AppendFault::OutOfMemory)
+            | Came::NotAnswered(AskFault::OutOfMemory) => Err(AllocError),
+            came => Ok(came),
         }
     }
 
@@ -234,12 +255,37 @@ impl<J: Naming> Stage<J> {
         for line in lines {
             writeln!(out, "{line}")?;
             let gate = Turns::new(line.as_str().starts_with("gated"));
-            let came = self.step(rt, alloc, catalogue, &gate, line.as_str());
+            let came = match line.as_str() {
+                "pass" => self.pass(rt),
+                step => self.step(rt, alloc, catalogue, &gate, step),
+            };
             gate.tell(out)?;
             came.tell(out)?;
         }
         Ok(())
     }
+}
+
+/// A store of the loaded events, with 1 to 8 readers, and with room for at least these events.
+pub(crate) fn staged<J: Naming>(
+    alloc: Global,
+    opened: Opened,
+    loaded: Loaded,
+    readers: u32,
+    limit: u32,
+) -> Result<Stage<J>, OpenFault>
+    requires named { (opened ≡ J.book) × (loaded.catalogue ≡ J.catalogue) }
+    requires history { IsHistory loaded.catalogue loaded.events }
+    requires few { length loaded.events ≤ 16777216 }
+{
+    let events = loaded.events.into_vec();
+    let readers = readers.clamp(1, 8);
+    let limit = limit.max(events.len() as u32).min(MAX_EVENTS);
+    let (writer, readers) = open::<J>(alloc, opened, loaded.catalogue, events, readers, limit)?;
+    Ok(Stage {
+        writer: Some(writer),
+        readers,
+    })
 }
 
 /// A store of the loaded events, with so many readers and room for so many events, and what its steps come to.
@@ -258,15 +304,8 @@ pub(crate) fn play<J: Naming + Send + Sync, R: Threads + Wait + Sync>(
     requires few { length loaded.events ≤ 16777216 }
 {
     let catalogue = loaded.catalogue.try_copy(alloc)?;
-    let events = loaded.events.into_vec();
-    let readers = readers.clamp(1, 8);
-    let limit = limit.max(events.len() as u32).min(MAX_EVENTS);
-    match open::<J>(alloc, opened, loaded.catalogue, events, readers, limit) {
-        Ok((writer, readers)) => {
-            let writer = Some(writer);
-            let mut stage = Stage { writer, readers };
-            stage.take_steps(rt, alloc, &catalogue, lines, out)
-        }
+    match staged::<J>(alloc, opened, loaded, readers, limit) {
+        Ok(mut stage) => stage.take_steps(rt, alloc, &catalogue, lines, out),
         Err(fault) => writeln!(out, "    {fault}"),
     }
 }

@@ -8,7 +8,7 @@
 //!     wide N                  N lines: the 16 numbers from 16 j on, from the first of them to the one after the last
 //!     clear                   no files
 //!     dates, numbers          how instants are written from now on
-//!     ask STATEMENT           the answer over the files of 16 workers, which is that as of all events that they make
+//!     ask STATEMENT           the answer over the files of 1, 2, 7 and 16 workers, which is that as of all events that they make
 //!     refuse STATEMENT        the fault of the files or the statement
 //!     as-of N STATEMENT       the answer as of the first N events that the files make
 //!     shape STATEMENT         how many columns and rows the answer has, and the columns' names

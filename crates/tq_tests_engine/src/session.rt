@@ -135,7 +135,7 @@ impl Session {
         }
     }
 
-    // The answer, which is also that as of all events.
+    // The answer of 1, 2, 7 and 16 workers, which is also that as of all events.
     fn ask<R: Threads + Sync>(
         &mut self,
         rt: &R,
@@ -143,20 +143,22 @@ impl Session {
         statement: &str,
         out: &mut String,
     ) -> Result<(), AllocError> {
-        let bytes = answer_in_memory(
-            rt,
-            alloc,
-            self.copies(alloc)?,
-            statement,
-            16,
-            self.form,
-            out,
-        )?;
-        tell_lines(&bytes, out)?;
-        match self.answered(alloc, MAX_EVENTS, statement)? {
-            Some(text) if text == bytes => Ok(()),
-            _ => out.push_str("    it differs from that as of all events\n"),
+        let all = self.answered(alloc, MAX_EVENTS, statement)?;
+        for workers in [1, 2, 7, 16] {
+            let files = self.copies(alloc)?;
+            let bytes = answer_in_memory(rt, alloc, files, statement, workers, self.form, out)?;
+            if workers == 1 {
+                tell_lines(&bytes, out)?;
+            }
+            match &all {
+                Some(text) if *text == bytes => {}
+                _ => writeln!(
+                    out,
+                    "    {workers} workers differ from the answer as of all events"
+                )?,
+            }
         }
+        Ok(())
     }
 
     // The fault, of one worker.

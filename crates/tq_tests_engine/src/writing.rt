@@ -78,7 +78,8 @@ pub(crate) fn answer_in_memory<R: Threads + Sync>(
     requires some { 1 ≤ workers }
     requires few { workers ≤ 16 }
 {
-    let mut sink = Sink::over(Vec::new(alloc));
+    let mut taken = Vec::new(alloc);
+    let mut sink = Sink::over(&mut taken);
     let written = answer_bytes(
         rt,
         alloc,
@@ -89,7 +90,7 @@ pub(crate) fn answer_in_memory<R: Threads + Sync>(
         form,
     );
     tell_fault(written, sink.failed(), out)?;
-    Ok(sink.into_inner())
+    Ok(taken)
 }
 
 /// An answer goes to a writer that takes so many bytes a call and fails at a call.

@@ -7,6 +7,7 @@ use crate::changing::history_of;
 use std::alloc::{AllocError, Global};
 use std::fmt::Write;
 use std::str;
+use std::sync::Wait;
 use std::thread::Threads;
 use tq_base::Form;
 use tq_eval::answer;
@@ -85,7 +86,7 @@ struct Answering<'a> {
 }
 
 impl Call for Answering<'_> {
-    fn make<R: Threads + Sync>(&mut self, _rt: &R, alloc: Global) -> Result<(), AllocError> {
+    fn make<R: Threads + Wait + Sync>(&mut self, _rt: &R, alloc: Global) -> Result<(), AllocError> {
         self.answer = answered(alloc, &self.db, self.n, self.text)?;
         Ok(())
     }
@@ -96,7 +97,7 @@ impl Call for Answering<'_> {
 }
 
 /// The statement's answer as of the first events.
-pub(crate) fn try_answer<R: Threads + Sync>(
+pub(crate) fn try_answer<R: Threads + Wait + Sync>(
     rt: &R,
     alloc: Global,
     files: &Files,

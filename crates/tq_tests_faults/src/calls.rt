@@ -5,6 +5,7 @@ use crate::changing::try_apply;
 use crate::loading::{try_load, try_load_among};
 use crate::trees::{try_change, try_leaves, try_scan};
 use std::alloc::{AllocError, Global};
+use std::sync::Wait;
 use std::thread::Threads;
 use tq_tests_help::{Calls, Files, Refusal, Tried, number_and};
 
@@ -13,7 +14,7 @@ use tq_tests_help::{Calls, Files, Refusal, Tried, number_and};
 pub(crate) struct Libraries;
 
 impl Calls for Libraries {
-    fn attempt<R: Threads + Sync>(
+    fn attempt<R: Threads + Wait + Sync>(
         &self,
         rt: &R,
         alloc: Global,

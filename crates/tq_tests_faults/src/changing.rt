@@ -4,6 +4,7 @@ use crate::answering::{answered, tell_answer};
 use crate::loading::loaded;
 use std::alloc::{AllocError, Global};
 use std::fmt::Write;
+use std::sync::Wait;
 use std::thread::Threads;
 use tq_event::{Event, Loaded, MAX_EVENTS};
 use tq_store::Db;
@@ -54,7 +55,11 @@ struct Applying<'a> {
 }
 
 impl Call for Applying<'_> {
-    fn make<R: Threads + Sync>(&mut self, _rt: &R, _alloc: Global) -> Result<(), AllocError> {
+    fn make<R: Threads + Wait + Sync>(
+        &mut self,
+        _rt: &R,
+        _alloc: Global,
+    ) -> Result<(), AllocError> {
         self.taken = take(&mut self.db, &self.event)?;
         Ok(())
     }
@@ -67,7 +72,7 @@ impl Call for Applying<'_> {
 }
 
 /// The event after so many happens; then the statement's answer as of all so far.
-pub(crate) fn try_apply<R: Threads + Sync>(
+pub(crate) fn try_apply<R: Threads + Wait + Sync>(
     rt: &R,
     alloc: Global,
     files: &Files,

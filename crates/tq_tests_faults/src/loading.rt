@@ -2,6 +2,7 @@
 
 use std::alloc::{AllocError, Global};
 use std::fmt::Write;
+use std::sync::Wait;
 use std::thread::Threads;
 use tq_base::{Form, Rows, Seen, Value};
 use tq_event::{Event, LoadFault, LoadFaultKind, Loaded, MAX_EVENTS, TableFile, Tables, load};
@@ -86,7 +87,7 @@ struct Loading<'a> {
 }
 
 impl Call for Loading<'_> {
-    fn make<R: Threads + Sync>(&mut self, _rt: &R, alloc: Global) -> Result<(), AllocError> {
+    fn make<R: Threads + Wait + Sync>(&mut self, _rt: &R, alloc: Global) -> Result<(), AllocError> {
         match loaded(alloc, self.files.copies(alloc)?) {
             Ok(loaded) => self.loaded = Some(loaded),
             Err(fault) if is_no_memory(&fault) => return Err(AllocError),
@@ -104,7 +105,7 @@ impl Call for Loading<'_> {
 }
 
 /// The files' events.
-pub(crate) fn try_load<R: Threads + Sync>(
+pub(crate) fn try_load<R: Threads + Wait + Sync>(
     rt: &R,
     alloc: Global,
     files: &Files,
@@ -127,7 +128,7 @@ struct LoadingAmong<'a> {
     fault: Option<LoadFault>,
 }
 
-fn loaded_among<R: Threads + Sync>(
+fn loaded_among<R: Threads + Wait + Sync>(
     rt: &R,
     alloc: Global,
     files: Vec<TableFile>,
@@ -147,7 +148,7 @@ fn loaded_among<R: Threads + Sync>(
 }
 
 impl Call for LoadingAmong<'_> {
-    fn make<R: Threads + Sync>(&mut self, rt: &R, alloc: Global) -> Result<(), AllocError> {
+    fn make<R: Threads + Wait + Sync>(&mut self, rt: &R, alloc: Global) -> Result<(), AllocError> {
         match loaded_among(rt, alloc, self.files.copies(alloc)?, self.workers) {
             Ok(tables) => self.tables = Some(tables),
             Err(fault) if is_no_memory(&fault) => return Err(AllocError),
@@ -165,7 +166,7 @@ impl Call for LoadingAmong<'_> {
 }
 
 /// The files' tables, by so many workers.
-pub(crate) fn try_load_among<R: Threads + Sync>(
+pub(crate) fn try_load_among<R: Threads + Wait + Sync>(
     rt: &R,
     alloc: Global,
     files: &Files,

@@ -3,6 +3,7 @@
 
 use std::alloc::{AllocError, Global};
 use std::fmt::Write;
+use std::sync::Wait;
 use std::thread::Threads;
 use tq_arena::{Meter, NodeNo};
 use tq_mvbt::{Region, Tree};
@@ -87,7 +88,11 @@ struct Changing {
 }
 
 impl Call for Changing {
-    fn make<R: Threads + Sync>(&mut self, _rt: &R, _alloc: Global) -> Result<(), AllocError> {
+    fn make<R: Threads + Wait + Sync>(
+        &mut self,
+        _rt: &R,
+        _alloc: Global,
+    ) -> Result<(), AllocError> {
         change(&mut self.grower, self.version)
     }
 
@@ -100,7 +105,7 @@ impl Call for Changing {
 }
 
 /// The change of the version.
-pub(crate) fn try_change<R: Threads + Sync>(
+pub(crate) fn try_change<R: Threads + Wait + Sync>(
     rt: &R,
     alloc: Global,
     version: u32,
@@ -121,7 +126,11 @@ struct Listing {
 }
 
 impl Call for Listing {
-    fn make<R: Threads + Sync>(&mut self, _rt: &R, _alloc: Global) -> Result<(), AllocError> {
+    fn make<R: Threads + Wait + Sync>(
+        &mut self,
+        _rt: &R,
+        _alloc: Global,
+    ) -> Result<(), AllocError> {
         self.regions = self.grower.tree.leaf_regions(&mut Meter::new())?;
         Ok(())
     }
@@ -132,7 +141,7 @@ impl Call for Listing {
 }
 
 /// The leaves.
-pub(crate) fn try_leaves<R: Threads + Sync>(
+pub(crate) fn try_leaves<R: Threads + Wait + Sync>(
     rt: &R,
     alloc: Global,
     refusal: Refusal,
@@ -198,7 +207,7 @@ struct Scanning {
 }
 
 impl Call for Scanning {
-    fn make<R: Threads + Sync>(&mut self, _rt: &R, alloc: Global) -> Result<(), AllocError> {
+    fn make<R: Threads + Wait + Sync>(&mut self, _rt: &R, alloc: Global) -> Result<(), AllocError> {
         self.all = scanned(alloc, &self.grower.tree)?;
         Ok(())
     }
@@ -212,7 +221,7 @@ impl Call for Scanning {
 }
 
 /// What the tree has in each part of the window.
-pub(crate) fn try_scan<R: Threads + Sync>(
+pub(crate) fn try_scan<R: Threads + Wait + Sync>(
     rt: &R,
     alloc: Global,
     refusal: Refusal,

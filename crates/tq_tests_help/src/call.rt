@@ -5,12 +5,13 @@ ghost use Rattle.std.specs.Thread.{IsSync};
 use crate::refusal::Refusal;
 use std::alloc::{AllocError, Global};
 use std::fmt::Write;
+use std::sync::Wait;
 use std::thread::Threads;
 
 /// A call that keeps its answer, with what it may change.
 pub trait Call {
     /// Makes the call; `AllocError` says that it answered that there was no memory.
-    fn make<R: Threads + Sync>(&mut self, rt: &R, alloc: Global) -> Result<(), AllocError>
+    fn make<R: Threads + Wait + Sync>(&mut self, rt: &R, alloc: Global) -> Result<(), AllocError>
         requires { IsSync R.row };
 
     /// Tells the answer, if there is one, and what the call may change as it stands.
@@ -54,7 +55,7 @@ fn told<C: Call>(alloc: Global, call: &C) -> Result<String, AllocError> {
 }
 
 // Makes a call again that answered that there was no memory, and changed nothing.
-fn again<R: Threads + Sync, C: Call>(
+fn again<R: Threads + Wait + Sync, C: Call>(
     rt: &R,
     alloc: Global,
     call: &mut C,
@@ -67,7 +68,7 @@ fn again<R: Threads + Sync, C: Call>(
 }
 
 /// Makes the call with this growth refused, and again where it answers that there is no memory.
-pub fn attempt<R: Threads + Sync, C: Call>(
+pub fn attempt<R: Threads + Wait + Sync, C: Call>(
     rt: &R,
     alloc: Global,
     call: &mut C,

@@ -7,6 +7,7 @@ use crate::files::Files;
 use crate::refusal::Refusal;
 use crate::tally::Tally;
 use std::alloc::{AllocError, Global};
+use std::sync::Wait;
 use std::thread::Threads;
 
 // No call has so many growths.
@@ -15,7 +16,7 @@ const MOST: u16 = 5000;
 /// The calls that the lines of a script name, each a word and a text.
 pub trait Calls {
     /// The call of the line, if it is one, with this growth refused.
-    fn attempt<R: Threads + Sync>(
+    fn attempt<R: Threads + Wait + Sync>(
         &self,
         rt: &R,
         alloc: Global,
@@ -56,7 +57,7 @@ impl<C> Script<C> {
     }
 
     // The call of the line with the first growth refused, then with the second, and so on.
-    fn refuse_each<R: Threads + Sync>(
+    fn refuse_each<R: Threads + Wait + Sync>(
         &mut self,
         rt: &R,
         alloc: Global,
@@ -85,7 +86,7 @@ impl<C> Script<C> {
     }
 
     // Makes the call of the line, if it is one, with ample memory and then with each growth refused in turn.
-    fn call<R: Threads + Sync>(
+    fn call<R: Threads + Wait + Sync>(
         &mut self,
         rt: &R,
         alloc: Global,
@@ -110,7 +111,7 @@ impl<C> Script<C> {
     }
 
     /// Does what the line says, and writes what it comes to: it makes files, or a call, or nothing.
-    pub fn run<R: Threads + Sync>(
+    pub fn run<R: Threads + Wait + Sync>(
         &mut self,
         rt: &R,
         alloc: Global,

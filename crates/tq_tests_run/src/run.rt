@@ -201,9 +201,9 @@ fn three_pieces_among_sixteen_workers(rt: HostRuntime) -> Result<(), Fail> {
 
 #[test]
 fn each_piece_arrives_once_before_it_is_run(rt: HostRuntime) -> Result<(), Fail> {
-    for workers in [1, 3, 16] {
+    for workers in [1, 2, 7, 16] {
         let mut of_each = Vec::new(rt.alloc());
-        for _ in 0..5000 {
+        for _ in 0..1000 {
             of_each.push(AtomicU64::new(0))?;
         }
         let gate = Counts {
@@ -214,14 +214,14 @@ fn each_piece_arrives_once_before_it_is_run(rt: HostRuntime) -> Result<(), Fail>
         let work = SeesArrivals {
             gate: &gate,
             runs: AtomicU64::new(0),
-            pieces: 5000,
+            pieces: 1000,
         };
         let results = run_with(&rt, rt.alloc(), workers, &work, &gate)?;
-        assert_eq!(rt; results.len(), 5000);
+        assert_eq!(rt; results.len(), 1000);
         assert!(rt; results.iter().all(|seen| *seen), "{workers} workers");
-        assert_eq!(rt; gate.expected.load(Ordering::SeqCst), 5000);
-        assert_eq!(rt; gate.all.load(Ordering::SeqCst), 5000);
-        assert_eq!(rt; work.runs.load(Ordering::SeqCst), 5000, "{workers} workers");
+        assert_eq!(rt; gate.expected.load(Ordering::SeqCst), 1000);
+        assert_eq!(rt; gate.all.load(Ordering::SeqCst), 1000);
+        assert_eq!(rt; work.runs.load(Ordering::SeqCst), 1000, "{workers} workers");
     }
     Ok(())
 }
