@@ -22,6 +22,11 @@ all_kept (row ∷ rows) = λ i. row ∷ all_kept rows i
 pub whole_list : (list : RowList) → record { width = seen_width [] list.width; items = map (seen_row []) list.items } ≡ list
 whole_list list = λ i. record { width = list.width; items = all_kept list.items i }
 
+-- rows without slots are seen as they are kept
+pub seen_dense : (slots : List Slot) (dense list : RowList) → slots ≡ [] → record { width = seen_width slots dense.width; items = map (seen_row slots) dense.items } ≡ list → dense ≡ list
+seen_dense slots dense list none is =
+    sym (whole_list dense) ∙ ap (λ (s : List Slot). let seen : RowList = record { width = seen_width s dense.width; items = map (seen_row s) dense.items } in seen) (sym none) ∙ is
+
 -- each row keeps its period
 pub periods_seen : (slots : List Slot) (rows : List Fragment) → map (λ (row : Fragment). row.period) (map (seen_row slots) rows) ≡ map (λ (row : Fragment). row.period) rows
 periods_seen slots [] = refl

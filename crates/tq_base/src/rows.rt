@@ -2,6 +2,7 @@
 //! columns, where the others have the same value in each row.
 
 ghost use Rattle.std.specs.Prelude.{◌≡◌, ◌≢◌, false, ◌++◌, ◌∷◌, [], ◌<◌, ◌≤◌, ◌+◌, ◌*◌, ℕ, List, None, pos, All, IfOk, IfSome, IsTrue, OnErr, OnOk, if◌then◌else◌, length, map, slice_index_or, take};
+ghost use Rattle.std.specs.List.{flat_map};
 ghost use Rattle.tq_base.specs.declared.fragment.Fragment.{Fragment};
 ghost use Rattle.tq_base.specs.declared.rows.Slot.{Slot as AnySlot};
 ghost use Rattle.tq_base.specs.declared.value.Value.{Value as AnyValue};
@@ -23,7 +24,7 @@ use std::thread::Threads;
 // 0 or the empty text in each row.
 #[derive(Clone, Copy, Debug)]
 pub(crate) enum Slot {
-    Kept(u32),
+    Kept(usize),
     Zero,
     Empty,
 }
@@ -32,6 +33,7 @@ pub(crate) enum Slot {
 /// width and their list.
 #[derive(Drop, Debug)]
 pub struct Rows {
+    alloc: Global,
     dense: DenseRows,
     // Of each column where its value stands; none where all values are kept, one behind the other.
     slots: Vec<Slot>,
@@ -65,7 +67,7 @@ fn slot_of(slots: &[Slot], column: u32) -> Slot
     ensures text { (width : ℕ) (texts : List AnyValue) → AreSlots slots.now width texts → IsText result texts }
 {
     if keep_all(slots) {
-        return Slot::Kept(column);
+        return Slot::Kept(column as usize);
     }
     slots.get(column as usize).copied().unwrap_or(Slot::Zero)
 }
@@ -77,14 +79,14 @@ fn value_in<'a>(slot: Slot, kept: &'a [Value], texts: &'a [Value]) -> Option<&'a
     ensures none { result ≡ None → slot_value kept.now slot ≡ Int (pos 0) }
 {
     match slot {
-        Slot::Kept(place) => kept.get(place as usize),
+        Slot::Kept(place) => kept.get(place),
         Slot::Zero => None,
         Slot::Empty => texts.first(),
     }
 }
 
 // The slot of a column of this kind, behind so many that are kept.
-fn next_slot(kind: Kind, is_kept: bool, kept: u32) -> Slot
+fn next_slot(kind: Kind, is_kept: bool, kept: usize) -> Slot
     ensures { (slots : List AnySlot) → AreNumbered 0 slots kept → AreNumbered 0 (slots ++ result ∷ []) (if is_kept then kept + 1 else kept) }
 {
     match (is_kept, kind) {
@@ -99,17 +101,14 @@ fn slots_of(
     alloc: Global,
     columns: &[Column],
     kept: &[bool],
-) -> Result<(Vec<Slot>, u32), AllocError>
+) -> Result<(Vec<Slot>, usize), AllocError>
     ensures many { IfOk result (λ made. length made.0.items ≡ length columns.now) }
     ensures numbered { IfOk result (λ made. AreNumbered 0 made.0.items made.1) }
 {
     let mut slots = Vec::with_capacity(alloc, columns.len())?;
-    let mut count: u32 = 0;
+    let mut count: usize = 0;
     'columns: for (place, column) in columns.iter().enumerate() {
         let is_kept = kept.get(place).copied().unwrap_or(true);
-        if is_kept && count == u32::MAX {
-            return Err(AllocError);
-        }
         slots.push(next_slot(column.kind, is_kept, count))?;
         if is_kept {
             count += 1;
@@ -210,6 +209,7 @@ impl Rows {
         ensures { result ≡ dense }
     {
         Rows {
+            alloc,
             dense,
             slots: Vec::new(alloc),
             texts: Vec::new(alloc),
@@ -224,20 +224,21 @@ impl Rows {
         Rows::whole(alloc, DenseRows::new(alloc, width))
     }
 
-    /// No rows, which take only such as have the number 0 or the empty text in the columns that are not kept: for these no
-    /// memory is taken. Columns behind the end of the list are kept. `AllocError` where a growth was refused.
+    /// No rows. As long as every row has the number 0 or the empty text in the columns that `kept` leaves out, these
+    /// columns take no memory. Columns after the end of `kept` are kept. `AllocError` if an allocation failed.
     pub fn keeping(alloc: Global, columns: &[Column], kept: &[bool]) -> Result<Rows, AllocError>
         ensures width { IfOk result (λ rows. rows.width ≡ length columns.now) }
         ensures rows { IfOk result (λ rows. rows.items ≡ []) }
     {
         let (slots, count) = slots_of(alloc, columns, kept)?;
-        if count as usize == columns.len() {
+        if count == columns.len() {
             return Ok(Rows::new(alloc, columns.len()));
         }
         let mut texts = Vec::with_capacity(alloc, 1)?;
         texts.push(Value::empty())?;
         Ok(Rows {
-            dense: DenseRows::new(alloc, count as usize),
+            alloc,
+            dense: DenseRows::new(alloc, count),
             slots,
             texts,
         })
@@ -322,10 +323,10 @@ impl Rows {
         ensures none { result ≡ None → (k : ℕ) (d : Fragment) → k < length self.now.items → value_at (slice_index_or self.now.items k d).values column ≡ Int (pos 0) }
     {
         match slot_of(&self.slots, column) {
-            Slot::Kept(place) if (place as usize) < self.dense.width() => Some(ColumnValues {
+            Slot::Kept(place) if place < self.dense.width() => Some(ColumnValues {
                 values: self.dense.all_values(),
                 step: self.dense.width(),
-                place: place as usize,
+                place,
             }),
             Slot::Kept(_) => None,
             Slot::Zero => None,
@@ -337,9 +338,55 @@ impl Rows {
         }
     }
 
-    /// Adds a row of these values, which are moved out of their list. `AllocError` where a growth was
-    /// refused, where there are 2^32 - 1 rows, or where a column that is not kept has another value: then all is as
-    /// before.
+    // Copies of the values of all rows, one row after the other.
+    fn copied_values(&self) -> Result<Vec<Value>, AllocError>
+        ensures { IfOk result (λ values. values.items ≡ flat_map (λ (row : Fragment). row.values) self.now.items) }
+    {
+        let mut values = Vec::new(self.alloc);
+        'rows: for row in 0..self.len() {
+            self.show(row, &mut values)?;
+        }
+        Ok(values)
+    }
+
+    // A copy of the rows that keeps all values.
+    fn widened(&self) -> Result<DenseRows, AllocError>
+        ensures { IfOk result (λ dense. dense ≡ self.now) }
+    {
+        let _few = self.len();
+        let values = self.copied_values()?;
+        let periods = self.periods().to_vec(self.alloc)?;
+        Ok(DenseRows::of_values(self.width(), values, periods))
+    }
+
+    // The same rows, with all values kept.
+    fn into_dense(self) -> Result<DenseRows, AllocError>
+        ensures { IfOk result (λ dense. dense ≡ self) }
+    {
+        if keep_all(&self.slots) {
+            return Ok(self.dense);
+        }
+        self.widened()
+    }
+
+    // Adds a row and keeps all values of all rows from then on.
+    fn push_wide(&mut self, row: &mut Vec<Value>, period: Period) -> Result<(), AllocError>
+        requires { length row.old.items ≡ self.old.width }
+        ensures width { self.new.width ≡ self.old.width }
+        ensures pushed { OnOk result (self.new.items ≡ self.old.items ++ record { values = row.old.items; period = period } ∷ []) }
+        ensures emptied { OnOk result (row.new.items ≡ []) }
+        ensures err { OnErr result (self.new ≡ self.old) }
+        ensures kept { OnErr result (row.new.items ≡ row.old.items) }
+    {
+        let mut dense = self.widened()?;
+        dense.push(row, period)?;
+        *self = Rows::whole(self.alloc, dense);
+        Ok(())
+    }
+
+    /// Adds a row of these values, which are moved out of their list. If a column that is left out has another value
+    /// than the number 0 or the empty text, the rows keep all columns from then on. `AllocError` if an allocation
+    /// failed or there are 2^32 - 1 rows: then all is as before.
     pub fn push(&mut self, row: &mut Vec<Value>, period: Period) -> Result<(), AllocError>
         requires { length row.old.items ≡ self.old.width }
         ensures width { self.new.width ≡ self.old.width }
@@ -352,38 +399,43 @@ impl Rows {
             return self.dense.push(row, period);
         }
         if !are_left_out(&self.slots, row) {
-            return Err(AllocError);
+            return self.push_wide(row, period);
         }
         self.dense.push_kept(&self.slots, row, period)
     }
 
-    /// Adds a row of copies of these values to rows of which all values are kept. `AllocError` where a growth was refused,
-    /// where there are 2^32 - 1 rows, or where not all values are kept: then all is as before.
+    /// Adds a row of copies of these values, as `push` does. `AllocError` if an allocation failed or there are
+    /// 2^32 - 1 rows: then all is as before.
     pub fn push_copy(&mut self, row: &[Value], period: Period) -> Result<(), AllocError>
         requires { length row.now ≡ self.old.width }
         ensures width { self.new.width ≡ self.old.width }
         ensures pushed { OnOk result (self.new.items ≡ self.old.items ++ record { values = row.now; period = period } ∷ []) }
         ensures err { OnErr result (self.new ≡ self.old) }
     {
-        if !keep_all(&self.slots) {
-            return Err(AllocError);
+        if keep_all(&self.slots) {
+            return self.dense.push_copy(row, period);
         }
-        self.dense.push_copy(row, period)
+        let mut values = Vec::new(self.alloc);
+        push_copies(&mut values, row)?;
+        self.push(&mut values, period)
     }
 
-    /// Adds a copy of a row of rows that keep the same columns. `AllocError` where a growth was refused, where there are
-    /// 2^32 - 1 rows, or where both do not keep the same columns: then all is as before.
+    /// Adds a copy of a row of other rows, as `push` does. `AllocError` if an allocation failed or there are 2^32 - 1
+    /// rows: then all is as before.
     pub fn push_row(&mut self, rows: &Rows, row: usize) -> Result<(), AllocError>
-        requires { row < length rows.now.items }
+        requires row { row < length rows.now.items }
+        requires width { (d : Fragment) → length (slice_index_or rows.now.items row d).values ≡ self.old.width }
         ensures width { self.new.width ≡ self.old.width }
         ensures pushed { (d : Fragment) → OnOk result (self.new.items ≡ self.old.items ++ slice_index_or rows.now.items row d ∷ []) }
         ensures err { OnErr result (self.new ≡ self.old) }
     {
-        if !are_same(&self.slots, &rows.slots) || self.dense.width() != rows.dense.width() {
-            return Err(AllocError);
+        let period = rows.period(row);
+        if keep_all(&self.slots) && keep_all(&rows.slots) {
+            return self.dense.push_copy(rows.dense.values(row), period);
         }
-        let period = rows.dense.period(row);
-        self.dense.push_copy(rows.dense.values(row), period)
+        let mut values = Vec::new(self.alloc);
+        rows.show(row, &mut values)?;
+        self.push(&mut values, period)
     }
 
     /// Keeps the first rows, so many; all of them where there are no more.
@@ -394,17 +446,20 @@ impl Rows {
         self.dense.truncate(len);
     }
 
-    /// The rows, then those of the other, as wide. No value is copied. `AllocError` where a growth was refused,
-    /// where there are 2^32 rows or more, or where both do not keep the same columns.
+    /// The rows, then those of the other, which have the same width. No value is copied if both keep the same columns;
+    /// otherwise the result keeps all of them. `AllocError` if an allocation failed or there are 2^32 rows or more.
     pub fn followed_by(self, other: Rows) -> Result<Rows, AllocError>
         requires { other.width ≡ self.width }
         ensures width { IfOk result (λ rows. rows.width ≡ self.width) }
         ensures rows { IfOk result (λ rows. rows.items ≡ self.items ++ other.items) }
     {
         if !are_same(&self.slots, &other.slots) || self.dense.width() != other.dense.width() {
-            return Err(AllocError);
+            let alloc = self.alloc;
+            let dense = self.into_dense()?.followed_by(other.into_dense()?)?;
+            return Ok(Rows::whole(alloc, dense));
         }
         Ok(Rows {
+            alloc: self.alloc,
             dense: self.dense.followed_by(other.dense)?,
             slots: self.slots,
             texts: self.texts,
@@ -424,9 +479,10 @@ impl Rows {
         ensures rows { IfOk result (λ rows. rows.items ≡ self.items ++ other.items) }
     {
         if !are_same(&self.slots, &other.slots) || self.dense.width() != other.dense.width() {
-            return Err(AllocError);
+            return self.followed_by(other);
         }
         Ok(Rows {
+            alloc: self.alloc,
             dense: self.dense.followed_by_among(rt, workers, other.dense)?,
             slots: self.slots,
             texts: self.texts,

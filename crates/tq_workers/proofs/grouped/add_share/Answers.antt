@@ -12,14 +12,20 @@ rows-init c =
     let are = c.into_iter-row-iterator.ensures.into_iter_gives ∙ c.memchr_iter-row-items.ensures.value in
     record {
       width = refl;
-      left = places_within c.args.number c.args.told.now c.into_iter-row-iterator.result (length items) are c.requires;
+      left = places_within c.args.number c.args.told.now c.into_iter-row-iterator.result (length items) are c.requires.told;
       rows = ap (λ l. c.args.out.now.items ++ map (row_at items) l) are;
     }
 
-pub push_row-requires : goal.push_row-requires
-push_row-requires c =
+pub push_row-requires-clause-row : goal.push_row-requires-clause-row
+push_row-requires-clause-row c =
     let items = c.args.rows.now.items in
     All-head (λ k. k < length items) c.in-Some.row c.next.new.self (subst (All (λ k. k < length items)) c.in-Some.ensures.steps c.rows.invariant.left)
+
+pub push_row-requires-clause-width : goal.push_row-requires-clause-width
+push_row-requires-clause-width c d =
+    let items = c.args.rows.now.items in
+    let within : c.in-Some.row < length items = All-head (λ k. k < length items) c.in-Some.row c.next.new.self (subst (All (λ k. k < length items)) c.in-Some.ensures.steps c.rows.invariant.left) in
+    c.requires.wide c.in-Some.row d within ∙ sym c.rows.invariant.width
 
 pub rows-preserved : goal.rows-preserved
 rows-preserved c =
