@@ -10,3 +10,4 @@ pub mod CountLemmas
 pub mod ValidLemmas
 pub mod LeafLemmas
 pub mod ReadLemmas
+pub mod WholeLemmas

@@ -21,8 +21,8 @@ use Rattle.tq_store.specs.declared.index.RowEvents.{RowEvents}
 use Rattle.tq_store.specs.Index.{IsIndexOf, rows_kept}
 use Rattle.tq_store.specs.Stored.{IsLasting, IsMet, IsReadable, IsStored, StandIn, Standing, Times, line_at, line_for, line_times, row_of_key, times_at, times_of_key, values_at, values_in}
 use Rattle.tq_scan.specs.declared.window.Part.{Part}
-use Rattle.tq_store.specs.Rows.{HasPartRows, window_part}
-use Rattle.tq_store.specs.Valid.{AreWhole, Shown, fragment_at, row_at}
+use Rattle.tq_store.specs.Rows.{HasPartRows}
+use Rattle.tq_store.specs.Valid.{ArePart, Shown, fragment_at, row_at}
 use Rattle.tq_store.proofs.IndexLemmas.{IsKnown, known_row, known_start, rows_counted}
 use Rattle.tq_store.proofs.LeafLemmas.{both_true, le_is, less_is}
 use Rattle.tq_store.proofs.LifeLemmas.{and-true}
@@ -195,9 +195,9 @@ module _ (es : List Event) (t : ℕ) (index : Index) (is : IsIndexOf es t index)
         ∙ map_where (λ key. stood (times_at at (times_of_key index.rows.items n key))) (λ key. row_at at (row_of_key es (rows_kept es t) n key)) keys (λ k d less. ap (row_at at) (same_row k d less))
         ∙ sym (map-map (row_at at) (row_of_key es (rows_kept es t) n) keys)
 
-    pub whole_of_lines : (range : KeyRange) (fragments : List Fragment) → HasPartRows es n t range period (window_part es n range period) (map (row_of_key es (rows_kept es t) n) keys)
-        → fragments ≡ map (line_of index.kept.items) lines → AreWhole es n t range period fragments
-    whole_of_lines range fragments are named = record {
+    pub part_of_lines : (range : KeyRange) (part : Part) (fragments : List Fragment) → HasPartRows es n t range period part (map (row_of_key es (rows_kept es t) n) keys)
+        → fragments ≡ map (line_of index.kept.items) lines → ArePart es n t range period part fragments
+    part_of_lines range part fragments are named = record {
       rows = map (row_of_key es (rows_kept es t) n) keys;
       are = are;
       same = λ at inside. ap (map (fragment_at at)) named ∙ shown_lines at inside;

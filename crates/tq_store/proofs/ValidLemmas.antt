@@ -23,9 +23,12 @@ use Rattle.tq_event.specs.Recorded.{HasTable}
 use Rattle.tq_event.specs.Versions.{Life, birth_of, version_at}
 use Rattle.tq_base.specs.declared.key_range.KeyRange.{KeyRange}
 use Rattle.tq_base.specs.KeyRanges.{key_of}
+use Rattle.tq_scan.specs.declared.window.Part.{Part}
+use Rattle.tq_scan.specs.declared.window.Window.{Window}
+use Rattle.tq_scan.specs.Windows.{whole_of}
 use Rattle.tq_store.specs.Keys.{shifted}
-use Rattle.tq_store.specs.Rows.{HasPartRows, HasReference, IsPartRow, row_key, window_part}
-use Rattle.tq_store.specs.Valid.{AreValidIn, AreWhole, HasKeyIn, Shown, fragment_at, row_at}
+use Rattle.tq_store.specs.Rows.{HasPartRows, HasReference, IsPartRow, IsWithin, row_key, window_part, within_window}
+use Rattle.tq_store.specs.Valid.{ArePart, AreValidIn, AreWhole, HasKeyIn, Shown, fragment_at, row_at, width_of}
 use Rattle.tq_store.proofs.AdmissibleLemmas.{ordered_push}
 use Rattle.tq_store.proofs.CountLemmas.{IsThere, apart_pairs, apart_placed, at_most, count_kept, count_made}
 use Rattle.tq_store.proofs.IndexLemmas.{start_stands}
@@ -56,10 +59,10 @@ split_at [] i x here = absurd (cc)
 split_at (y ∷ xs) zero x here = let same : y ≡ x = cc in record { before = []; after = xs; same = ap (λ z. z ∷ xs) same }
 split_at (y ∷ xs) (suc i) x here = let rest = split_at xs i x here in record { before = y ∷ rest.before; after = rest.after; same = ap (λ l. y ∷ l) rest.same }
 
-there_of : {X : Type 0} → (xs : List X) (x : X) → Contains xs x → IsThere xs x
+pub there_of : {X : Type 0} → (xs : List X) (x : X) → Contains xs x → IsThere xs x
 there_of xs x there = record { place = there.0; stands = slice_get-get_or xs there.0 x there.1 ∙ ap (λ y. Some y) there.2 }
 
-contains_of : {X : Type 0} → (xs : List X) (i : ℕ) (x : X) → slice_get xs i ≡ Some x → Contains xs x
+pub contains_of : {X : Type 0} → (xs : List X) (i : ℕ) (x : X) → slice_get xs i ≡ Some x → Contains xs x
 contains_of xs i x here = (i, slice_get_within xs i x here, get_or_from_slice_get xs i x x here)
 
 -- ---- the rows of the definition
@@ -126,7 +129,7 @@ counts at v row = (nat_le row.from at && nat_lt at row.to) && eq_by_cmp values_c
 -- ---- the rows of all of a window
 
 module _ (c : Catalogue) (es : List Event) (history : IsHistory c es) (few : length es ≤ 16777216) (n t : ℕ) (le : n ≤ length es) (range : KeyRange) (period : Period) where
-  small : (row : Row) → Contains (rows_of es n t) row → row.number < 4294967296
+  pub small : (row : Row) → Contains (rows_of es n t) row → row.number < 4294967296
   small row there =
       let place = there_of (rows_of es n t) row there in
       let number = numbered t 0 (take n es) place.place row place.stands in
@@ -212,8 +215,8 @@ module _ (c : Catalogue) (es : List Event) (history : IsHistory c es) (few : len
 -- ---- all rows that are handed out
 
 -- their keys lie in the range
-pub keys_in : (es : List Event) (n t : ℕ) (range : KeyRange) (period : Period) (fragments : List Fragment) → AreWhole es n t range period fragments → All (λ (f : Fragment). HasKeyIn range f.values) fragments
-keys_in es n t range period fragments whole k d less =
+pub keys_in : (es : List Event) (n t : ℕ) (range : KeyRange) (period : Period) (part : Part) (fragments : List Fragment) → ArePart es n t range period part fragments → All (λ (f : Fragment). HasKeyIn range f.values) fragments
+keys_in es n t range period part fragments whole k d less =
     by (slice_get whole.rows k) refl
     (sym (slice_get-map (row_at first) whole.rows k) ∙ sym (ap (λ l. slice_get l k) (whole.same first inside)) ∙ slice_get-map (fragment_at first) fragments k
     ∙ ap (option_map (fragment_at first)) (slice_get-get_or fragments k d less))
@@ -227,13 +230,13 @@ keys_in es n t range period fragments whole k d less =
     by : (o : Option Row) → slice_get whole.rows k ≡ o → option_map (row_at first) o ≡ Some (fragment_at first (get_or fragments k d)) → HasKeyIn range (get_or fragments k d).values
     by None stands same = absurd (cc)
     by (Some row) stands same =
-        let part = (whole.are.just row).0 (contains_of whole.rows k row stands) in
+        let is = (whole.are.just row).0 (contains_of whole.rows k row stands) in
         let both : row_at first row ≡ fragment_at first (get_or fragments k d) = cc in
-        subst (HasKeyIn range) (ap (λ (x : Shown). x.values) both) (record { low = part.low; high = part.high })
+        subst (HasKeyIn range) (ap (λ (x : Shown). x.values) both) (record { low = is.low; high = is.high })
 
 -- a table that is not there has none
-pub none_there : (c : Catalogue) (es : List Event) (n t : ℕ) (range : KeyRange) (period : Period) (fragments : List Fragment) → IsHistory c es → length c.tables ≤ t → fragments ≡ [] → AreWhole es n t range period fragments
-none_there c es n t range period fragments history past none = record {
+pub none_there : (c : Catalogue) (es : List Event) (n t : ℕ) (range : KeyRange) (period : Period) (part : Part) (fragments : List Fragment) → IsHistory c es → length c.tables ≤ t → fragments ≡ [] → ArePart es n t range period part fragments
+none_there c es n t range period part fragments history past none = record {
   rows = [];
   are = record {
     apart = λ i j one other less here there. absurd (cc);
@@ -241,3 +244,12 @@ none_there c es n t range period fragments history past none = record {
   };
   same = λ at inside. ap (map (fragment_at at)) none;
 }
+
+pub no_width : (c : Catalogue) (t : ℕ) → length c.tables ≤ t → 0 ≡ width_of c t
+no_width c t past = ap (λ o. option_map_or (λ (schema : Schema). length schema.columns) o 0) (sym (slice_get_past c.tables t past))
+
+-- all of a window is within all of it
+pub whole_within : (w : Window) (all part : Part) → whole_of w ≡ all → part ≡ whole_of w → IsWithin all part
+whole_within w all part all_is part_is =
+    subst (IsWithin all) (sym part_is)
+    (within_window w all (whole_of w) all_is (record { wide = w.wide; long = w.long; low = omega arith; high = omega arith; first = omega arith; last = omega arith }))

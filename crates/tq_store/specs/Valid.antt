@@ -1,5 +1,8 @@
 -- The rows of a table at the instants of a period, in a list. This project's own.
-use Rattle.std.specs.Prelude.{◌≡◌, ℕ, ◌≤ℤ◌, ◌&&◌, Bool, IsTrue, List, map, nat_le, nat_lt}
+use Rattle.std.specs.Prelude.{◌≡◌, ℕ, ◌≤ℤ◌, ◌&&◌, Bool, IsTrue, List, [], ◌∷◌, length, map, nat_le, nat_lt, slice_get, ⊤}
+use Rattle.std.specs.Option.{option_map_or}
+use Rattle.tq_base.specs.declared.catalogue.Catalogue.{Catalogue}
+use Rattle.tq_base.specs.declared.catalogue.Schema.{Schema}
 use Rattle.tq_base.specs.declared.fragment.Fragment.{Fragment}
 use Rattle.tq_base.specs.declared.period.Period.{Period}
 use Rattle.tq_base.specs.declared.value.Value.{Value}
@@ -9,6 +12,8 @@ use Rattle.tq_event.specs.declared.event.Event.{Event}
 use Rattle.tq_event.specs.History.{Row, valid_at}
 use Rattle.tq_base.specs.declared.key_range.KeyRange.{KeyRange}
 use Rattle.tq_base.specs.KeyRanges.{key_of}
+use Rattle.tq_base.specs.RowLists.{RowList}
+use Rattle.tq_scan.specs.declared.window.Part.{Part}
 use Rattle.tq_store.specs.Rows.{HasPartRows, window_part}
 
 -- the values have a key of the range
@@ -35,8 +40,23 @@ fragment_at t fragment = record { values = fragment.values; valid = holds fragme
 abbrev pub row_at : ℕ → Row → Shown
 row_at t row = record { values = row.values; valid = nat_le row.from t && nat_lt t row.to }
 
--- they are the rows of all of a window, as they stand at each instant of the period
-pub record AreWhole (history : List Event) (n table : ℕ) (range : KeyRange) (period : Period) (fragments : List Fragment) : Type 0 where
+-- they are the rows of a part of a window, each once, as they stand at each instant of the period
+pub record ArePart (history : List Event) (n table : ℕ) (range : KeyRange) (period : Period) (part : Part) (fragments : List Fragment) : Type 0 where
   pub rows : List Row
-  pub are : HasPartRows history n table range period (window_part history n range period) rows
+  pub are : HasPartRows history n table range period part rows
   pub same : (t : ℕ) → IsTrue (holds period t) → map (fragment_at t) fragments ≡ map (row_at t) rows
+
+-- they are those of all of a window
+abbrev pub AreWhole : List Event → ℕ → ℕ → KeyRange → Period → List Fragment → Type 0
+AreWhole history n table range period fragments = ArePart history n table range period (window_part history n range period) fragments
+
+-- each list has the rows of the part at its place
+abbrev pub AreParts : List Event → ℕ → ℕ → KeyRange → Period → List Part → List RowList → Type 0
+AreParts history n table range period [] [] = ⊤
+AreParts history n table range period [] (rows ∷ lists) = ⊥
+AreParts history n table range period (part ∷ parts) [] = ⊥
+AreParts history n table range period (part ∷ parts) (rows ∷ lists) = ArePart history n table range period part rows.items × AreParts history n table range period parts lists
+
+-- how many columns the table has, none if it is not there
+abbrev pub width_of : Catalogue → ℕ → ℕ
+width_of catalogue table = option_map_or (λ (schema : Schema). length schema.columns) (slice_get catalogue.tables table) 0

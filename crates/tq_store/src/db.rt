@@ -9,7 +9,7 @@ ghost use Rattle.tq_scan.specs.Windows.{whole_of};
 ghost use Rattle.tq_store.specs.Index.{AreIndexes, CanEnd, rows_kept};
 ghost use Rattle.tq_store.specs.Rows.{ArePartRows, HasPartRows, IsWithin, window_part};
 ghost use Rattle.tq_store.specs.Stored.{IsReadable, row_of_key, seen};
-ghost use Rattle.tq_store.specs.Valid.{AreWhole};
+ghost use Rattle.tq_store.specs.Valid.{ArePart, width_of};
 
 use crate::index::{Index, no_indexes, take};
 use crate::read::{find_version, lines_in, make_window, read_rows};
@@ -201,46 +201,46 @@ impl Db {
         read_rows(self.alloc, &self.events, &index.rows, found.keys.get(), n)
     }
 
-    // The keys that the table's tree has for the rows of all of the window, in any order. Out of memory: nothing is
-    // given.
-    fn find_all(
+    // The keys that the table's tree has for the rows of the part of the window, in any order. Out of memory: nothing
+    // is given.
+    fn find_unsorted(
         &self,
         alloc: Global,
         n: u32,
         table: u32,
         range: &KeyRange,
         period: &Period,
+        part: &Part,
     ) -> Result<Found, AllocError>
         requires known { n ≤ length self.now.events }
         requires table { table < length self.now.catalogue.tables }
+        requires inside { IsWithin (window_part self.now.events n range.now period.now) part.now }
         ensures readable { IfOk result (λ found. All (IsReadable self.now.events (rows_kept self.now.events table)) found.keys) }
-        ensures rows { IfOk result (λ found. HasPartRows self.now.events n table range.now period.now (window_part self.now.events n range.now period.now) (map (row_of_key self.now.events (rows_kept self.now.events table) n) found.keys)) }
+        ensures rows { IfOk result (λ found. HasPartRows self.now.events n table range.now period.now part.now (map (row_of_key self.now.events (rows_kept self.now.events table) n) found.keys)) }
     {
         let window = make_window(&self.events, n, range, period);
         let index = &self.indexes[table as usize];
-        scan_unsorted(
-            alloc,
-            &index.tree,
-            &window,
-            &window.whole(),
-            &mut Meter::new(),
-        )
+        scan_unsorted(alloc, &index.tree, &window, part, &mut Meter::new())
     }
 
-    // The rows of all of the window, their values lent. Out of memory: nothing is given.
-    pub(crate) fn whole(
+    // The rows of the part of the window of a table that is there, their values borrowed. Out of memory: nothing is
+    // given.
+    pub(crate) fn lines_of_part(
         &self,
         alloc: Global,
         n: u32,
         table: u32,
         range: &KeyRange,
         period: &Period,
+        part: &Part,
     ) -> Result<Relation<'_>, AllocError>
         requires known { n ≤ length self.now.events }
         requires table { table < length self.now.catalogue.tables }
-        ensures { IfOk result (λ rows. AreWhole self.now.events n table range.now period.now rows.items) }
+        requires inside { IsWithin (window_part self.now.events n range.now period.now) part.now }
+        ensures rows { IfOk result (λ rows. ArePart self.now.events n table range.now period.now part.now rows.items) }
+        ensures width { IfOk result (λ rows. rows.width ≡ width_of self.now.catalogue table) }
     {
-        let found = self.find_all(alloc, n, table, range, period)?;
+        let found = self.find_unsorted(alloc, n, table, range, period, part)?;
         let index = &self.indexes[table as usize];
         let lines = lines_in(alloc, &index.rows, found.keys.get(), n, period)?;
         Relation::of(alloc, &index.kept)?.pick(alloc, &lines)

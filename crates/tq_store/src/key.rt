@@ -49,6 +49,13 @@ pub fn first_key(values: &[Value]) -> u64
     shift(key(values)) as u64
 }
 
+/// The least key that a tree can have for a row with this key.
+pub fn least_tree_key(key: i64) -> u128
+    ensures { result ≡ shifted key * 4294967296 }
+{
+    shift_key(key) * ROWS
+}
+
 // The tree's key of the row of this number, with a key from 0 on.
 pub(crate) fn row_key(key: u64, row: u32) -> u128
     ensures value { result ≡ key * 4294967296 + row }

@@ -17,8 +17,8 @@ mod stored;
 mod valid;
 
 pub use db::Db;
-pub use key::{first_key, shift};
-pub use laws::rows_come_once;
+pub use key::{first_key, least_tree_key, shift};
+pub use laws::{parts_are_valid, rows_come_once};
 pub use opening::open_row;
 pub use row::Row;
 pub use tq_base::KeyRange;

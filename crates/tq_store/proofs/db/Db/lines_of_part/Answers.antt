@@ -1,8 +1,10 @@
-use Rattle.std.proofs.Common.{◌≡◌, ◌<◌, ◌∙◌, ℕ, List, arith, length, map, refl, sym, ap, subst}
+use Rattle.std.proofs.Common.{◌≡◌, ◌<◌, ◌∙◌, ℕ, List, Option, Some, None, arith, length, map, refl, slice_get, sym, ap, subst}
+use Rattle.std.specs.Option.{option_map, option_map_or}
 use Rattle.std.specs.Prelude.{All, slice_index_or}
-use Rattle.std.proofs.lemmas.Option.{slice_get_read}
+use Rattle.std.proofs.lemmas.Option.{slice_get-map, slice_get_read}
 use Rattle.std.proofs.lemmas.Result.{IfOk-weaker}
 use Rattle.tq_base.specs.declared.catalogue.Catalogue.{Catalogue}
+use Rattle.tq_base.specs.declared.catalogue.Schema.{Schema}
 use Rattle.tq_base.specs.declared.period.Period.{Period}
 use Rattle.tq_base.specs.declared.relation.Line.{Line}
 use Rattle.tq_base.specs.RowLists.{RowList}
@@ -12,10 +14,10 @@ use Rattle.tq_event.specs.Recorded.{Recorded}
 use Rattle.tq_store.specs.declared.index.Index.{Index}
 use Rattle.tq_store.specs.declared.index.RowEvents.{RowEvents}
 use Rattle.tq_store.specs.Index.{IsDb, IsIndexOf, rows_kept}
-use Rattle.tq_store.specs.Rows.{window_part}
 use Rattle.tq_store.specs.Stored.{IsLasting, IsMet, StandIn}
-use Rattle.tq_store.proofs.ReadLemmas.{lines_within, readable_lasts, rows_met, whole_of_lines}
-use Rattle.tq_store.proofs.db.Db.whole.Goals as goal
+use Rattle.tq_store.specs.Valid.{width_of}
+use Rattle.tq_store.proofs.ReadLemmas.{lines_within, readable_lasts, rows_met, part_of_lines}
+use Rattle.tq_store.proofs.db.Db.lines_of_part.Goals as goal
 
 -- the index of the table
 index_of : (r : Recorded) (catalogue : Catalogue) (es : List Event) (indexes : List Index) (table : ℕ) (index : Index) → record { catalogue = catalogue; events = es } ≡ r → IsDb catalogue es indexes → table < length r.catalogue.tables
@@ -25,6 +27,22 @@ index_of r catalogue es indexes table index view db less is =
     let counted = ap (λ (s : Recorded). length s.catalogue.tables) view in
     subst (λ (s : Recorded). IsIndexOf s.events table index) view
     (db.indexed.each table index (slice_get_read indexes (length indexes) table index refl (omega (arith, less, tables, counted)) is))
+
+-- its rows are as wide as the table
+kept_width : (r : Recorded) (catalogue : Catalogue) (es : List Event) (indexes : List Index) (table : ℕ) (index : Index) → record { catalogue = catalogue; events = es } ≡ r → IsDb catalogue es indexes → table < length r.catalogue.tables
+    → index ≡ slice_index_or indexes table index → index.kept.width ≡ width_of r.catalogue table
+kept_width r catalogue es indexes table index view db less is =
+    let tables = db.tables in
+    let counted = ap (λ (s : Recorded). length s.catalogue.tables) view in
+    let here = slice_get_read indexes (length indexes) table index refl (omega (arith, less, tables, counted)) is in
+    ap (λ o. option_map_or (λ (w : ℕ). w) o 0)
+    (sym (ap (option_map (λ (i : Index). i.kept.width)) here) ∙ sym (slice_get-map (λ (i : Index). i.kept.width) indexes table) ∙ ap (λ l. slice_get l table) db.widths ∙ slice_get-map (λ (s : Schema). length s.columns) catalogue.tables table)
+    ∙ unmapped (slice_get catalogue.tables table)
+    ∙ ap (λ (s : Recorded). width_of s.catalogue table) view
+  where
+    unmapped : (o : Option Schema) → option_map_or (λ (w : ℕ). w) (option_map (λ (s : Schema). length s.columns) o) 0 ≡ option_map_or (λ (s : Schema). length s.columns) o 0
+    unmapped None = refl
+    unmapped (Some s) = refl
 
 pub lines_in-requires-clause-lasting : goal.lines_in-requires-clause-lasting
 lines_in-requires-clause-lasting c =
@@ -42,7 +60,7 @@ lines_in-requires-clause-met c =
     let events = c.args.self.now.events in
     subst (λ keys. All (IsMet c.deref.result.now c.args.n c.args.period.now) keys) (sym c.get.ensures)
     (subst (λ rows. All (IsMet rows c.args.n c.args.period.now) c.in_ok-found.found.keys) (sym (c.deref.ensures.value ∙ of_table.rows))
-    (rows_met events (rows_kept events c.args.table) c.args.n c.args.table c.args.range.now c.args.period.now (window_part events c.args.n c.args.range.now c.args.period.now) c.in_ok-found.found.keys c.in_ok-found.ensures.rows))
+    (rows_met events (rows_kept events c.args.table) c.args.n c.args.table c.args.range.now c.args.period.now c.args.part.now c.in_ok-found.found.keys c.in_ok-found.ensures.rows))
 
 -- how the lines stand
 named : (rows deref_rows : List RowEvents) (n : ℕ) (period : Period) (keys deref_keys : List ℕ) (lines : List Line) → deref_rows ≡ rows → deref_keys ≡ keys → StandIn deref_rows n period deref_keys lines → StandIn rows n period keys lines
@@ -59,14 +77,20 @@ pick-requires c =
     (subst (λ (r : RowList). All (λ (line : Line). line.row < length r.items) c.in_ok-lines.lines.items) (sym c.in_ok-of.ensures)
     (lines_within c.args.self.now.events c.args.table index of_table c.args.n c.args.period.now keys c.in_ok-found.ensures.readable c.in_ok-lines.lines.items stand))
 
-pub returns : goal.returns
-returns c =
+pub returns-clause-rows : goal.returns-clause-rows
+returns-clause-rows c =
     let index = c.index-index.result.now in
     let of_table = index_of c.args.self.now c.self.inside.catalogue c.self.inside.events.items c.self.inside.indexes.items c.args.table index c.self.view_is c.self.invariant c.requires.table c.index-index.ensures in
     let keys : List ℕ = c.in_ok-found.found.keys in
     let stand = named index.rows.items c.deref.result.now c.args.n c.args.period.now keys c.get.result.now c.in_ok-lines.lines.items c.deref.ensures.value c.get.ensures c.in_ok-lines.ensures in
     IfOk-weaker c.pick.result _ _
-    (λ rows is. whole_of_lines c.args.self.now.events c.args.table index of_table c.args.n c.args.period.now keys c.in_ok-found.ensures.readable c.in_ok-lines.lines.items stand
-    c.args.range.now rows.items c.in_ok-found.ensures.rows
+    (λ rows is. part_of_lines c.args.self.now.events c.args.table index of_table c.args.n c.args.period.now keys c.in_ok-found.ensures.readable c.in_ok-lines.lines.items stand
+    c.args.range.now c.args.part.now rows.items c.in_ok-found.ensures.rows
     (is ∙ ap (map (line_of c.in_ok-of.field-0.items)) c.deref-2.ensures.value ∙ ap (λ (r : RowList). map (line_of r.items) c.in_ok-lines.lines.items) c.in_ok-of.ensures))
     c.pick.ensures.rows
+
+pub returns-clause-width : goal.returns-clause-width
+returns-clause-width c =
+    IfOk-weaker c.pick.result _ _
+    (λ rows is. is ∙ ap (λ (r : RowList). r.width) c.in_ok-of.ensures ∙ kept_width c.args.self.now c.self.inside.catalogue c.self.inside.events.items c.self.inside.indexes.items c.args.table c.index-index.result.now c.self.view_is c.self.invariant c.requires.table c.index-index.ensures)
+    c.pick.ensures.width
