@@ -14,6 +14,7 @@
 //!     reads N AT                             how many rows the first table has at an instant, and what reading them costs
 //!     list N TABLE LOW HIGH START END        the same rows, side by side in one list
 //!     list N TABLE START END                 those of all keys
+//!     parts N TABLE KEY VERSION START END    those of all keys, in each part of their window, cut at a key and a version
 //!     open TABLE KEY AT                      the first open row of a key that started before an instant
 //!     random-rows SEED ROUNDS                random events and questions, beside a plain list of rows
 //!     random-open SEED ROUNDS                the same, of open rows
@@ -24,6 +25,7 @@
 mod asking;
 mod history;
 mod opening;
+mod parting;
 mod random;
 mod session;
 mod telling;

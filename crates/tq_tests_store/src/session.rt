@@ -2,6 +2,7 @@
 
 use crate::asking::{instant_of, question_of};
 use crate::opening::{random_open, tell_open};
+use crate::parting::tell_parts;
 use crate::random::random_rows;
 use crate::telling::{tell_list, tell_nothing, tell_reads, tell_rows, tell_version};
 use std::alloc::{AllocError, Global};
@@ -192,6 +193,7 @@ impl Session {
             ("version", [n, at]) => tell_version(&self.db, *n, *at, out),
             ("reads", [n, at]) => tell_reads(&self.db, *n, *at, out),
             ("list", _) => self.list(alloc, numbers, out),
+            ("parts", _) => tell_parts(alloc, &self.db, numbers, out),
             ("rows", _) => match question_of(numbers) {
                 Some(question) => tell_rows(&self.db, &question, out),
                 None => tell_nothing(out),

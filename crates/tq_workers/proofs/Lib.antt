@@ -1,5 +1,6 @@
 pub mod ColumnLemmas
 pub mod CountLemmas
+pub mod CutLemmas
 pub mod FetchLemmas
 pub mod GroupLemmas
 pub mod PassingLemmas

@@ -1,104 +1,120 @@
 // Reading the rows that a plan asks for, by several workers.
 
-ghost use Rattle.std.specs.Prelude.{◌≡◌, ◌≤◌, ◌+ℤ◌, ℕ, pos, All, IfOk, IsTrue, List, OnOk, length};
-ghost use Rattle.tq_base.specs.declared.period.Period.{Period as Span};
-ghost use Rattle.tq_event.specs.declared.event.Event.{Event as Happening};
-ghost use Rattle.tq_workers.specs.Fetching.{IsFetched, LeadsTo};
+ghost use Rattle.std.specs.Prelude.{◌≡◌, ◌≤◌, All, IfOk, length, slice_index_or};
+ghost use Rattle.std.proofs.Props.{props};
+ghost use Rattle.tq_store.specs.Valid.{width_of};
+ghost use Rattle.tq_workers.specs.declared.sources.Piece.{Piece as AnyPiece};
+ghost use Rattle.tq_workers.specs.Fetching.{AreRead, IsCut, IsFetched, IsPieceIn, IsRead, all_pieces, piece_prop, source_pieces};
 
-use crate::asked::{Asked, parts_asked};
 use crate::fetched::Fetched;
+use crate::sources::{Piece, Source, cut_sources, pieces_of};
 use std::alloc::{AllocError, Global};
 use std::thread::Threads;
-use tq_base::Period;
+use tq_base::{Catalogue, Period, Rows};
 use tq_plan::Plan;
 use tq_run::{Gate, Work, run_with};
-use tq_store::Db;
+use tq_store::{Db, parts_are_valid};
+use tq_table::chained;
 
-// Reads of a `Db` as of its first events over a window, a piece for each range of keys that is asked for.
+// No more pieces are run; rows are then read when they are asked for.
+const MOST_PIECES: usize = 65_536;
+
+// Reads of a `Db` as of its first events over a window, a piece for each part of each source.
 #[derive(Drop)]
 struct Reads<'p> {
     alloc: Global,
     db: &'p Db,
     n: u32,
     window: &'p Period,
-    asked: &'p [Asked],
+    pieces: &'p [Piece],
     ghost within: { n ≤ length db.now.events },
-    ghost few: { length asked.now ≤ 65536 },
+    ghost few: { length pieces.now ≤ 65536 },
+    ghost inside: { All (IsPieceIn db.now.events n window.now) pieces.now } by { Prim.hlevel (props, piece_prop) },
 }
 
 impl Work for Reads<'_> {
-    type Out = Fetched;
+    type Out = Rows;
 
-    ghost count = { λ w. length w.asked.now };
+    ghost count = { λ w. length w.pieces.now };
 
-    ghost relates = { λ w _ fetched. IsFetched w.db.now.events w.n w.window.now fetched };
+    ghost relates = { λ w i rows. (d : AnyPiece) → IsRead w.db.now.catalogue w.db.now.events w.n w.window.now (slice_index_or w.pieces.now i d) rows };
 
     fn pieces(&self) -> u32 {
-        self.asked.len() as u32
+        self.pieces.len() as u32
     }
 
-    fn run(&self, i: u32) -> Result<Fetched, AllocError> {
-        let Asked { table, keys } = self.asked[i as usize];
+    fn run(&self, i: u32) -> Result<Rows, AllocError> {
+        let Piece { asked, part } = self.pieces[i as usize];
         let rows = self
             .db
-            .rows_in(self.alloc, self.n, table, &keys, self.window)?
+            .rows_of_part(
+                self.alloc,
+                self.n,
+                asked.table,
+                &asked.keys,
+                self.window,
+                &part,
+            )?
             .copied(self.alloc)?;
-        Ok(Fetched { table, keys, rows })
+        rows.width();
+        Ok(rows)
     }
 }
 
-// Whether the key is the one after the other.
-fn is_next(key: i64, other: i64) -> bool
-    ensures { IsTrue result → key ≡ other +ℤ pos 1 }
+// How many columns the table has, none if it is not there.
+fn width_of(catalogue: &Catalogue, table: u32) -> usize
+    ensures { result ≡ width_of catalogue.now table }
 {
-    i128::from(key) == i128::from(other) + 1
+    match catalogue.tables.get().get(table as usize) {
+        Some(schema) => schema.columns.get().len(),
+        None => 0,
+    }
 }
 
-// Whether the other rows are of the same table, as wide, and of the keys that follow on these.
-fn leads_to(fetched: &Fetched, other: &Fetched) -> bool
-    ensures { IsTrue result → LeadsTo fetched.now other.now }
+// The rows of the source: those of its parts, one part after the other. No value is copied.
+fn fetched(
+    alloc: Global,
+    db: &Db,
+    n: u32,
+    window: &Period,
+    source: &Source,
+    lists: Vec<Rows>,
+) -> Result<Fetched, AllocError>
+    requires within { n ≤ length db.now.events }
+    requires cut { IsCut db.now.events n window.now source.now }
+    requires read { AreRead db.now.catalogue db.now.events n window.now (source_pieces source.now) lists.items }
+    ensures { IfOk result (IsFetched db.now.events n window.now) }
 {
-    fetched.table == other.table
-        && fetched.rows.width() == other.rows.width()
-        && is_next(other.keys.low, fetched.keys.high)
-}
-
-// The rows of the keys of both.
-fn both(fetched: Fetched, other: Fetched) -> Result<Fetched, AllocError>
-    requires { LeadsTo fetched other }
-    ensures { (history : List Happening) (n : ℕ) (window : Span) → IsFetched history n window fetched → IsFetched history n window other → IfOk result (IsFetched history n window) }
-{
+    let _count = db.count();
+    parts_are_valid();
+    let width = width_of(db.catalogue(), source.asked.table);
     Ok(Fetched {
-        table: fetched.table,
-        keys: fetched.keys.hull(other.keys),
-        rows: fetched.rows.followed_by(other.rows)?,
+        table: source.asked.table,
+        keys: source.asked.keys,
+        rows: chained(alloc, width, lists)?,
     })
 }
 
-// The rows go to the end of the list, into the last of it where they follow on that.
-fn add(all: &mut Vec<Fetched>, next: Fetched) -> Result<(), AllocError>
-    ensures { (history : List Happening) (n : ℕ) (window : Span) → All (IsFetched history n window) all.old.items → IsFetched history n window next → OnOk result (All (IsFetched history n window) all.new.items) }
+// The rows of each of the sources, whose parts were read one source after the other.
+fn all_fetched(
+    alloc: Global,
+    db: &Db,
+    n: u32,
+    window: &Period,
+    sources: &[Source],
+    lists: Vec<Rows>,
+) -> Result<Vec<Fetched>, AllocError>
+    requires within { n ≤ length db.now.events }
+    requires cut { All (IsCut db.now.events n window.now) sources.now }
+    requires read { AreRead db.now.catalogue db.now.events n window.now (all_pieces sources.now) lists.items }
+    ensures { IfOk result (λ all. All (IsFetched db.now.events n window.now) all.items) }
 {
-    let Some(last) = all.pop() else {
-        all.push(next)?;
-        return Ok(());
-    };
-    if leads_to(&last, &next) {
-        all.push(both(last, next)?)?;
-    } else {
-        all.push(last)?;
-        all.push(next)?;
-    }
-    Ok(())
-}
-
-// The same rows, those of keys that follow on one another side by side.
-fn side_by_side(alloc: Global, parts: Vec<Fetched>) -> Result<Vec<Fetched>, AllocError>
-    ensures { (history : List Happening) (n : ℕ) (window : Span) → All (IsFetched history n window) parts.items → IfOk result (λ all. All (IsFetched history n window) all.items) }
-{
-    let mut all = Vec::with_capacity(alloc, parts.len())?;
-    'parts: for part in parts {
-        add(&mut all, part)?;
+    let mut all = Vec::with_capacity(alloc, sources.len())?;
+    let mut lists = lists;
+    'sources: for source in sources {
+        let later = lists.split_off(source.parts.len())?;
+        all.push(fetched(alloc, db, n, window, source, lists)?)?;
+        lists = later;
     }
     Ok(all)
 }
@@ -118,19 +134,18 @@ pub(crate) fn fetch<R: Threads + Sync, G: Gate + Sync>(
     requires at_most { workers ≤ 16 }
     ensures { IfOk result (λ fetched. All (IsFetched db.now.events n plan.now.window) fetched.items) }
 {
-    let asked = parts_asked(
-        alloc,
-        &db.events()[..n as usize],
-        plan,
-        2 * workers as usize,
-    )?;
+    let sources = cut_sources(alloc, db, n, plan, 2 * workers as usize)?;
+    let pieces = pieces_of(alloc, &sources)?;
+    if pieces.len() > MOST_PIECES {
+        return Ok(Vec::new(alloc));
+    }
     let work = Reads {
         alloc,
         db,
         n,
         window: &plan.window,
-        asked: &asked,
+        pieces: &pieces,
     };
-    let parts = run_with(rt, alloc, workers, &work, gate)?;
-    side_by_side(alloc, parts)
+    let lists = run_with(rt, alloc, workers, &work, gate)?;
+    all_fetched(alloc, db, n, &plan.window, &sources, lists)
 }

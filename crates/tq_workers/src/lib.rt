@@ -2,7 +2,8 @@
 //!
 //! The window of a plan is cut into periods, each of them a piece of work: the plan's rows in the period,
 //! coalesced. Whichever worker took which piece, the layers of all pieces together are the one answer. Over a
-//! `Db` the rows of the plan's sources are read in pieces beforehand, a part of a source's keys each.
+//! `Db` the rows of the plan's sources are read in pieces beforehand: the parts into which `cut` of `tq_scan` divides the
+//! window of keys and versions of each source.
 //!
 //! `answer_among` and `answer_with` promise what `answer_tables` and `answer` of the evaluator do, word for word,
 //! for every number of workers and every gate. `text_among` promises the text of the answer. Where the plan falls apart
@@ -17,6 +18,7 @@ mod among;
 mod asked;
 mod columns;
 mod counted;
+mod cuts;
 mod edges;
 mod fetched;
 mod fetching;
@@ -29,6 +31,7 @@ mod prepared;
 mod ranges;
 mod share;
 mod shares;
+mod sources;
 mod telling;
 mod text;
 mod with;

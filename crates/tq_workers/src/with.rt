@@ -100,8 +100,8 @@ fn edges_of(alloc: Global, fetched: &[Fetched]) -> Result<Vec<Bound>, AllocError
 
 /// The answer of a statement's plan as of the first `n` events of the `Db`, worked out by 1 to 16 workers, the
 /// calling thread among them: what `answer` answers. Several workers make two runs, and the gate is told of each
-/// piece before it is run: parts of the rows that are read, then periods of the window. `AllocError` where a growth
-/// was refused.
+/// piece before it is run: parts of the windows of the plan's sources, whose rows are read, then periods of the plan's
+/// window. `AllocError` if an allocation failed.
 pub fn answer_with<'b, R: Threads + Sync, G: Gate + Sync>(
     rt: &R,
     alloc: Global,
