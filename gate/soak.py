@@ -19,23 +19,19 @@ AT = Path(__file__).resolve().parent.parent / "crates" / "tq_tests_crowd"
 EVENTS, ASKS = 4000, 200
 # A round that is not done after so many seconds has failed; every so many seconds it is told how far the soak is.
 SECONDS, TOLD = 600, 60
-NUMBERS = re.compile(rb"    (\d+) asks, (\d+) publishes, (\d+) differences\n")
+NUMBERS = re.compile(rb"\+ (\d+) asks, (\d+) publishes, (\d+) differences\n")
 
 
-def files():
-    """The lines that make the table, as the gate's rounds have it."""
-    lines = (AT / "stdin").read_bytes().splitlines(keepends=True)
-    made = []
-    for line in lines[lines.index(b"file emp\n") :]:
-        if not line.startswith((b"file ", b"line ")):
-            break
-        made.append(line)
-    return b"".join(made)
+def table():
+    """The block that makes the table, as the full check's rounds have it."""
+    script = (AT / "stdin").read_bytes()
+    start = script.index(b"table emp\n")
+    return script[start : script.index(b"\n\n", start) + 2]
 
 
 def hold(made, seed):
     """The numbers of asks, publishes and differences of the round of this seed."""
-    taken = made + f"soak {seed} {EVENTS} {ASKS}\n".encode()
+    taken = made + f"soak {seed} {EVENTS} {ASKS}\n".encode()  # no output is expected, so all of it is shown
     how = {"stdout": subprocess.PIPE, "stderr": subprocess.DEVNULL, "timeout": SECONDS}
     ran = subprocess.run([AT / "out" / AT.name], input=taken, **how)
     found = NUMBERS.search(ran.stdout)
@@ -47,7 +43,7 @@ def hold(made, seed):
 def main():
     minutes = float(sys.argv[1])
     seed = int(sys.argv[2]) if len(sys.argv) > 2 else 1
-    made = files()
+    made = table()
     begun = told = time.monotonic()
     rounds, sums = 0, [0, 0, 0]
     while rounds == 0 or time.monotonic() - begun < 60 * minutes:

@@ -146,9 +146,9 @@ pub(crate) fn tell_random_as_of(
     let some = seen.rows > 100;
     writeln!(
         out,
-        "    {} answers differ from the definition",
+        "{} answers differ from the definition",
         seen.differences
     )?;
-    writeln!(out, "    a thousand events: {many}")?;
-    Ok(writeln!(out, "    more than 100 rows: {some}")?)
+    writeln!(out, "a thousand events: {many}")?;
+    Ok(writeln!(out, "more than 100 rows: {some}")?)
 }

@@ -16,7 +16,7 @@ fn text_of(name: &Name) -> &str {
 
 // The table, and those of its columns that are wanted.
 fn tell_table(schema: &Schema, wanted: &[bool], out: &mut String) -> Result<(), AllocError> {
-    write!(out, "    {}:", text_of(&schema.name))?;
+    write!(out, "{}:", text_of(&schema.name))?;
     for (column, wanted) in schema.columns.get().iter().zip(wanted) {
         if *wanted {
             write!(out, " {}", text_of(&column.name))?;

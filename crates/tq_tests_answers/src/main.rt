@@ -1,25 +1,20 @@
-//! Answers of plans, tried by a script: what each line of stdin makes or answers stands below it in stdout. So a case is
-//! a line there, and its answer here.
+//! Tests of answers: each block of stdin is a call and what it prints (tq_tests_script). Besides the calls that make
+//! table files there are:
 //!
-//!     file NAME                 the next table file, of no lines yet
-//!     line TEXT                 its next line
-//!     lines N TEXT              its next N lines
-//!     rising N LENGTH           its next N lines: number i, from i to i + LENGTH
-//!     keyed FIRST               its next 300 lines: keys from 0 to 96 in no order, a text and a number each
-//!     clear                     no files
-//!     rows STATEMENT            by the definition: the rows at 0, at each instant below 40 at which they are others
-//!                               than just before, at the last instant, and after it
-//!     at INSTANT,.. STATEMENT   the same at these instants
-//!     as-of N INSTANT STATEMENT the same at one, as of the first N events that the files make
+//!     keyed FIRST               adds 300 lines to the last file: keys from 0 to 96 in no order, a text and a number each
+//!     rows STATEMENT            by the definition: the rows at 0, at each instant below 40 at which they differ from
+//!                               those just before, at the last instant, and after it
+//!     at INSTANT,.. STATEMENT   the rows at these instants
+//!     as-of N INSTANT STATEMENT the rows at one, as of the first N events of the files
 //!     sources TABLE,.. INSTANT  the count of all rows of these sources at an instant, by the definition
 //!     large NUMBER,.. STATEMENT the rows at 0 by the definition, after rows of these numbers started in the first table
-//!     answer STATEMENT          the answer over tables of rows, as a text
+//!     answer STATEMENT          the answer over tables of rows, as text
 //!     columns STATEMENT         the columns of each table that it names
 //!     same STATEMENT            whether a history of the files' events gives that answer
-//!     random SEED ROUNDS        random statements over random tables, beside the definition
-//!     random-as-of SEED ROUNDS  random events, and random statements as of random counts of them, beside the definition
+//!     random SEED ROUNDS        random statements over random tables, compared with the definition
+//!     random-as-of SEED ROUNDS  random statements as of random counts of random events, compared with the definition
 //!
-//! Tables are numbered from 0. Other lines are copied.
+//! Tables are numbered from 0.
 #![tactic(auto)]
 
 mod agreeing;
@@ -37,16 +32,9 @@ mod telling;
 
 use session::Session;
 use std::io;
+use tq_tests_script::run_script;
 
 fn main(rt: HostRuntime) -> io::Result<()> {
     let alloc = rt.alloc();
-    let mut session = Session::new(alloc);
-    for line in rt.lines(alloc) {
-        let line = line?;
-        let mut out = String::new(alloc);
-        session.run(alloc, line.as_str(), &mut out)?;
-        println!(rt; "{line}")?;
-        print!(rt; "{out}")?;
-    }
-    Ok(())
+    run_script(&rt, &mut Session::new(alloc))
 }

@@ -118,8 +118,8 @@ pub(crate) fn tell_random(
     let many = seen.rows > 5000;
     writeln!(
         out,
-        "    {} answers differ from the definition",
+        "{} answers differ from the definition",
         seen.differences
     )?;
-    Ok(writeln!(out, "    more than 5,000 rows: {many}")?)
+    Ok(writeln!(out, "more than 5,000 rows: {many}")?)
 }

@@ -7,7 +7,7 @@ use tq_base::{Seen, Value};
 
 /// What is written where a line does not say what is asked.
 pub(crate) fn tell_nothing(out: &mut String) -> Result<(), AllocError> {
-    out.push_str("    not understood\n")
+    out.push_str("not understood\n")
 }
 
 fn push_value(value: &Value, out: &mut String) -> Result<(), AllocError> {
@@ -35,7 +35,7 @@ pub(crate) fn tell_rows(
     lines: &[String],
     out: &mut String,
 ) -> Result<(), AllocError> {
-    write!(out, "    {instant}:")?;
+    write!(out, "{instant}:")?;
     if lines.is_empty() {
         return out.push_str(" nothing\n");
     }
@@ -49,7 +49,7 @@ pub(crate) fn tell_rows(
 /// The lines of a text.
 pub(crate) fn tell_text(bytes: &[u8], out: &mut String) -> Result<(), AllocError> {
     for line in str::from_utf8(bytes).unwrap_or("no text").lines() {
-        writeln!(out, "    {line}")?;
+        writeln!(out, "{line}")?;
     }
     Ok(())
 }

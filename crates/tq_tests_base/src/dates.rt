@@ -19,7 +19,7 @@ fn tell_written(instant: Instant, form: Form, out: &mut String) -> Result<(), Al
     let mut bytes = [0; 12];
     let len = put_instant(instant, form, &mut bytes);
     let text = str::from_utf8(&bytes[..len]).unwrap_or("no text");
-    writeln!(out, "    {text}")
+    writeln!(out, "{text}")
 }
 
 /// How the instant of this number is written in dates, and in numbers.
@@ -29,7 +29,7 @@ pub(crate) fn tell_day(number: u64, out: &mut String) -> Result<(), AllocError> 
             tell_written(instant, Form::Dates, out)?;
             tell_written(instant, Form::Numbers, out)
         }
-        None => out.push_str("    none\n"),
+        None => out.push_str("none\n"),
     }
 }
 
@@ -46,5 +46,5 @@ fn is_told(number: u64) -> bool {
 /// How many of so many days are read again as what they are printed of.
 pub(crate) fn tell_days(many: u64, out: &mut String) -> Result<(), AllocError> {
     let told = (0..many).filter(|number| is_told(*number)).count();
-    writeln!(out, "    {told}")
+    writeln!(out, "{told}")
 }

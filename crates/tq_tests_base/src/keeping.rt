@@ -96,7 +96,6 @@ fn tell_row(
     }
     let mut shown = Vec::new(alloc);
     rows.show(number, &mut shown)?;
-    out.push_str("    ")?;
     for (column, value) in shown.iter().enumerate() {
         push_value(value, out)?;
         if !is_there(rows, relation, number, column, value) {
@@ -110,7 +109,7 @@ fn tell_row(
 // The rows one by one.
 fn tell_rows(alloc: Global, rows: &Rows, out: &mut String) -> Result<(), AllocError> {
     let relation = Relation::of(alloc, rows)?;
-    writeln!(out, "    {} rows of width {}", rows.len(), rows.width())?;
+    writeln!(out, "{} rows of width {}", rows.len(), rows.width())?;
     for number in 0..rows.len() {
         tell_row(alloc, rows, &relation, number, out)?;
     }
@@ -129,7 +128,7 @@ fn tell_other(
         return Ok(());
     }
     let last = rows.len() - 1;
-    write!(out, "    {letters}:")?;
+    write!(out, "{letters}:")?;
     push_answer(other.push_row(&rows, last).is_ok(), out)?;
     match rows.followed_by(other) {
         Ok(all) => {
@@ -153,7 +152,7 @@ fn kept_rows(
 ) -> Result<Rows, AllocError> {
     let mut rows = no_rows(alloc, letters)?;
     for word in words {
-        write!(out, "    {word}:")?;
+        write!(out, "{word}:")?;
         if let Some(row) = fragment_of(alloc, word)? {
             tell_push(alloc, &row, &mut rows, out)?;
         }

@@ -1,5 +1,5 @@
-//! Values, periods, names, rows and relations, tried by a script: what each line of stdin makes or answers stands below
-//! it in stdout. So a case is a line there, and its answer here.
+//! Tests of values, periods, names, rows and relations: each block of stdin is a call and what it prints
+//! (tq_tests_script).
 //!
 //!     int TEXT                        the number of 64 signed bits that the text is
 //!     natural MOST TEXT               the number up to the most that it is
@@ -35,7 +35,7 @@
 //!                                     stand for a number and a text that are kept, n and t for such that are left out
 //!
 //! A value is a number, or a text, which begins with ' where it looks like a number or is empty; \s is a blank, \c a
-//! comma, \0 the byte 0, and T^N is the text T, N times. Lines that begin with # say what follows.
+//! comma, \0 the byte 0, and T^N is the text T, N times.
 #![tactic(auto)]
 
 mod dates;
@@ -53,16 +53,9 @@ mod words;
 
 use session::Session;
 use std::io;
+use tq_tests_script::run_script;
 
 fn main(rt: HostRuntime) -> io::Result<()> {
     let alloc = rt.alloc();
-    let mut session = Session::new(alloc);
-    for line in rt.lines(alloc) {
-        let line = line?;
-        let mut out = String::new(alloc);
-        session.run(alloc, line.as_str(), &mut out)?;
-        println!(rt; "{line}")?;
-        print!(rt; "{out}")?;
-    }
-    Ok(())
+    run_script(&rt, &mut Session::new(alloc))
 }

@@ -11,16 +11,16 @@ use tq_base::{
 /// The number, or `none`.
 pub(crate) fn tell_number(number: Option<u64>, out: &mut String) -> Result<(), AllocError> {
     match number {
-        Some(number) => writeln!(out, "    {number}"),
-        None => out.push_str("    none\n"),
+        Some(number) => writeln!(out, "{number}"),
+        None => out.push_str("none\n"),
     }
 }
 
 /// The number of 64 signed bits that the bytes are.
 pub(crate) fn tell_int(bytes: &[u8], out: &mut String) -> Result<(), AllocError> {
     match read_int(bytes) {
-        Some(number) => writeln!(out, "    {number}"),
-        None => out.push_str("    none\n"),
+        Some(number) => writeln!(out, "{number}"),
+        None => out.push_str("none\n"),
     }
 }
 
@@ -45,7 +45,7 @@ pub(crate) fn tell_instant(bytes: &[u8], out: &mut String) -> Result<(), AllocEr
 pub(crate) fn tell_instants(number: u64, out: &mut String) -> Result<(), AllocError> {
     let instant = Instant::new(number).is_some();
     let bound = Bound::new(number).is_some();
-    writeln!(out, "    an instant: {instant}, a bound: {bound}")
+    writeln!(out, "an instant: {instant}, a bound: {bound}")
 }
 
 // A copy of the name that the bytes fold to.
@@ -58,15 +58,15 @@ fn folded(alloc: Global, bytes: &[u8]) -> Result<Option<Name>, AllocError> {
 
 fn tell_made(name: &Name, out: &mut String) -> Result<(), AllocError> {
     let text = str::from_utf8(name.bytes()).unwrap_or("no text");
-    writeln!(out, "    {text}")
+    writeln!(out, "{text}")
 }
 
 /// Whether the bytes are a name, and the name.
 pub(crate) fn tell_name(alloc: Global, bytes: &[u8], out: &mut String) -> Result<(), AllocError> {
-    writeln!(out, "    {}", is_name(bytes))?;
+    writeln!(out, "{}", is_name(bytes))?;
     match folded(alloc, bytes)? {
         Some(name) => tell_made(&name, out),
-        None => out.push_str("    none\n"),
+        None => out.push_str("none\n"),
     }
 }
 
@@ -74,13 +74,13 @@ pub(crate) fn tell_name(alloc: Global, bytes: &[u8], out: &mut String) -> Result
 pub(crate) fn tell_word(alloc: Global, bytes: &[u8], out: &mut String) -> Result<(), AllocError> {
     let reserved = is_reserved(bytes);
     let no_name = fold_name(alloc, bytes)?.is_none();
-    writeln!(out, "    a word: {reserved}, no name: {no_name}")
+    writeln!(out, "a word: {reserved}, no name: {no_name}")
 }
 
 /// Whether two words are the same.
 pub(crate) fn tell_same(left: &str, right: &str, out: &mut String) -> Result<(), AllocError> {
     let same = is_same_word(left.as_bytes(), right.as_bytes());
-    writeln!(out, "    {same}")
+    writeln!(out, "{same}")
 }
 
 /// The name of an answer's counts, which is made of its bytes.

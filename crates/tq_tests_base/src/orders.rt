@@ -20,10 +20,7 @@ fn is_row_placed(one: &Values, other: &Values, places: Ordering) -> bool {
 }
 
 fn tell_misplaced(count: usize, misplaced: u32, out: &mut String) -> Result<(), AllocError> {
-    writeln!(
-        out,
-        "    {count} of them, {misplaced} pairs stand otherwise"
-    )
+    writeln!(out, "{count} of them, {misplaced} pairs stand otherwise")
 }
 
 // How many of the values a copy of the one at the place does not stand to as it should.
@@ -77,7 +74,7 @@ pub(crate) fn tell_rows_order(
     let mut misplaced: u32 = 0;
     for (place, one) in rows.iter().enumerate() {
         misplaced = misplaced.saturating_add(misplaced_rows(&rows, place, one)?);
-        writeln!(out, "    {} values", one.get().len())?;
+        writeln!(out, "{} values", one.get().len())?;
     }
     tell_misplaced(rows.len(), misplaced, out)
 }
@@ -85,13 +82,13 @@ pub(crate) fn tell_rows_order(
 // How a copy of the text stands to it, and the copy's bytes.
 fn tell_copy(text: &Text, out: &mut String) -> Result<(), AllocError> {
     let copy = text.try_copy()?;
-    writeln!(out, "    {:?}", copy.compare(text))?;
-    writeln!(out, "    {}", copy.get())
+    writeln!(out, "{:?}", copy.compare(text))?;
+    writeln!(out, "{}", copy.get())
 }
 
 // How the first text stands to the second.
 fn tell_compared(first: &Text, second: &Text, out: &mut String) -> Result<(), AllocError> {
-    writeln!(out, "    {:?}", first.compare(second))
+    writeln!(out, "{:?}", first.compare(second))
 }
 
 /// How the first text stands to the second, and how a copy of the second stands to it, with its bytes.
@@ -119,7 +116,6 @@ fn fragments_of(alloc: Global, words: &[&str]) -> Result<Vec<Fragment>, AllocErr
 
 fn tell_fragment(fragment: &Fragment, out: &mut String) -> Result<(), AllocError> {
     let copy = fragment.try_copy()?;
-    out.push_str("    ")?;
     for value in copy.values.get() {
         push_value(value, out)?;
     }
@@ -145,10 +141,10 @@ pub(crate) fn tell_fragments(
 /// The rank of a value.
 pub(crate) fn tell_rank(alloc: Global, word: &str, out: &mut String) -> Result<(), AllocError> {
     let rank = rank_of(&value_of(alloc, word)?);
-    writeln!(out, "    {rank:#x}")
+    writeln!(out, "{rank:#x}")
 }
 
 /// How many bytes a value has.
 pub(crate) fn tell_size(out: &mut String) -> Result<(), AllocError> {
-    writeln!(out, "    {}", mem::size_of::<Value>())
+    writeln!(out, "{}", mem::size_of::<Value>())
 }

@@ -13,9 +13,8 @@ pub(crate) fn tell_holds(
     out: &mut String,
 ) -> Result<(), AllocError> {
     let Some(period) = period_of(start, end) else {
-        return out.push_str("    no period\n");
+        return out.push_str("no period\n");
     };
-    out.push_str("    ")?;
     push_period(&period, out)?;
     for instant in instants {
         match instant_of(instant) {
@@ -28,7 +27,7 @@ pub(crate) fn tell_holds(
 
 // What both have in common, and whether they meet.
 fn tell_one_way(one: &Period, other: &Period, out: &mut String) -> Result<(), AllocError> {
-    out.push_str("    overlap: ")?;
+    out.push_str("overlap: ")?;
     match one.overlap(other) {
         Some(both) => push_period(&both, out)?,
         None => out.push_str("none")?,

@@ -62,25 +62,25 @@ pub(crate) fn tell_pushed(alloc: Global, count: u32, out: &mut String) -> Result
         all_taken = all_taken && taken;
     }
     let differing = differing(alloc, &rows)?;
-    writeln!(out, "    {} rows of width {}", rows.len(), rows.width())?;
+    writeln!(out, "{} rows of width {}", rows.len(), rows.width())?;
     writeln!(
         out,
-        "    {} periods, each taken: {all_taken}",
+        "{} periods, each taken: {all_taken}",
         rows.periods().len()
     )?;
-    writeln!(out, "    {differing} are others")
+    writeln!(out, "{differing} are others")
 }
 
 /// How many rows without values there are before any and after so many are pushed.
 pub(crate) fn tell_empty(alloc: Global, count: u32, out: &mut String) -> Result<(), AllocError> {
     let mut rows = Rows::new(alloc, 0);
-    writeln!(out, "    {} rows", rows.len())?;
+    writeln!(out, "{} rows", rows.len())?;
     for start in 0..count {
         if let Some(period) = period_between(u64::from(start), 9) {
             push_row(&mut rows, &[], &period)?;
         }
     }
-    writeln!(out, "    {} rows", rows.len())
+    writeln!(out, "{} rows", rows.len())
 }
 
 // A row of a copy of the text, which is let go.
@@ -97,7 +97,6 @@ fn copied_text(alloc: Global, word: &str) -> Result<Rows, AllocError> {
 pub(crate) fn tell_copied(alloc: Global, word: &str, out: &mut String) -> Result<(), AllocError> {
     let rows = copied_text(alloc, word)?;
     for number in 0..rows.len() {
-        out.push_str("    ")?;
         if let Some(value) = rows.value(number, 0) {
             push_value(value, out)?;
         }

@@ -10,7 +10,6 @@ fn tell_row(relation: &Relation<'_>, number: usize, out: &mut String) -> Result<
         return Ok(());
     }
     let row = relation.row(number);
-    out.push_str("    ")?;
     for column in 0..row.len() {
         if let Ok(column) = u32::try_from(column) {
             push_value(row.at(column), out)?;

@@ -1,5 +1,7 @@
 //! The lists of rows that a script makes, by their names, and what it asks.
 
+ghost use Rattle.std.specs.Thread.{IsSync};
+
 use crate::dates::{tell_date, tell_day, tell_days};
 use crate::keeping::tell_kept;
 use crate::lists::rows_of;
@@ -17,7 +19,10 @@ use crate::sides::{tell_many, tell_sorted, tell_sorted_list, tell_within};
 use crate::tables::{tell_fits, tell_table, tell_takes};
 use crate::words::{period_of, tell_nothing, text_of};
 use std::alloc::{AllocError, Global};
+use std::sync::Wait;
+use std::thread::Threads;
 use tq_base::Rows;
+use tq_tests_script::{Block, Suite};
 
 #[derive(Drop)]
 struct List {
@@ -232,12 +237,7 @@ impl Session {
     }
 
     /// Does what the line says, and writes what it answers.
-    pub(crate) fn run(
-        &mut self,
-        alloc: Global,
-        line: &str,
-        out: &mut String,
-    ) -> Result<(), AllocError> {
+    fn call(&mut self, alloc: Global, line: &str, out: &mut String) -> Result<(), AllocError> {
         let words: Vec<&str> = line.split_whitespace().collect(alloc)?;
         match words.as_slice() {
             [] | ["#", ..] => Ok(()),
@@ -247,5 +247,19 @@ impl Session {
             }
             [word, words @ ..] => self.answer(alloc, word, words, out),
         }
+    }
+}
+
+impl Suite for Session {
+    fn run<R: Threads + Wait + Sync>(
+        &mut self,
+        _rt: &R,
+        alloc: Global,
+        block: &Block,
+        out: &mut String,
+    ) -> Result<(), AllocError>
+        requires { IsSync R.row }
+    {
+        self.call(alloc, block.call.as_str(), out)
     }
 }

@@ -81,19 +81,20 @@ fn tell_their_rows(left: &Relation<'_>, right: &Relation<'_>, keys: &[Key], widt
 
 // The sides and the numbers of the rows for which the keys stand.
 fn tell_keys(keys: &[Key], out: &mut String) -> Result<(), AllocError> {
-    out.push_str("   ")?;
+    let mut divider = "";
     for key in keys {
         let side = match key.side {
             Side::Left => "left",
             Side::Right => "right",
         };
-        write!(out, " {side} {}", key.row)?;
+        write!(out, "{divider}{side} {}", key.row)?;
+        divider = " ";
     }
     out.push('\n')
 }
 
 fn tell_equal(run: usize, out: &mut String) -> Result<(), AllocError> {
-    writeln!(out, "    the first {run} are equal")
+    writeln!(out, "the first {run} are equal")
 }
 
 // The keys, and of how many of the first the values are equal.
@@ -112,7 +113,7 @@ fn tell_sides(
     let sorted = sorted_sides(alloc, left, right, columns, true)?;
     tell_run(&sorted, out)?;
     let told = tell_their_rows(left, right, &sorted.keys, 2);
-    writeln!(out, "    each tells its row: {told}")
+    writeln!(out, "each tells its row: {told}")
 }
 
 /// The sorted keys of two sides, of how many of the first the values are equal, and whether all tell their rows.
@@ -192,9 +193,9 @@ fn rise(keys: &[Key]) -> bool {
 }
 
 fn tell_rising(sorted: &Sorted, out: &mut String) -> Result<(), AllocError> {
-    writeln!(out, "    {} keys", sorted.keys.len())?;
+    writeln!(out, "{} keys", sorted.keys.len())?;
     tell_equal(sorted.run, out)?;
-    writeln!(out, "    they rise: {}", rise(&sorted.keys))
+    writeln!(out, "they rise: {}", rise(&sorted.keys))
 }
 
 /// How many keys many rows have, of how many of the first the numbers are equal, and whether numbers and starts rise.

@@ -11,7 +11,7 @@ pub(crate) fn tell_takes(alloc: Global, word: &str, out: &mut String) -> Result<
     let value = value_of(alloc, word)?;
     let number = Kind::Int.takes(&value);
     let text = Kind::Text.takes(&value);
-    writeln!(out, "    as a number: {number}, as a text: {text}")
+    writeln!(out, "as a number: {number}, as a text: {text}")
 }
 
 fn column(alloc: Global, name: &[u8], kind: Kind) -> Result<Option<Column>, AllocError> {
@@ -38,7 +38,7 @@ fn table(alloc: Global, name: &[u8]) -> Result<Option<Schema>, AllocError> {
 pub(crate) fn tell_fits(alloc: Global, word: &str, out: &mut String) -> Result<(), AllocError> {
     let row = row_of(alloc, word)?;
     match table(alloc, b"emp")? {
-        Some(table) => writeln!(out, "    {}", table.fits(&row)),
+        Some(table) => writeln!(out, "{}", table.fits(&row)),
         None => tell_nothing(out),
     }
 }
@@ -57,7 +57,7 @@ fn push_name(name: &Name, out: &mut String) -> Result<(), AllocError> {
 }
 
 fn tell_column(table: &Schema, column: &Column, out: &mut String) -> Result<(), AllocError> {
-    out.push_str("    last column: ")?;
+    out.push_str("last column: ")?;
     push_name(&table.name, out)?;
     out.push('.')?;
     push_name(&column.name, out)?;
@@ -66,8 +66,8 @@ fn tell_column(table: &Schema, column: &Column, out: &mut String) -> Result<(), 
 
 fn tell_number(number: Option<u32>, out: &mut String) -> Result<(), AllocError> {
     match number {
-        Some(number) => writeln!(out, "    {number}"),
-        None => out.push_str("    none\n"),
+        Some(number) => writeln!(out, "{number}"),
+        None => out.push_str("none\n"),
     }
 }
 

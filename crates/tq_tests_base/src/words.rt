@@ -112,5 +112,5 @@ pub(crate) fn push_period(period: &Period, out: &mut String) -> Result<(), Alloc
 
 /// What is written where a line is not understood.
 pub(crate) fn tell_nothing(out: &mut String) -> Result<(), AllocError> {
-    out.push_str("    not understood\n")
+    out.push_str("not understood\n")
 }

@@ -12,7 +12,7 @@ use tq_base::{Form, Instant, Values};
 use tq_event::Loaded;
 use tq_snapshot::laws::ask_around_a_start;
 use tq_table::{Table, table_text};
-use tq_tests_help::{Files, number_and};
+use tq_tests_script::{TableFiles, number_and};
 
 // A question as of so many events, and the row of a table that is started meanwhile.
 #[derive(Drop)]
@@ -59,10 +59,10 @@ fn tell_answers<R: Wait>(
     requires few { length loaded.events ≤ 16777216 }
 {
     if start.n as usize > loaded.events.get().len() {
-        return out.push_str("    too new\n");
+        return out.push_str("too new\n");
     }
     let Some(plan) = planned(alloc, &loaded.catalogue, start.statement) else {
-        return out.push_str("    no plan\n");
+        return out.push_str("no plan\n");
     };
     let Start {
         n,
@@ -76,7 +76,7 @@ fn tell_answers<R: Wait>(
             tell_table(alloc, &before, out)?;
             tell_table(alloc, &after, out)
         }
-        None => out.push_str("    no answers\n"),
+        None => out.push_str("no answers\n"),
     }
 }
 
@@ -84,12 +84,12 @@ fn tell_answers<R: Wait>(
 pub(crate) fn tell_around<R: Wait>(
     rt: &R,
     alloc: Global,
-    files: &Files,
+    files: &TableFiles,
     text: &str,
     out: &mut String,
 ) -> Result<(), AllocError> {
     match (loaded(alloc, files.copies(alloc)?), start_of(alloc, text)) {
         (Ok(loaded), Some(start)) => tell_answers(rt, alloc, loaded, &start, out),
-        _ => out.push_str("    no store\n"),
+        _ => out.push_str("no store\n"),
     }
 }

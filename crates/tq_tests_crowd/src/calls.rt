@@ -5,7 +5,8 @@ use crate::refused::{try_open, try_step};
 use std::alloc::{AllocError, Global};
 use std::sync::Wait;
 use std::thread::Threads;
-use tq_tests_help::{Calls, Files, Refusal, Tried, number_and};
+use tq_tests_help::{Calls, Refusal, Tried};
+use tq_tests_script::{TableFiles, number_and};
 
 /// The call that shares pieces of work, and those of a store.
 #[derive(Drop)]
@@ -16,7 +17,7 @@ impl Calls for CrowdCalls {
         &self,
         rt: &R,
         alloc: Global,
-        files: &Files,
+        files: &TableFiles,
         word: &str,
         text: &str,
         refusal: Refusal,

@@ -32,10 +32,10 @@ impl Turns {
             return Ok(());
         }
         if self.limit_met.load(Ordering::SeqCst) {
-            return out.push_str("    piece 0 waited in vain\n");
+            return out.push_str("piece 0 waited in vain\n");
         }
         let seconds = self.seconds.load(Ordering::SeqCst);
-        writeln!(out, "    piece 1 arrived {seconds} times")
+        writeln!(out, "piece 1 arrived {seconds} times")
     }
 }
 

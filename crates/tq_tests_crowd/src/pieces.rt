@@ -43,9 +43,10 @@ impl Call for Sharing {
     }
 
     fn tell(&self, _alloc: Global, out: &mut String) -> Result<(), AllocError> {
-        out.push_str("   ")?;
+        let mut divider = "";
         for square in &self.squares {
-            write!(out, " {square}")?;
+            write!(out, "{divider}{square}")?;
+            divider = " ";
         }
         out.push('\n')
     }

@@ -11,7 +11,8 @@ use std::sync::Wait;
 use std::thread::Threads;
 use tq_event::{Loaded, MAX_EVENTS};
 use tq_snapshot::{Naming, Opened};
-use tq_tests_help::{Call, Files, Refusal, Tried, attempt};
+use tq_tests_help::{Call, Refusal, Tried, attempt};
+use tq_tests_script::TableFiles;
 
 // Four rows start before the step, as many as the first growth of the writer's list has room for.
 const BEFORE: &str = "start 4 0 40 8,dan,food";
@@ -20,7 +21,7 @@ const BEFORE: &str = "start 4 0 40 8,dan,food";
 const COUNTS: &str = "VALIDTIME SELECT name, COUNT(*) FROM emp WHERE emp > 3 GROUP BY name";
 
 // The events of the files. Files at fault end the script.
-fn events_of(alloc: Global, files: &Files) -> Result<Loaded, AllocError>
+fn events_of(alloc: Global, files: &TableFiles) -> Result<Loaded, AllocError>
     ensures history { IfOk result (λ l. IsHistory l.catalogue l.events) }
     ensures few { IfOk result (λ l. length l.events ≤ 16777216) }
 {
@@ -48,7 +49,7 @@ fn found_by_last<J: Naming>(
 }
 
 // The same of the files' events.
-fn found_in_files(alloc: Global, files: &Files, readers: u32) -> Result<Came, AllocError> {
+fn found_in_files(alloc: Global, files: &TableFiles, readers: u32) -> Result<Came, AllocError> {
     let loaded = events_of(alloc, files)?;
     found_by_last::<Brand>(alloc, Opened::new(), loaded, readers)
 }
@@ -56,7 +57,7 @@ fn found_in_files(alloc: Global, files: &Files, readers: u32) -> Result<Came, Al
 // A store that is opened, and what its last reader finds.
 #[derive(Drop)]
 struct Opening<'a> {
-    files: &'a Files,
+    files: &'a TableFiles,
     readers: u32,
     found: Came,
 }
@@ -76,7 +77,7 @@ impl Call for Opening<'_> {
 pub(crate) fn try_open<R: Threads + Wait + Sync>(
     rt: &R,
     alloc: Global,
-    files: &Files,
+    files: &TableFiles,
     readers: u32,
     refusal: Refusal,
 ) -> Result<Tried, AllocError> {
@@ -157,7 +158,7 @@ fn step_on<J: Naming, R: Threads + Wait + Sync>(
 pub(crate) fn try_step<R: Threads + Wait + Sync>(
     rt: &R,
     alloc: Global,
-    files: &Files,
+    files: &TableFiles,
     n: u32,
     line: &str,
     refusal: Refusal,

@@ -1,9 +1,11 @@
 //! What the lines of the script say of a store.
 
 ghost use Rattle.std.specs.Prelude.{IfSome};
+ghost use Rattle.std.specs.Thread.{IsSync};
 ghost use Rattle.tq_plan.specs.Standing.{IsPlanOver};
 
 use crate::around::tell_around;
+use crate::calls::CrowdCalls;
 use crate::crowd::{Seen, gather};
 use crate::history::{History, loaded};
 use crate::steps::play;
@@ -18,7 +20,8 @@ use tq_event::Loaded;
 use tq_plan::{Plan, plan};
 use tq_snapshot::Opened;
 use tq_sql::read;
-use tq_tests_help::{Draws, Files, number_and};
+use tq_tests_help::{Draws, Script};
+use tq_tests_script::{Block, Suite, TableFiles, number_and};
 
 const NAMES: &str = "VALIDTIME SELECT name FROM emp";
 
@@ -119,7 +122,7 @@ fn history_of(alloc: Global, loaded: &Loaded, round: &Round<'_>) -> Result<Histo
 fn hold<R: Threads + Wait + Sync>(
     rt: &R,
     alloc: Global,
-    files: &Files,
+    files: &TableFiles,
     round: &Round<'_>,
 ) -> Result<Option<Seen>, AllocError> {
     let Ok(loaded) = loaded(alloc, files.copies(alloc)?) else {
@@ -141,13 +144,13 @@ pub(crate) fn tell_text(text: &[u8], out: &mut String) -> Result<(), AllocError>
         .enumerate()
     {
         if place < 4 {
-            writeln!(out, "    {line}")?;
+            writeln!(out, "{line}")?;
         } else {
             more = more.saturating_add(1);
         }
     }
     if more > 0 {
-        writeln!(out, "    and {more} lines more")?;
+        writeln!(out, "and {more} lines more")?;
     }
     Ok(())
 }
@@ -156,10 +159,10 @@ fn tell_seen(seen: &Seen, round: &Round<'_>, out: &mut String) -> Result<(), All
     let (asks, publishes, differences) = (seen.asks, seen.publishes, seen.differences);
     writeln!(
         out,
-        "    {asks} asks, {publishes} publishes, {differences} differences"
+        "{asks} asks, {publishes} publishes, {differences} differences"
     )?;
     if let Some(found) = seen.found {
-        writeln!(out, "    {found} events")?;
+        writeln!(out, "{found} events")?;
     }
     match round.fixed {
         Some(_) if round.ending == Ending::Stays => tell_text(&seen.text, out),
@@ -170,30 +173,27 @@ fn tell_seen(seen: &Seen, round: &Round<'_>, out: &mut String) -> Result<(), All
 fn tell_round<R: Threads + Wait + Sync>(
     rt: &R,
     alloc: Global,
-    files: &Files,
+    files: &TableFiles,
     round: &Round<'_>,
     out: &mut String,
 ) -> Result<(), AllocError> {
     match hold(rt, alloc, files, round)? {
         Some(seen) => tell_seen(&seen, round, out),
-        None => out.push_str("    no store\n"),
+        None => out.push_str("no store\n"),
     }
 }
 
-/// What the steps of a store come to: those of the lines, of which the first one opens it.
-pub(crate) fn tell_steps<R: Threads + Wait + Sync>(
+// What the steps of a store come to, which has so many readers and room for so many events.
+fn tell_steps<R: Threads + Wait + Sync>(
     rt: &R,
     alloc: Global,
-    files: &Files,
-    lines: &[String],
+    files: &TableFiles,
+    block: &Block,
     out: &mut String,
 ) -> Result<(), AllocError> {
-    let Some(first) = lines.first() else {
-        return Ok(());
-    };
-    let (_, rest) = first.as_str().split_once(' ').unwrap_or(("", ""));
-    let (readers, rest) = number_and(rest);
+    let (readers, rest) = number_and(block.arguments());
     let limit = number_and(rest).0;
+    let steps = block.input.as_slice();
     match loaded(alloc, files.copies(alloc)?) {
         Ok(loaded) => play::<Brand, R>(
             rt,
@@ -202,29 +202,52 @@ pub(crate) fn tell_steps<R: Threads + Wait + Sync>(
             loaded,
             readers,
             limit,
-            lines,
+            steps,
             out,
         ),
-        Err(_) => out.push_str("    no store\n"),
+        Err(_) => out.push_str("no store\n"),
     }
 }
 
-/// What the line comes to, if it names a round or a question around a start.
-pub(crate) fn tell_line<R: Threads + Wait + Sync>(
+// What a round, or a question around a start, comes to, if the block names one.
+fn tell_block<R: Threads + Wait + Sync>(
     rt: &R,
     alloc: Global,
-    files: &Files,
-    line: &str,
+    files: &TableFiles,
+    block: &Block,
     out: &mut String,
 ) -> Result<(), AllocError> {
-    let (word, rest) = line.split_once(' ').unwrap_or((line, ""));
-    if word == "around" {
-        return tell_around(rt, alloc, files, rest, out);
+    if block.word() == "around" {
+        return tell_around(rt, alloc, files, block.arguments(), out);
     }
-    let (first, rest) = number_and(rest);
+    let (first, rest) = number_and(block.arguments());
     let (second, rest) = number_and(rest);
-    match round_of(word, first, second, number_and(rest).0) {
+    match round_of(block.word(), first, second, number_and(rest).0) {
         Some(round) => tell_round(rt, alloc, files, &round, out),
         None => Ok(()),
+    }
+}
+
+/// The calls of the script.
+#[derive(Drop)]
+pub(crate) struct Crowd {
+    pub(crate) script: Script<CrowdCalls>,
+}
+
+impl Suite for Crowd {
+    fn run<R: Threads + Wait + Sync>(
+        &mut self,
+        rt: &R,
+        alloc: Global,
+        block: &Block,
+        out: &mut String,
+    ) -> Result<(), AllocError>
+        requires { IsSync R.row }
+    {
+        if block.word() == "open" {
+            return tell_steps(rt, alloc, self.script.files(), block, out);
+        }
+        self.script.run(rt, alloc, block, out)?;
+        tell_block(rt, alloc, self.script.files(), block, out)
     }
 }

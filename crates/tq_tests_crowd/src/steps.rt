@@ -16,7 +16,7 @@ use tq_snapshot::{
     AppendFault, AskFault, Closed, Naming, Note, OpenFault, Opened, Reader, Writer, open,
 };
 use tq_table::table_text;
-use tq_tests_help::number_and;
+use tq_tests_script::number_and;
 
 /// What a step comes to.
 #[derive(Drop)]
@@ -34,15 +34,15 @@ impl Came {
     pub(crate) fn tell(&self, out: &mut String) -> Result<(), AllocError> {
         match self {
             Came::Nothing => Ok(()),
-            Came::Row(row) => writeln!(out, "    row {row}"),
-            Came::Events(count) => writeln!(out, "    {count} events"),
+            Came::Row(row) => writeln!(out, "row {row}"),
+            Came::Events(count) => writeln!(out, "{count} events"),
             Came::Text(text) => tell_text(text, out),
             Came::NotAppended(AppendFault::TooEarly { last }) => {
                 let last = last.number();
-                writeln!(out, "    TooEarly {last}")
+                writeln!(out, "TooEarly {last}")
             }
-            Came::NotAppended(fault) => writeln!(out, "    {fault}"),
-            Came::NotAnswered(fault) => writeln!(out, "    {fault}"),
+            Came::NotAppended(fault) => writeln!(out, "{fault}"),
+            Came::NotAnswered(fault) => writeln!(out, "{fault}"),
         }
     }
 }
@@ -99,6 +99,15 @@ fn noted<J: Naming>(writer: Writer<J>) -> (Writer<J>, Note<J>) {
 fn learnt<J: Naming>(mut reader: Reader<J>, note: Note<J>) -> Reader<J> {
     reader.learn(note);
     reader
+}
+
+// The lines, each after the number of its step, counted from 1.
+fn tell_place(place: usize, said: &str, out: &mut String) -> Result<(), AllocError> {
+    let number = place.saturating_add(1);
+    for line in said.lines() {
+        writeln!(out, "{number}: {line}")?;
+    }
+    Ok(())
 }
 
 impl<J: Naming> Stage<J> {
@@ -252,15 +261,16 @@ impl<J: Naming> Stage<J> {
         J: Send + Sync,
         requires { catalogue.now ≡ J.catalogue }
     {
-        for line in lines {
-            writeln!(out, "{line}")?;
+        for (place, line) in lines.iter().enumerate() {
             let gate = Turns::new(line.as_str().starts_with("gated"));
             let came = match line.as_str() {
                 "pass" => self.pass(rt),
                 step => self.step(rt, alloc, catalogue, &gate, step),
             };
-            gate.tell(out)?;
-            came.tell(out)?;
+            let mut said = String::new(alloc);
+            gate.tell(&mut said)?;
+            came.tell(&mut said)?;
+            tell_place(place, said.as_str(), out)?;
         }
         Ok(())
     }
@@ -306,6 +316,6 @@ pub(crate) fn play<J: Naming + Send + Sync, R: Threads + Wait + Sync>(
     let catalogue = loaded.catalogue.try_copy(alloc)?;
     match staged::<J>(alloc, opened, loaded, readers, limit) {
         Ok(mut stage) => stage.take_steps(rt, alloc, &catalogue, lines, out),
-        Err(fault) => writeln!(out, "    {fault}"),
+        Err(fault) => writeln!(out, "{fault}"),
     }
 }

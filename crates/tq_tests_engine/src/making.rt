@@ -4,7 +4,8 @@ use std::alloc::{AllocError, Global};
 use std::fmt::Write;
 
 /// Row i of so many has the key i and the group i modulo 10, from i to i + 10.
-pub(crate) fn push_big(alloc: Global, count: u32, bytes: &mut Vec<u8>) -> Result<(), AllocError> {
+pub(crate) fn big_rows(alloc: Global, count: u32) -> Result<Vec<u8>, AllocError> {
+    let mut bytes = Vec::new(alloc);
     let mut text = String::new(alloc);
     for number in 0..count {
         let end = number.saturating_add(10);
@@ -12,7 +13,7 @@ pub(crate) fn push_big(alloc: Global, count: u32, bytes: &mut Vec<u8>) -> Result
         writeln!(text, "{number},{},{number},{end}", number % 10)?;
         bytes.extend_from_slice(text.as_bytes())?;
     }
-    Ok(())
+    Ok(bytes)
 }
 
 // Sixteen numbers, and the period between the first and the one after the last.
@@ -24,14 +25,15 @@ fn push_sixteen(first: u32, text: &mut String) -> Result<(), AllocError> {
 }
 
 /// Row j of so many has the numbers from 16 j to 16 j + 15, from 16 j to 16 j + 16.
-pub(crate) fn push_wide(alloc: Global, count: u32, bytes: &mut Vec<u8>) -> Result<(), AllocError> {
+pub(crate) fn wide_rows(alloc: Global, count: u32) -> Result<Vec<u8>, AllocError> {
+    let mut bytes = Vec::new(alloc);
     let mut text = String::new(alloc);
     for row in 0..count {
         text.clear();
         push_sixteen(row.saturating_mul(16), &mut text)?;
         bytes.extend_from_slice(text.as_bytes())?;
     }
-    Ok(())
+    Ok(bytes)
 }
 
 // Of each tenth of so many big rows from this one on, the group, the key as the only sum, and the period.

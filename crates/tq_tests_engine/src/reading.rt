@@ -39,9 +39,9 @@ fn tell_read(
     out: &mut String,
 ) -> Result<(), AllocError> {
     match read {
-        Ok(again) if again.as_slice() == bytes => writeln!(out, "    {} bytes", bytes.len()),
-        Ok(_) => writeln!(out, "    other bytes"),
-        Err(fault) => writeln!(out, "    {fault:?}"),
+        Ok(again) if again.as_slice() == bytes => writeln!(out, "{} bytes", bytes.len()),
+        Ok(_) => writeln!(out, "other bytes"),
+        Err(fault) => writeln!(out, "{fault:?}"),
     }
 }
 
@@ -60,7 +60,7 @@ pub(crate) fn tell_slow(
     let mut source = Source::over(&mut reader);
     tell_read(read_file(alloc, &mut source), bytes, out)?;
     let failed = source.failed();
-    writeln!(out, "    {failed} failed, {} calls", reader.calls)
+    writeln!(out, "{failed} failed, {} calls", reader.calls)
 }
 
 /// So many bytes are read, a byte a call.

@@ -44,7 +44,7 @@ const CALLS: usize = 68;
 /// The lines of the bytes.
 pub(crate) fn tell_lines(bytes: &[u8], out: &mut String) -> Result<(), AllocError> {
     for line in str::from_utf8(bytes).unwrap_or("no text").lines() {
-        writeln!(out, "    {line}")?;
+        writeln!(out, "{line}")?;
     }
     Ok(())
 }
@@ -57,10 +57,10 @@ pub(crate) fn tell_fault(
 ) -> Result<(), AllocError> {
     match written {
         Ok(()) => Ok(()),
-        Err(fault) => writeln!(out, "    {fault:?}"),
+        Err(fault) => writeln!(out, "{fault:?}"),
     }?;
     if failed > 0 {
-        writeln!(out, "    {failed} failed")?;
+        writeln!(out, "{failed} failed")?;
     }
     Ok(())
 }
@@ -120,7 +120,7 @@ pub(crate) fn tell_broken<R: Threads + Sync>(
     );
     tell_fault(written, sink.failed(), out)?;
     tell_lines(&writer.taken, out)?;
-    writeln!(out, "    {} calls", writer.calls)
+    writeln!(out, "{} calls", writer.calls)
 }
 
 // Whether the text of a small answer and the sums of so many big lines were taken, more than a megabyte, with no more
@@ -165,10 +165,10 @@ pub(crate) fn tell_after_failure<R: Threads + Sync>(
             &mut sink,
             Form::Numbers,
         );
-        writeln!(out, "    {written:?}, {} failed", sink.failed())?;
+        writeln!(out, "{written:?}, {} failed", sink.failed())?;
     }
     let whole = is_whole(alloc, &writer, count)?;
-    writeln!(out, "    all was taken: {whole}")
+    writeln!(out, "all was taken: {whole}")
 }
 
 /// How many columns and rows an answer has, and the columns' names.
@@ -182,17 +182,12 @@ pub(crate) fn tell_shape<R: Threads + Sync>(
     match answer(rt, alloc, files, statement.as_bytes(), 3, Form::Numbers) {
         Ok(table) => {
             let columns = table.columns.get();
-            writeln!(
-                out,
-                "    {} columns, {} rows",
-                columns.len(),
-                table.rows.len()
-            )?;
+            writeln!(out, "{} columns, {} rows", columns.len(), table.rows.len())?;
             for column in columns {
                 tell_lines(column.bytes(), out)?;
             }
             Ok(())
         }
-        Err(fault) => writeln!(out, "    {fault:?}"),
+        Err(fault) => writeln!(out, "{fault:?}"),
     }
 }

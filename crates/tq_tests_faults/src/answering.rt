@@ -15,7 +15,8 @@ use tq_plan::{Plan, PlanFault, plan};
 use tq_sql::{SqlFault, SqlFaultKind, Statement, read};
 use tq_store::Db;
 use tq_table::table_text;
-use tq_tests_help::{Call, Files, Refusal, Tried, attempt};
+use tq_tests_help::{Call, Refusal, Tried, attempt};
+use tq_tests_script::TableFiles;
 
 /// What a statement comes to.
 #[derive(Drop)]
@@ -29,7 +30,7 @@ pub(crate) enum Answer {
 // The lines of the bytes.
 fn tell_lines(bytes: &[u8], out: &mut String) -> Result<(), AllocError> {
     for line in str::from_utf8(bytes).unwrap_or("no text").lines() {
-        writeln!(out, "    {line}")?;
+        writeln!(out, "{line}")?;
     }
     Ok(())
 }
@@ -39,8 +40,8 @@ pub(crate) fn tell_answer(answer: &Answer, out: &mut String) -> Result<(), Alloc
     match answer {
         Answer::None => Ok(()),
         Answer::Text(text) => tell_lines(text, out),
-        Answer::NotRead(fault) => writeln!(out, "    {fault}"),
-        Answer::NotPlanned(fault) => writeln!(out, "    {fault}"),
+        Answer::NotRead(fault) => writeln!(out, "{fault}"),
+        Answer::NotPlanned(fault) => writeln!(out, "{fault}"),
     }
 }
 
@@ -100,7 +101,7 @@ impl Call for Answering<'_> {
 pub(crate) fn try_answer<R: Threads + Wait + Sync>(
     rt: &R,
     alloc: Global,
-    files: &Files,
+    files: &TableFiles,
     n: u32,
     text: &str,
     refusal: Refusal,

@@ -7,7 +7,8 @@ use crate::trees::{try_change, try_leaves, try_scan};
 use std::alloc::{AllocError, Global};
 use std::sync::Wait;
 use std::thread::Threads;
-use tq_tests_help::{Calls, Files, Refusal, Tried, number_and};
+use tq_tests_help::{Calls, Refusal, Tried};
+use tq_tests_script::{TableFiles, number_and};
 
 /// The calls of the libraries below the program.
 #[derive(Drop)]
@@ -18,7 +19,7 @@ impl Calls for Libraries {
         &self,
         rt: &R,
         alloc: Global,
-        files: &Files,
+        files: &TableFiles,
         word: &str,
         text: &str,
         refusal: Refusal,

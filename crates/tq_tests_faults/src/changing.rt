@@ -8,7 +8,8 @@ use std::sync::Wait;
 use std::thread::Threads;
 use tq_event::{Event, Loaded, MAX_EVENTS};
 use tq_store::Db;
-use tq_tests_help::{Call, Files, Refusal, Tried, attempt};
+use tq_tests_help::{Call, Refusal, Tried, attempt};
+use tq_tests_script::TableFiles;
 
 // The event happens, if it may: whether it does.
 fn take(db: &mut Db, event: &Event) -> Result<bool, AllocError> {
@@ -33,7 +34,7 @@ fn take_first(db: &mut Db, events: &[Event], n: u32) -> Result<Option<Event>, Al
 /// that are refused end the script.
 pub(crate) fn history_of(
     alloc: Global,
-    files: &Files,
+    files: &TableFiles,
     n: u32,
 ) -> Result<(Db, Option<Event>), AllocError> {
     let Ok(loaded) = loaded(alloc, files.copies(alloc)?) else {
@@ -66,7 +67,7 @@ impl Call for Applying<'_> {
 
     fn tell(&self, alloc: Global, out: &mut String) -> Result<(), AllocError> {
         let (taken, count) = (self.taken, self.db.count());
-        writeln!(out, "    {taken}, {count} events")?;
+        writeln!(out, "{taken}, {count} events")?;
         tell_answer(&answered(alloc, &self.db, count, self.text)?, out)
     }
 }
@@ -75,7 +76,7 @@ impl Call for Applying<'_> {
 pub(crate) fn try_apply<R: Threads + Wait + Sync>(
     rt: &R,
     alloc: Global,
-    files: &Files,
+    files: &TableFiles,
     n: u32,
     text: &str,
     refusal: Refusal,

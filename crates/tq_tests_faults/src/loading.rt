@@ -8,7 +8,8 @@ use tq_base::{Form, Rows, Seen, Value};
 use tq_event::{Event, LoadFault, LoadFaultKind, Loaded, MAX_EVENTS, TableFile, Tables, load};
 use tq_loading::load_tables_by_parts;
 use tq_run::Open;
-use tq_tests_help::{Call, Files, Refusal, Tried, attempt};
+use tq_tests_help::{Call, Refusal, Tried, attempt};
+use tq_tests_script::TableFiles;
 
 /// The events of the files, or the first fault.
 pub(crate) fn loaded(alloc: Global, files: Vec<TableFile>) -> Result<Loaded, LoadFault> {
@@ -31,13 +32,13 @@ fn tell_value(value: &Value, out: &mut String) -> Result<(), AllocError> {
 fn tell_event(event: &Event, out: &mut String) -> Result<(), AllocError> {
     match event {
         Event::Start { table, values, at } => {
-            write!(out, "    start {table} ")?;
+            write!(out, "start {table} ")?;
             for value in values.get() {
                 tell_value(value, out)?;
             }
             writeln!(out, "{}", at.number())
         }
-        Event::End { table, row, at } => { writeln!(out, "    end {table} {row} {}", at.number()) }
+        Event::End { table, row, at } => { writeln!(out, "end {table} {row} {}", at.number()) }
     }
 }
 
@@ -50,9 +51,8 @@ fn tell_events(events: &[Event], out: &mut String) -> Result<(), AllocError> {
 
 fn tell_rows(rows: &Rows, out: &mut String) -> Result<(), AllocError> {
     let zero = Value::int(0);
-    writeln!(out, "    {} columns, {} rows", rows.width(), rows.len())?;
+    writeln!(out, "{} columns, {} rows", rows.width(), rows.len())?;
     for row in 0..rows.len() {
-        out.push_str("    ")?;
         for column in 0..rows.width() {
             if let Ok(column) = u32::try_from(column) {
                 tell_value(rows.value(row, column).unwrap_or(&zero), out)?;
@@ -73,7 +73,7 @@ fn tell_tables(tables: &Tables, out: &mut String) -> Result<(), AllocError> {
 
 fn tell_fault(fault: Option<LoadFault>, out: &mut String) -> Result<(), AllocError> {
     match fault {
-        Some(fault) => writeln!(out, "    {fault}"),
+        Some(fault) => writeln!(out, "{fault}"),
         None => Ok(()),
     }
 }
@@ -81,7 +81,7 @@ fn tell_fault(fault: Option<LoadFault>, out: &mut String) -> Result<(), AllocErr
 // The files' events, or the first fault.
 #[derive(Drop)]
 struct Loading<'a> {
-    files: &'a Files,
+    files: &'a TableFiles,
     loaded: Option<Loaded>,
     fault: Option<LoadFault>,
 }
@@ -108,7 +108,7 @@ impl Call for Loading<'_> {
 pub(crate) fn try_load<R: Threads + Wait + Sync>(
     rt: &R,
     alloc: Global,
-    files: &Files,
+    files: &TableFiles,
     refusal: Refusal,
 ) -> Result<Tried, AllocError> {
     let mut loading = Loading {
@@ -122,7 +122,7 @@ pub(crate) fn try_load<R: Threads + Wait + Sync>(
 // The files' tables, loaded in parts of a few lines by so many workers, or the first fault.
 #[derive(Drop)]
 struct LoadingAmong<'a> {
-    files: &'a Files,
+    files: &'a TableFiles,
     workers: u32,
     tables: Option<Tables>,
     fault: Option<LoadFault>,
@@ -169,7 +169,7 @@ impl Call for LoadingAmong<'_> {
 pub(crate) fn try_load_among<R: Threads + Wait + Sync>(
     rt: &R,
     alloc: Global,
-    files: &Files,
+    files: &TableFiles,
     workers: u32,
     refusal: Refusal,
 ) -> Result<Tried, AllocError> {

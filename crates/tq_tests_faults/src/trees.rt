@@ -49,7 +49,7 @@ fn grown(alloc: Global, last: u32) -> Result<Grower, AllocError> {
 fn tell_region(region: &Region, out: &mut String) -> Result<(), AllocError> {
     let NodeNo(node) = region.node;
     let born = region.born;
-    write!(out, "    leaf {node} from version {born}, links to")?;
+    write!(out, "leaf {node} from version {born}, links to")?;
     for NodeNo(link) in region.links.get() {
         write!(out, " {link}")?;
     }
@@ -66,7 +66,7 @@ fn tell_regions(regions: &[Region], out: &mut String) -> Result<(), AllocError> 
 // The version, and which of the keys live, a letter each.
 fn tell_keys(tree: &Tree, out: &mut String) -> Result<(), AllocError> {
     let version = tree.version();
-    write!(out, "    version {version}, keys ")?;
+    write!(out, "version {version}, keys ")?;
     for row in 0..33 {
         out.push(if tree.alive(key(row)) { 'x' } else { '-' })?;
     }
@@ -77,7 +77,7 @@ fn tell_root(tree: &Tree, out: &mut String) -> Result<(), AllocError> {
     let version = tree.version();
     let NodeNo(root) = tree.root_at(version);
     let levels = tree.levels(version);
-    writeln!(out, "    root {root}, {levels} levels")
+    writeln!(out, "root {root}, {levels} levels")
 }
 
 // A version that comes.
@@ -192,7 +192,7 @@ fn scanned(alloc: Global, tree: &Tree) -> Result<Vec<Found>, AllocError> {
 
 fn tell_found(found: &Found, out: &mut String) -> Result<(), AllocError> {
     let keys = found.keys.get().len();
-    write!(out, "    {keys} keys, from leaves")?;
+    write!(out, "{keys} keys, from leaves")?;
     for NodeNo(leaf) in found.leaves.get() {
         write!(out, " {leaf}")?;
     }

@@ -43,7 +43,7 @@ impl Tried {
         if holds {
             Ok(())
         } else {
-            writeln!(self.text, "    not so: {what}")
+            writeln!(self.text, "not so: {what}")
         }
     }
 }

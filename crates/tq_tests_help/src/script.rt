@@ -3,12 +3,12 @@
 ghost use Rattle.std.specs.Thread.{IsSync};
 
 use crate::call::Tried;
-use crate::files::Files;
 use crate::refusal::Refusal;
 use crate::tally::Tally;
 use std::alloc::{AllocError, Global};
 use std::sync::Wait;
 use std::thread::Threads;
+use tq_tests_script::{Block, Suite, TableFiles};
 
 // No call has so many growths.
 const MOST: u16 = 5000;
@@ -20,7 +20,7 @@ pub trait Calls {
         &self,
         rt: &R,
         alloc: Global,
-        files: &Files,
+        files: &TableFiles,
         word: &str,
         text: &str,
         refusal: Refusal,
@@ -32,7 +32,7 @@ pub trait Calls {
 #[derive(Drop)]
 pub struct Script<C> {
     calls: C,
-    files: Files,
+    files: TableFiles,
     tally: Tally,
 }
 
@@ -41,13 +41,13 @@ impl<C> Script<C> {
     pub fn new(alloc: Global, calls: C) -> Script<C> {
         Script {
             calls,
-            files: Files::new(alloc),
+            files: TableFiles::new(alloc),
             tally: Tally::new(),
         }
     }
 
     /// The files so far.
-    pub fn files(&self) -> &Files {
+    pub fn files(&self) -> &TableFiles {
         &self.files
     }
 
@@ -82,7 +82,7 @@ impl<C> Script<C> {
                 return Ok(());
             }
         }
-        out.push_str("    it has no end\n")
+        out.push_str("it has no end\n")
     }
 
     // Makes the call of the line, if it is one, with ample memory and then with each growth refused in turn.
@@ -109,22 +109,21 @@ impl<C> Script<C> {
         self.refuse_each(rt, alloc, word, text, false, answer, out)?;
         self.refuse_each(rt, alloc, word, text, true, answer, out)
     }
+}
 
-    /// Does what the line says, and writes what it comes to: it makes files, or a call, or nothing.
-    pub fn run<R: Threads + Wait + Sync>(
+impl<C: Calls> Suite for Script<C> {
+    fn run<R: Threads + Wait + Sync>(
         &mut self,
         rt: &R,
         alloc: Global,
-        line: &str,
+        block: &Block,
         out: &mut String,
     ) -> Result<(), AllocError>
-    where
-        C: Calls,
+        requires { IsSync R.row }
     {
-        let (word, text) = line.split_once(' ').unwrap_or((line, ""));
-        if !self.files.make(alloc, word, text)? {
-            self.call(rt, alloc, word, text, out)?;
+        if self.files.run(alloc, block)? {
+            return Ok(());
         }
-        Ok(())
+        self.call(rt, alloc, block.word(), block.arguments(), out)
     }
 }

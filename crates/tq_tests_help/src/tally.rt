@@ -32,7 +32,7 @@ impl Tally {
         if tried.text.as_str() != answer {
             let Refusal { number, lasts } = refusal;
             let later = if lasts { " and all later ones" } else { "" };
-            writeln!(out, "    with growth {number} refused{later}:")?;
+            writeln!(out, "with growth {number} refused{later}:")?;
             out.push_str(tried.text.as_str())?;
         }
         self.refusals = self.refusals.saturating_add(u64::from(tried.was_refused));

@@ -1,5 +1,4 @@
-//! The core machine, tried by a script: what each line of stdin makes or does stands below it in stdout. So a case is a
-//! line there, and its replies here.
+//! Tests of the core machine: each block of stdin is a call and the replies that it prints (tq_tests_script).
 //!
 //!     world READERS            a world of 1 to 8 readers over a table of a number and two texts; nothing has happened
 //!     run STEP; STEP; ..       steps, taken one after another by one call
@@ -17,7 +16,7 @@
 //!     claim WORK WORKER
 //!     finish WORK
 //!
-//! Tables, rows, readers, works and workers are numbered from 0. Other lines are copied.
+//! Tables, rows, readers, works and workers are numbered from 0.
 #![tactic(auto)]
 
 mod many;
@@ -28,16 +27,8 @@ mod telling;
 
 use session::Session;
 use std::io;
+use tq_tests_script::run_script;
 
 fn main(rt: HostRuntime) -> io::Result<()> {
-    let alloc = rt.alloc();
-    let mut session = Session::new();
-    for line in rt.lines(alloc) {
-        let line = line?;
-        let mut out = String::new(alloc);
-        session.take(alloc, line.as_str(), &mut out)?;
-        println!(rt; "{line}")?;
-        print!(rt; "{out}")?;
-    }
-    Ok(())
+    run_script(&rt, &mut Session::new())
 }

@@ -43,8 +43,8 @@ fn rounds_of(alloc: Global, rounds: u32) -> Result<Vec<Step<()>>, AllocError> {
 fn push_wanted(rounds: u32, wanted: &mut String) -> Result<(), AllocError> {
     for round in 0..rounds {
         let number = round.saturating_add(1);
-        writeln!(wanted, "    done\n    length {number}")?;
-        writeln!(wanted, "    length {number}\n    answer {round}")?;
+        writeln!(wanted, "done\nlength {number}")?;
+        writeln!(wanted, "length {number}\nanswer {round}")?;
     }
     Ok(())
 }
@@ -61,9 +61,5 @@ pub(crate) fn tell_many(alloc: Global, rounds: u32, out: &mut String) -> Result<
     let mut wanted = String::new(alloc);
     push_wanted(rounds, &mut wanted)?;
     let same = told.as_str() == wanted.as_str();
-    writeln!(
-        out,
-        "    {} steps, replies as they follow: {same}",
-        steps.len()
-    )
+    writeln!(out, "{} steps, replies as they follow: {same}", steps.len())
 }

@@ -1,12 +1,17 @@
 //! A world that a script makes and in which it takes steps.
 
+ghost use Rattle.std.specs.Thread.{IsSync};
+
 use crate::many::tell_many;
 use crate::oracle::{Starts, world};
 use crate::steps::steps_of;
 use crate::telling::{tell_nothing, tell_replies};
 use std::alloc::{AllocError, Global};
 use std::fmt::Write;
+use std::sync::Wait;
+use std::thread::Threads;
 use tq_core::{Reply, Step, World};
+use tq_tests_script::{Block, Suite};
 
 /// The last world.
 #[derive(Drop)]
@@ -38,12 +43,17 @@ impl Session {
                 self.world = Some(world);
                 Ok(())
             }
-            Err(fault) => writeln!(out, "    {fault}"),
+            Err(fault) => writeln!(out, "{fault}"),
         }
     }
 
     // The steps are taken by one call.
-    fn run(&mut self, alloc: Global, line: &str, out: &mut String) -> Result<(), AllocError> {
+    fn take_steps(
+        &mut self,
+        alloc: Global,
+        line: &str,
+        out: &mut String,
+    ) -> Result<(), AllocError> {
         match (&mut self.world, steps_of(alloc, line)?) {
             (Some(world), Some(steps)) => tell_replies(&world.run(&Starts, &steps)?, out),
             _ => tell_nothing(out),
@@ -51,7 +61,7 @@ impl Session {
     }
 
     // The steps are taken by a call each.
-    fn run_each(&mut self, alloc: Global, line: &str, out: &mut String) -> Result<(), AllocError> {
+    fn take_each(&mut self, alloc: Global, line: &str, out: &mut String) -> Result<(), AllocError> {
         match (&mut self.world, steps_of(alloc, line)?) {
             (Some(world), Some(steps)) => {
                 for step in &steps {
@@ -63,21 +73,25 @@ impl Session {
             _ => tell_nothing(out),
         }
     }
+}
 
-    /// Does what the line says, and writes the replies.
-    pub(crate) fn take(
+impl Suite for Session {
+    fn run<R: Threads + Wait + Sync>(
         &mut self,
+        _rt: &R,
         alloc: Global,
-        line: &str,
+        block: &Block,
         out: &mut String,
-    ) -> Result<(), AllocError> {
-        let (word, rest) = line.split_once(' ').unwrap_or((line, ""));
-        match word {
+    ) -> Result<(), AllocError>
+        requires { IsSync R.row }
+    {
+        let rest = block.arguments();
+        match block.word() {
             "world" => self.begin(alloc, rest.parse().unwrap_or(0), out),
-            "run" => self.run(alloc, rest, out),
-            "each" => self.run_each(alloc, rest, out),
+            "run" => self.take_steps(alloc, rest, out),
+            "each" => self.take_each(alloc, rest, out),
             "many" => tell_many(alloc, rest.parse().unwrap_or(0), out),
-            _ => Ok(()),
+            _ => tell_nothing(out),
         }
     }
 }

@@ -74,13 +74,13 @@ fn kind_of(plan: &Plan) -> &'static str {
 
 fn tell(alloc: Global, plan: &Plan, asked: Asked, out: &mut String) -> Result<(), AllocError> {
     match asked {
-        Asked::IsThere => out.push_str("    planned\n"),
+        Asked::IsThere => out.push_str("planned\n"),
         Asked::Names => tell_names(plan.columns(), out),
         Asked::Queries => tell_plan(plan, out),
         Asked::Keys { side, source } => tell_range(plan.key_range(side, source), out),
         Asked::Window => tell_window(plan.window(), out),
-        Asked::Copy => writeln!(out, "    the copy is the plan: {}", is_copied(alloc, plan)?),
-        Asked::Condition => writeln!(out, "    {}", kind_of(plan)),
+        Asked::Copy => writeln!(out, "the copy is the plan: {}", is_copied(alloc, plan)?),
+        Asked::Condition => writeln!(out, "{}", kind_of(plan)),
     }
 }
 
@@ -103,7 +103,7 @@ pub(crate) fn ask(
 // The lines of a detail.
 fn tell_detail(detail: &[u8], out: &mut String) -> Result<(), AllocError> {
     for line in str::from_utf8(detail).unwrap_or("no text").lines() {
-        writeln!(out, "    {line}")?;
+        writeln!(out, "{line}")?;
     }
     Ok(())
 }

@@ -1,30 +1,22 @@
 //! The tables of a script, over which statements are planned.
 
+ghost use Rattle.std.specs.Thread.{IsSync};
+
 use crate::asking::{Asked, ask, ask_chain, ask_detail, ask_plan_detail, ask_window};
 use crate::telling::{tell_faults, tell_nothing};
 use std::alloc::{AllocError, Global};
 use std::fmt::Write;
-use std::mem;
+use std::sync::Wait;
+use std::thread::Threads;
 use tq_base::{Catalogue, Form, Items};
-use tq_event::{FileBytes, TableFile, load};
+use tq_event::load;
+use tq_tests_script::{Block, Suite, TableFiles, number_and};
 
-#[derive(Drop)]
-struct File {
-    name: Vec<u8>,
-    bytes: Vec<u8>,
-}
-
-/// The files of the next load, and the tables of the last one.
+/// The table files of the next load, and the tables of the last one.
 #[derive(Drop)]
 pub(crate) struct Session {
-    files: Vec<File>,
+    tables: TableFiles,
     catalogue: Catalogue,
-}
-
-// The number before the first blank, and what comes after it.
-fn number_and(text: &str) -> (u32, &str) {
-    let (number, rest) = text.split_once(' ').unwrap_or((text, ""));
-    (number.parse().unwrap_or(0), rest)
 }
 
 // What a line of this word asks of a statement's plan, and the statement.
@@ -46,44 +38,21 @@ fn asked_of<'a>(word: &str, rest: &'a str) -> Option<(Asked, &'a str)> {
 impl Session {
     /// No files, and no tables.
     pub(crate) fn new(alloc: Global) -> Session {
-        let tables = Items::of(Vec::new(alloc));
+        let none = Items::of(Vec::new(alloc));
         Session {
-            files: Vec::new(alloc),
-            catalogue: Catalogue { tables },
+            tables: TableFiles::new(alloc),
+            catalogue: Catalogue { tables: none },
         }
-    }
-
-    fn begin_file(&mut self, alloc: Global, name: &str) -> Result<(), AllocError> {
-        self.files.push(File {
-            name: name.as_bytes().to_vec(alloc)?,
-            bytes: Vec::new(alloc),
-        })?;
-        Ok(())
-    }
-
-    fn add_line(&mut self, text: &str) -> Result<(), AllocError> {
-        if let Some(file) = self.files.last_mut() {
-            file.bytes.extend_from_slice(text.as_bytes())?;
-            file.bytes.push(b'\n')?;
-        }
-        Ok(())
     }
 
     // The tables are those of the files.
     fn load(&mut self, alloc: Global, out: &mut String) -> Result<(), AllocError> {
-        let mut files = Vec::new(alloc);
-        for file in mem::replace(&mut self.files, Vec::new(alloc)) {
-            files.push(TableFile {
-                name: Items::of(file.name),
-                bytes: FileBytes::of(file.bytes),
-            })?;
-        }
-        match load(alloc, files, 1000, Form::Numbers) {
+        match load(alloc, self.tables.take(alloc)?, 1000, Form::Numbers) {
             Ok(loaded) => {
                 self.catalogue = loaded.catalogue;
                 Ok(())
             }
-            Err(fault) => writeln!(out, "    {fault}"),
+            Err(fault) => writeln!(out, "{fault}"),
         }
     }
 
@@ -116,23 +85,37 @@ impl Session {
         }
     }
 
-    /// Does what the line says, and writes what it answers.
-    pub(crate) fn run(
+    // Loads the tables, or asks something of a statement.
+    fn call(
         &mut self,
         alloc: Global,
-        line: &str,
+        word: &str,
+        rest: &str,
         out: &mut String,
     ) -> Result<(), AllocError> {
-        let (word, rest) = line.split_once(' ').unwrap_or((line, ""));
         match word {
-            "" | "#" => Ok(()),
-            "file" => self.begin_file(alloc, rest),
-            "line" => self.add_line(rest),
             "load" => self.load(alloc, out),
             "faults" => tell_faults(out),
             "explain" => ask_detail(alloc, rest, out),
             "why" => ask_plan_detail(alloc, &self.catalogue, rest, Form::Numbers, out),
             _ => self.answer(alloc, word, rest, out),
         }
+    }
+}
+
+impl Suite for Session {
+    fn run<R: Threads + Wait + Sync>(
+        &mut self,
+        _rt: &R,
+        alloc: Global,
+        block: &Block,
+        out: &mut String,
+    ) -> Result<(), AllocError>
+        requires { IsSync R.row }
+    {
+        if self.tables.run(alloc, block)? {
+            return Ok(());
+        }
+        self.call(alloc, block.word(), block.arguments(), out)
     }
 }

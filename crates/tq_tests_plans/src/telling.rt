@@ -12,16 +12,15 @@ use tq_plan::{Plan, QueryPlan};
 
 /// What is written where a line does not say what is asked, or its statement is none.
 pub(crate) fn tell_nothing(out: &mut String) -> Result<(), AllocError> {
-    out.push_str("    not understood\n")
+    out.push_str("not understood\n")
 }
 
 pub(crate) fn tell_fault(fault: PlanFault, out: &mut String) -> Result<(), AllocError> {
-    writeln!(out, "    {fault}")
+    writeln!(out, "{fault}")
 }
 
 /// The names, divided by commas.
 pub(crate) fn tell_names(names: &[Name], out: &mut String) -> Result<(), AllocError> {
-    out.push_str("    ")?;
     for (place, name) in names.iter().enumerate() {
         if place > 0 {
             out.push(',')?;
@@ -34,11 +33,11 @@ pub(crate) fn tell_names(names: &[Name], out: &mut String) -> Result<(), AllocEr
 // The sources, the condition, the groups and the items.
 fn tell_query(query: &QueryPlan, out: &mut String) -> Result<(), AllocError> {
     for source in query.sources.get() {
-        writeln!(out, "    {source:?}")?;
+        writeln!(out, "{source:?}")?;
     }
-    writeln!(out, "    condition: {:?}", query.test)?;
-    writeln!(out, "    groups: {:?}", query.group.get())?;
-    writeln!(out, "    items: {:?}", query.outputs.get())
+    writeln!(out, "condition: {:?}", query.test)?;
+    writeln!(out, "groups: {:?}", query.group.get())?;
+    writeln!(out, "items: {:?}", query.outputs.get())
 }
 
 /// The query, and the one after EXCEPT ALL.
@@ -46,7 +45,7 @@ pub(crate) fn tell_plan(plan: &Plan, out: &mut String) -> Result<(), AllocError>
     tell_query(&plan.left, out)?;
     match &plan.right {
         Some(right) => {
-            out.push_str("    EXCEPT ALL\n")?;
+            out.push_str("EXCEPT ALL\n")?;
             tell_query(right, out)
         }
         None => Ok(()),
@@ -64,9 +63,8 @@ fn tell_key(key: i64, out: &mut String) -> Result<(), AllocError> {
 /// The least and the greatest key, or that there are none.
 pub(crate) fn tell_range(range: Option<KeyRange>, out: &mut String) -> Result<(), AllocError> {
     let Some(range) = range else {
-        return out.push_str("    none\n");
+        return out.push_str("none\n");
     };
-    out.push_str("    ")?;
     tell_key(range.low, out)?;
     out.push_str(" to ")?;
     tell_key(range.high, out)?;
@@ -76,7 +74,7 @@ pub(crate) fn tell_range(range: Option<KeyRange>, out: &mut String) -> Result<()
 pub(crate) fn tell_window(window: &Period, out: &mut String) -> Result<(), AllocError> {
     let start = window.start.number();
     let end = window.end.number();
-    writeln!(out, "    {start} to {end}")
+    writeln!(out, "{start} to {end}")
 }
 
 /// The number and the name of each fault, and the fault of refused memory.
@@ -94,7 +92,7 @@ pub(crate) fn tell_faults(out: &mut String) -> Result<(), AllocError> {
         BadWindow,
         OutOfMemory,
     ] {
-        writeln!(out, "    {} {fault}", fault as u8)?;
+        writeln!(out, "{} {fault}", fault as u8)?;
     }
-    writeln!(out, "    refused memory: {}", PlanFault::from(AllocError))
+    writeln!(out, "refused memory: {}", PlanFault::from(AllocError))
 }

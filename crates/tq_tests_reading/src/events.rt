@@ -37,12 +37,12 @@ fn tell_text(text: &str, out: &mut String) -> Result<(), AllocError> {
 fn tell_event(event: &Event, out: &mut String) -> Result<(), AllocError> {
     match event {
         Event::Start { table, values, at } => {
-            write!(out, "    start {table}:")?;
+            write!(out, "start {table}:")?;
             tell_values(values.get(), out)?;
             writeln!(out, " at {}", at.number())
         }
         Event::End { table, row, at } => {
-            writeln!(out, "    end {table}: row {row} at {}", at.number())
+            writeln!(out, "end {table}: row {row} at {}", at.number())
         }
     }
 }
@@ -69,18 +69,14 @@ pub(crate) fn tell_copied(
         tell_event(&copy, &mut again)?;
     }
     let are_same = told.as_str() == again.as_str();
-    writeln!(
-        out,
-        "    {} copies, told as they are: {are_same}",
-        events.len()
-    )
+    writeln!(out, "{} copies, told as they are: {are_same}", events.len())
 }
 
 /// A line for each row of a table.
 pub(crate) fn tell_rows(table: usize, rows: &Rows, out: &mut String) -> Result<(), AllocError> {
     let zero = Value::int(0);
     for row in 0..rows.len() {
-        write!(out, "    row of {table}:")?;
+        write!(out, "row of {table}:")?;
         for column in 0..rows.width() {
             if let Ok(column) = u32::try_from(column) {
                 tell_value(rows.value(row, column).unwrap_or(&zero), out)?;

@@ -10,7 +10,7 @@ const LONG: usize = 1_000;
 
 fn tell_fault(fault: SqlFault, out: &mut String) -> Result<(), AllocError> {
     let SqlFault { kind, at } = fault;
-    writeln!(out, "    {kind} at {at}")
+    writeln!(out, "{kind} at {at}")
 }
 
 // Of what kind the condition of a statement is.
@@ -27,9 +27,8 @@ fn kind_of(statement: &Statement) -> &'static str {
 // The statement of a text of so many bytes.
 fn tell_statement(statement: &Statement, len: usize, out: &mut String) -> Result<(), AllocError> {
     if len > LONG {
-        return writeln!(out, "    {len} bytes, {}", kind_of(statement));
+        return writeln!(out, "{len} bytes, {}", kind_of(statement));
     }
-    out.push_str("    ")?;
     show_statement(out, statement)?;
     out.push('\n')
 }
@@ -72,6 +71,6 @@ pub(crate) fn tell_beginnings(
     let others = (text.len() as u64 + 1).saturating_sub(u64::from(count));
     writeln!(
         out,
-        "    {count} are statements, {others} stop at an unexpected token within their length"
+        "{count} are statements, {others} stop at an unexpected token within their length"
     )
 }

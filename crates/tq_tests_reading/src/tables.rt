@@ -18,10 +18,10 @@ pub(crate) fn tell_load(
         Ok(loaded) => {
             let tables = loaded.catalogue.tables.get().len();
             let events = loaded.events.get().len();
-            writeln!(out, "    {tables} tables, {events} events")?;
+            writeln!(out, "{tables} tables, {events} events")?;
             tell_events(loaded.events.get(), out)
         }
-        Err(fault) => writeln!(out, "    {fault}"),
+        Err(fault) => writeln!(out, "{fault}"),
     }
 }
 
@@ -34,13 +34,13 @@ pub(crate) fn tell_tables(
 ) -> Result<(), AllocError> {
     match load_tables(alloc, files, limit.min(MAX_EVENTS), Form::Numbers) {
         Ok(loaded) => {
-            writeln!(out, "    {} tables", loaded.rows.get().len())?;
+            writeln!(out, "{} tables", loaded.rows.get().len())?;
             for (table, rows) in loaded.rows.get().iter().enumerate() {
                 tell_rows(table, rows, out)?;
             }
             Ok(())
         }
-        Err(fault) => writeln!(out, "    {fault}"),
+        Err(fault) => writeln!(out, "{fault}"),
     }
 }
 
@@ -74,7 +74,6 @@ pub(crate) fn tell_columns(
         return tell_nothing(out);
     };
     for table in catalogue.tables.get() {
-        out.push_str("    ")?;
         tell_name(table.name.bytes(), out)?;
         tell_columns_of(table.columns.get(), out)?;
         out.push('\n')?;
@@ -93,8 +92,8 @@ pub(crate) fn tell_number(
         return tell_nothing(out);
     };
     match catalogue.table(name.as_bytes()) {
-        Some(number) => writeln!(out, "    {number}"),
-        None => out.push_str("    none\n"),
+        Some(number) => writeln!(out, "{number}"),
+        None => out.push_str("none\n"),
     }
 }
 
@@ -125,10 +124,10 @@ pub(crate) fn tell_record(
     };
     match read_values(alloc, schema, bytes)? {
         Some(values) => {
-            out.push_str("    values:")?;
+            out.push_str("values:")?;
             tell_values(values.get(), out)?;
             out.push('\n')
         }
-        None => out.push_str("    no row\n"),
+        None => out.push_str("no row\n"),
     }
 }

@@ -15,7 +15,7 @@ use tq_sql::{MAX_STATEMENT, SqlFault};
 
 /// What is written where a line does not say what is asked, or there is nothing to answer from.
 pub(crate) fn tell_nothing(out: &mut String) -> Result<(), AllocError> {
-    out.push_str("    not understood\n")
+    out.push_str("not understood\n")
 }
 
 /// The bytes of a name.
@@ -38,10 +38,10 @@ pub(crate) fn tell_load_faults(out: &mut String) -> Result<(), AllocError> {
         TooManyEvents,
         OutOfMemory,
     ] {
-        writeln!(out, "    {} {kind}", kind as u32)?;
+        writeln!(out, "{} {kind}", kind as u32)?;
     }
-    writeln!(out, "    refused memory: {}", LoadFault::from(AllocError))?;
-    writeln!(out, "    at most {MAX_TABLES} tables, {MAX_EVENTS} events")
+    writeln!(out, "refused memory: {}", LoadFault::from(AllocError))?;
+    writeln!(out, "at most {MAX_TABLES} tables, {MAX_EVENTS} events")
 }
 
 /// The number and the name of each fault of statements, that of refused memory, and the limit.
@@ -55,9 +55,9 @@ pub(crate) fn tell_statement_faults(out: &mut String) -> Result<(), AllocError> 
         TooLong,
         SqlFaultKind::OutOfMemory,
     ] {
-        writeln!(out, "    {} {kind}", kind as u8)?;
+        writeln!(out, "{} {kind}", kind as u8)?;
     }
     let SqlFault { kind, at } = SqlFault::from(AllocError);
-    writeln!(out, "    refused memory: {kind} at {at}")?;
-    writeln!(out, "    at most {MAX_STATEMENT} bytes")
+    writeln!(out, "refused memory: {kind} at {at}")?;
+    writeln!(out, "at most {MAX_STATEMENT} bytes")
 }

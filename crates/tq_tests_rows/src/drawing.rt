@@ -18,7 +18,6 @@ pub(crate) fn tell_picture(
     let table = table_of(alloc, lines(alloc, rows)?, names)?;
     let picture = draw(alloc, &table, form, width.parse().unwrap_or(0))?;
     for line in str::from_utf8(&picture).unwrap_or("no text").lines() {
-        out.push_str("    ")?;
         out.push_str(line)?;
         out.push('\n')?;
     }

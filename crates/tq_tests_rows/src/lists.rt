@@ -100,7 +100,6 @@ fn fragments_of(alloc: Global, rows: &Rows) -> Result<Vec<Fragment>, AllocError>
 }
 
 fn push_fragment(row: &Fragment, out: &mut String) -> Result<(), AllocError> {
-    out.push_str("    ")?;
     for value in row.values.get() {
         push_value(value, out)?;
     }
@@ -113,7 +112,7 @@ fn push_fragment(row: &Fragment, out: &mut String) -> Result<(), AllocError> {
 pub(crate) fn show(alloc: Global, rows: &Rows, out: &mut String) -> Result<(), AllocError> {
     let mut fragments = fragments_of(alloc, rows)?;
     if fragments.is_empty() {
-        return out.push_str("    no rows\n");
+        return out.push_str("no rows\n");
     }
     fragments.sort_unstable();
     for row in &fragments {
@@ -124,7 +123,6 @@ pub(crate) fn show(alloc: Global, rows: &Rows, out: &mut String) -> Result<(), A
 
 /// How many of the rows are valid at each instant from 0 on, one digit an instant.
 pub(crate) fn show_counts(rows: &Rows, instants: u64, out: &mut String) -> Result<(), AllocError> {
-    out.push_str("    ")?;
     for number in 0..instants {
         if let Some(instant) = Instant::new(number) {
             let periods = rows.periods().iter();

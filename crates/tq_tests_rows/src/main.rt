@@ -1,5 +1,5 @@
-//! Operators over rows, counts and sums, layers and output, tried by a script: what each line of stdin makes or answers
-//! stands below it in stdout. So a case is a line there, and its answer here.
+//! Tests of operators over rows, of counts and sums, layers and output: each block of stdin is a call and what it prints
+//! (tq_tests_script).
 //!
 //!     rows TO WIDTH ROW..                  a list of rows: VALUE,..,FROM,TO each, or so many of one, as 29*VALUE,..
 //!     rising TO COUNT LENGTH               rows of the numbers from 0 on, each valid from its number for so long
@@ -28,7 +28,7 @@
 //!
 //! A value is a number, or a text, which begins with ' where it looks like a number or is empty; \s is a blank, \c a
 //! comma. A test stands in postfix order, with #0 for a column, as `#0 5 < not`. Rows are selected and joined by the
-//! test after the word `if`, if there is one. Lines that begin with # say what follows.
+//! test after the word `if`, if there is one.
 #![tactic(auto)]
 
 mod drawing;
@@ -42,16 +42,9 @@ mod words;
 
 use session::Session;
 use std::io;
+use tq_tests_script::run_script;
 
 fn main(rt: HostRuntime) -> io::Result<()> {
     let alloc = rt.alloc();
-    let mut session = Session::new(alloc);
-    for line in rt.lines(alloc) {
-        let line = line?;
-        let mut out = String::new(alloc);
-        session.run(alloc, line.as_str(), &mut out)?;
-        println!(rt; "{line}")?;
-        print!(rt; "{out}")?;
-    }
-    Ok(())
+    run_script(&rt, &mut Session::new(alloc))
 }

@@ -81,7 +81,6 @@ fn layers<'a>(alloc: Global, rows: &Rows) -> Result<Lines<'a>, AllocError> {
 }
 
 fn tell_bytes(bytes: &[u8], out: &mut String) -> Result<(), AllocError> {
-    out.push_str("    ")?;
     push_text(str::from_utf8(bytes).unwrap_or("no text"), out)?;
     out.push('\n')
 }
@@ -115,7 +114,7 @@ fn tell_sent(
         Err(WriteFault::Write) => "Write",
         Err(WriteFault::OutOfMemory) => "OutOfMemory",
     };
-    writeln!(out, "    {said}, failed {failed}")?;
+    writeln!(out, "{said}, failed {failed}")?;
     tell_bytes(taken, out)
 }
 
@@ -179,7 +178,7 @@ pub(crate) fn send_bytes(
     let sent = sink.send(text.as_bytes());
     let failed = sink.failed();
     tell_sent(sent, failed, &writer.taken, out)?;
-    writeln!(out, "    {} calls", writer.calls)
+    writeln!(out, "{} calls", writer.calls)
 }
 
 // What stands in memory after the bytes were sent there.
@@ -202,5 +201,5 @@ pub(crate) fn tell_memory(alloc: Global, text: &str, out: &mut String) -> Result
 pub(crate) fn tell_faults(out: &mut String) -> Result<(), AllocError> {
     let write = WriteFault::Write as u32;
     let memory = WriteFault::OutOfMemory as u32;
-    writeln!(out, "    Write {write}, OutOfMemory {memory}")
+    writeln!(out, "Write {write}, OutOfMemory {memory}")
 }

@@ -1,5 +1,7 @@
 //! The lists of rows that a script makes, by their names.
 
+ghost use Rattle.std.specs.Thread.{IsSync};
+
 use crate::drawing::tell_picture;
 use crate::grouping::{count, group};
 use crate::lists::{rising, rows_of, show, show_counts};
@@ -8,8 +10,11 @@ use crate::output::{send, send_bytes, send_short, tell_faults, tell_memory, tell
 use crate::tests::{check, check_chains, may_pass, tests_of};
 use crate::words::{period_of, tell_nothing};
 use std::alloc::{AllocError, Global};
+use std::sync::Wait;
+use std::thread::Threads;
 use tq_base::{Form, Period, Rows};
 use tq_ops::Test;
+use tq_tests_script::{Block, Suite};
 
 #[derive(Drop)]
 struct List {
@@ -246,12 +251,7 @@ impl Session {
     }
 
     /// Does what the line says, and writes what it answers.
-    pub(crate) fn run(
-        &mut self,
-        alloc: Global,
-        line: &str,
-        out: &mut String,
-    ) -> Result<(), AllocError> {
+    fn call(&mut self, alloc: Global, line: &str, out: &mut String) -> Result<(), AllocError> {
         let words: Vec<&str> = line.split_whitespace().collect(alloc)?;
         match words.as_slice() {
             [] | ["#", ..] => Ok(()),
@@ -274,5 +274,19 @@ impl Session {
             }
             [word, words @ ..] => self.answer(alloc, word, words, out),
         }
+    }
+}
+
+impl Suite for Session {
+    fn run<R: Threads + Wait + Sync>(
+        &mut self,
+        _rt: &R,
+        alloc: Global,
+        block: &Block,
+        out: &mut String,
+    ) -> Result<(), AllocError>
+        requires { IsSync R.row }
+    {
+        self.call(alloc, block.call.as_str(), out)
     }
 }

@@ -108,7 +108,7 @@ pub(crate) fn tests_of(alloc: Global, words: &[&str]) -> Result<Vec<Test>, Alloc
 }
 
 fn tell_passed(passed: bool, out: &mut String) -> Result<(), AllocError> {
-    writeln!(out, "    {passed}")
+    writeln!(out, "{passed}")
 }
 
 /// Which of the tests the row passes.

@@ -94,5 +94,5 @@ pub(crate) fn push_value(value: &Value, out: &mut String) -> Result<(), AllocErr
 
 /// What is written where a line is not understood.
 pub(crate) fn tell_nothing(out: &mut String) -> Result<(), AllocError> {
-    out.push_str("    not understood\n")
+    out.push_str("not understood\n")
 }

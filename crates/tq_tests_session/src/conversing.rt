@@ -21,7 +21,7 @@ fn tell_printed(
     out: &mut String,
 ) -> Result<(), AllocError> {
     for line in str::from_utf8(bytes).unwrap_or("no text").lines() {
-        writeln!(out, "    {line}")?;
+        writeln!(out, "{line}")?;
     }
     tell_end(bytes, ended, out)
 }
@@ -33,15 +33,15 @@ fn tell_end(
     out: &mut String,
 ) -> Result<(), AllocError> {
     if !bytes.is_empty() && !bytes.ends_with(b"\n") {
-        out.push_str("    (no line end)\n")?;
+        out.push_str("(no line end)\n")?;
     }
     match ended {
         Ok(()) => Ok(()),
-        Err(SessionFault::Load(fault)) => writeln!(out, "    (files are refused: {fault})"),
-        Err(SessionFault::NoPlace) => out.push_str("    (no place)\n"),
-        Err(SessionFault::Read) => out.push_str("    (a read failed)\n"),
-        Err(SessionFault::Write) => out.push_str("    (a write failed)\n"),
-        Err(SessionFault::OutOfMemory) => out.push_str("    (out of memory)\n"),
+        Err(SessionFault::Load(fault)) => writeln!(out, "(files are refused: {fault})"),
+        Err(SessionFault::NoPlace) => out.push_str("(no place)\n"),
+        Err(SessionFault::Read) => out.push_str("(a read failed)\n"),
+        Err(SessionFault::Write) => out.push_str("(a write failed)\n"),
+        Err(SessionFault::OutOfMemory) => out.push_str("(out of memory)\n"),
     }
 }
 
@@ -110,7 +110,7 @@ pub(crate) fn tell_short<R: Threads + Wait + Sync>(
     let ended = session(rt, alloc, files, &mut source, &mut sink, form);
     let failed = sink.failed();
     tell_printed(&writer.taken, &ended, out)?;
-    writeln!(out, "    ({failed} failed)")
+    writeln!(out, "({failed} failed)")
 }
 
 /// How many bytes were printed when each line of the input began to be read, and in how many writes all were.
@@ -138,5 +138,5 @@ pub(crate) fn tell_noted<R: Threads + Wait + Sync>(
     let mut sink = Sink::over(&mut screen);
     let ended = session(rt, alloc, files, &mut source, &mut sink, form);
     tell_end(b"", &ended, out)?;
-    writeln!(out, "    {:?}, {} writes", typist.noted, screen.writes)
+    writeln!(out, "{:?}, {} writes", typist.noted, screen.writes)
 }

@@ -162,7 +162,7 @@ impl Known {
     /// Whether all was as the rows say, and whether there were a thousand events.
     pub(crate) fn tell(&self, out: &mut String) -> Result<(), AllocError> {
         let many = self.db.count() >= 1000;
-        writeln!(out, "    as a list of rows says: {}", self.is_right)?;
-        writeln!(out, "    a thousand events: {many}")
+        writeln!(out, "as a list of rows says: {}", self.is_right)?;
+        writeln!(out, "a thousand events: {many}")
     }
 }

@@ -1,9 +1,6 @@
-//! Tables as of any count of events, tried by a script: what each line of stdin does or answers stands below it in
-//! stdout. So a case is a line there, and its answer here.
+//! Tests of tables as of any count of events: each block of stdin is a call and what it prints (tq_tests_script). Besides
+//! the calls that make table files there are:
 //!
-//!     file NAME                              the next table file, of no lines yet
-//!     line TEXT                              its next line
-//!     lines N TEXT                           its next N lines
 //!     load                                   a history of the files' tables, in which nothing has happened
 //!     take N                                 the next N events of the files happen
 //!     start TABLE AT NUMBER..                a row of these numbers starts
@@ -19,7 +16,7 @@
 //!     random-rows SEED ROUNDS                random events and questions, beside a plain list of rows
 //!     random-open SEED ROUNDS                the same, of open rows
 //!
-//! Tables and rows are numbered from 0. A number may also be `least`, `most` or `forever`. Other lines are copied.
+//! Tables and rows are numbered from 0. A number may also be `least`, `most` or `forever`.
 #![tactic(auto)]
 
 mod asking;
@@ -32,16 +29,9 @@ mod telling;
 
 use session::Session;
 use std::io;
+use tq_tests_script::run_script;
 
 fn main(rt: HostRuntime) -> io::Result<()> {
     let alloc = rt.alloc();
-    let mut session = Session::new(alloc)?;
-    for line in rt.lines(alloc) {
-        let line = line?;
-        let mut out = String::new(alloc);
-        session.run(alloc, line.as_str(), &mut out)?;
-        println!(rt; "{line}")?;
-        print!(rt; "{out}")?;
-    }
-    Ok(())
+    run_script(&rt, &mut Session::new(alloc)?)
 }

@@ -33,8 +33,8 @@ pub(crate) fn tell_open(
         return tell_nothing(out);
     };
     match open(alloc, db, table, key, at)? {
-        Some(row) => writeln!(out, "    row {row}"),
-        None => writeln!(out, "    none"),
+        Some(row) => writeln!(out, "row {row}"),
+        None => writeln!(out, "none"),
     }
 }
 
@@ -97,5 +97,5 @@ pub(crate) fn random_open(
     }
     known.tell(out)?;
     let some = 2000 < found && found < 5000;
-    writeln!(out, "    2,000 to 5,000 rows found: {some}")
+    writeln!(out, "2,000 to 5,000 rows found: {some}")
 }

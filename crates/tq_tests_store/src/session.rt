@@ -1,5 +1,7 @@
 //! A history that a script makes and asks.
 
+ghost use Rattle.std.specs.Thread.{IsSync};
+
 use crate::asking::{instant_of, question_of};
 use crate::opening::{random_open, tell_open};
 use crate::parting::tell_parts;
@@ -8,21 +10,18 @@ use crate::telling::{tell_list, tell_nothing, tell_reads, tell_rows, tell_versio
 use std::alloc::{AllocError, Global};
 use std::fmt::Write;
 use std::mem;
+use std::sync::Wait;
+use std::thread::Threads;
 use tq_base::{Catalogue, FOREVER, Form, Instant, Items, Value, Values};
 use tq_event::{Event, FileBytes, MAX_EVENTS, TableFile, load};
 use tq_store::Db;
+use tq_tests_script::{Block, Suite, TableFiles};
 
 /// A table file as far as its lines are known.
-#[derive(Drop)]
-struct File {
-    name: Vec<u8>,
-    bytes: Vec<u8>,
-}
-
 /// The files of the next load, the history, and the events that its files hold and have not happened.
 #[derive(Drop)]
 pub(crate) struct Session {
-    files: Vec<File>,
+    tables: TableFiles,
     db: Db,
     events: Items<Event>,
     taken: usize,
@@ -101,50 +100,25 @@ fn happens(db: &mut Db, event: &Event) -> Result<&'static str, AllocError> {
 impl Session {
     /// No history.
     pub(crate) fn new(alloc: Global) -> Result<Session, AllocError> {
-        let tables = Items::of(Vec::new(alloc));
+        let none = Items::of(Vec::new(alloc));
         Ok(Session {
-            files: Vec::new(alloc),
-            db: Db::new(alloc, Catalogue { tables })?,
+            tables: TableFiles::new(alloc),
+            db: Db::new(alloc, Catalogue { tables: none })?,
             events: Items::of(Vec::new(alloc)),
             taken: 0,
         })
     }
 
-    fn begin_file(&mut self, alloc: Global, name: &str) -> Result<(), AllocError> {
-        self.files.push(File {
-            name: name.as_bytes().to_vec(alloc)?,
-            bytes: Vec::new(alloc),
-        })?;
-        Ok(())
-    }
-
-    fn add_lines(&mut self, count: u32, text: &str) -> Result<(), AllocError> {
-        if let Some(file) = self.files.last_mut() {
-            for _ in 0..count {
-                file.bytes.extend_from_slice(text.as_bytes())?;
-                file.bytes.push(b'\n')?;
-            }
-        }
-        Ok(())
-    }
-
     // A new history of the files' tables.
     fn load(&mut self, alloc: Global, out: &mut String) -> Result<(), AllocError> {
-        let mut files = Vec::new(alloc);
-        for file in mem::replace(&mut self.files, Vec::new(alloc)) {
-            files.push(TableFile {
-                name: Items::of(file.name),
-                bytes: FileBytes::of(file.bytes),
-            })?;
-        }
-        match load(alloc, files, MAX_EVENTS, Form::Numbers) {
+        match load(alloc, self.tables.take(alloc)?, MAX_EVENTS, Form::Numbers) {
             Ok(loaded) => {
                 self.db = Db::new(alloc, loaded.catalogue)?;
                 self.events = loaded.events;
                 self.taken = 0;
                 Ok(())
             }
-            Err(fault) => writeln!(out, "    {fault}"),
+            Err(fault) => writeln!(out, "{fault}"),
         }
     }
 
@@ -158,7 +132,7 @@ impl Session {
             }
         }
         self.taken = self.taken.saturating_add(count);
-        writeln!(out, "    {happened} events happen")
+        writeln!(out, "{happened} events happen")
     }
 
     // The rows of a question, or of all keys, side by side.
@@ -189,7 +163,7 @@ impl Session {
         out: &mut String,
     ) -> Result<(), AllocError> {
         match (word, numbers) {
-            ("count", []) => writeln!(out, "    {}", self.db.count()),
+            ("count", []) => writeln!(out, "{}", self.db.count()),
             ("version", [n, at]) => tell_version(&self.db, *n, *at, out),
             ("reads", [n, at]) => tell_reads(&self.db, *n, *at, out),
             ("list", _) => self.list(alloc, numbers, out),
@@ -216,7 +190,7 @@ impl Session {
             ("start" | "end", _) => match event_of(alloc, word, numbers)? {
                 Some(event) => {
                     let said = happens(&mut self.db, &event)?;
-                    writeln!(out, "    {said}")
+                    writeln!(out, "{said}")
                 }
                 None => tell_nothing(out),
             },
@@ -226,26 +200,35 @@ impl Session {
         }
     }
 
-    /// Does what the line says, and writes what it answers.
-    pub(crate) fn run(
+    // Loads the tables, or does or asks something of the history.
+    fn call(
         &mut self,
         alloc: Global,
-        line: &str,
+        word: &str,
+        rest: &str,
         out: &mut String,
     ) -> Result<(), AllocError> {
-        let (word, rest) = line.split_once(' ').unwrap_or((line, ""));
-        match word {
-            "file" => self.begin_file(alloc, rest),
-            "line" => self.add_lines(1, rest),
-            "lines" => {
-                let (count, text) = rest.split_once(' ').unwrap_or((rest, ""));
-                self.add_lines(count.parse().unwrap_or(0), text)
-            }
-            "load" => self.load(alloc, out),
-            _ => {
-                let numbers = numbers_of(alloc, rest)?;
-                self.answer(alloc, word, &numbers, out)
-            }
+        if word == "load" {
+            return self.load(alloc, out);
         }
+        let numbers = numbers_of(alloc, rest)?;
+        self.answer(alloc, word, &numbers, out)
+    }
+}
+
+impl Suite for Session {
+    fn run<R: Threads + Wait + Sync>(
+        &mut self,
+        _rt: &R,
+        alloc: Global,
+        block: &Block,
+        out: &mut String,
+    ) -> Result<(), AllocError>
+        requires { IsSync R.row }
+    {
+        if self.tables.run(alloc, block)? {
+            return Ok(());
+        }
+        self.call(alloc, block.word(), block.arguments(), out)
     }
 }

@@ -9,7 +9,7 @@ use tq_store::Db;
 
 /// What is written where a line does not say what is asked.
 pub(crate) fn tell_nothing(out: &mut String) -> Result<(), AllocError> {
-    out.push_str("    not understood\n")
+    out.push_str("not understood\n")
 }
 
 // The value, a comma before it where others stand before.
@@ -33,10 +33,10 @@ fn tell_period(period: &Period, out: &mut String) -> Result<(), AllocError> {
 /// The rows of the question, each with its number.
 pub(crate) fn tell_rows(db: &Db, question: &Question, out: &mut String) -> Result<(), AllocError> {
     match ask(db, question, &mut Meter::new())? {
-        Some(rows) if rows.is_empty() => out.push_str("    no rows\n"),
+        Some(rows) if rows.is_empty() => out.push_str("no rows\n"),
         Some(rows) => {
             for row in &rows {
-                write!(out, "    row {}: ", row.row)?;
+                write!(out, "row {}: ", row.row)?;
                 for (place, value) in row.values.get().iter().enumerate() {
                     tell_value(place, value, out)?;
                 }
@@ -67,7 +67,7 @@ pub(crate) fn tell_reads(db: &Db, n: i64, at: i64, out: &mut String) -> Result<(
     match ask(db, &question, &mut meter)? {
         Some(rows) => {
             let reads = meter.count();
-            writeln!(out, "    {} rows, {reads} nodes read", rows.len())
+            writeln!(out, "{} rows, {reads} nodes read", rows.len())
         }
         None => tell_nothing(out),
     }
@@ -76,9 +76,8 @@ pub(crate) fn tell_reads(db: &Db, n: i64, at: i64, out: &mut String) -> Result<(
 /// The list's width, and its rows.
 pub(crate) fn tell_list(rows: &Rows, out: &mut String) -> Result<(), AllocError> {
     let zero = Value::int(0);
-    writeln!(out, "    {} rows of width {}", rows.len(), rows.width())?;
+    writeln!(out, "{} rows of width {}", rows.len(), rows.width())?;
     for row in 0..rows.len() {
-        out.push_str("    ")?;
         for place in 0..rows.width() {
             if let Ok(column) = u32::try_from(place) {
                 tell_value(place, rows.value(row, column).unwrap_or(&zero), out)?;
@@ -92,7 +91,7 @@ pub(crate) fn tell_list(rows: &Rows, out: &mut String) -> Result<(), AllocError>
 /// The version of the instant as of the first events.
 pub(crate) fn tell_version(db: &Db, n: i64, at: i64, out: &mut String) -> Result<(), AllocError> {
     match (u32::try_from(n), instant_of(at)) {
-        (Ok(n), Some(at)) if n <= db.count() => writeln!(out, "    {}", db.version_at(n, at)),
+        (Ok(n), Some(at)) if n <= db.count() => writeln!(out, "{}", db.version_at(n, at)),
         _ => tell_nothing(out),
     }
 }

@@ -59,7 +59,7 @@ impl Count {
     /// How many of what were compared.
     pub(crate) fn tell(&self, what: &str, out: &mut String) -> Result<(), AllocError> {
         let Count { seen, amiss } = self;
-        writeln!(out, "    {seen} {what}, {amiss} amiss")
+        writeln!(out, "{seen} {what}, {amiss} amiss")
     }
 }
 

@@ -1,5 +1,4 @@
-//! Arenas, trees and scans, tried by a script: what each line of stdin does or answers stands below it in stdout. So a
-//! case is a line there, and its answer here.
+//! Tests of arenas, trees and scans: each block of stdin is a call and what it prints (tq_tests_script).
 //!
 //!     arena                                   an arena of no nodes, and a meter of no reads
 //!     reserve COUNT                           whether there is room for so many more nodes once it is reserved
@@ -26,7 +25,7 @@
 //!
 //! A key is a number, or FRONT:N for FRONT * 2^32 + N; `least` is 0, and `top` is one above the greatest key. Rows and
 //! nodes are numbered from 0. Of sixteen random changes ODDS are keys that come, of SPREAD fronts, and the others keys
-//! that go; in the last third of each 4,500 versions it is the other way round. Other lines are copied.
+//! that go; in the last third of each 4,500 versions it is the other way round.
 #![tactic(auto)]
 
 mod arena;
@@ -43,18 +42,9 @@ mod words;
 
 use session::Session;
 use std::io;
-
-// Prints the line, with what it answers below it.
-fn answer<R: AllocGlobal + Print>(rt: &R, session: &mut Session, line: String) -> io::Result<()> {
-    let answered = session.answered(rt.alloc(), line)?;
-    print!(rt; "{answered}")
-}
+use tq_tests_script::run_script;
 
 fn main(rt: HostRuntime) -> io::Result<()> {
     let alloc = rt.alloc();
-    let mut session = Session::new(alloc)?;
-    for line in rt.lines(alloc) {
-        answer(&rt, &mut session, line?)?;
-    }
-    Ok(())
+    run_script(&rt, &mut Session::new(alloc)?)
 }

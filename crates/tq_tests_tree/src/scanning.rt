@@ -23,10 +23,10 @@ fn tell_keys(keys: &[u128], out: &mut String) -> Result<(), AllocError> {
     match keys.first() {
         Some(first) => {
             let right = in_a_row(keys, *first);
-            write!(out, "        {} keys, {right} in a row from ", keys.len())?;
+            write!(out, "    {} keys, {right} in a row from ", keys.len())?;
             tell_key(*first, out)
         }
-        None => out.push_str("        no keys"),
+        None => out.push_str("    no keys"),
     }
 }
 
@@ -40,7 +40,7 @@ fn tell_found(found: &Found, reads: u64, out: &mut String) -> Result<(), AllocEr
 
 // The keys and versions of the part.
 fn tell_bounds(part: &Part, out: &mut String) -> Result<(), AllocError> {
-    out.push_str("    part")?;
+    out.push_str("part")?;
     tell_range(part.low, part.high, out)?;
     writeln!(out, ", versions {} to {}", part.first, part.last)
 }

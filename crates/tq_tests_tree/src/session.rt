@@ -1,5 +1,7 @@
 //! An arena, a tree and a window that a script makes and asks.
 
+ghost use Rattle.std.specs.Thread.{IsSync};
+
 use crate::arena::Numbers;
 use crate::growing::{come_at, go_from, living};
 use crate::scanning::{tell_cut, tell_part};
@@ -8,8 +10,11 @@ use crate::tree_random::random_tree;
 use crate::window_random::random_windows;
 use crate::words::{long, numbers_of, small, small_numbers_of, small_of};
 use std::alloc::{AllocError, Global};
+use std::sync::Wait;
+use std::thread::Threads;
 use tq_scan::{Part, Window};
 use tq_tests_help::Grower;
+use tq_tests_script::{Block, Suite};
 
 /// The arena, the tree, what is in front of its rows, and the window.
 #[derive(Drop)]
@@ -188,7 +193,7 @@ impl Session {
     }
 
     // Does what the line says, and writes what it answers.
-    fn run(&mut self, alloc: Global, line: &str, out: &mut String) -> Result<(), AllocError> {
+    fn call(&mut self, alloc: Global, line: &str, out: &mut String) -> Result<(), AllocError> {
         let (word, rest) = line.split_once(' ').unwrap_or((line, ""));
         match word {
             "" | "#" => Ok(()),
@@ -197,13 +202,18 @@ impl Session {
             _ => self.answer(alloc, word, &numbers_of(alloc, rest)?, out),
         }
     }
+}
 
-    /// Does what the line says; the line, with what it answers below it.
-    pub(crate) fn answered(&mut self, alloc: Global, line: String) -> Result<String, AllocError> {
-        let mut out = String::new(alloc);
-        out.push_str(line.as_str())?;
-        out.push('\n')?;
-        self.run(alloc, line.as_str(), &mut out)?;
-        Ok(out)
+impl Suite for Session {
+    fn run<R: Threads + Wait + Sync>(
+        &mut self,
+        _rt: &R,
+        alloc: Global,
+        block: &Block,
+        out: &mut String,
+    ) -> Result<(), AllocError>
+        requires { IsSync R.row }
+    {
+        self.call(alloc, block.call.as_str(), out)
     }
 }

@@ -10,7 +10,7 @@ use tq_mvbt::{Link, Node, Region, Tree};
 
 /// What is written where a line does not say what is asked.
 pub(crate) fn tell_nothing(out: &mut String) -> Result<(), AllocError> {
-    out.push_str("    not understood\n")
+    out.push_str("not understood\n")
 }
 
 // A number, with what stands before it.
@@ -20,12 +20,12 @@ fn push_number(before: &str, number: u32, out: &mut String) -> Result<(), AllocE
 
 /// A number, and what it counts.
 pub(crate) fn tell_number(what: &str, number: u64, out: &mut String) -> Result<(), AllocError> {
-    writeln!(out, "    {what}: {number}")
+    writeln!(out, "{what}: {number}")
 }
 
 /// Whether something is so.
 pub(crate) fn tell_whether(holds: bool, out: &mut String) -> Result<(), AllocError> {
-    out.push_str(if holds { "    yes\n" } else { "    no\n" })
+    out.push_str(if holds { "yes\n" } else { "no\n" })
 }
 
 /// The key: what is in front of its row, and its row.
@@ -76,7 +76,7 @@ pub(crate) fn tell_numbers(numbers: &[NodeNo], out: &mut String) -> Result<(), A
 // A link of a leaf.
 fn tell_link(link: &Link, out: &mut String) -> Result<(), AllocError> {
     let NodeNo(node) = link.node;
-    push_number("        links node ", node, out)?;
+    push_number("    links node ", node, out)?;
     tell_range(link.low, link.high, out)?;
     out.push('\n')
 }
@@ -91,7 +91,7 @@ fn tell_links(leaf: &Node, out: &mut String) -> Result<(), AllocError> {
 // The region of a leaf, and the numbers of the leaves that it links.
 fn tell_region(region: &Region, out: &mut String) -> Result<(), AllocError> {
     let NodeNo(node) = region.node;
-    push_number("    node ", node, out)?;
+    push_number("node ", node, out)?;
     tell_bounds((region.low, region.high), region.born, region.died, out)?;
     out.push_str(", links:")?;
     tell_numbers(region.links.get(), out)?;
@@ -132,7 +132,7 @@ fn tell_child(node: &Node, place: u32, out: &mut String) -> Result<(), AllocErro
 {
     let NodeNo(child) = node.child(place);
     let range = (node.key(place), node.high_of(place));
-    push_number("        child ", child, out)?;
+    push_number("    child ", child, out)?;
     tell_bounds(range, node.born_of(place), node.dead_of(place), out)?;
     out.push('\n')
 }
@@ -149,11 +149,7 @@ fn tell_children(node: &Node, out: &mut String) -> Result<(), AllocError> {
 
 // The node's kind, its region, and how many entries and links it has.
 fn tell_node(node: &Node, out: &mut String) -> Result<(), AllocError> {
-    out.push_str(if node.is_leaf() {
-        "    leaf"
-    } else {
-        "    index node"
-    })?;
+    out.push_str(if node.is_leaf() { "leaf" } else { "index node" })?;
     tell_bounds((node.low(), node.high()), node.born(), node.died(), out)?;
     out.push('\n')?;
     tell_number("links", node.links().len() as u64, out)?;

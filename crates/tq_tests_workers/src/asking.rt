@@ -14,7 +14,7 @@ use tq_event::Tables;
 use tq_plan::Plan;
 use tq_run::Gate;
 use tq_store::Db;
-use tq_tests_help::Files;
+use tq_tests_script::TableFiles;
 
 /// A call that has workers answer.
 #[derive(Clone, Copy, PartialEq, Eq)]
@@ -117,7 +117,7 @@ fn ask_over<R: Threads + Sync, G: Gate + Sync>(
 pub(crate) fn ask<R: Threads + Sync, G: Gate + Sync>(
     rt: &R,
     alloc: Global,
-    files: &Files,
+    files: &TableFiles,
     question: &Question<'_>,
     gate: &G,
     seen: &mut Seen,

@@ -2,20 +2,23 @@
 
 use std::alloc::{AllocError, Global};
 use std::fmt::Write;
-use tq_tests_help::{Draws, Files};
+use tq_tests_help::Draws;
+use tq_tests_script::TableFiles;
 
 // So many rows has a random table.
 const ROWS: u32 = 60;
 
-/// Lines of a number each, 0 and those after it, and a period that starts there and does not end.
-pub(crate) fn add_open(alloc: Global, count: u32, files: &mut Files) -> Result<(), AllocError> {
+/// Adds N rows to the last file: number i, from i on.
+pub(crate) fn add_open(
+    alloc: Global,
+    count: u32,
+    files: &mut TableFiles,
+) -> Result<(), AllocError> {
     let mut text = String::new(alloc);
     for number in 0..count {
-        text.clear();
-        write!(text, "{number},{number},forever")?;
-        files.make(alloc, "line", text.as_str())?;
+        writeln!(text, "{number},{number},forever")?;
     }
-    Ok(())
+    files.add(text.as_str().as_bytes())
 }
 
 // A random row of few keys.
@@ -24,17 +27,17 @@ fn random_row(alloc: Global, draws: &mut Draws) -> Result<String, AllocError> {
     let dept = draws.below(3);
     let from = draws.below(50);
     let to = from.saturating_add(1).saturating_add(draws.below(20));
-    format!(in alloc; "{key},n{key},d{dept},{from},{to}")
+    format!(in alloc; "{key},n{key},d{dept},{from},{to}\n")
 }
 
 /// The file of a random table of staff.
-pub(crate) fn random_files(alloc: Global, draws: &mut Draws) -> Result<Files, AllocError> {
-    let mut files = Files::new(alloc);
-    files.make(alloc, "file", "emp")?;
-    files.make(alloc, "line", "emp:int,name:text,dept:text,from,to")?;
+pub(crate) fn random_files(alloc: Global, draws: &mut Draws) -> Result<TableFiles, AllocError> {
+    let mut files = TableFiles::new(alloc);
+    files.begin(alloc, "emp", &[])?;
+    files.add(b"emp:int,name:text,dept:text,from,to\n")?;
     for _ in 0..ROWS {
         let row = random_row(alloc, draws)?;
-        files.make(alloc, "line", row.as_str())?;
+        files.add(row.as_str().as_bytes())?;
     }
     Ok(files)
 }

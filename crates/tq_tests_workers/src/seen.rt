@@ -21,13 +21,13 @@ fn tell_text(text: &[u8], out: &mut String) -> Result<(), AllocError> {
         .enumerate()
     {
         if place < 5 {
-            writeln!(out, "    {line}")?;
+            writeln!(out, "{line}")?;
         } else {
             more = more.saturating_add(1);
         }
     }
     if more > 0 {
-        writeln!(out, "    and {more} lines more")?;
+        writeln!(out, "and {more} lines more")?;
     }
     Ok(())
 }
@@ -57,7 +57,7 @@ impl Seen {
     /// Tells the counts, and the answer where it is wanted or one differs.
     pub(crate) fn tell(&self, wants_text: bool, out: &mut String) -> Result<(), AllocError> {
         let (answers, differences) = (self.answers, self.differences);
-        writeln!(out, "    {answers} answers, {differences} differences")?;
+        writeln!(out, "{answers} answers, {differences} differences")?;
         if wants_text || differences > 0 {
             tell_text(&self.text, out)?;
         }

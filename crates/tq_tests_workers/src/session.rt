@@ -1,14 +1,18 @@
 //! The files of a script, and what is asked of them.
 
+ghost use Rattle.std.specs.Thread.{IsSync};
+
 use crate::asking::{Question, Way, ask};
 use crate::gates::Turns;
 use crate::making::{add_open, random_files};
 use crate::seen::Seen;
 use std::alloc::{AllocError, Global};
 use std::fmt::Write;
+use std::sync::Wait;
 use std::thread::Threads;
 use tq_run::Open;
-use tq_tests_help::{Draws, Files, number_and};
+use tq_tests_help::Draws;
+use tq_tests_script::{Block, Suite, TableFiles, number_and};
 
 // So many random tables are asked.
 const TABLES: u32 = 50;
@@ -26,7 +30,7 @@ fn question_of(text: &str) -> Question<'_> {
 fn tell_answers<R: Threads + Sync>(
     rt: &R,
     alloc: Global,
-    files: &Files,
+    files: &TableFiles,
     text: &str,
     out: &mut String,
 ) -> Result<(), AllocError> {
@@ -54,15 +58,15 @@ fn tell_random<R: Threads + Sync>(
 
 fn tell_seconds(seconds: Option<u64>, out: &mut String) -> Result<(), AllocError> {
     match seconds {
-        Some(seconds) => writeln!(out, "    piece 1 arrived {seconds} times"),
-        None => out.push_str("    piece 0 waited in vain\n"),
+        Some(seconds) => writeln!(out, "piece 1 arrived {seconds} times"),
+        None => out.push_str("piece 0 waited in vain\n"),
     }
 }
 
 fn tell_gated<R: Threads + Sync>(
     rt: &R,
     alloc: Global,
-    files: &Files,
+    files: &TableFiles,
     text: &str,
     out: &mut String,
 ) -> Result<(), AllocError> {
@@ -87,35 +91,38 @@ fn tell_gated<R: Threads + Sync>(
 /// The files of a script.
 #[derive(Drop)]
 pub(crate) struct Session {
-    files: Files,
+    files: TableFiles,
 }
 
 impl Session {
     /// No files.
     pub(crate) fn new(alloc: Global) -> Session {
         Session {
-            files: Files::new(alloc),
+            files: TableFiles::new(alloc),
         }
     }
+}
 
-    /// Does what the line says, and writes what it comes to: it makes files, or asks, or nothing.
-    pub(crate) fn run<R: Threads + Sync>(
+impl Suite for Session {
+    fn run<R: Threads + Wait + Sync>(
         &mut self,
         rt: &R,
         alloc: Global,
-        line: &str,
+        block: &Block,
         out: &mut String,
-    ) -> Result<(), AllocError> {
-        let (word, text) = line.split_once(' ').unwrap_or((line, ""));
-        if self.files.make(alloc, word, text)? {
+    ) -> Result<(), AllocError>
+        requires { IsSync R.row }
+    {
+        if self.files.run(alloc, block)? {
             return Ok(());
         }
-        match word {
+        let text = block.arguments();
+        match block.word() {
             "open" => add_open(alloc, number_and(text).0, &mut self.files),
             "ask" => tell_answers(rt, alloc, &self.files, text, out),
             "random" => tell_random(rt, alloc, text, out),
             "gated" => tell_gated(rt, alloc, &self.files, text, out),
-            _ => Ok(()),
+            _ => out.push_str("not understood\n"),
         }
     }
 }
