@@ -1,5 +1,5 @@
 -- Which refusal each fault is, the lines that tell them, and the statuses that the program ends with.
-use Rattle.std.specs.Prelude.{◌≡◌, ℕ, Vec, List, ◌++◌, codes, decimal, length, min, slice_get, Option, None, Some}
+use Rattle.std.specs.Prelude.{◌≡◌, ℕ, Vec, List, [], ◌++◌, String, codes, decimal, length, min, slice_get, string_bytes, Option, None, Some}
 use Rattle.std.specs.declared.alloc.Global.{Global}
 use Rattle.tq_engine.specs.declared.answering.AnswerFault.{AnswerFault}
 use Rattle.tq_engine.specs.declared.answering.AnswerFault.TheVariants as answer
@@ -72,6 +72,16 @@ IsQuestionDetail form paths heads (answer.Sql fault) statement text = IsAnswerDe
 IsQuestionDetail form paths heads (answer.Plan fault) statement text = IsPlanDetailOver form heads fault statement text
 IsQuestionDetail form paths heads answer.Write statement text = IsAnswerDetail answer.Write statement text
 IsQuestionDetail form paths heads answer.OutOfMemory statement text = IsAnswerDetail answer.OutOfMemory statement text
+
+-- The text of a detail, or none. (This project's own.)
+abbrev pub detail_of : Option (Vec ℕ Global) → List ℕ
+detail_of None = []
+detail_of (Some text) = text.items
+
+-- The bytes of a reason, or none. (This project's own.)
+abbrev pub reason_of : Option (String Global) → List ℕ
+reason_of None = []
+reason_of (Some reason) = string_bytes reason
 
 -- The refusal of a session that ended with this fault. (This project's own.)
 abbrev pub refused_session : SessionFault → Refusal

@@ -1,14 +1,17 @@
 // The files that a command line names, read to their bytes.
 
-ghost use Rattle.std.specs.Prelude.{◌≡◌, ◌≢◌, false, IfErr, IfOk, None, map};
+ghost use Rattle.std.specs.Prelude.{◌≡◌, ◌≢◌, false, IfErr, IfOk, None, codes, map};
+ghost use Rattle.tq.specs.Refusals.{IsReadRefusal};
+ghost use Rattle.tq.specs.Spans.{IsRest};
 ghost use Rattle.tq.specs.declared.command_line.TableOption.{TableOption as AnyOption};
 ghost use Rattle.tq_event.specs.declared.file.TableFile.{TableFile as AnyFile};
 
 use crate::command_line::TableOption;
 use crate::kept::is_read_once;
-use crate::pieces::read_pieces;
+use crate::pieces::{len_of, read_pieces};
 use crate::progress::{Counted, Progress};
 use crate::report::{Refusal, Told};
+use crate::spans::Opened;
 use crate::unread::{file_len, reason};
 use std::alloc::{AllocError, Global};
 use std::io::{ErrorKind, Input};
@@ -32,12 +35,15 @@ fn open<R: Files>(rt: &R, path: &[u8]) -> Result<R::File, FileFault> {
     }
 }
 
-/// The bytes of the file at a path, or of standard input where the path is `-`.
+/// The bytes of the file at a path, or of standard input if the path is `-`.
 pub fn read_path<R: Files + AllocGlobal + Input>(
     rt: &R,
     path: &[u8],
     progress: &Progress,
-) -> Result<Vec<u8>, FileFault> {
+) -> Result<Vec<u8>, FileFault>
+    ensures input { path.now ≡ codes "-" → IfOk result (λ bytes. (reader : R.Reader) × IsRest (R.Reader.remaining reader) bytes.items) }
+    ensures file { path.now ≢ codes "-" → IfOk result (λ bytes. (file : R.File) × IsRest (R.File.remaining file) bytes.items) }
+{
     if path == b"-".as_slice() {
         let reader = rt.reader();
         return read_file(rt.alloc(), &mut Source::over(Counted { reader, progress }));
@@ -58,7 +64,8 @@ fn read_bytes<
         return Ok(FileBytes::of(read_path(rt, path, progress)?));
     }
     let file = open(rt, path)?;
-    if let Some(bytes) = read_pieces(rt, rt.alloc(), &file, workers, progress)? {
+    let opened = Opened { file: &file };
+    if let Some(bytes) = read_pieces(rt, rt.alloc(), &opened, len_of(&file), workers, progress)? {
         return Ok(bytes);
     }
     let mut source = Source::over(Counted {
@@ -109,7 +116,8 @@ fn read_in_turn<
     workers: u32,
     progress: &Progress,
 ) -> Result<Vec<TableFile>, Refusal>
-    ensures { IfOk result (λ tables. map (λ (t : AnyFile). t.name) tables.items ≡ map (λ (o : AnyOption). o.name.items) options.items) }
+    ensures tables { IfOk result (λ tables. map (λ (t : AnyFile). t.name) tables.items ≡ map (λ (o : AnyOption). o.name.items) options.items) }
+    ensures refused { IfErr result (IsReadRefusal options.items) }
 {
     let mut tables = Vec::new(rt.alloc());
     'options: for option in options {
@@ -144,15 +152,18 @@ fn read_side_by_side<
     workers: u32,
     progress: &Progress,
 ) -> Result<Vec<TableFile>, Refusal>
-    ensures { IfOk result (λ tables. map (λ (t : AnyFile). t.name) tables.items ≡ map (λ (o : AnyOption). o.name.items) options.items) }
+    ensures tables { IfOk result (λ tables. map (λ (t : AnyFile). t.name) tables.items ≡ map (λ (o : AnyOption). o.name.items) options.items) }
+    ensures refused { IfErr result (IsReadRefusal options.items) }
 {
     let mut front = options;
     let back = front.split_off(front.len() / 2)?;
     let read_front = || -> Result<Vec<TableFile>, Refusal>
-        ensures { IfOk result (λ tables. map (λ (t : AnyFile). t.name) tables.items ≡ map (λ (o : AnyOption). o.name.items) front.items) }
+        ensures tables { IfOk result (λ tables. map (λ (t : AnyFile). t.name) tables.items ≡ map (λ (o : AnyOption). o.name.items) front.items) }
+        ensures refused { IfErr result (IsReadRefusal front.items) }
     { read_in_turn(rt, front, workers / 2, progress) };
     let read_back = || -> Result<Vec<TableFile>, Refusal>
-        ensures { IfOk result (λ tables. map (λ (t : AnyFile). t.name) tables.items ≡ map (λ (o : AnyOption). o.name.items) back.items) }
+        ensures tables { IfOk result (λ tables. map (λ (t : AnyFile). t.name) tables.items ≡ map (λ (o : AnyOption). o.name.items) back.items) }
+        ensures refused { IfErr result (IsReadRefusal back.items) }
     { read_in_turn(rt, back, workers / 2, progress) };
     let (more, tables) = thread::join(rt, read_back, read_front);
     let mut tables = tables?;
@@ -174,13 +185,31 @@ fn read_tables<
     workers: u32,
     progress: &Progress,
 ) -> Result<Vec<TableFile>, Refusal>
-    ensures { IfOk result (λ tables. map (λ (t : AnyFile). t.name) tables.items ≡ map (λ (o : AnyOption). o.name.items) options.items) }
+    ensures tables { IfOk result (λ tables. map (λ (t : AnyFile). t.name) tables.items ≡ map (λ (o : AnyOption). o.name.items) options.items) }
+    ensures refused { IfErr result (IsReadRefusal options.items) }
 {
     expect_files(rt, &options, progress);
     if workers > 1 && options.len() > 1 && stay_all(rt, &options) {
         read_side_by_side(rt, options, workers, progress)
     } else {
         read_in_turn(rt, options, workers, progress)
+    }
+}
+
+// The refusal, with the reason why a file cannot be read if that is to be explained.
+fn told_of<R: Files + AllocGlobal>(rt: &R, refusal: Refusal, explain: bool) -> Told
+    ensures refusal { result.refusal ≡ refusal }
+    ensures silent { explain ≡ false → result.detail ≡ None }
+{
+    if !explain {
+        return Told::from(refusal);
+    }
+    match refusal {
+        Refusal::CannotRead(path) => {
+            let reason = reason(rt, &path);
+            Told::of_unread(rt.alloc(), path, reason)
+        }
+        _ => Told::from(refusal),
     }
 }
 
@@ -201,15 +230,12 @@ pub fn read_explained<
     progress: &Progress,
 ) -> Result<Vec<TableFile>, Told>
     ensures tables { IfOk result (λ tables. map (λ (t : AnyFile). t.name) tables.items ≡ map (λ (o : AnyOption). o.name.items) options.items) }
+    ensures refused { IfErr result (λ told. IsReadRefusal options.items told.refusal) }
     ensures silent { explain ≡ false → IfErr result (λ told. told.detail ≡ None) }
 {
     match read_tables(rt, options, workers, progress) {
         Ok(tables) => Ok(tables),
-        Err(Refusal::CannotRead(path)) if explain => {
-            let reason = reason(rt, &path);
-            Err(Told::of_unread(rt.alloc(), path, reason))
-        }
-        Err(refusal) => Err(Told::from(refusal)),
+        Err(refusal) => Err(told_of(rt, refusal, explain)),
     }
 }
 

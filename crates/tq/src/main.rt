@@ -11,6 +11,9 @@
 //! about (`explained`, `tq_figures`). Of files that are checked and refused, `kept` has what is wanted to list their faults.
 #![tactic(auto)]
 
+ghost use Rattle.std.specs.Prelude.{◌≡◌, false, IfErr, None, OnOk};
+ghost use Rattle.tq.specs.Refusals.{IsAnswered, IsAskRefusal};
+
 mod command_line;
 mod explained;
 mod files;
@@ -21,6 +24,7 @@ mod progress;
 mod prompt;
 mod refusing;
 mod report;
+mod spans;
 mod unread;
 mod words;
 
@@ -63,7 +67,11 @@ fn ask<
         + Threads
         + Wait
         + Sync,
->(rt: &R, request: AskRequest, seen: bool, progress: &Progress) -> Result<(), Told> {
+>(rt: &R, request: AskRequest, seen: bool, progress: &Progress) -> Result<(), Told>
+    ensures answered { OnOk result (IsAnswered request.form request.tables.items request.statement.items) }
+    ensures refused { IfErr result (λ told. IsAskRefusal request.form request.tables.items request.statement.items told.refusal) }
+    ensures silent { request.explain ≡ false → seen ≡ false → IfErr result (λ told. told.detail ≡ None) }
+{
     let AskRequest {
         tables: options,
         workers,
@@ -81,9 +89,12 @@ fn ask<
         rt, tables, &statement, workers, &mut sink, form, progress, is_told,
     ) {
         Ok(()) => Ok(()),
-        Err(fault) => Err(refused(
-            rt, fault, &statement, &paths, heads, form, explain, progress,
-        )),
+        Err(fault) => {
+            let told = refused(
+                rt, fault, &statement, &paths, heads, form, explain, progress,
+            );
+            Err(told)
+        }
     }
 }
 

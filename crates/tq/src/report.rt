@@ -1,11 +1,11 @@
 // What the program prints where it gives no answer, and its status then.
 
-ghost use Rattle.std.specs.Prelude.{◌≡◌, ◌++◌, false, IfOk, IfSome, None, OnOk, codes};
+ghost use Rattle.std.specs.Prelude.{◌≡◌, ◌++◌, [], false, if◌then◌else◌, IfOk, IfSome, None, OnOk, codes};
 ghost use Rattle.std.specs.Io.KnownBytes.{Appends};
 ghost use Rattle.std.specs.Process.{exit_status};
 ghost use Rattle.tq_explain.specs.Files.{IsFileDetail};
 ghost use Rattle.tq_explain.specs.PlanDetails.{IsPlanDetail};
-ghost use Rattle.tq.specs.Report.{IsAnswerDetail, line_of, refused_answer, refused_command_line, refused_file, refused_session, status_of};
+ghost use Rattle.tq.specs.Report.{IsAnswerDetail, detail_of, line_of, reason_of, refused_answer, refused_command_line, refused_file, refused_session, status_of};
 
 use crate::command_line::{CommandLineFault, Misread};
 use std::alloc::{AllocError, Global};
@@ -169,6 +169,10 @@ impl From<Refusal> for Told {
 }
 
 impl From<AllocError> for Told {
+    ghost use Rattle.tq.specs.declared.report.Refusal.TheVariants.{OutOfMemory};
+
+    ghost from_gives = { λ _ told. (told.refusal ≡ OutOfMemory) × (told.detail ≡ None) };
+
     fn from(error: AllocError) -> Told {
         Told::from(Refusal::from(error))
     }
@@ -177,7 +181,8 @@ impl From<AllocError> for Told {
 impl Told {
     /// The refusal of a command line that was not read; of what is told of it a person sees all, and a pipe nothing.
     pub fn of_command_line(misread: Misread, seen: bool) -> Told
-        ensures { result.refusal ≡ refused_command_line misread.fault }
+        ensures refusal { result.refusal ≡ refused_command_line misread.fault }
+        ensures detail { detail_of result.detail ≡ (if seen then reason_of misread.detail else []) }
     {
         let Misread { fault, detail } = misread;
         let refusal = Refusal::from(fault);
@@ -254,8 +259,10 @@ impl Told {
         }
     }
 
-    /// What is told below the line.
-    pub fn detail(&self) -> &[u8] {
+    /// The text below the line, empty if there is none.
+    pub fn detail(&self) -> &[u8]
+        ensures { result.now ≡ detail_of self.entry.now.detail }
+    {
         match &self.detail {
             Some(text) => text,
             None => b"",

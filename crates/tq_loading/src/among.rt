@@ -92,7 +92,8 @@ fn load_by_parts<R: Threads + Sync, G: Gate + Sync>(
     load_wanted(alloc, files, wanted, limit, form)
 }
 
-/// The same as `load_tables_among`, with parts of at least this length in place of 64 KiB.
+/// The same as `load_tables_among`, with parts of at least this length instead of 64 KiB. It is public for tests, which
+/// cut small inputs by it.
 pub fn load_tables_by_parts<R: Threads + Sync, G: Gate + Sync>(
     rt: &R,
     alloc: Global,
