@@ -1,6 +1,8 @@
 pub mod FrontLemmas
 pub mod BookLemmas
 pub mod HandingLemmas
+pub mod FindLemmas
+pub mod HistoryLemmas
 pub mod WriterLemmas
 pub mod OpenRowsLemmas
 pub mod SetLemmas

@@ -1,5 +1,8 @@
 -- What a store holds, what it takes in, and of which history that is. This project's own.
-use Rattle.std.specs.Prelude.{◌≡◌, ◌≤◌, List, [], ◌∷◌, ◌++◌}
+use Rattle.std.specs.Prelude.{◌≡◌, ℕ, ◌≤◌, List, [], ◌∷◌, ◌++◌}
+use mathlib.Core.Option.{some}
+use mathlib.Core.List.{IsPrefix}
+use lib.ListN.{get_elem?}
 use Rattle.std.proofs.Common.{arith}
 use Rattle.logbook.specs.Pages.{Book}
 use Rattle.tq_base.specs.declared.catalogue.Catalogue.{Catalogue}
@@ -38,6 +41,10 @@ held catalogue book events = record { catalogue = catalogue; events = events; fr
 -- what is held has the catalogue, and its events are those of the book that were seen
 abbrev pub IsOf : Catalogue → Book → Held → Type 0
 IsOf catalogue book shown = shown ≡ held catalogue book shown.events
+
+-- each list that was found begins the events that are shown
+abbrev pub AllBegin : List Event → List (List Event) → Type 0
+AllBegin events finds = (seat : ℕ) (found : List Event) → get_elem? finds seat ≡ some found → IsPrefix found events
 
 -- what is held once the event was taken in
 abbrev pub absorbed : Held → Arrival → Held

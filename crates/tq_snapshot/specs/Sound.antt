@@ -1,6 +1,7 @@
--- What holds of a writer between two calls. This project's own.
+-- What holds of a writer and of a reader between two calls. This project's own.
 use Rattle.std.specs.Prelude.{ℕ, ◌≡◌, ◌≤◌, List, ◌++◌, length, take}
 use Rattle.logbook.specs.Pages.{Book}
+use mathlib.Core.List.{IsPrefix}
 use Rattle.tq_base.specs.declared.catalogue.Catalogue.{Catalogue}
 use Rattle.tq_event.specs.declared.event.Event.{Event}
 use Rattle.tq_event.specs.History.{IsHistory}
@@ -27,3 +28,8 @@ pub record IsSound (catalogue : Catalogue) (book : Book) (shown : Held) (waiting
   pub history : IsHistory catalogue (shown.events ++ pending)
   pub room : length (shown.events ++ pending) ≤ limit
   pub small : limit ≤ 16777216
+
+-- the first `own` events that a reader knows are events that it found itself: they begin its last find
+pub record FindsOwn (known : List Event) (own : ℕ) (find : List Event) : Type 0 where
+  pub within : own ≤ length known
+  pub begins : IsPrefix (take own known) find

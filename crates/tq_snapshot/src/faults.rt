@@ -57,6 +57,19 @@ pub enum AskFault {
 #[error("Closed")]
 pub struct Closed;
 
+/// Why a reader found nothing, or less than it knows.
+#[derive(Drop)]
+pub(crate) enum Missed {
+    /// Nothing is shown any more.
+    Shut,
+    /// A note told of more events than were found.
+    Stale,
+}
+
+/// A reader's place was refused.
+#[derive(Drop)]
+pub(crate) struct PlaceRefused;
+
 impl From<AllocError> for AppendFault {
     ghost use Rattle.std.specs.Prelude.{◌≡◌};
     ghost use Rattle.tq_snapshot.specs.declared.faults.AppendFault.TheVariants.{OutOfMemory};
@@ -76,5 +89,16 @@ impl From<AllocError> for OpenFault {
 
     fn from(_error: AllocError) -> OpenFault {
         OpenFault::OutOfMemory
+    }
+}
+
+impl From<PlaceRefused> for OpenFault {
+    ghost use Rattle.std.specs.Prelude.{◌≡◌};
+    ghost use Rattle.tq_snapshot.specs.declared.faults.OpenFault.TheVariants.{NoPlace};
+
+    ghost from_gives = { λ _ fault. fault ≡ NoPlace };
+
+    fn from(_error: PlaceRefused) -> OpenFault {
+        OpenFault::NoPlace
     }
 }

@@ -5,7 +5,7 @@ ghost use Rattle.tq_snapshot.specs.Held.{IsOf, held};
 ghost use Rattle.tq_snapshot.specs.Sound.{Handed, IsCommitted};
 
 use crate::book::{Book, Front, Naming};
-use crate::published::Published;
+use crate::published::{LastFind, Published};
 use crate::shared::{Entry, Shared};
 use core::mem::replace_with;
 use left_right::writer::Writer;
@@ -13,7 +13,7 @@ use std::alloc::AllocError;
 use std::sync::Wait;
 use tq_event::Event;
 
-pub(crate) type SharedWriter<J> = Writer<Shared, Entry, (), Published<J>>;
+pub(crate) type SharedWriter<J> = Writer<Shared, Entry, LastFind, Published<J>>;
 
 /// Brings the pending events that the book lacks into it, and tells whether all are in. They are not only where
 /// another added to the book, and none does.

@@ -1,10 +1,11 @@
 // How a store is opened.
 
-ghost use Rattle.std.specs.Prelude.{◌≡◌, ◌<◌, ◌≤◌, [], length, All, IfOk};
+ghost use Rattle.std.specs.Prelude.{◌≡◌, ◌<◌, ◌≤◌, [], length, All, IfOk, vec_capacity, vec_len};
 ghost use Rattle.tq_event.specs.History.{IsHistory};
 
 use crate::book::{Naming, Opened};
-use crate::faults::OpenFault;
+use crate::entering::enter_first;
+use crate::faults::{OpenFault, PlaceRefused};
 use crate::handing::{SharedWriter, commit};
 use crate::open_index::OpenIndex;
 use crate::reader::Reader;
@@ -52,37 +53,40 @@ impl<J: Naming> Writer<J> {
         })
     }
 
-    // A reader that was told what is published.
-    fn admit(&self) -> Result<Reader<J>, AllocError>
+    // A reader that was told what is published. It enters, so that these events are its own find.
+    fn admit(&self) -> Result<Reader<J>, PlaceRefused>
         ensures { IfOk result (λ r. r ≡ self.now.published) }
     {
+        let told = self.inner.published().front().copy();
+        let Ok(inner) = self.inner.factory().reader() else {
+            return Err(PlaceRefused);
+        };
+        let (inner, own) = enter_first(inner, &told);
         Ok(Reader {
-            inner: Some(self.inner.factory().reader()?),
-            told: self.inner.published().front().copy(),
+            inner: Some(inner),
+            told,
+            own,
         })
     }
 
-    // So many of them.
-    fn admit_all(&self, alloc: Global, count: u32) -> Result<Vec<Reader<J>>, OpenFault>
+    // So many of them, for which there is room. It takes no memory.
+    fn admit_all(&self, room: Vec<Reader<J>>, count: u32) -> Result<Vec<Reader<J>>, PlaceRefused>
+        requires none { (room.items ≡ []) × (vec_len room ≡ 0) }
+        requires room { count ≤ vec_capacity room }
         ensures count { IfOk result (λ v. length v.items ≡ count) }
         ensures readers { IfOk result (λ v. All (λ t. t ≡ self.now.published) v.items) }
     {
-        let mut readers = Vec::new(alloc);
+        let mut readers = room;
         for _ in 0..count {
-            let Ok(reader) = self.admit() else {
-                return Err(OpenFault::NoPlace);
-            };
-            if let Err(_full) = readers.push(reader) {
-                return Err(OpenFault::OutOfMemory);
-            }
+            readers.push_reserved(self.admit()?);
         }
         Ok(readers)
     }
 }
 
-/// A writer and so many readers, 1 to 8, of a store that holds these events, a history over the catalogue, and may
-/// hold so many in all, at most 16,777,216. `opened` is `Opened::new()`, one for each store. NoPlace where a reader's
-/// place was refused, OutOfMemory where a growth was.
+/// A writer and n readers, 1 to 8, of a store that holds these events, a history over the catalogue, and may hold
+/// `limit` events in all, at most 16,777,216. `opened` is `Opened::new()`, one for each store. OutOfMemory if an
+/// allocation failed. NoPlace if the places were made and one of them was refused to a reader, which takes no memory.
 pub fn open<J: Naming>(
     alloc: Global,
     opened: Opened,
@@ -99,16 +103,15 @@ pub fn open<J: Naming>(
     ensures count { IfOk result (λ r. length r.1.items ≡ readers) }
     ensures readers { IfOk result (λ r. All (λ t. t ≡ events.items) r.1.items) }
 {
-    let Ok(writer) = Writer::opened(
+    let room = Vec::with_capacity(alloc, readers as usize)?;
+    let writer = Writer::opened(
         alloc,
         opened,
         catalogue,
         events,
         readers as usize,
         limit as usize,
-    ) else {
-        return Err(OpenFault::OutOfMemory);
-    };
-    let admitted = writer.admit_all(alloc, readers)?;
+    )?;
+    let admitted = writer.admit_all(room, readers)?;
     Ok((writer, admitted))
 }

@@ -23,17 +23,21 @@ pub struct Reader<J: Naming> {
     // It is taken out while it enters, and is put back then.
     pub(crate) inner: Option<SharedReader<J>>,
     pub(crate) told: Front,
+    // The first so many of these events are its own find; the others came by a note.
+    pub(crate) own: u64,
 }
 
 impl<J: Naming> Model for Reader<J> {
-    ghost use Rattle.std.specs.Prelude.{◌≡◌, IsSome, List};
+    ghost use Rattle.std.specs.Prelude.{◌≡◌, IsSomeAnd, List};
+    ghost use Rattle.left_right.specs.Sides.{view as last_find};
     ghost use Rattle.tq_event.specs.declared.event.Event.{Event};
+    ghost use Rattle.tq_snapshot.specs.Sound.{FindsOwn};
 
     ghost Value = { List Event };
 
     ghost view = { λ r. r.told.list };
 
-    ghost invariant = { λ r. (r.told.book ≡ J.book) × IsSome r.inner };
+    ghost invariant = { λ r. (r.told.book ≡ J.book) × IsSomeAnd r.inner (λ inner. FindsOwn r.told.list r.own (last_find inner.place)) };
 }
 
 impl<J: Naming> Reader<J> {
@@ -41,16 +45,14 @@ impl<J: Naming> Reader<J> {
     pub fn snapshot(&mut self) -> Result<u32, Closed>
         ensures { MatchResult result (λ n. Entered J.catalogue self.old self.new × (n ≡ length self.new)) (λ _. self.new ≡ self.old) }
     {
-        let Some(inner) = self.inner.take() else {
-            return Err(Closed);
-        };
-        let (inner, found) = enter(inner, &self.told);
+        let inner = self.inner.take().unwrap();
+        let (inner, found) = enter(inner, &self.told, self.own);
         self.inner = Some(inner);
         match found {
             Ok(front) => {
-                let count = front.len() as u32;
+                self.own = front.len();
                 self.told = front;
-                Ok(count)
+                Ok(self.own as u32)
             }
             Err(_) => Err(Closed),
         }
@@ -63,13 +65,12 @@ impl<J: Naming> Reader<J> {
         requires { IsPlanOver J.catalogue plan.now }
         ensures { MatchResult result (λ table. Answers J.catalogue self.old n plan.now self.new table) (Refuses J.catalogue self.old n self.new) }
     {
-        let Some(inner) = self.inner.take() else {
-            return Err(AskFault::Closed);
-        };
-        let (inner, found) = ask(inner, &self.told, alloc, n, plan);
+        let inner = self.inner.take().unwrap();
+        let (inner, found) = ask(inner, &self.told, self.own, alloc, n, plan);
         self.inner = Some(inner);
         match found {
             Ok((front, answer)) => {
+                self.own = front.len();
                 self.told = front;
                 answer
             }
@@ -93,13 +94,14 @@ impl<J: Naming> Reader<J> {
         requires at_most { workers ≤ 16 }
         ensures { MatchResult result (λ table. Answers J.catalogue self.old n plan.now self.new table) (Refuses J.catalogue self.old n self.new) }
     {
-        let Some(inner) = self.inner.take() else {
-            return Err(AskFault::Closed);
-        };
-        let (inner, found) = ask_with(rt, inner, &self.told, alloc, n, plan, workers, gate);
+        let inner = self.inner.take().unwrap();
+        let (inner, found) = ask_with(
+            rt, inner, &self.told, self.own, alloc, n, plan, workers, gate,
+        );
         self.inner = Some(inner);
         match found {
             Ok((front, answer)) => {
+                self.own = front.len();
                 self.told = front;
                 answer
             }

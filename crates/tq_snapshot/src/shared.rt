@@ -65,21 +65,21 @@ impl Model for Shared {
 }
 
 impl Shared {
-    /// With these events, which the front has. `AllocError` where a growth was refused.
+    /// With these events, a history over the catalogue, which the front has. `AllocError` only if an allocation failed.
     pub fn filled(
         alloc: Global,
         catalogue: Catalogue,
         events: &[Event],
         front: Front,
     ) -> Result<Shared, AllocError>
-        requires { length events.now ≤ 16777216 }
+        requires few { length events.now ≤ 16777216 }
+        requires history { IsHistory catalogue events.now }
         ensures { IfOk result (λ s. s ≡ record { catalogue = catalogue; events = events.now; front = front }) }
     {
         let mut db = Db::new(alloc, catalogue)?;
         for event in events {
-            if !db.apply(event)? {
-                return Err(AllocError);
-            }
+            let taken = db.apply(event)?;
+            prove!(taken);
         }
         Ok(Shared { db, front })
     }

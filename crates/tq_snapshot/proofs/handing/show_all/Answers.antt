@@ -1,16 +1,20 @@
-use Rattle.std.proofs.Common.{◌≡◌, ◌++◌, drop, fold, ◌∙◌}
-use Rattle.tq_snapshot.specs.Held.{IsOf, absorbed, held}
+use Rattle.std.proofs.Common.{◌≡◌, ◌++◌, List, drop, fold, sym, ap, ◌∙◌}
+use mathlib.Core.List.{IsPrefix}
+use Rattle.tq_event.specs.declared.event.Event.{Event}
+use Rattle.tq_snapshot.specs.Held.{Held, IsOf, absorbed, held}
+use Rattle.tq_snapshot.proofs.FindLemmas.{goes_on}
 use Rattle.tq_snapshot.proofs.HandingLemmas.{hand_all, of_book, publishes}
 use Rattle.tq_snapshot.proofs.handing.show_all.Goals as goal
 
 pub publish_as-requires : goal.publish_as-requires
-publish_as-requires g c next is views holds at =
+publish_as-requires g c next is =
     let w = c.args.writer in
     let all = w.desk.shown.value.events ++ c.args.pending.now in
     let to = held g.J.Naming.catalogue g.J.Naming.book all in
     let taken : fold absorbed w.desk.shown.value (drop w.behind w.log.items) ≡ to = hand_all _ _ w.desk.shown.value (drop w.behind w.log.items) c.args.pending.now c.requires.shows c.requires.handed in
-    let of : IsOf g.J.Naming.catalogue g.J.Naming.book next = of_book g.J.Naming.catalogue g.J.Naming.book next all (is ∙ taken) in
-    (tt, of, of)
+    let is_all : next ≡ to = is ∙ taken in
+    let more : IsPrefix w.desk.shown.value.events next.events = (c.args.pending.now, sym (ap (λ (v : Held). v.events) is_all)) in
+    goes_on g.J.Naming.catalogue g.J.Naming.book _ _ w.desk.shown.value next (of_book g.J.Naming.catalogue g.J.Naming.book next all is_all) more
 
 pub returns : goal.returns
 returns g c =

@@ -1,0 +1,5 @@
+use Rattle.tq_snapshot.proofs.FindLemmas.{admits}
+use Rattle.tq_snapshot.proofs.writer.Writer.admit.Goals as goal
+
+pub reader-requires : goal.reader-requires
+reader-requires g c = admits g.J.Naming.catalogue g.J.Naming.book
