@@ -1,7 +1,6 @@
-use Rattle.std.proofs.Common.{◌≡◌, ◌++◌, List, drop, fold, sym, ap, ◌∙◌}
+use Rattle.std.proofs.Common.{◌≡◌, ◌++◌, drop, fold, sym, ap, ◌∙◌}
 use mathlib.Core.List.{IsPrefix}
-use Rattle.tq_event.specs.declared.event.Event.{Event}
-use Rattle.tq_snapshot.specs.Held.{Held, IsOf, absorbed, held}
+use Rattle.tq_snapshot.specs.Held.{Held, absorbed, held}
 use Rattle.tq_snapshot.proofs.FindLemmas.{goes_on}
 use Rattle.tq_snapshot.proofs.HandingLemmas.{hand_all, of_book, publishes}
 use Rattle.tq_snapshot.proofs.handing.show_all.Goals as goal
