@@ -17,6 +17,8 @@ import sys
 import tempfile
 
 SECONDS = 120
+# Most statements are asked of small tables, some of larger ones; these join fewer sources.
+FEW_ROWS, MANY_ROWS, EACH = 25, 2000, 20
 WORDS = ["", "a", "b", "ann", "bob", "o'k", 'say "x"', "x,y", "ä", "longer than fourteen", "abcdefghijklmnopqrstuvwxyz", " "]
 SIGNS = ["=", "=", "=", "<>", "<", "<=", ">", ">="]
 
@@ -78,11 +80,11 @@ def table(draw, schema, rows):
 
 
 class Query:
-    """A random query over random sources of these tables, with items of these kinds as far as it can."""
+    """A random query over at most so many sources of these tables, with items of these kinds as far as it can."""
 
-    def __init__(self, draw, schemas, kinds):
+    def __init__(self, draw, schemas, kinds, most):
         self.draw = draw
-        count = draw.choice([1, 1, 1, 2, 2, 3, 4])
+        count = min(most, draw.choice([1, 1, 1, 2, 2, 3, 4]))
         self.sources = [(draw.choice(schemas), f"s{place}") for place in range(count)]
         self.columns = [(f"{alias}.{name}", kind) for schema, alias in self.sources for name, kind in schema.columns]
         self.kinds = kinds
@@ -141,22 +143,25 @@ class Query:
         return text
 
 
-def statement(draw, schemas):
+def statement(draw, schemas, most):
     text = "VALIDTIME "
     if draw.random() < 0.3:
         start = draw.randint(0, 40)
         end = draw.choice(["forever", str(start + draw.randint(1, 30))])
         text += f"PERIOD '[{start} - {end})' "
     kinds = [draw.choice(["int", "text"]) for _ in range(draw.randint(1, 3))]
-    text += Query(draw, schemas, kinds).text()
+    text += Query(draw, schemas, kinds, most).text()
     if draw.random() < 0.2:
-        text += " EXCEPT ALL " + Query(draw, schemas, kinds).text()
+        text += " EXCEPT ALL " + Query(draw, schemas, kinds, most).text()
     return text
 
 
 def ran(command, lines=None):
-    """Standard output, standard error and status of the command."""
-    done = subprocess.run(command, input=lines, stdout=subprocess.PIPE, stderr=subprocess.PIPE, timeout=SECONDS)
+    """Standard output, standard error and status of the command; no status if it takes too long."""
+    try:
+        done = subprocess.run(command, input=lines, stdout=subprocess.PIPE, stderr=subprocess.PIPE, timeout=SECONDS)
+    except subprocess.TimeoutExpired:
+        return b"", b"", None
     return done.stdout, done.stderr, done.returncode
 
 
@@ -174,9 +179,10 @@ def compare_statement(options, number):
     """Whether both builds answer the statement of this number alike, and what it was."""
     draw = random.Random(options.seed * 1_000_003 + number)
     with tempfile.TemporaryDirectory(prefix="tq-") as folder:
-        most = 3000 if number % 50 == 0 else 60
+        is_large = number % EACH == 0
+        most = MANY_ROWS if is_large else FEW_ROWS
         schemas, tables = tables_in(pathlib.Path(folder), draw, lambda: draw.randint(0, most))
-        asked = statement(draw, schemas)
+        asked = statement(draw, schemas, 1 if is_large else 4)
         wanted = ran([options.old, "ask", *tables, asked])
         for workers in (1, draw.randint(2, 16)):
             if ran([options.new, "ask", *tables, "--workers", str(workers), asked]) != wanted:
@@ -200,7 +206,7 @@ def session_lines(draw, schemas):
         elif turn < 0.8:
             lines.append("publish")
         elif turn < 0.97:
-            lines.append(f"ask {draw.randint(0, 80)} {draw.choice([1, 1, 2, 5, 16])} {statement(draw, schemas)}")
+            lines.append(f"ask {draw.randint(0, 80)} {draw.choice([1, 1, 2, 5, 16])} {statement(draw, schemas, 3)}")
         else:
             lines.append(draw.choice(["", "nonsense", "start t x 1", "ask 1 17 x", "end  5 1"]))
     return "".join(line + "\n" for line in lines).encode()
