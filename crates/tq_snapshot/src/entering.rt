@@ -30,7 +30,7 @@ type SharedReading<J> = Reading<Shared, LastFind, Published<J>>;
 pub(crate) type Found<'b> = Result<(Front, Result<Table<'b>, AskFault>), Missed>;
 
 // Whether what is shown begins with what the reader knows. It begins with the first `own` of these events, which the
-// reader found itself. Only if a note told of more are both compared: no proof knows whether the note was made before
+// reader found itself. Both are compared only if a note has more events: no proof knows whether the note was made before
 // the reader entered.
 fn reaches(shared: &Shared, told: &Front, own: u64) -> bool
     requires book { shared.now.front.book ≡ told.now.book }
@@ -43,7 +43,7 @@ fn reaches(shared: &Shared, told: &Front, own: u64) -> bool
     told.begins(shared.front())
 }
 
-// What is found, unless a note told of more.
+// What is found, unless a note has more events.
 fn found_in(shared: &Shared, told: &Front, own: u64) -> Result<Front, Missed>
     requires book { shared.now.front.book ≡ told.now.book }
     requires own { FindsOwn told.now.list own shared.now.front.list }
@@ -84,7 +84,7 @@ fn begin<J: Naming>(
 }
 
 /// What is found. It begins with the reader's last find by the rule of the shared value, so Stale is answered only if
-/// a note told of more.
+/// a note has more events.
 pub(crate) fn enter<J: Naming>(
     reader: SharedReader<J>,
     told: &Front,

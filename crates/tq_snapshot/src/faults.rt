@@ -62,7 +62,7 @@ pub struct Closed;
 pub(crate) enum Missed {
     /// Nothing is shown any more.
     Shut,
-    /// A note told of more events than were found.
+    /// A note has more events than were found.
     Stale,
 }
 

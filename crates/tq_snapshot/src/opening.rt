@@ -53,7 +53,7 @@ impl<J: Naming> Writer<J> {
         })
     }
 
-    // A reader that was told what is published. It enters, so that these events are its own find.
+    // A reader that knows what is published. It enters, so that these events are its own find.
     fn admit(&self) -> Result<Reader<J>, PlaceRefused>
         ensures { IfOk result (λ r. r ≡ self.now.published) }
     {

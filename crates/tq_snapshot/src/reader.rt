@@ -23,7 +23,7 @@ pub struct Reader<J: Naming> {
     // It is taken out while it enters, and is put back then.
     pub(crate) inner: Option<SharedReader<J>>,
     pub(crate) told: Front,
-    // The first so many of these events are its own find; the others came by a note.
+    // The first `own` of these events are its own find; the others came by a note.
     pub(crate) own: u64,
 }
 

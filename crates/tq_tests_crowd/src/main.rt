@@ -1,7 +1,7 @@
 //! Tests of a writer and readers of a store, one after another and concurrently, on threads of their own: each block of
 //! stdin is a call and what it prints (tq_tests_script). Besides the calls that make table files there are:
 //!
-//!     ask N W ASKS            two readers ask for the names as of the first N events, so many times each, by W workers
+//!     ask N W ASKS            two readers ask for the names as of the first N events, ASKS times each, by W workers
 //!                             (0: by the call that starts no thread), and go on while there are fewer events.
 //!                             Meanwhile the writer ends cat at 40 and starts zed in toys at 50 a thousand times, and
 //!                             publishes each of these events by itself
