@@ -1,9 +1,11 @@
-//! Runs pieces of a known cost in several ways, and prints what came out: never a time, so that each run of
-//! it prints the same. `bench/claims.py` times it from outside.
+//! Runs pieces of a known cost in several ways and prints the results. It prints no times, so every run prints the
+//! same; `bench/claims.py` times it from outside.
 //!
-//! `bench_claims loop N` runs N steps in a plain loop, `here N` the same as pieces on the calling thread,
-//! `with N W` the same among W workers, and `start N W` makes N runs of W workers and as many pieces. Without
-//! words it does a little of each.
+//!     bench_claims loop N      N steps in a plain loop
+//!     bench_claims here N      the same steps as pieces on the calling thread
+//!     bench_claims with N W    the same pieces with W workers
+//!     bench_claims start N W   N runs of W workers, with one piece for each worker
+//!     bench_claims             a little of each
 #![tactic(auto)]
 
 ghost use Rattle.std.specs.Prelude.{◌≡◌, ◌≤◌, ◌^◌, ◌*◌, ◌%◌};
@@ -13,7 +15,7 @@ use std::thread::Threads;
 use std::{env, io};
 use tq_run::{Open, Work, run_here, run_with};
 
-// What one step gives: a few instructions, so that what comes around it shows.
+// The result of one step: a few instructions, so that the overhead of a piece is visible.
 fn mixed(i: u32) -> u32 {
     (i ^ (i >> 3)).wrapping_mul(2654435761)
 }
@@ -40,7 +42,7 @@ impl Work for Steps {
     }
 }
 
-// All results in one number, which depends on their order.
+// All results as one number, which depends on their order.
 fn digest(results: &[u32]) -> u32 {
     let mut digest = 0u32;
     for x in results {
@@ -58,7 +60,7 @@ fn run_loop(alloc: Global, steps: u32) -> Result<Vec<u32>, AllocError> {
     Ok(results)
 }
 
-// How many of the runs over as many pieces as workers gave a list.
+// The number of runs that succeeded, each with as many pieces as workers.
 fn started<R: Threads + Sync>(rt: &R, alloc: Global, runs: u32, workers: u32) -> u32
     requires { (1 ≤ workers) × (workers ≤ 16) }
 {
@@ -71,7 +73,7 @@ fn started<R: Threads + Sync>(rt: &R, alloc: Global, runs: u32, workers: u32) ->
     given
 }
 
-// A number of the command line, or the greatest one below it that is allowed.
+// A number of the command line, at most `most`; 0 if the word is missing or not a number.
 fn number(word: Option<&String>, most: u32) -> u32
     ensures { result ≤ most }
 {
@@ -89,7 +91,7 @@ fn print_digest(rt: &impl Print, name: &str, results: &[u32]) -> io::Result<()> 
     )
 }
 
-// A little of each way; those with the same steps give the same digest.
+// A little of each way. Ways with the same steps print the same digest.
 fn print_all<R: Threads + Sync + Print>(rt: &R, alloc: Global) -> io::Result<()> {
     let steps = Steps { pieces: 1000 };
     print_digest(rt, "loop", run_loop(alloc, 1000)?.as_slice())?;

@@ -1,27 +1,27 @@
-// What a reader asks: some neighbouring keys at one instant, as of some count of events.
+// The queries of a reader: some neighbouring keys at one instant, as of some count of events.
 
 ghost use Rattle.std.specs.Prelude.{◌≡◌};
 
 use std::alloc::Global;
 use tq_base::{Catalogue, Form};
 use tq_plan::plan;
-use tq_snapshot::{Naming, Reader};
+use tq_snapshot::{Reader, StoreId};
 use tq_sql::read;
 
-// How many neighbouring keys a question asks for.
+// The number of neighbouring keys of a query.
 const NEIGHBOURS: u32 = 250;
 
-// The instant that is asked for. The rows that a store began with are valid then.
+// The instant of all queries. The rows that a store began with are valid then.
 const AT: u64 = 100_000_000;
 
-/// How many questions each reader asks for the rows that a store began with, and how many these are.
+/// The number of rows that a store began with, and the number of queries of each reader for them.
 #[derive(Clone, Copy)]
 pub struct Questions {
     pub rows: u32,
     pub count: u32,
 }
 
-/// How many questions were answered, and how many rows were found.
+/// The number of answered queries, and the number of rows found.
 #[derive(Clone, Copy)]
 pub struct Asked {
     pub answers: u64,
@@ -29,7 +29,7 @@ pub struct Asked {
 }
 
 impl Asked {
-    /// These and others.
+    /// The sum of both.
     pub fn and(self, other: Asked) -> Asked {
         Asked {
             answers: self.answers.saturating_add(other.answers),
@@ -38,13 +38,13 @@ impl Asked {
     }
 }
 
-// A number up to the limit, far from what the numbers beside this one give.
+// A number below the limit; consecutive numbers give distant results.
 fn spread(number: u32, limit: u32) -> u32 {
     (u64::from(number) * 2_654_435_761 % (u64::from(limit) + 1)) as u32
 }
 
-// How many of the neighbouring rows from the first one on are found as of the first `n` events.
-fn ask_one<J: Naming>(
+// The number of neighbouring rows, from `first` on, found as of the first `n` events.
+fn ask_one<J: StoreId>(
     alloc: Global,
     catalogue: &Catalogue,
     reader: &mut Reader<J>,
@@ -64,8 +64,8 @@ fn ask_one<J: Naming>(
     Ok(table.rows.len() as u64)
 }
 
-/// Asks all questions; those of two readers differ. What is not answered is not counted.
-pub fn ask_all<J: Naming>(
+/// Runs all queries; those of two readers differ. Queries without an answer are not counted.
+pub fn ask_all<J: StoreId>(
     alloc: Global,
     catalogue: &Catalogue,
     mut reader: Reader<J>,

@@ -1,4 +1,4 @@
-// Four readers, and the writer beside them.
+// Four readers, and the writer concurrently.
 
 ghost use Rattle.std.specs.Prelude.{◌≡◌};
 
@@ -11,12 +11,12 @@ use std::sync::atomic::{AtomicBool, Ordering};
 use std::thread::{Threads, join};
 use std::time::{Clock, Duration, Instant};
 use tq_base::Catalogue;
-use tq_snapshot::{Naming, Reader, Writer};
+use tq_snapshot::{Reader, StoreId, Writer};
 
-/// How many readers there are.
+/// The number of readers.
 pub const READERS: u32 = 4;
 
-/// What the readers found and in how many microseconds, and how many lines were written beside them.
+/// What the readers found and in how many microseconds, and the number of lines that were written meanwhile.
 #[derive(Clone, Copy)]
 pub struct Told {
     pub asked: Asked,
@@ -24,8 +24,8 @@ pub struct Told {
     pub micros: u64,
 }
 
-// What a reader finds, where there is one.
-fn ask_next<J: Naming>(
+// What a reader finds, if there is one.
+fn ask_next<J: StoreId>(
     alloc: Global,
     catalogue: &Catalogue,
     reader: Option<Reader<J>>,
@@ -44,7 +44,7 @@ fn ask_next<J: Naming>(
 }
 
 // What two readers find.
-fn ask_two<J: Naming + Send + Sync, R: Threads + Sync>(
+fn ask_two<J: StoreId + Send + Sync, R: Threads + Sync>(
     rt: &R,
     alloc: Global,
     catalogue: &Catalogue,
@@ -69,7 +69,7 @@ fn ask_two<J: Naming + Send + Sync, R: Threads + Sync>(
 }
 
 // What all four find.
-fn ask_four<J: Naming + Send + Sync, R: Threads + Sync>(
+fn ask_four<J: StoreId + Send + Sync, R: Threads + Sync>(
     rt: &R,
     alloc: Global,
     catalogue: &Catalogue,
@@ -93,8 +93,8 @@ fn ask_four<J: Naming + Send + Sync, R: Threads + Sync>(
     one.and(another)
 }
 
-// What the writer does meanwhile: how many lines it published, where none was refused.
-fn write_beside<J: Naming, R: Wait + Clock>(
+// The writer's work meanwhile: the number of lines that it published, if none was refused.
+fn write_beside<J: StoreId, R: Wait + Clock>(
     rt: &R,
     alloc: Global,
     mut writer: Writer<J>,
@@ -109,8 +109,8 @@ fn write_beside<J: Naming, R: Wait + Clock>(
     (writer, lines)
 }
 
-/// Readers ask while the writer keeps to its pace. The store is closed then.
-pub fn converse<J: Naming + Send + Sync, R: Threads + Wait + Clock + Sync>(
+/// Runs the readers' queries while the writer keeps its pace. Then closes the store.
+pub fn run_session<J: StoreId + Send + Sync, R: Threads + Wait + Clock + Sync>(
     rt: &R,
     alloc: Global,
     writer: Writer<J>,

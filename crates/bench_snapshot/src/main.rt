@@ -1,13 +1,13 @@
-//! Holds rows in a store of one writer and four readers, has the readers ask, each on a thread of its own, while the
-//! writer rests or goes on, and prints what came out. Times are printed only where words are given, so that each run
+//! Fills a store with one writer and four readers. The readers query it, each on a thread of its own, while the writer
+//! rests or continues. It prints counts, and times only if there are words on the command line, so that each run
 //! without words prints the same.
 //!
-//!     bench_snapshot                  2,000 rows and 100 questions, in each of these ways
-//!     bench_snapshot db N             N rows in one `Db` alone
+//!     bench_snapshot                  2,000 rows and 100 queries, in each of these ways
+//!     bench_snapshot db N             N rows in one `Db`
 //!     bench_snapshot store N          N rows in a store, published by the thousand
-//!     bench_snapshot rest N Q         the same, and Q questions of each reader while the writer rests
-//!     bench_snapshot write N Q RATE   the same while it starts and ends rows, RATE lines a second (0: as many as it can),
-//!                                     and publishes after each thousand of them
+//!     bench_snapshot rest N Q         the same, and Q queries of each reader while the writer rests
+//!     bench_snapshot write N Q RATE   the same while the writer starts and ends rows, RATE lines a second, or
+//!                                     without a limit (0), and publishes after each thousand of them
 #![tactic(auto)]
 
 ghost use Rattle.std.specs.Prelude.{◌≡◌, ◌≤◌, length};
@@ -19,7 +19,7 @@ mod rows;
 mod writing;
 
 use asking::Questions;
-use crowd::{READERS, Told, converse};
+use crowd::{READERS, Told, run_session};
 use rows::{fill_db, no_rows};
 use std::alloc::Global;
 use std::marker::Brand;
@@ -28,10 +28,10 @@ use std::thread::Threads;
 use std::time::Clock;
 use std::{env, io};
 use tq_event::{Loaded, MAX_EVENTS};
-use tq_snapshot::{Naming, Opened, open};
+use tq_snapshot::{Opened, StoreId, open};
 use writing::{Pace, fill_store};
 
-/// In which way rows are held, and what is done with them.
+/// Where rows are stored, and what is done with them.
 #[derive(Clone, Copy, PartialEq, Eq)]
 enum Way {
     Db,
@@ -40,7 +40,7 @@ enum Way {
     Write,
 }
 
-/// What is to be done, with how many rows, questions of each reader and lines a second.
+/// The task: the ways, with the numbers of rows, of queries of each reader and of lines a second.
 #[derive(Clone, Copy)]
 struct Task {
     way: Option<Way>,
@@ -48,7 +48,7 @@ struct Task {
     rate: u32,
 }
 
-// The way that the word names.
+// The way with this name.
 fn way_of(word: &str) -> Option<Way> {
     match word {
         "db" => Some(Way::Db),
@@ -59,7 +59,7 @@ fn way_of(word: &str) -> Option<Way> {
     }
 }
 
-// The task that the words name.
+// The task of the command line.
 fn task_of(rt: &HostRuntime) -> anyhow::Result<Task> {
     let mut task = Task {
         way: None,
@@ -81,7 +81,7 @@ fn task_of(rt: &HostRuntime) -> anyhow::Result<Task> {
     Ok(task)
 }
 
-// Prints what readers and the writer told, and their times where these are asked for.
+// Prints what readers and writer did, with times if `timed` is set.
 fn print_told(rt: &impl Print, told: &Told, timed: bool) -> io::Result<()> {
     println!(rt; "answers {}", told.asked.answers)?;
     println!(rt; "rows found {}", told.asked.rows)?;
@@ -92,8 +92,8 @@ fn print_told(rt: &impl Print, told: &Told, timed: bool) -> io::Result<()> {
     Ok(())
 }
 
-// Holds rows in a store, and has readers ask.
-fn hold<J: Naming + Send + Sync, R: Threads + Wait + Clock + Print + Sync>(
+// Fills a store and lets the readers query it.
+fn hold<J: StoreId + Send + Sync, R: Threads + Wait + Clock + Print + Sync>(
     rt: &R,
     alloc: Global,
     opened: Opened,
@@ -116,13 +116,13 @@ fn hold<J: Naming + Send + Sync, R: Threads + Wait + Clock + Print + Sync>(
         } else {
             Pace::Rest
         };
-        let told = converse(rt, alloc, writer, readers, task.questions, pace)?;
+        let told = run_session(rt, alloc, writer, readers, task.questions, pace)?;
         print_told(rt, &told, task.way.is_some())?;
     }
     Ok(())
 }
 
-// Does the task in this way.
+// Runs the task in one way.
 fn run<R: AllocGlobal + Threads + Wait + Clock + Print + Sync>(
     rt: &R,
     task: &Task,

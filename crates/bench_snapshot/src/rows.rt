@@ -1,23 +1,23 @@
-// The rows: each starts at the instant of its number and has a key of its own.
+// The rows: each starts at the instant of its number and has its own key.
 
 ghost use Rattle.std.specs.Prelude.{◌≡◌, ◌≤◌, IfOk, length};
 ghost use Rattle.tq_event.specs.History.{IsHistory};
 
 use anyhow::anyhow;
 use std::alloc::Global;
-use tq_base::{Form, Instant, Items, Value, Values};
+use tq_base::{Form, Instant, List, Value, Values};
 use tq_event::laws::{loaded_is_history, loaded_is_within};
 use tq_event::{Event, FileBytes, Loaded, MAX_EVENTS, TableFile, load};
 use tq_store::Db;
 
-/// A table of a number and a text, and no event.
+/// A table with a number and a text, without events.
 pub fn no_rows(alloc: Global) -> anyhow::Result<Loaded>
     ensures history { IfOk result (λ l. IsHistory l.catalogue l.events) }
     ensures few { IfOk result (λ l. length l.events ≤ 0) }
 {
     let mut files = Vec::new(alloc);
     files.push(TableFile {
-        name: Items::of(b"t".to_vec(alloc)?),
+        name: List::of(b"t".to_vec(alloc)?),
         bytes: FileBytes::of(b"k:int,v:text,from,to\n".to_vec(alloc)?),
     })?;
     loaded_is_history();
@@ -40,7 +40,7 @@ pub fn instant(number: u32) -> anyhow::Result<Instant> {
     Instant::new(u64::from(number)).ok_or(anyhow!("an instant"))
 }
 
-/// So many rows in one `Db`.
+/// `rows` rows in one `Db`.
 pub fn fill_db(alloc: Global, rows: u32) -> anyhow::Result<Db> {
     let mut db = Db::new(alloc, no_rows(alloc)?.catalogue)?;
     for row in 0..rows {

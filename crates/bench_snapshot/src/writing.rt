@@ -1,4 +1,4 @@
-// What the writer does.
+// The work of the writer.
 
 use crate::rows::{instant, values_of};
 use std::alloc::Global;
@@ -6,20 +6,20 @@ use std::sync::Wait;
 use std::sync::atomic::{AtomicBool, Ordering};
 use std::thread::sleep;
 use std::time::{Clock, Duration, Instant};
-use tq_snapshot::{Naming, Writer};
+use tq_snapshot::{StoreId, Writer};
 
-/// How many lines are published at once.
+/// The number of lines that are published together.
 const AT_ONCE: u32 = 1000;
 
-/// How many lines the writer appends in a second, 0 being as many as it can.
+/// How many lines the writer appends in a second; 0 is no limit.
 #[derive(Clone, Copy)]
 pub enum Pace {
     Rest,
     Rate(u32),
 }
 
-/// Starts so many rows, and publishes them by the thousand.
-pub fn fill_store<J: Naming, R: Wait>(
+/// Starts `rows` rows, and publishes them by the thousand.
+pub fn fill_store<J: StoreId, R: Wait>(
     rt: &R,
     alloc: Global,
     writer: &mut Writer<J>,
@@ -35,8 +35,8 @@ pub fn fill_store<J: Naming, R: Wait>(
     Ok(())
 }
 
-// Starts and ends a row in turn, a thousand lines in all, and publishes them.
-fn write_lines<J: Naming, R: Wait>(
+// Starts and ends rows in turn, a thousand lines in all, and publishes them.
+fn write_lines<J: StoreId, R: Wait>(
     rt: &R,
     alloc: Global,
     writer: &mut Writer<J>,
@@ -52,7 +52,7 @@ fn write_lines<J: Naming, R: Wait>(
     Ok(())
 }
 
-// The time that so many lines may take.
+// The time that `lines` lines may take.
 fn share(lines: u32, rate: u32) -> Duration {
     match u64::from(lines)
         .saturating_mul(1_000_000)
@@ -63,7 +63,7 @@ fn share(lines: u32, rate: u32) -> Duration {
     }
 }
 
-// Waits until so much time has gone by since the beginning.
+// Waits until this time has passed since the beginning.
 fn wait_until<R: Clock>(rt: &R, begin: &Instant, share: Duration) -> anyhow::Result<()> {
     let elapsed = begin.elapsed(rt)?;
     if elapsed < share {
@@ -72,9 +72,8 @@ fn wait_until<R: Clock>(rt: &R, begin: &Instant, share: Duration) -> anyhow::Res
     Ok(())
 }
 
-/// Goes on until it is told that all is done, or is refused; how many lines were published. The first row is the
-/// given one.
-pub fn write_on<J: Naming, R: Wait + Clock>(
+/// Writes from row `first` on until `done` is set or a call is refused. Returns the number of published lines.
+pub fn write_on<J: StoreId, R: Wait + Clock>(
     rt: &R,
     alloc: Global,
     writer: &mut Writer<J>,

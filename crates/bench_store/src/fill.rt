@@ -1,17 +1,17 @@
-//! A history of rows of a table, of which each key has four, one after the other.
+//! A history of rows of a table; each key has four, one after the other.
 
 use std::alloc::Global;
-use tq_base::{Form, Instant, Items, Value, Values};
+use tq_base::{Form, Instant, List, Value, Values};
 use tq_event::{Event, FileBytes, TableFile, load};
 use tq_store::Db;
 
-/// How many rows a key has.
+/// The number of rows of a key.
 pub const ROWS_OF_A_KEY: u32 = 4;
 
-/// How many numbers are left out between the keys that change one after the other.
+/// The distance between the keys of consecutive changes.
 const STEP: u64 = 7919;
 
-// The key with the number changes, among so many keys.
+// The key of the change with this number, among `keys` keys.
 fn turn(number: u32, keys: u32) -> u32 {
     (u64::from(number) * STEP % u64::from(keys.max(1))) as u32
 }
@@ -25,13 +25,13 @@ struct Filled {
 }
 
 impl Filled {
-    // The next event of the history happens at the next instant.
+    // The instant of the next event.
     fn next(&mut self) -> Option<Instant> {
         self.last = self.last.saturating_add(1);
         Instant::new(self.last)
     }
 
-    // A row of the key starts; its number.
+    // Starts a row of the key and returns its number.
     fn start(&mut self, alloc: Global, key: u32) -> anyhow::Result<u32> {
         let mut values = Vec::new(alloc);
         values.push(Value::int(i64::from(key)))?;
@@ -51,7 +51,7 @@ impl Filled {
         Ok(row)
     }
 
-    // The row ends.
+    // Ends the row.
     fn end(&mut self, row: u32) -> anyhow::Result<()> {
         if let Some(at) = self.next()
             && self.db.count() < 16777216
@@ -62,18 +62,18 @@ impl Filled {
     }
 }
 
-// A table of two columns of numbers.
+// A table with two columns of numbers, without rows.
 fn no_rows(alloc: Global) -> anyhow::Result<Db> {
     let mut files = Vec::new(alloc);
     files.push(TableFile {
-        name: Items::of(b"rows".to_vec(alloc)?),
+        name: List::of(b"rows".to_vec(alloc)?),
         bytes: FileBytes::of(b"key:int,number:int,from,to\n".to_vec(alloc)?),
     })?;
     let loaded = load(alloc, files, 0, Form::Numbers)?;
     Ok(Db::new(alloc, loaded.catalogue)?)
 }
 
-/// The history: a row of each key starts, the rows of keys in turn are followed by others, and the last rows end.
+/// The history: a row of each key starts, the rows of the keys are replaced in turn, and the last rows end.
 pub fn fill(alloc: Global, count: u32) -> anyhow::Result<Db> {
     let keys = count / ROWS_OF_A_KEY;
     let mut filled = Filled {

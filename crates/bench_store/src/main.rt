@@ -1,9 +1,9 @@
-//! Fills a history with rows, asks it for the rows of some keys at some instants as of some counts, and prints counts.
+//! Fills a history with rows, queries the rows of some keys at some instants as of some counts, and prints counts.
 //!
-//!     bench_store            2,000 rows, and 100 questions, both ways
-//!     bench_store fill N     N rows alone: N starts, and as many ends
-//!     bench_store ask N Q    the same, and Q statements, read, planned and answered
-//!     bench_store read N Q   the same, and the rows of Q questions alone, with the nodes that are read
+//!     bench_store            2,000 rows, and 100 queries, both ways
+//!     bench_store fill N     N rows: N starts, and N ends
+//!     bench_store ask N Q    the same, and Q statements, parsed, planned and executed
+//!     bench_store read N Q   the same, and only the rows of Q queries, with the number of nodes that are read
 //!
 //! Each key has four rows, one after the other.
 #![tactic(auto)]
@@ -15,7 +15,7 @@ use fill::fill;
 use questions::{Found, ask, count_levels};
 use std::env;
 
-/// What is to be done, with how many rows and questions.
+/// The task, with the numbers of rows and queries.
 #[derive(Clone, Copy)]
 struct Task {
     rows: u32,
@@ -24,7 +24,7 @@ struct Task {
     reads: bool,
 }
 
-// The task that the words name.
+// The task of the command line.
 fn task_of(rt: &HostRuntime) -> anyhow::Result<Task> {
     let mut task = Task {
         rows: 2000,

@@ -1,19 +1,19 @@
-//! Questions of one instant and some neighbouring keys, as of random counts of events.
+//! Queries of some neighbouring keys at one instant, as of random counts of events.
 
 use crate::fill::ROWS_OF_A_KEY;
 use std::alloc::{AllocError, Global};
 use tq_arena::Meter;
-use tq_base::{Bound, Form, Instant, KeyRange, Period, Seen};
+use tq_base::{Bound, Form, Instant, KeyRange, Period, ValueRef};
 use tq_eval::answer;
 use tq_plan::plan;
 use tq_sql::read;
 use tq_store::Db;
 use tq_table::Table;
 
-/// How many neighbouring keys a question asks for.
+/// The number of neighbouring keys of a query.
 const NEIGHBOURS: u32 = 250;
 
-/// What questions found: rows, the sum of their numbers, and the reads of nodes, where these are counted.
+/// The results of queries: rows, the sum of their numbers, and the nodes read, if these are counted.
 #[derive(Drop)]
 pub struct Found {
     pub rows: u64,
@@ -30,7 +30,7 @@ impl Found {
         }
     }
 
-    // A row of this number was found.
+    // Adds a row with this number.
     fn add(&mut self, number: u64) {
         self.rows = self.rows.saturating_add(1);
         self.numbers = self.numbers.saturating_add(number);
@@ -54,7 +54,7 @@ impl Draws {
     }
 }
 
-/// A question: as of how many events, which keys, when.
+/// A query: the count of events, the range of keys, and the period.
 #[derive(Clone, Copy)]
 struct Question {
     n: u32,
@@ -62,7 +62,7 @@ struct Question {
     period: Period,
 }
 
-// The next question of a history of so many events, each at the instant of its place.
+// The next query of a history of `events` events, each at the instant of its number.
 fn draw(draws: &mut Draws, events: u32) -> Option<Question> {
     let keys = events / 2 / ROWS_OF_A_KEY;
     let n = draws.next(events);
@@ -76,7 +76,7 @@ fn draw(draws: &mut Draws, events: u32) -> Option<Question> {
     })
 }
 
-// The rows of the first table, whose nodes are counted as they are read.
+// Reads the rows of the first table, and counts the nodes that are read.
 fn read_one(
     db: &Db,
     question: &Question,
@@ -95,8 +95,8 @@ fn read_one(
     Ok(())
 }
 
-/// How many levels the first table's tree has in the middle of the history: for one key at one instant a node of each is
-/// read.
+/// The number of levels of the first table's tree in the middle of the history. A query of one key at one instant reads
+/// one node of each level.
 pub fn count_levels(db: &Db) -> anyhow::Result<u64> {
     let n = db.count();
     let at = u64::from(n / 2);
@@ -110,17 +110,17 @@ pub fn count_levels(db: &Db) -> anyhow::Result<u64> {
     Ok(meter.count())
 }
 
-// The numbers that stand in the table's first column.
+// Adds the numbers in the table's first column.
 fn add_numbers(table: &Table<'_>, found: &mut Found) {
     for line in 0..table.rows.len() {
-        match table.rows.row(line).at(0).seen() {
-            Seen::Int(number) => found.add(u64::try_from(number).unwrap_or(0)),
-            Seen::Text(_) => found.add(0),
+        match table.rows.row(line).at(0).as_ref() {
+            ValueRef::Int(number) => found.add(u64::try_from(number).unwrap_or(0)),
+            ValueRef::Text(_) => found.add(0),
         }
     }
 }
 
-// The answer of a statement that asks the same.
+// Executes a statement for the same rows.
 fn answer_one(
     alloc: Global,
     db: &Db,
@@ -147,7 +147,7 @@ fn answer_one(
     Ok(())
 }
 
-/// Has so many statements answered, or reads their rows alone and counts the nodes that are read.
+/// Runs `count` queries: as statements, or reading only their rows and counting the nodes that are read.
 pub fn ask(alloc: Global, db: &Db, count: u32, answered: bool) -> anyhow::Result<Found> {
     let mut draws = Draws { state: 12345 };
     let mut meter = Meter::new();

@@ -1,4 +1,4 @@
-//! A tree that is given one new key after the other.
+//! A tree into which new keys are inserted.
 
 ghost use Rattle.std.specs.Prelude.{◌≡◌, ◌≤◌, ◌%◌, ℕ, false};
 ghost use Rattle.tq_mvbt.specs.TreeState.{lives_of};
@@ -6,7 +6,7 @@ ghost use Rattle.tq_mvbt.specs.TreeState.{lives_of};
 use std::alloc::{AllocError, Global};
 use tq_mvbt::Tree;
 
-/// A tree each of whose keys ends in its number.
+/// A tree; each key ends in its number.
 #[derive(Drop)]
 pub struct Load {
     pub tree: Tree,
@@ -15,13 +15,13 @@ pub struct Load {
 }
 
 impl Load {
-    /// A tree of no key.
+    /// A tree without keys.
     pub fn new(alloc: Global) -> Result<Load, AllocError> {
         let tree = Tree::new(alloc)?;
         Ok(Load { tree, rows: 0 })
     }
 
-    /// Inserts the next key, with the number in front, while versions are left.
+    /// Inserts the next key, with `front` as its upper part, if a version is left.
     pub fn insert(&mut self, front: u64) -> Result<Option<u128>, AllocError> {
         let version = self.tree.version();
         if version >= 16777216 || self.rows == u32::MAX {
@@ -33,7 +33,7 @@ impl Load {
         Ok(Some(key))
     }
 
-    /// Deletes the key, if it lives and a version is left.
+    /// Deletes the key, if it is alive and a version is left.
     pub fn delete(&mut self, key: u128) -> Result<bool, AllocError> {
         let version = self.tree.version();
         if version >= 16777216 || key >= 79228162514264337593543950336 || !self.tree.alive(key) {

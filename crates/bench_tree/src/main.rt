@@ -1,11 +1,11 @@
-//! Puts the same keys into a multiversion tree and into a map of the standard library, and prints counts.
+//! Inserts the same keys into a multiversion tree and into a map of the standard library, and prints counts.
 //!
 //!     bench_tree            2,000 keys with 1,000 deletes, in the tree
 //!     bench_tree tree N     N keys with N / 2 deletes, in the tree
 //!     bench_tree map N      the same in a BTreeMap, without versions
-//!     bench_tree keys N     the keys alone
-//!     bench_tree scan N Q   the tree, and Q questions for 250 neighbouring keys at the version of the last insert
-//!     bench_tree all N Q    the tree, and Q questions for all keys at that version
+//!     bench_tree keys N     only the keys
+//!     bench_tree scan N Q   the tree, and Q queries of 250 neighbouring keys at the version of the last insert
+//!     bench_tree all N Q    the tree, and Q queries of all keys at that version
 //!     bench_tree range N Q  the keys in a BTreeMap, and Q ranges of 250 neighbouring keys
 #![tactic(auto)]
 
@@ -33,7 +33,7 @@ enum Mode {
     Range,
 }
 
-// The fronts of the keys, from a linear congruential generator.
+// The upper parts of the keys, from a linear congruential generator.
 fn fronts(alloc: Global, count: u32) -> Result<Vec<u64>, AllocError> {
     let mut all = Vec::new(alloc);
     let mut state: u64 = 12345;
@@ -46,14 +46,15 @@ fn fronts(alloc: Global, count: u32) -> Result<Vec<u64>, AllocError> {
     Ok(all)
 }
 
-// The place of the delete with the number, among so many keys; each place once, up to 7,919 keys apart.
+// The number of the key of a delete, among `count` keys. Each key is deleted once, and consecutive deletes are up to
+// 7,919 keys apart.
 fn place(number: usize, count: usize) -> usize
     requires { 0 < count }
 {
     (number as u128 * 7919 % count as u128) as usize
 }
 
-// The tree with all the keys, and half of them deleted again.
+// The tree with all keys, half of which are deleted again.
 fn fill_tree(alloc: Global, fronts: &[u64]) -> Result<Load, AllocError> {
     let mut load = Load::new(alloc)?;
     let mut keys = Vec::new(alloc);
@@ -71,7 +72,7 @@ fn fill_tree(alloc: Global, fronts: &[u64]) -> Result<Load, AllocError> {
     Ok(load)
 }
 
-// The map with all the keys, and half of them removed again.
+// The map with all keys, half of which are removed again.
 fn fill_map(alloc: Global, fronts: &[u64]) -> anyhow::Result<usize> {
     let mut map: BTreeMap<u128, u32> = BTreeMap::new(alloc);
     let mut keys = Vec::new(alloc);
@@ -89,7 +90,7 @@ fn fill_map(alloc: Global, fronts: &[u64]) -> anyhow::Result<usize> {
     Ok(map.len())
 }
 
-// All the keys, in order, as they are put into a tree or a map.
+// All keys in order, as they are inserted into a tree or a map.
 fn sorted_keys(alloc: Global, fronts: &[u64]) -> Result<Vec<u128>, AllocError> {
     let mut keys = Vec::new(alloc);
     for (row, front) in fronts.iter().enumerate() {
@@ -99,7 +100,7 @@ fn sorted_keys(alloc: Global, fronts: &[u64]) -> Result<Vec<u128>, AllocError> {
     Ok(keys)
 }
 
-// Fills a tree or a map, asks it, and prints what was found.
+// Fills a tree or a map, queries it, and prints the results.
 fn ask<R: Print>(
     rt: &R,
     alloc: Global,

@@ -1,4 +1,4 @@
-//! Questions of a tree at one version, and of a map.
+//! Queries of a tree at one version, and of a map.
 
 ghost use Rattle.std.specs.Prelude.{◌<◌};
 
@@ -8,10 +8,10 @@ use tq_arena::Meter;
 use tq_mvbt::Tree;
 use tq_scan::{Window, scan};
 
-/// How many neighbouring keys a question asks for.
+/// The number of neighbouring keys of a query.
 pub const NEIGHBOURS: usize = 250;
 
-/// What the questions found.
+/// The results of the queries.
 #[derive(Drop)]
 pub struct Answers {
     pub keys: u64,
@@ -19,14 +19,14 @@ pub struct Answers {
     pub reads: u64,
 }
 
-// The place of the question with the number, among so many keys.
+// The place of the query with this number, among `count` keys.
 fn place(number: u32, count: usize) -> usize
     requires { 0 < count }
 {
     (number as u128 * 104729 % count as u128) as usize
 }
 
-// The least of some neighbouring keys, and one above the greatest of them; the keys are in order.
+// The least of some neighbouring keys, and a key after the greatest of them. `sorted` is in order.
 fn neighbours(sorted: &[u128], number: u32) -> Option<(u128, u128)> {
     if sorted.is_empty() {
         return None;
@@ -37,7 +37,7 @@ fn neighbours(sorted: &[u128], number: u32) -> Option<(u128, u128)> {
     Some((*low, *high))
 }
 
-/// Asks for neighbouring keys at the version, so many times.
+/// Queries neighbouring keys at the version, `count` times.
 pub fn ask_tree(
     alloc: Global,
     tree: &Tree,
@@ -64,7 +64,7 @@ pub fn ask_tree(
     })
 }
 
-/// Asks for all keys at the version, so many times.
+/// Queries all keys at the version, `count` times.
 pub fn ask_all(
     alloc: Global,
     tree: &Tree,
@@ -88,7 +88,7 @@ pub fn ask_all(
     })
 }
 
-/// Takes neighbouring keys from the map, so many times; gives how many there were.
+/// Reads neighbouring keys of the map, `count` times. Returns the number of keys read.
 pub fn ask_map(
     alloc: Global,
     map: &BTreeMap<u128, u32>,

@@ -1,4 +1,4 @@
-//! How large a tree is.
+//! The size of a tree.
 
 ghost use Rattle.std.specs.Prelude.{◌<◌, length};
 
@@ -6,7 +6,7 @@ use std::alloc::AllocError;
 use tq_arena::{Meter, NodeNo};
 use tq_mvbt::{Node, Tree};
 
-/// What is counted of a tree: its nodes up to its last leaf.
+/// The counts of a tree: its nodes up to its last leaf.
 #[derive(Drop)]
 pub struct Sizes {
     pub nodes: usize,
@@ -39,7 +39,7 @@ impl Sizes {
     }
 }
 
-// How many entries the nodes have, up to the one with the number.
+// The number of entries of the nodes up to the one with this number.
 fn entries_up_to(tree: &Tree, last: u32) -> usize
     requires { last < length tree.now.nodes }
 {

@@ -1,4 +1,4 @@
--- Spans: what a read leaves of one, one more of them, two lists of them, and what their bytes are if they tile.
+-- Spans: what a read leaves of a span, one more span, two lists of spans, and the bytes of spans that tile.
 use Rattle.std.proofs.Common.{◌≡◌, ◌<◌, ◌≤◌, ◌+◌, ◌-◌, ◌++◌, ℕ, zero, suc, List, [], ◌∷◌, Option, None, Some, Result, Err, Ok, IfOk, IfSome, ap, sym, refl, subst, ◌∙◌, arith, drop, take, take_all, get_or, length, length-append, length-drop, min, option_map}
 use Rattle.std.proofs.Math.ListN.{drop_of_length-le}
 use Rattle.std.proofs.Math.Seq.{take-add}
@@ -10,7 +10,7 @@ use Rattle.tq_event.specs.FileBytes.{bytes_in}
 use Rattle.tq.specs.declared.spans.Span.{Span}
 use Rattle.tq.specs.Spans.{AreFirst, AreSpans, IsSpan, Tile, bytes_of, span_len}
 
--- the bytes between two places, cut at a third one
+-- the bytes between two places, split at a third one
 slice_split : (all : List ℕ) (s m e : ℕ) → s ≤ m → m ≤ e → take (e - s) (drop s all) ≡ take (m - s) (drop s all) ++ take (e - m) (drop m all)
 slice_split all s m e p q =
     let counts : e - s ≡ (m - s) + (e - m) = omega arith in
@@ -19,14 +19,14 @@ slice_split all s m e p q =
     ∙ take-add (m - s) (e - m) (drop s all)
     ∙ ap (λ l. take (m - s) (drop s all) ++ take (e - m) l) (drop-drop (m - s) s all ∙ ap (λ k. drop k all) place)
 
--- what n bytes leave, of which there are as many left
+-- what remains of a span after `n` bytes
 rest_left : (all : List ℕ) (s e next n left : ℕ) → left ≡ (e - s) - n → next ≡ e - left → take left (drop n (drop s all)) ≡ take left (drop next all)
 rest_left all s e next n zero is next_is = refl
 rest_left all s e next n (suc left) is next_is =
     let place : s + n ≡ next = omega arith in
     ap (take (suc left)) (drop-drop n s all ∙ ap (λ k. drop k all) place)
 
--- a read takes the first bytes of a span, and leaves the others
+-- a read takes the first bytes of a span, and the rest remains
 slice_read : (all : List ℕ) (s e next n : ℕ) → n ≤ e - s → next ≡ e - ((e - s) - n) → take (e - s) (drop s all) ≡ take n (drop s all) ++ take (e - next) (drop next all)
 slice_read all s e next n within next_is =
     let counts : e - s ≡ n + ((e - s) - n) = omega arith in
@@ -35,7 +35,7 @@ slice_read all s e next n within next_is =
     ∙ take-add n ((e - s) - n) (drop s all)
     ∙ ap (λ l. take n (drop s all) ++ l) (rest_left all s e next n ((e - s) - n) refl next_is ∙ ap (λ k. take k (drop next all)) left)
 
--- nothing is left of a span that begins behind the last byte, or has no more places
+-- nothing remains of a span that begins after the last byte, or has no places left
 nothing_left : (all : List ℕ) (next left : ℕ) → (0 < left → length all ≤ next) → take left (drop next all) ≡ []
 nothing_left all next zero past = refl
 nothing_left all next (suc left) past =
@@ -57,7 +57,7 @@ read_consumes (Some all) s e next n most buffer room most_is len within next_is 
           omega arith),
     )
 
--- a reader of a span that came to its end gave the bytes of the span
+-- a reader of a span that came to the end returned the bytes of the span
 pub span_read : (known new : Option (List ℕ)) (span : Span) (bytes : List ℕ) → Consumes (option_map (λ all. bytes_of all span) known) new bytes → IsAtEnd new → length bytes ≡ span_len span → IsSpan known span bytes
 span_read None new span bytes taken end len = record { len = len; same = tt }
 span_read (Some all) None span bytes taken end len = absurd taken
@@ -85,7 +85,7 @@ spans_joined known [] back (p ∷ pieces) more are_front are_back = absurd are_f
 spans_joined known (s ∷ front) back [] more are_front are_back = absurd are_front
 spans_joined known (s ∷ front) back (p ∷ pieces) more are_front are_back = (are_front.0, spans_joined known front back pieces more are_front.1 are_back)
 
--- what readers of two halves gave, put together
+-- the pieces of two halves are the pieces of the whole
 pub both_spans : {E : Type 0} (known : Option (List ℕ)) (spans front back : List Span) → spans ≡ front ++ back
     → (a b r : Result (Vec (Vec ℕ)) E) → IfOk a (λ p. AreSpans known front p.items) → IfOk b (λ p. AreSpans known back p.items)
     → IfOk r (λ p. (f : Vec (Vec ℕ)) × (l : Vec (Vec ℕ)) × (a ≡ Ok f) × (b ≡ Ok l) × (p.items ≡ f.items ++ l.items))
@@ -104,7 +104,7 @@ tile_more [] start m end tile less =
     let first : start < end = omega arith in (at, first, refl)
 tile_more (span ∷ spans) start m end tile less = (tile.0, tile.1, tile_more spans span.end m end tile.2 less)
 
--- spans tile forwards
+-- the end of spans that tile is not before their start
 pub tile_le : (spans : List Span) (start end : ℕ) → Tile spans start end → start ≤ end
 tile_le [] start end tile = omega arith
 tile_le (span ∷ spans) start end tile =
@@ -115,7 +115,7 @@ tile_le (span ∷ spans) start end tile =
 bytes_cons : (piece : Vec ℕ) (pieces : List (Vec ℕ)) → bytes_in (piece ∷ pieces) ≡ piece.items ++ bytes_in pieces
 bytes_cons piece pieces = flat_map-cons (λ (p : Vec ℕ). p.items) piece pieces
 
--- as many bytes as places
+-- spans that tile have as many bytes as places
 tiled_len : (known : Option (List ℕ)) (spans : List Span) (pieces : List (Vec ℕ)) (start end : ℕ) → Tile spans start end → AreSpans known spans pieces → length (bytes_in pieces) ≡ end - start
 tiled_len known [] [] start end tile are = let at : start ≡ end = tile in omega arith
 tiled_len known [] (piece ∷ pieces) start end tile are = absurd are
@@ -144,7 +144,7 @@ tiled_bytes all (span ∷ spans) (piece ∷ pieces) start end tile are =
     ∙ ap (λ l. take (span.end - start) (drop start all) ++ l) (tiled_bytes all spans pieces span.end end tile.2 are.1)
     ∙ sym (slice_split all start span.end end before after)
 
--- the bytes of spans that tile a source from its first byte on are its first ones
+-- the bytes of spans that tile a source from its first byte on are its first bytes
 pub tiled_first : (known : Option (List ℕ)) (spans : List Span) (pieces : List (Vec ℕ)) (len : ℕ) → Tile spans 0 len → AreSpans known spans pieces → AreFirst known len (bytes_in pieces)
 tiled_first None spans pieces len tile are =
     let count : length (bytes_in pieces) ≡ len - 0 = tiled_len None spans pieces 0 len tile are in record { len = omega arith; same = tt }
@@ -158,7 +158,7 @@ pub first_found : (known : Option (List ℕ)) (spans : List Span) (pieces : List
 first_found known spans pieces len tile are None is = tt
 first_found known spans pieces len tile are (Some read) is = subst (AreFirst known len) (sym is) (tiled_first known spans pieces len tile are)
 
--- the first bytes of a source that has no more are all of them
+-- the first bytes of a source that has no more are all of its bytes
 pub whole_found : (known : Option (List ℕ)) (len : ℕ) (found : Option (List ℕ)) → IfSome found (AreFirst known len)
     → IfSome found (λ read. IfSome known (λ all. length all ≡ len → read ≡ all))
 whole_found known len None first = tt

@@ -1,7 +1,222 @@
--- The words of a command line.
-use Rattle.std.specs.Prelude.{ℕ, List, ◌∷◌, ◌++◌}
-use Rattle.tq.specs.declared.command_line.TableOption.{TableOption}
+-- What the words of a command line ask for. (This project's own.)
+use Rattle.std.specs.Prelude.{ℕ, Bool, List, [], ◌∷◌, ◌++◌, ◌≡◌, ◌≢◌, ◌⊎◌, ◌&&◌, ◌<◌, ◌≤◌, ◌^◌, Option, Some, map, option_map, unwrap_or, length, count_by, nat_lt, if◌then◌else◌, codes, Contains, pos, true, false}
+use Rattle.std.specs.List.{All, Any, list_all}
+use Rattle.std.specs.Option.{option_map_or}
+use Rattle.std.specs.Str.{bytes_eq, chars}
+use Rattle.std.specs.Char.{digit_value}
+use Rattle.std.specs.Str.Parse.{digits_value, without_leading_plus}
+use Rattle.clap.specs.Words.{App, IsAmong, Row, Rule, Text, all_of, fault_of, first_of, new_app, new_rule, one_of, subcommand_of, with_rule, with_subcommand}
+use Rattle.clap.specs.declared.builder.ArgAction.TheVariants.{Append, SetTrue}
+use Rattle.clap.specs.declared.builder.value_parser.ValueParser.TheVariants.{Signed}
+use Rattle.clap.specs.declared.error.kind.ErrorKind.{ErrorKind}
+use Rattle.clap.specs.declared.error.kind.ErrorKind.TheVariants.{DisplayHelp, DisplayVersion, OutOfMemory}
+use Rattle.tq_base.specs.declared.form.Form.{Form}
+use Rattle.tq_base.specs.declared.form.Form.TheVariants.{Numbers, Dates}
+use Rattle.tq.specs.ByteText.{byte_of}
+use Rattle.tq.specs.declared.request.TableOption.{TableOption}
+use Rattle.tq.specs.declared.request.AskRequest.{AskRequest}
+use Rattle.tq.specs.declared.request.DrawRequest.{DrawRequest}
+use Rattle.tq.specs.declared.request.CheckRequest.{CheckRequest}
+use Rattle.tq.specs.declared.request.SessionRequest.{SessionRequest}
+use Rattle.tq.specs.declared.request.Request.{Request}
+use Rattle.tq.specs.declared.request.Request.TheVariants.{Print, Ask, Draw, Check, Session}
 
--- The word of a table: its name, an equals sign, its path. (This project's own.)
+-- The word of a table: its name, an equals sign, its path.
 abbrev pub option_word : TableOption → List ℕ
 option_word table = table.name.items ++ 61 ∷ table.path.items
+
+-- The bytes of a word.
+abbrev pub bytes_in : Text → List ℕ
+bytes_in text = map byte_of (chars text)
+
+-- ---- the values of one command, as the rows that clap found
+
+-- The value of an argument, as text; empty if it has none.
+abbrev pub text_of : Text → List Row → Text
+text_of id rows = unwrap_or (first_of id rows) []
+
+-- The values of --table, as bytes, in the order of the words.
+abbrev pub table_words : List Row → List (List ℕ)
+table_words rows = map bytes_in (unwrap_or (all_of (codes "table") rows) [])
+
+-- A flag was given.
+abbrev pub is_set : Text → List Row → Bool
+is_set id rows = option_map_or (λ text. bytes_eq text (codes "true")) (one_of id rows) false
+
+-- The number that a text writes in decimal digits, below 2^32; 0 if it writes none.
+abbrev pub number_in : Text → ℕ
+number_in text =
+    let digits = without_leading_plus text in
+    if nat_lt 0 (length digits) && list_all (λ d. nat_lt (digit_value d) 10) digits
+    && nat_lt (digits_value 10 digits) (2 ^ 32) then digits_value 10 digits else 0
+
+-- The number of an argument; 0 if it has none.
+abbrev pub number_of : Text → List Row → ℕ
+number_of id rows = option_map_or number_in (one_of id rows) 0
+
+abbrev pub form_of : List Row → Form
+form_of rows = if is_set (codes "dates") rows then Dates else Numbers
+
+-- ---- what is asked
+
+-- The tables of the words, in their order. A name ends at the first equals sign of its word.
+abbrev pub IsTablesOf : List (List ℕ) → List TableOption → Type 0
+IsTablesOf words tables = (map option_word tables ≡ words)
+    × All (λ t. ¬ (Contains t.name.items 61)) tables
+
+-- How many of the tables are read from standard input, whose path is `-`.
+abbrev pub stdin_count : List TableOption → ℕ
+stdin_count tables = count_by (λ t. bytes_eq t.path.items (45 ∷ [])) tables
+
+-- The tables of a command of which at most n may be read from standard input.
+abbrev pub IsTablesUpTo : ℕ → List Row → List TableOption → Type 0
+IsTablesUpTo n rows tables = IsTablesOf (table_words rows) tables × (stdin_count tables ≤ n)
+
+pub record IsAskOf (rows : List Row) (ask : AskRequest) : Type 0 where
+  pub tables : IsTablesUpTo 1 rows ask.tables.items
+  pub workers : ask.workers ≡ number_of (codes "workers") rows
+  pub form : ask.form ≡ form_of rows
+  pub statement : ask.statement.items ≡ bytes_in (text_of (codes "statement") rows)
+  pub explain : ask.explain ≡ is_set (codes "explain") rows
+
+pub record IsDrawOf (rows : List Row) (draw : DrawRequest) : Type 0 where
+  pub ask : IsAskOf rows draw.ask
+  pub width : draw.width ≡ number_of (codes "width") rows
+  pub svg : draw.svg ≡ is_set (codes "svg") rows
+
+pub record IsCheckOf (rows : List Row) (check : CheckRequest) : Type 0 where
+  pub tables : IsTablesUpTo 1 rows check.tables.items
+  pub workers : check.workers ≡ number_of (codes "workers") rows
+  pub form : check.form ≡ form_of rows
+
+pub record IsSessionOf (rows : List Row) (session : SessionRequest) : Type 0 where
+  pub tables : IsTablesUpTo 0 rows session.tables.items
+  pub form : session.form ≡ form_of rows
+
+-- The subcommand of a command line has this name, and its rows pass.
+abbrev pub Names : Text → (List Row → Type 0) → Option (Text × List Row) → Type 0
+Names name Passes sub = (rows : List Row) × (sub ≡ Some (name, rows)) × Passes rows
+
+-- The request is what the subcommand asks for.
+abbrev pub IsRequestOf : Option (Text × List Row) → Request → Type 0
+IsRequestOf sub (Print text) = ⊥
+IsRequestOf sub (Ask ask) = Names (codes "ask") (λ rows. IsAskOf rows ask) sub
+IsRequestOf sub (Draw draw) = Names (codes "draw") (λ rows. IsDrawOf rows draw) sub
+IsRequestOf sub (Check check) = Names (codes "check") (λ rows. IsCheckOf rows check) sub
+IsRequestOf sub (Session session) = Names (codes "session") (λ rows. IsSessionOf rows session) sub
+
+-- ---- what is refused although clap takes it
+
+-- A value of --table has no equals sign, or more than n tables are read from standard input.
+abbrev pub HasInvalidTables : ℕ → List Row → Type 0
+HasInvalidTables n rows = Any (λ word. ¬ (Contains word 61)) (table_words rows)
+    ⊎ ((tables : List TableOption) × IsTablesOf (table_words rows) tables × (n < stdin_count tables))
+
+-- The number of workers is not 1 to 16.
+abbrev pub HasInvalidWorkers : List Row → Type 0
+HasInvalidWorkers rows =
+    (number_of (codes "workers") rows < 1) ⊎ (16 < number_of (codes "workers") rows)
+
+abbrev pub IsInvalidQuestion : List Row → Type 0
+IsInvalidQuestion rows = HasInvalidTables 1 rows ⊎ HasInvalidWorkers rows
+
+-- The subcommand has invalid values, or is none of the four.
+abbrev pub IsInvalidRequest : Option (Text × List Row) → Type 0
+IsInvalidRequest sub = Names (codes "ask") IsInvalidQuestion sub
+    ⊎ (Names (codes "draw") IsInvalidQuestion sub
+    ⊎ (Names (codes "check") IsInvalidQuestion sub
+    ⊎ (Names (codes "session") (HasInvalidTables 0) sub
+    ⊎ All (λ name. option_map (λ p. p.0) sub ≢ Some name)
+    (codes "ask" ∷ codes "draw" ∷ codes "check" ∷ codes "session" ∷ []))))
+
+-- ---- the command line that clap reads
+
+abbrev pub flag_rule : Text → Rule
+flag_rule name = record (new_rule name) { long = Some name; action = Some SetTrue }
+
+abbrev pub number_rule : Text → Text → Rule
+number_rule name default = record (new_rule name) {
+  long = Some name;
+  value_names = 1;
+  parser = Some (Signed (pos 0) (pos 4294967295));
+  defaults = default ∷ [];
+}
+
+abbrev pub table_rule : Rule
+table_rule = record (new_rule (codes "table")) {
+  long = Some (codes "table");
+  value_names = 1;
+  required = true;
+  action = Some Append;
+}
+
+abbrev pub statement_rule : Rule
+statement_rule = record (new_rule (codes "statement")) { value_names = 1; required = true }
+
+abbrev pub workers_rule : Rule
+workers_rule = number_rule (codes "workers") (codes "1")
+
+abbrev pub width_rule : Rule
+width_rule = number_rule (codes "width") (codes "80")
+
+abbrev pub svg_rule : Rule
+svg_rule = flag_rule (codes "svg")
+
+abbrev pub dates_rule : Rule
+dates_rule = flag_rule (codes "dates")
+
+abbrev pub explain_rule : Rule
+explain_rule = flag_rule (codes "explain")
+
+abbrev pub with_question : App → App
+with_question app = with_rule (with_rule (with_rule (with_rule (with_rule app table_rule) dates_rule)
+    explain_rule) workers_rule) statement_rule
+
+abbrev pub ask_app : App
+ask_app = with_question (new_app (codes "ask"))
+
+abbrev pub draw_app : App
+draw_app = with_question (with_rule (with_rule (new_app (codes "draw")) width_rule) svg_rule)
+
+abbrev pub check_app : App
+check_app =
+    with_rule (with_rule (with_rule (new_app (codes "check")) table_rule) dates_rule) workers_rule
+
+abbrev pub session_app : App
+session_app = with_rule (with_rule (new_app (codes "session")) table_rule) dates_rule
+
+-- The program itself: its words begin after its name, it has a version, and a subcommand is required.
+abbrev pub program_app : App
+program_app = record (new_app (codes "tq")) {
+  top = record (new_app (codes "tq")).top {
+    has_version = true;
+    no_binary_name = true;
+    subcommand_required = true;
+  };
+}
+
+-- The whole command line of tq.
+abbrev pub tq_app : App
+tq_app = with_subcommand (with_subcommand (with_subcommand (with_subcommand program_app ask_app.top)
+    draw_app.top) check_app.top) session_app.top
+
+-- ---- the result for the words after the program's name
+
+-- Help or a version is printed.
+abbrev pub IsPrintOf : ErrorKind → Request → Type 0
+IsPrintOf fault (Print text) = (fault ≡ DisplayHelp) ⊎ (fault ≡ DisplayVersion)
+IsPrintOf fault _ = ⊥
+
+-- A fault of clap that is neither help, nor a version, nor a failed allocation.
+abbrev pub IsUsageFault : ErrorKind → Type 0
+IsUsageFault fault = (fault ≢ DisplayHelp) × (fault ≢ DisplayVersion) × (fault ≢ OutOfMemory)
+
+-- The request that the words make: what their subcommand asks for, or what clap prints for them.
+abbrev pub IsRequestIn : List Text → Request → Type 0
+IsRequestIn words request = ((fault_of tq_app words ≡ []) × IsRequestOf (subcommand_of tq_app words) request)
+    ⊎ ((fault : ErrorKind) × IsAmong fault (fault_of tq_app words) × IsPrintOf fault request)
+
+-- The words are invalid: to clap, or in the values of their subcommand.
+abbrev pub IsInvalid : List Text → Type 0
+IsInvalid words = ((fault : ErrorKind) × IsAmong fault (fault_of tq_app words) × IsUsageFault fault)
+    ⊎ ((fault_of tq_app words ≡ []) × IsInvalidRequest (subcommand_of tq_app words))

@@ -1,6 +1,6 @@
 pub mod CommandLine
-pub mod Heads
+pub mod HeaderLines
 pub mod Refusals
 pub mod Report
 pub mod Spans
-pub mod Words
+pub mod ByteText

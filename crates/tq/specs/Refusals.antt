@@ -1,23 +1,23 @@
--- What a question of the command line ends with: an answer, or one of the refusals that it may have. This project's own.
+-- The outcome of `tq ask`: an answer, or one of its refusals. This project's own.
 use Rattle.std.specs.Prelude.{◌≡◌, ◌≢◌, ◌⊎◌, ℕ, List, Contains, map}
 use Rattle.tq_base.specs.declared.form.Form.{Form}
 use Rattle.tq_engine.specs.Answers.{HasAnswer, IsFault}
-use Rattle.tq_engine.specs.declared.answering.AnswerFault.{AnswerFault}
-use Rattle.tq_engine.specs.declared.answering.AnswerFault.TheVariants.{Write}
+use Rattle.tq_engine.specs.declared.execution.AnswerFault.{AnswerFault}
+use Rattle.tq_engine.specs.declared.execution.AnswerFault.TheVariants.{Write}
 use Rattle.tq_event.specs.declared.file.TableFile.{TableFile}
 use Rattle.tq_table.specs.declared.table.Table.{Table}
 use Rattle.tq.specs.Report.{refused_answer}
-use Rattle.tq.specs.declared.command_line.TableOption.{TableOption}
+use Rattle.tq.specs.declared.request.TableOption.{TableOption}
 use Rattle.tq.specs.declared.report.Refusal.{Refusal}
 use Rattle.tq.specs.declared.report.Refusal.TheVariants.{CannotRead, OutOfMemory}
 
 -- the file of one of the tables cannot be read
-abbrev pub IsUnread : List TableOption → Refusal → Type 0
-IsUnread options refusal = (option : TableOption) × Contains options option × (refusal ≡ CannotRead option.path)
+abbrev pub IsUnreadable : List TableOption → Refusal → Type 0
+IsUnreadable options refusal = (option : TableOption) × Contains options option × (refusal ≡ CannotRead option.path)
 
--- why the files of the tables are not read: there is no memory, or one of them cannot be read
+-- why the files of the tables are not read: an allocation failed, or one of them cannot be read
 abbrev pub IsReadRefusal : List TableOption → Refusal → Type 0
-IsReadRefusal options refusal = refusal ≢ OutOfMemory → IsUnread options refusal
+IsReadRefusal options refusal = refusal ≢ OutOfMemory → IsUnreadable options refusal
 
 -- the files have the names of the tables, in their order
 abbrev pub AreNamed : List TableOption → List TableFile → Type 0
@@ -30,16 +30,16 @@ pub record IsAnswered (form : Form) (options : List TableOption) (statement : Li
   pub table : Table
   pub answer : HasAnswer form files statement table
 
--- the refusal is that of the statement's first fault over files of the tables, or that its answer could not be written
+-- the refusal is that of the first fault over files of the tables, or the answer could not be written
 pub record IsFaulty (form : Form) (options : List TableOption) (statement : List ℕ) (refusal : Refusal) : Type 0 where
   pub files : List TableFile
   pub named : AreNamed options files
   pub fault : AnswerFault
   pub first : fault ≢ Write → IsFault form files statement fault
   pub written : fault ≡ Write → (table : Table) × HasAnswer form files statement table
-  pub told : refusal ≡ refused_answer fault
+  pub reported : refusal ≡ refused_answer fault
 
--- why a statement is not answered over the tables: there is no memory, the file of one of them cannot be read, or the
--- first fault over their files
+-- why a statement has no answer over the tables: an allocation failed, the file of a table cannot be read, or the first
+-- fault over their files
 abbrev pub IsAskRefusal : Form → List TableOption → List ℕ → Refusal → Type 0
-IsAskRefusal form options statement refusal = refusal ≢ OutOfMemory → IsUnread options refusal ⊎ IsFaulty form options statement refusal
+IsAskRefusal form options statement refusal = refusal ≢ OutOfMemory → IsUnreadable options refusal ⊎ IsFaulty form options statement refusal

@@ -1,10 +1,17 @@
 // The command line: what the program was asked, with names, paths and statements as their bytes.
 
-ghost use Rattle.std.specs.Prelude.{◌≡◌, ◌≤◌, [], ◌∷◌, ◌++◌, IfOk, IfErr, Contains, map};
-ghost use Rattle.std.specs.Str.{chars};
-ghost use Rattle.tq.specs.CommandLine.{option_word};
-ghost use Rattle.tq.specs.Words.{byte_of};
+ghost use Rattle.std.specs.Prelude.{◌≡◌, ◌≤◌, [], ◌∷◌, ◌++◌, IfOk, IfErr, Contains, codes, map};
+ghost use Rattle.std.specs.List.{Any};
+ghost use Rattle.std.specs.String.{string_bytes};
+ghost use Rattle.clap.specs.Words.{app_of, found_of, kind_of, rows_of, rule_of, subcommand_rows_of};
+ghost use Rattle.tq.specs.CommandLine.{IsTablesOf, IsTablesUpTo, IsAskOf, IsDrawOf, IsCheckOf, IsSessionOf, IsRequestOf};
+ghost use Rattle.tq.specs.CommandLine.{HasInvalidTables, HasInvalidWorkers, IsInvalidQuestion, IsInvalidRequest};
+ghost use Rattle.tq.specs.CommandLine.{IsInvalid, IsPrintOf, IsRequestIn, IsUsageFault};
+ghost use Rattle.tq.specs.CommandLine.{ask_app, check_app, draw_app, session_app, tq_app, with_question};
+ghost use Rattle.tq.specs.CommandLine.{dates_rule, explain_rule, statement_rule, svg_rule, table_rule, width_rule, workers_rule};
+ghost use Rattle.tq.specs.CommandLine.{bytes_in, form_of, is_set, number_of, stdin_count, text_of};
 
+use crate::request::{AskRequest, CheckRequest, DrawRequest, Request, SessionRequest, TableOption};
 use crate::words::bytes_of;
 use clap::error::ErrorKind;
 use clap::{Arg, ArgAction, ArgMatches, Command, Error, value_parser};
@@ -20,14 +27,14 @@ const VERSION: &str = "0.1.0";
 const ABOUT: &str = "Answers sequenced queries over valid-time tables in CSV files.";
 
 // What the help of a session ends with, beside the forms of statements and files.
-const LINES: &str = "\
-Lines, each answered as soon as it was read:
+const SESSION_HELP: &str = "\
+Lines of standard input, each answered as soon as it is read:
   start emp 40 4,dan,toys          a row starts at 40
   end emp 50 4,dan,toys            it ends at 50
-  publish                          both become visible; how many events are published
+  publish                          both become visible; prints the number of published events
   ask 9 1 VALIDTIME SELECT name FROM emp
                                    the answer as of the first 9 events, by 1 worker
-With --dates times are dates, as in `start emp 2024-02-29 4,dan,toys`.
+With --dates instants are dates, as in `start emp 2024-02-29 4,dan,toys`.
 
 Table file, with --dates (the first column is a key; an open end is `forever`):
   emp:int,name:text,dept:text,from,to
@@ -40,7 +47,7 @@ Table file:
   2,bob,food,15,forever";
 
 // What the help of a check ends with.
-const FILES: &str = "\
+const CHECK_HELP: &str = "\
 Table file, with --dates (the first column is a key; an open end is `forever`):
   emp:int,name:text,dept:text,from,to
   1,ann,toys,2024-02-29,2024-07-01
@@ -52,7 +59,7 @@ Table file:
   2,bob,food,15,forever";
 
 // What the helps of the program and of a question end with.
-const FORMS: &str = "\
+const QUERY_HELP: &str = "\
 Statement, with --dates:
   VALIDTIME PERIOD '[2024-02-29 - 2024-03-01)' SELECT name FROM emp WHERE dept = 'toys'
 
@@ -76,7 +83,7 @@ Table file:
 /// Why a command line was not read: it is none of `tq` (1), or it found no memory (2).
 #[derive(Clone, Copy, Debug, PartialEq, Eq, Error)]
 pub enum CommandLineFault {
-    #[error("the command line is refused")]
+    #[error("invalid command line")]
     BadCommandLine = 1,
     #[error("out of memory")]
     OutOfMemory = 2,
@@ -92,109 +99,70 @@ impl From<AllocError> for CommandLineFault {
     }
 }
 
-/// A table's name, and the path of its file.
-#[derive(Drop)]
-pub struct TableOption {
-    pub name: Vec<u8>,
-    pub path: Vec<u8>,
-}
-
-/// What `tq ask` was asked: the tables in the order of their options, 1 to 16 workers, how instants are written, a
-/// statement, and whether a refusal is explained wherever it goes, and an answer.
-#[derive(Drop)]
-pub struct AskRequest {
-    pub tables: Vec<TableOption>,
-    pub workers: u32,
-    pub form: Form,
-    pub statement: Vec<u8>,
-    pub explain: bool,
-    ghost some_workers: { 1 ≤ workers },
-    ghost few_workers: { workers ≤ 16 },
-}
-
-/// What `tq draw` was asked: what `tq ask` is asked, how wide the picture may be, in characters, and whether it is to be
-/// an image in SVG.
-#[derive(Drop)]
-pub struct DrawRequest {
-    pub ask: AskRequest,
-    pub width: u32,
-    pub svg: bool,
-}
-
-/// What `tq check` was asked: the tables in the order of their options, 1 to 16 workers, and how instants are written.
-#[derive(Drop)]
-pub struct CheckRequest {
-    pub tables: Vec<TableOption>,
-    pub workers: u32,
-    pub form: Form,
-    ghost some_workers: { 1 ≤ workers },
-    ghost few_workers: { workers ≤ 16 },
-}
-
-/// What `tq session` is about: the tables in the order of their options, and how instants are written.
-#[derive(Drop)]
-pub struct SessionRequest {
-    pub tables: Vec<TableOption>,
-    pub form: Form,
-}
-
-/// What the program was asked: to print this text, to answer a statement, to draw its answer, to check tables, or to
-/// hold a session.
-#[derive(Drop)]
-pub enum Request {
-    Print(String),
-    Ask(AskRequest),
-    Draw(DrawRequest),
-    Check(CheckRequest),
-    Session(SessionRequest),
-}
-
 /// Why a command line was not read, and what a person is told of it, if anything.
 #[derive(Drop)]
-pub struct Misread {
+pub struct UsageError {
     pub fault: CommandLineFault,
     pub detail: Option<String>,
 }
 
-impl From<AllocError> for Misread {
-    fn from(_error: AllocError) -> Misread {
-        Misread {
+impl From<AllocError> for UsageError {
+    ghost use Rattle.tq.specs.declared.command_line.CommandLineFault.TheVariants.{OutOfMemory};
+
+    ghost from_gives = { λ _ error. error.fault ≡ OutOfMemory };
+
+    fn from(_error: AllocError) -> UsageError {
+        UsageError {
             fault: CommandLineFault::OutOfMemory,
             detail: None,
         }
     }
 }
 
-impl From<CommandLineFault> for Misread {
-    fn from(fault: CommandLineFault) -> Misread {
-        Misread {
+impl From<CommandLineFault> for UsageError {
+    ghost from_gives = { λ fault error. error.fault ≡ fault };
+
+    fn from(fault: CommandLineFault) -> UsageError {
+        UsageError {
             fault,
             detail: None,
         }
     }
 }
 
-impl Misread {
+impl UsageError {
     // A command line that is none of `tq`, for a reason.
-    fn because(reason: Result<String, AllocError>) -> Misread {
-        Misread {
+    fn with_reason(reason: Result<String, AllocError>) -> UsageError
+        ensures { result.fault ≡ CommandLineFault.BadCommandLine }
+    {
+        UsageError {
             fault: CommandLineFault::BadCommandLine,
             detail: reason.ok(),
         }
     }
 }
 
-/// Reads the words after the program's name, each as `text_of` its bytes.
-pub fn read_command_line(alloc: Global, words: &[String]) -> Result<Request, Misread> {
+/// Reads the words after the program's name, each the `char_text` of its bytes. A request is what clap's `tq_app` makes
+/// of the words: each value of their subcommand, or a text to print. `BadCommandLine` means that clap refuses the words,
+/// or that `--table` or `--workers` has an invalid value.
+pub fn read_command_line(alloc: Global, words: &[String]) -> Result<Request, UsageError>
+    ensures request { IfOk result (IsRequestIn (map (λ w. string_bytes w) words.now)) }
+    ensures refused { IfErr result (λ e. e.fault ≡ CommandLineFault.BadCommandLine
+        → IsInvalid (map (λ w. string_bytes w) words.now)) }
+{
     let command = tq_command(alloc)?;
     match command.try_get_matches_from(words) {
         Ok(matches) => read_request(alloc, &matches),
-        Err(error) => wanted_text(alloc, &error),
+        Err(error) => help_or_version(alloc, &error),
     }
 }
 
 // What the command asks.
-fn read_request(alloc: Global, matches: &ArgMatches<'_>) -> Result<Request, Misread> {
+fn read_request(alloc: Global, matches: &ArgMatches<'_>) -> Result<Request, UsageError>
+    ensures request { IfOk result (IsRequestOf (subcommand_rows_of matches.now)) }
+    ensures refused { IfErr result (λ e. e.fault ≡ CommandLineFault.BadCommandLine
+        → IsInvalidRequest (subcommand_rows_of matches.now)) }
+{
     if let Some(ask) = matches.subcommand_matches("ask") {
         return Ok(Request::Ask(read_ask(alloc, ask)?));
     }
@@ -205,32 +173,36 @@ fn read_request(alloc: Global, matches: &ArgMatches<'_>) -> Result<Request, Misr
         return Ok(Request::Check(read_check(alloc, check)?));
     }
     if let Some(session) = matches.subcommand_matches("session") {
-        let tables = read_tables(alloc, session, 0)?;
-        let form = read_form(session);
-        return Ok(Request::Session(SessionRequest { tables, form }));
+        return Ok(Request::Session(read_session(alloc, session)?));
     }
-    Err(Misread::from(CommandLineFault::BadCommandLine))
+    Err(UsageError::from(CommandLineFault::BadCommandLine))
 }
 
 // The help or the version that was asked for, or the fault.
-fn wanted_text(alloc: Global, error: &Error) -> Result<Request, Misread> {
+fn help_or_version(alloc: Global, error: &Error) -> Result<Request, UsageError>
+    ensures printed { IfOk result (IsPrintOf (kind_of error.now)) }
+    ensures refused { IfErr result (λ e. e.fault ≡ CommandLineFault.BadCommandLine → IsUsageFault (kind_of error.now)) }
+{
     let text = format!(in alloc; "{error}");
     match error.kind() {
         ErrorKind::DisplayHelp | ErrorKind::DisplayVersion => Ok(Request::Print(text?)),
-        ErrorKind::OutOfMemory => Err(Misread::from(CommandLineFault::OutOfMemory)),
-        _ => Err(Misread::because(text)),
+        ErrorKind::OutOfMemory => Err(UsageError::from(CommandLineFault::OutOfMemory)),
+        _ => Err(UsageError::with_reason(text)),
     }
 }
 
 // The command line that the program reads.
-fn tq_command<'a>(alloc: Global) -> Result<Command<'a>, AllocError> {
-    Command::new(alloc, "tq")
+fn tq_command<'a>(alloc: Global) -> Result<Command<'a>, AllocError>
+    ensures { IfOk result (λ r. app_of r ≡ tq_app) }
+{
+    let program = Command::new(alloc, "tq")
         .version(VERSION)
         .about(ABOUT)
-        .after_help(FORMS)
+        .after_help(QUERY_HELP)
         .no_binary_name(true)
         .bin_name("tq")?
-        .subcommand_required(true)
+        .subcommand_required(true);
+    program
         .subcommand(ask_command(alloc)?)?
         .subcommand(draw_command(alloc)?)?
         .subcommand(check_command(alloc)?)?
@@ -238,109 +210,149 @@ fn tq_command<'a>(alloc: Global) -> Result<Command<'a>, AllocError> {
 }
 
 // The tables that a command is about.
-fn table_argument<'a>(alloc: Global) -> Arg<'a> {
+fn table_argument<'a>(alloc: Global) -> Arg<'a>
+    ensures { rule_of result ≡ table_rule }
+{
     Arg::new(alloc, "table")
         .long("table")
         .value_name("NAME=PATH")
-        .help("A table's name, and its CSV file, or `-` for standard input")
+        .help("Name of a table, and path of its CSV file; `-` is standard input")
         .required(true)
         .action(ArgAction::Append)
 }
 
 // Whether a command's instants are dates.
-fn dates_argument<'a>(alloc: Global) -> Arg<'a> {
+fn dates_argument<'a>(alloc: Global) -> Arg<'a>
+    ensures { rule_of result ≡ dates_rule }
+{
     Arg::new(alloc, "dates")
         .long("dates")
-        .help("Instants are dates, written YYYY-MM-DD, in files, statements, lines and answers")
+        .help(
+            "Reads and prints instants as dates, YYYY-MM-DD, in files, statements, lines and answers",
+        )
         .action(ArgAction::SetTrue)
 }
 
 // Whether refusals are explained, and answers.
-fn explain_argument<'a>(alloc: Global) -> Arg<'a> {
+fn explain_argument<'a>(alloc: Global) -> Arg<'a>
+    ensures { rule_of result ≡ explain_rule }
+{
     Arg::new(alloc, "explain")
         .long("explain")
         .help(
-            "Says why a file or a statement is refused, as at a terminal; `tq ask` also says how it was answered",
+            "Explains why a file or statement is refused, as at a terminal; `tq ask` also prints a profile of the answer",
         )
         .action(ArgAction::SetTrue)
 }
 
 // How many workers a command has.
-fn workers_argument<'a>(alloc: Global) -> Arg<'a> {
+fn workers_argument<'a>(alloc: Global) -> Arg<'a>
+    ensures { rule_of result ≡ workers_rule }
+{
     Arg::new(alloc, "workers")
         .long("workers")
         .value_name("N")
-        .help("How many workers may share the work, 1 to 16")
+        .help("Number of workers that share the work, 1 to 16")
         .value_parser(value_parser!(u32))
         .default_value("1")
 }
 
-// What a command asks, and of which tables, with how many workers, and how instants are written.
-fn question_arguments<'a>(alloc: Global, command: Command<'a>) -> Result<Command<'a>, AllocError> {
-    let statement = Arg::new(alloc, "statement")
+// The statement of a question.
+fn statement_argument<'a>(alloc: Global) -> Arg<'a>
+    ensures { rule_of result ≡ statement_rule }
+{
+    Arg::new(alloc, "statement")
         .value_name("STATEMENT")
-        .help("What to ask")
-        .required(true);
+        .help("Statement to answer")
+        .required(true)
+}
+
+// How wide a picture may be.
+fn width_argument<'a>(alloc: Global) -> Arg<'a>
+    ensures { rule_of result ≡ width_rule }
+{
+    Arg::new(alloc, "width")
+        .long("width")
+        .value_name("N")
+        .help("Width of a line, in characters")
+        .value_parser(value_parser!(u32))
+        .default_value("80")
+}
+
+// Whether a picture is an image.
+fn svg_argument<'a>(alloc: Global) -> Arg<'a>
+    ensures { rule_of result ≡ svg_rule }
+{
+    Arg::new(alloc, "svg")
+        .long("svg")
+        .help("Prints the picture as SVG")
+        .action(ArgAction::SetTrue)
+}
+
+// What a command asks, and of which tables, with how many workers, and how instants are written.
+fn question_arguments<'a>(alloc: Global, command: Command<'a>) -> Result<Command<'a>, AllocError>
+    ensures { IfOk result (λ r. app_of r ≡ with_question (app_of command.entry)) }
+{
     command
         .arg(table_argument(alloc))?
         .arg(dates_argument(alloc))?
         .arg(explain_argument(alloc))?
         .arg(workers_argument(alloc))?
-        .arg(statement)
+        .arg(statement_argument(alloc))
 }
 
 // The command that answers a statement.
-fn ask_command<'a>(alloc: Global) -> Result<Command<'a>, AllocError> {
+fn ask_command<'a>(alloc: Global) -> Result<Command<'a>, AllocError>
+    ensures { IfOk result (λ r. app_of r ≡ ask_app) }
+{
     let command = Command::new(alloc, "ask")
-        .about("Answers a statement on standard output")
-        .after_help(FORMS);
+        .about("Answers a statement, and prints the answer as CSV")
+        .after_help(QUERY_HELP);
     question_arguments(alloc, command)
 }
 
 // The command that draws an answer.
-fn draw_command<'a>(alloc: Global) -> Result<Command<'a>, AllocError> {
-    let width = Arg::new(alloc, "width")
-        .long("width")
-        .value_name("N")
-        .help("How many characters a line may have")
-        .value_parser(value_parser!(u32))
-        .default_value("80");
-    let svg = Arg::new(alloc, "svg")
-        .long("svg")
-        .help("The picture is an image in SVG")
-        .action(ArgAction::SetTrue);
+fn draw_command<'a>(alloc: Global) -> Result<Command<'a>, AllocError>
+    ensures { IfOk result (λ r. app_of r ≡ draw_app) }
+{
     let command = Command::new(alloc, "draw")
         .about("Draws the answer of a statement: a line for each row, with a bar where it is valid")
-        .after_help(FORMS)
-        .arg(width)?
-        .arg(svg)?;
+        .after_help(QUERY_HELP)
+        .arg(width_argument(alloc))?
+        .arg(svg_argument(alloc))?;
     question_arguments(alloc, command)
 }
 
 // The command that checks tables.
-fn check_command<'a>(alloc: Global) -> Result<Command<'a>, AllocError> {
+fn check_command<'a>(alloc: Global) -> Result<Command<'a>, AllocError>
+    ensures { IfOk result (λ r. app_of r ≡ check_app) }
+{
     Command::new(alloc, "check")
         .about(
-            "Tells what each table has: columns, rows, times, equal rows that overlap or meet; or which records are at fault",
+            "Reports the columns, rows, times, and overlapping or meeting equal rows of each table, or lists invalid records",
         )
-        .after_help(FILES)
+        .after_help(CHECK_HELP)
         .arg(table_argument(alloc))?
         .arg(dates_argument(alloc))?
         .arg(workers_argument(alloc))
 }
 
 // The command that holds a session.
-fn session_command<'a>(alloc: Global) -> Result<Command<'a>, AllocError> {
+fn session_command<'a>(alloc: Global) -> Result<Command<'a>, AllocError>
+    ensures { IfOk result (λ r. app_of r ≡ session_app) }
+{
     Command::new(alloc, "session")
-        .about("Answers the lines of standard input, which start and end rows, publish and ask")
-        .after_help(LINES)
+        .about("Answers lines of standard input that start and end rows, publish, and query")
+        .after_help(SESSION_HELP)
         .arg(table_argument(alloc))?
         .arg(dates_argument(alloc))
 }
 
 // The tables that the words name, in their order.
 fn read_options(alloc: Global, words: &[&str]) -> Result<Vec<TableOption>, CommandLineFault>
-    ensures { IfOk result (λ tables. map option_word tables.items ≡ map (λ w. map byte_of (chars w.now)) words.now) }
+    ensures tables { IfOk result (λ tables. IsTablesOf (map (λ w. bytes_in w.now) words.now) tables.items) }
+    ensures refused { IfErr result (λ fault. fault ≡ CommandLineFault.BadCommandLine
+        → Any (λ word. ¬ (Contains word 61)) (map (λ w. bytes_in w.now) words.now)) }
 {
     let mut tables = Vec::new(alloc);
     'words: for word in words {
@@ -353,7 +365,9 @@ fn read_options(alloc: Global, words: &[&str]) -> Result<Vec<TableOption>, Comma
 }
 
 // How many of the tables come from standard input.
-fn inputs_among(tables: &[TableOption]) -> usize {
+fn count_stdin(tables: &[TableOption]) -> usize
+    ensures { result ≡ stdin_count tables.now }
+{
     tables
         .iter()
         .filter(|table| table.path.as_slice() == b"-".as_slice())
@@ -365,23 +379,52 @@ fn read_tables(
     alloc: Global,
     command: &ArgMatches<'_>,
     inputs: usize,
-) -> Result<Vec<TableOption>, Misread> {
+) -> Result<Vec<TableOption>, UsageError>
+    ensures tables { IfOk result (λ tables. IsTablesUpTo inputs (rows_of (found_of command.now)) tables.items) }
+    ensures refused { IfErr result (λ e. e.fault ≡ CommandLineFault.BadCommandLine
+        → HasInvalidTables inputs (rows_of (found_of command.now))) }
+{
     match read_options(alloc, command.get_strs("table").unwrap_or(&[])) {
-        Ok(tables) if inputs_among(&tables) > inputs => Err(Misread::because(format!(in alloc;
-            "error: standard input is read once: for one --table NAME=-, or for the lines of a session\n\n\
+        Ok(tables) if count_stdin(&tables) > inputs => Err(UsageError::with_reason(
+            format!(in alloc;
+                "error: standard input can be read only once: for one --table NAME=-, or for the lines of a session\n\n\
              For more information, try '--help'.\n"
-        ))),
+            ),
+        )),
         Ok(tables) => Ok(tables),
-        Err(CommandLineFault::OutOfMemory) => Err(Misread::from(CommandLineFault::OutOfMemory)),
-        Err(CommandLineFault::BadCommandLine) => Err(Misread::because(format!(in alloc;
+        Err(CommandLineFault::OutOfMemory) => Err(UsageError::from(CommandLineFault::OutOfMemory)),
+        Err(CommandLineFault::BadCommandLine) => Err(UsageError::with_reason(format!(in alloc;
             "error: --table takes NAME=PATH\n\nFor more information, try '--help'.\n"
         ))),
     }
 }
 
+// The first value of an argument, or no text.
+fn read_text<'a>(command: &ArgMatches<'a>, id: &str) -> &'a str
+    ensures { result.now ≡ text_of id.now (rows_of (found_of command.now)) }
+{
+    command.get_str(id).unwrap_or("")
+}
+
+// Whether a flag is given.
+fn read_flag(command: &ArgMatches<'_>, id: &str) -> bool
+    ensures { result ≡ is_set id.now (rows_of (found_of command.now)) }
+{
+    command.get_one::<bool>(id).unwrap_or(false)
+}
+
+// The number of an argument, or 0.
+fn read_number(command: &ArgMatches<'_>, id: &str) -> u32
+    ensures { result ≡ number_of id.now (rows_of (found_of command.now)) }
+{
+    command.get_one::<u32>(id).unwrap_or(0)
+}
+
 // How the instants of a command are written.
-fn read_form(command: &ArgMatches<'_>) -> Form {
-    if command.get_flag("dates") {
+fn read_form(command: &ArgMatches<'_>) -> Form
+    ensures { result ≡ form_of (rows_of (found_of command.now)) }
+{
+    if read_flag(command, "dates") {
         Form::Dates
     } else {
         Form::Numbers
@@ -389,13 +432,15 @@ fn read_form(command: &ArgMatches<'_>) -> Form {
 }
 
 // How many workers a command has.
-fn read_workers(alloc: Global, command: &ArgMatches<'_>) -> Result<u32, Misread>
+fn read_workers(alloc: Global, command: &ArgMatches<'_>) -> Result<u32, UsageError>
+    ensures number { IfOk result (λ workers. workers ≡ number_of (codes "workers") (rows_of (found_of command.now))) }
     ensures some { IfOk result (λ workers. 1 ≤ workers) }
     ensures few { IfOk result (λ workers. workers ≤ 16) }
+    ensures refused { IfErr result (λ _. HasInvalidWorkers (rows_of (found_of command.now))) }
 {
-    let workers = command.get_one::<u32>("workers").unwrap_or(0);
+    let workers = read_number(command, "workers");
     if workers < 1 || workers > WORKER_LIMIT {
-        return Err(Misread::because(format!(in alloc;
+        return Err(UsageError::with_reason(format!(in alloc;
             "error: --workers takes 1 to 16\n\nFor more information, try '--help'.\n"
         )));
     }
@@ -403,29 +448,41 @@ fn read_workers(alloc: Global, command: &ArgMatches<'_>) -> Result<u32, Misread>
 }
 
 // What `tq ask` was asked.
-fn read_ask(alloc: Global, ask: &ArgMatches<'_>) -> Result<AskRequest, Misread> {
+fn read_ask(alloc: Global, ask: &ArgMatches<'_>) -> Result<AskRequest, UsageError>
+    ensures ask { IfOk result (IsAskOf (rows_of (found_of ask.now))) }
+    ensures refused { IfErr result (λ e. e.fault ≡ CommandLineFault.BadCommandLine
+        → IsInvalidQuestion (rows_of (found_of ask.now))) }
+{
     let tables = read_tables(alloc, ask, 1)?;
     let workers = read_workers(alloc, ask)?;
-    let statement = bytes_of(alloc, ask.get_str("statement").unwrap_or(""))?;
+    let statement = bytes_of(alloc, read_text(ask, "statement"))?;
     Ok(AskRequest {
         tables,
         workers,
         form: read_form(ask),
         statement,
-        explain: ask.get_flag("explain"),
+        explain: read_flag(ask, "explain"),
     })
 }
 
 // What `tq draw` was asked.
-fn read_draw(alloc: Global, draw: &ArgMatches<'_>) -> Result<DrawRequest, Misread> {
-    let width = draw.get_one::<u32>("width").unwrap_or(0);
+fn read_draw(alloc: Global, draw: &ArgMatches<'_>) -> Result<DrawRequest, UsageError>
+    ensures draw { IfOk result (IsDrawOf (rows_of (found_of draw.now))) }
+    ensures refused { IfErr result (λ e. e.fault ≡ CommandLineFault.BadCommandLine
+        → IsInvalidQuestion (rows_of (found_of draw.now))) }
+{
+    let width = read_number(draw, "width");
     let ask = read_ask(alloc, draw)?;
-    let svg = draw.get_flag("svg");
+    let svg = read_flag(draw, "svg");
     Ok(DrawRequest { ask, width, svg })
 }
 
 // What `tq check` was asked.
-fn read_check(alloc: Global, check: &ArgMatches<'_>) -> Result<CheckRequest, Misread> {
+fn read_check(alloc: Global, check: &ArgMatches<'_>) -> Result<CheckRequest, UsageError>
+    ensures check { IfOk result (IsCheckOf (rows_of (found_of check.now))) }
+    ensures refused { IfErr result (λ e. e.fault ≡ CommandLineFault.BadCommandLine
+        → IsInvalidQuestion (rows_of (found_of check.now))) }
+{
     let tables = read_tables(alloc, check, 1)?;
     let workers = read_workers(alloc, check)?;
     Ok(CheckRequest {
@@ -433,6 +490,17 @@ fn read_check(alloc: Global, check: &ArgMatches<'_>) -> Result<CheckRequest, Mis
         workers,
         form: read_form(check),
     })
+}
+
+// What `tq session` is about.
+fn read_session(alloc: Global, session: &ArgMatches<'_>) -> Result<SessionRequest, UsageError>
+    ensures session { IfOk result (IsSessionOf (rows_of (found_of session.now))) }
+    ensures refused { IfErr result (λ e. e.fault ≡ CommandLineFault.BadCommandLine
+        → HasInvalidTables 0 (rows_of (found_of session.now))) }
+{
+    let tables = read_tables(alloc, session, 0)?;
+    let form = read_form(session);
+    Ok(SessionRequest { tables, form })
 }
 
 // A table's name and path: what stands before and after the first `=`. Without one the word is refused.

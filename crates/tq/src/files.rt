@@ -1,29 +1,29 @@
-// The files that a command line names, read to their bytes.
+// Reads the files of the command line.
 
 ghost use Rattle.std.specs.Prelude.{◌≡◌, ◌≢◌, false, IfErr, IfOk, None, codes, map};
 ghost use Rattle.tq.specs.Refusals.{IsReadRefusal};
-ghost use Rattle.tq.specs.Spans.{IsRest};
-ghost use Rattle.tq.specs.declared.command_line.TableOption.{TableOption as AnyOption};
+ghost use Rattle.tq.specs.Spans.{IsRemainder};
+ghost use Rattle.tq.specs.declared.request.TableOption.{TableOption as AnyOption};
 ghost use Rattle.tq_event.specs.declared.file.TableFile.{TableFile as AnyFile};
 
-use crate::command_line::TableOption;
-use crate::kept::is_read_once;
 use crate::pieces::{len_of, read_pieces};
 use crate::progress::{Counted, Progress};
-use crate::report::{Refusal, Told};
+use crate::read_errors::{file_len, reason};
+use crate::report::{Diagnostic, Refusal};
+use crate::request::TableOption;
+use crate::retained::is_read_once;
 use crate::spans::Opened;
-use crate::unread::{file_len, reason};
 use std::alloc::{AllocError, Global};
 use std::io::{ErrorKind, Input};
 use std::os::unix::fs::FileExt;
 use std::rt::Files;
 use std::thread::Threads;
 use std::{fs, str, thread};
-use tq_base::Items;
+use tq_base::List;
 use tq_engine::{FileFault, Source, read_file};
 use tq_event::{FileBytes, TableFile};
 
-// The file at a path, opened. The standard library opens no path that is no UTF-8.
+// Opens the file at a path. The standard library opens no path that is not valid UTF-8.
 fn open<R: Files>(rt: &R, path: &[u8]) -> Result<R::File, FileFault> {
     let Ok(path) = str::from_utf8(path) else {
         return Err(FileFault::Read);
@@ -35,14 +35,15 @@ fn open<R: Files>(rt: &R, path: &[u8]) -> Result<R::File, FileFault> {
     }
 }
 
-/// The bytes of the file at a path, or of standard input if the path is `-`.
+/// The bytes of the file at a path, or of standard input if the path is `-`. `Read` if it cannot be opened or read,
+/// `TooLarge` if it has more than 1,073,741,824 bytes, `OutOfMemory` if an allocation failed.
 pub fn read_path<R: Files + AllocGlobal + Input>(
     rt: &R,
     path: &[u8],
     progress: &Progress,
 ) -> Result<Vec<u8>, FileFault>
-    ensures input { path.now ≡ codes "-" → IfOk result (λ bytes. (reader : R.Reader) × IsRest (R.Reader.remaining reader) bytes.items) }
-    ensures file { path.now ≢ codes "-" → IfOk result (λ bytes. (file : R.File) × IsRest (R.File.remaining file) bytes.items) }
+    ensures input { path.now ≡ codes "-" → IfOk result (λ bytes. (reader : R.Reader) × IsRemainder (R.Reader.remaining reader) bytes.items) }
+    ensures file { path.now ≢ codes "-" → IfOk result (λ bytes. (file : R.File) × IsRemainder (R.File.remaining file) bytes.items) }
 {
     if path == b"-".as_slice() {
         let reader = rt.reader();
@@ -52,7 +53,7 @@ pub fn read_path<R: Files + AllocGlobal + Input>(
     read_file(rt.alloc(), &mut Source::over(Counted { reader, progress }))
 }
 
-// The same, read in pieces by so many workers where it is a large file.
+// The bytes of the file at a path or of standard input. A large file is read in pieces by up to `workers` threads.
 fn read_bytes<
     R: Files<File: FileExt + Send + Sync, Dir: Send>
         + AllocGlobal
@@ -75,7 +76,7 @@ fn read_bytes<
     Ok(FileBytes::of(read_file(rt.alloc(), &mut source)?))
 }
 
-// A table's name, and the bytes of its file, which so many workers read.
+// A table's name and the bytes of its file, which up to `workers` threads read.
 fn read_table<
     R: Files<File: FileExt + Send + Sync, Dir: Send>
         + AllocGlobal
@@ -89,22 +90,22 @@ fn read_table<
     let TableOption { name, path } = option;
     match read_bytes(rt, &path, workers, progress) {
         Ok(bytes) => Ok(TableFile {
-            name: Items::of(name),
+            name: List::of(name),
             bytes,
         }),
         Err(fault) => Err(Refusal::of_file(fault, path)),
     }
 }
 
-// So many bytes are to be read as the files have.
+// Adds the lengths of the files to the bytes that progress expects.
 fn expect_files<R: Files>(rt: &R, options: &[TableOption], progress: &Progress) {
     for option in options {
         progress.expect(file_len(rt, &option.path));
     }
 }
 
-// The tables in the order of their options, read one after the other, each by so many workers.
-fn read_in_turn<
+// Reads the tables one after the other, in the order of their options, each with up to `workers` threads.
+fn read_sequentially<
     R: Files<File: FileExt + Send + Sync, Dir: Send>
         + AllocGlobal
         + Input<Reader: Send>
@@ -128,8 +129,8 @@ fn read_in_turn<
     Ok(tables)
 }
 
-// Whether none of the tables can be read once only, so that no reading of one takes bytes from another.
-fn stay_all<R: Files>(rt: &R, options: &[TableOption]) -> bool {
+// Whether every table can be read again, so that reading one takes no bytes from another.
+fn all_rereadable<R: Files>(rt: &R, options: &[TableOption]) -> bool {
     'options: for option in options {
         if is_read_once(rt, &option.path) {
             return false;
@@ -138,9 +139,9 @@ fn stay_all<R: Files>(rt: &R, options: &[TableOption]) -> bool {
     true
 }
 
-// The tables in the order of their options, read by two threads, the first half of them and the others, and each half by
-// half the workers.
-fn read_side_by_side<
+// Reads the tables with two threads, in the order of their options. Each thread reads half of the tables with half of
+// the workers.
+fn read_concurrently<
     R: Files<File: FileExt + Send + Sync, Dir: Send>
         + AllocGlobal
         + Input<Reader: Send>
@@ -160,11 +161,11 @@ fn read_side_by_side<
     let read_front = || -> Result<Vec<TableFile>, Refusal>
         ensures tables { IfOk result (λ tables. map (λ (t : AnyFile). t.name) tables.items ≡ map (λ (o : AnyOption). o.name.items) front.items) }
         ensures refused { IfErr result (IsReadRefusal front.items) }
-    { read_in_turn(rt, front, workers / 2, progress) };
+    { read_sequentially(rt, front, workers / 2, progress) };
     let read_back = || -> Result<Vec<TableFile>, Refusal>
         ensures tables { IfOk result (λ tables. map (λ (t : AnyFile). t.name) tables.items ≡ map (λ (o : AnyOption). o.name.items) back.items) }
         ensures refused { IfErr result (IsReadRefusal back.items) }
-    { read_in_turn(rt, back, workers / 2, progress) };
+    { read_sequentially(rt, back, workers / 2, progress) };
     let (more, tables) = thread::join(rt, read_back, read_front);
     let mut tables = tables?;
     let mut more = more?;
@@ -172,7 +173,7 @@ fn read_side_by_side<
     Ok(tables)
 }
 
-// The tables in the order of their options, read side by side where there are several workers.
+// Reads the tables in the order of their options, concurrently if there are several workers.
 fn read_tables<
     R: Files<File: FileExt + Send + Sync, Dir: Send>
         + AllocGlobal
@@ -189,34 +190,34 @@ fn read_tables<
     ensures refused { IfErr result (IsReadRefusal options.items) }
 {
     expect_files(rt, &options, progress);
-    if workers > 1 && options.len() > 1 && stay_all(rt, &options) {
-        read_side_by_side(rt, options, workers, progress)
+    if workers > 1 && options.len() > 1 && all_rereadable(rt, &options) {
+        read_concurrently(rt, options, workers, progress)
     } else {
-        read_in_turn(rt, options, workers, progress)
+        read_sequentially(rt, options, workers, progress)
     }
 }
 
-// The refusal, with the reason why a file cannot be read if that is to be explained.
-fn told_of<R: Files + AllocGlobal>(rt: &R, refusal: Refusal, explain: bool) -> Told
+// The refusal, with the reason why a file cannot be read if `explain` is set.
+fn diagnostic_of<R: Files + AllocGlobal>(rt: &R, refusal: Refusal, explain: bool) -> Diagnostic
     ensures refusal { result.refusal ≡ refusal }
     ensures silent { explain ≡ false → result.detail ≡ None }
 {
     if !explain {
-        return Told::from(refusal);
+        return Diagnostic::from(refusal);
     }
     match refusal {
         Refusal::CannotRead(path) => {
             let reason = reason(rt, &path);
-            Told::of_unread(rt.alloc(), path, reason)
+            Diagnostic::of_unreadable(rt.alloc(), path, reason)
         }
-        _ => Told::from(refusal),
+        _ => Diagnostic::from(refusal),
     }
 }
 
-/// The tables in the order of their options, or the refusal, which is explained where that is asked for. Where there are
-/// several workers, two read files side by side, unless one of these can be read once only, and several read the pieces
-/// of a large file.
-pub fn read_explained<
+/// Reads the tables in the order of their options. After an error: the refusal, with details if `explain` is set. With
+/// several workers, two threads read different files, unless a file can be read only once; up to four read one large
+/// file.
+pub fn read_table_files<
     R: Files<File: FileExt + Send + Sync, Dir: Send>
         + AllocGlobal
         + Input<Reader: Send>
@@ -228,18 +229,18 @@ pub fn read_explained<
     workers: u32,
     explain: bool,
     progress: &Progress,
-) -> Result<Vec<TableFile>, Told>
+) -> Result<Vec<TableFile>, Diagnostic>
     ensures tables { IfOk result (λ tables. map (λ (t : AnyFile). t.name) tables.items ≡ map (λ (o : AnyOption). o.name.items) options.items) }
-    ensures refused { IfErr result (λ told. IsReadRefusal options.items told.refusal) }
-    ensures silent { explain ≡ false → IfErr result (λ told. told.detail ≡ None) }
+    ensures refused { IfErr result (λ diagnostic. IsReadRefusal options.items diagnostic.refusal) }
+    ensures silent { explain ≡ false → IfErr result (λ diagnostic. diagnostic.detail ≡ None) }
 {
     match read_tables(rt, options, workers, progress) {
         Ok(tables) => Ok(tables),
-        Err(refusal) => Err(told_of(rt, refusal, explain)),
+        Err(refusal) => Err(diagnostic_of(rt, refusal, explain)),
     }
 }
 
-/// The paths of the tables, in their order.
+/// The paths of the tables, in the order of their options. `AllocError` if an allocation failed.
 pub fn paths_of(alloc: Global, options: &[TableOption]) -> Result<Vec<Vec<u8>>, AllocError>
     ensures { IfOk result (λ paths. map (λ p. p.items) paths.items ≡ map (λ (o : AnyOption). o.path.items) options.now) }
 {

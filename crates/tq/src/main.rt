@@ -1,43 +1,42 @@
-//! The program `tq`: `tq ask --table NAME=PATH [--workers N] STATEMENT` answers a sequenced query over
-//! valid-time tables in CSV files, and `tq session --table NAME=PATH` answers the lines of standard input over them.
-//! `tq draw` draws the answer of a statement, and `tq check` tells what the tables are, or which records are at
-//! fault. With `--dates` instants are dates.
+//! The program `tq`. `tq ask` answers a statement over CSV files, and `tq draw` draws the answer. `tq check` summarises
+//! tables or lists invalid records. `tq session` runs the commands on standard input.
 //!
-//! The words of the command line (`words`) are read as a request (`command_line`), the files that it names
-//! are read to their bytes (`files`), and the engine (`tq_engine`) answers the statement over them on standard
-//! output, or a session (`tq_session`) the lines. Where there is no answer, one line on standard error says why
-//! (`report`), and where that is a terminal, or with `--explain`, more stands below it (`refusing`, `tq_explain`). What takes longer
-//! than a second shows at a terminal how far it is (`progress`), and of an answer `tq ask --explain` tells how it came
-//! about (`explained`, `tq_figures`). Of files that are checked and refused, `kept` has what is wanted to list their faults.
+//! `ask` is proved: after success, the statement has an answer over files with the tables' names (`IsAnswered`); an
+//! error is one that `IsAskRefusal` allows. The command line and the opening of files are only tested.
+//!
+//! A request is read in `words.rt` and `command_line.rt`, its files in `files.rt` and `pieces.rt`. A refusal is one
+//! fixed line on standard error (`report.rt`). At a terminal, or with `--explain`, details follow it (`refusals.rt`).
+//! `progress.rt` shows progress at a terminal, and `profile.rt` prints the profile of `tq ask --explain`. Open
+//! `command_line.rt` first, then `ask` below.
 #![tactic(auto)]
 
 ghost use Rattle.std.specs.Prelude.{◌≡◌, false, IfErr, None, OnOk};
 ghost use Rattle.tq.specs.Refusals.{IsAnswered, IsAskRefusal};
 
 mod command_line;
-mod explained;
 mod files;
-mod heads;
-mod kept;
+mod headers;
 mod pieces;
+mod profile;
 mod progress;
 mod prompt;
-mod refusing;
+mod read_errors;
+mod refusals;
 mod report;
+mod request;
+mod retained;
 mod spans;
-mod unread;
 mod words;
 
-use command_line::{
-    AskRequest, CheckRequest, DrawRequest, Request, SessionRequest, read_command_line,
-};
-use explained::ask_watched;
-use files::{paths_of, read_explained, read_path};
-use kept::{Kept, is_listed, keep_all};
+use command_line::read_command_line;
+use files::{paths_of, read_path, read_table_files};
+use profile::ask_with_progress;
 use progress::Progress;
 use prompt::Prompted;
-use refusing::{heads_where, refused, refused_load};
-use report::{Refusal, Told};
+use refusals::{header_copies, refused, refused_load};
+use report::{Diagnostic, Refusal};
+use request::{AskRequest, CheckRequest, DrawRequest, Request, SessionRequest};
+use retained::{RetainedFile, is_listed, retain_files};
 use std::alloc::AllocError;
 use std::env::Env;
 use std::io::{self, Input, IsTerminal, Write};
@@ -49,15 +48,15 @@ use std::thread::{self, Threads};
 use std::time::Clock;
 use tq_base::Form;
 use tq_check::check;
+use tq_diagnostics::explain_records;
 use tq_draw::{draw, draw_svg};
-use tq_engine::{AnswerFault, FileFault, Source, answer};
-use tq_explain::explain_records;
+use tq_engine::{AnswerFault, FileFault, Source, query_files};
 use tq_session::{SessionFault, session};
 use tq_table::Sink;
 use words::read_words;
 
-// Answers a request on standard output, once all files are read. What a refusal is about is explained where a person
-// sees it, or where that was asked for; how it was answered is told where that was asked for.
+// Answers a statement on standard output after all files are read. A refusal has details at a terminal or with
+// `--explain`. With `--explain`, an answer has a profile.
 fn ask<
     R: Files<File: FileExt + Send + Sync, Dir: Send>
         + AllocGlobal
@@ -67,38 +66,45 @@ fn ask<
         + Threads
         + Wait
         + Sync,
->(rt: &R, request: AskRequest, seen: bool, progress: &Progress) -> Result<(), Told>
+>(rt: &R, request: AskRequest, interactive: bool, progress: &Progress) -> Result<(), Diagnostic>
     ensures answered { OnOk result (IsAnswered request.form request.tables.items request.statement.items) }
-    ensures refused { IfErr result (λ told. IsAskRefusal request.form request.tables.items request.statement.items told.refusal) }
-    ensures silent { request.explain ≡ false → seen ≡ false → IfErr result (λ told. told.detail ≡ None) }
+    ensures refused { IfErr result (λ diagnostic. IsAskRefusal request.form request.tables.items request.statement.items diagnostic.refusal) }
+    ensures silent { request.explain ≡ false → interactive ≡ false → IfErr result (λ diagnostic. diagnostic.detail ≡ None) }
 {
     let AskRequest {
         tables: options,
         workers,
         form,
         statement,
-        explain: is_told,
+        explain: is_profiled,
     } = request;
-    let explain = is_told || seen;
+    let explain = is_profiled || interactive;
     let paths = paths_of(rt.alloc(), &options)?;
-    let tables = read_explained(rt, options, workers, explain, progress)?;
-    let heads = heads_where(rt.alloc(), &tables, explain);
+    let tables = read_table_files(rt, options, workers, explain, progress)?;
+    let headers = header_copies(rt.alloc(), &tables, explain);
     progress.load();
     let mut sink = Sink::over(io::writer(rt));
-    match ask_watched(
-        rt, tables, &statement, workers, &mut sink, form, progress, is_told,
+    match ask_with_progress(
+        rt,
+        tables,
+        &statement,
+        workers,
+        &mut sink,
+        form,
+        progress,
+        is_profiled,
     ) {
         Ok(()) => Ok(()),
         Err(fault) => {
-            let told = refused(
-                rt, fault, &statement, &paths, heads, form, explain, progress,
+            let diagnostic = refused(
+                rt, fault, &statement, &paths, headers, form, explain, progress,
             );
-            Err(told)
+            Err(diagnostic)
         }
     }
 }
 
-// Draws the answer of a request on standard output, once all files are read.
+// Draws the answer of a statement on standard output after all files are read.
 fn draw_answer<
     R: Files<File: FileExt + Send + Sync, Dir: Send>
         + AllocGlobal
@@ -107,7 +113,7 @@ fn draw_answer<
         + Threads
         + Wait
         + Sync,
->(rt: &R, request: DrawRequest, seen: bool, progress: &Progress) -> Result<(), Told> {
+>(rt: &R, request: DrawRequest, interactive: bool, progress: &Progress) -> Result<(), Diagnostic> {
     let DrawRequest { ask, width, svg } = request;
     let AskRequest {
         tables: options,
@@ -116,12 +122,12 @@ fn draw_answer<
         statement,
         explain,
     } = ask;
-    let explain = explain || seen;
+    let explain = explain || interactive;
     let paths = paths_of(rt.alloc(), &options)?;
-    let tables = read_explained(rt, options, workers, explain, progress)?;
-    let heads = heads_where(rt.alloc(), &tables, explain);
+    let tables = read_table_files(rt, options, workers, explain, progress)?;
+    let headers = header_copies(rt.alloc(), &tables, explain);
     progress.load();
-    match answer(rt, rt.alloc(), tables, &statement, workers, form) {
+    match query_files(rt, rt.alloc(), tables, &statement, workers, form) {
         Ok(table) => {
             progress.end(rt);
             let picture = if svg {
@@ -132,45 +138,45 @@ fn draw_answer<
             Ok(print_bytes(rt, &picture)?)
         }
         Err(fault) => Err(refused(
-            rt, fault, &statement, &paths, heads, form, explain, progress,
+            rt, fault, &statement, &paths, headers, form, explain, progress,
         )),
     }
 }
 
-// What is told of the records at fault of a file. It is read once more, where its bytes were not kept; nothing is told of one
-// that cannot be read again.
+// Descriptions of the invalid records of a file. The file is read again if its bytes were not retained; the result is
+// empty if that fails.
 fn records_at_fault<R: Files + AllocGlobal + Input>(
     rt: &R,
-    kept: &Kept,
+    retained: &RetainedFile,
     form: Form,
     progress: &Progress,
 ) -> Result<Vec<u8>, AllocError> {
-    if let Some(bytes) = &kept.bytes {
-        return explain_records(rt.alloc(), &kept.name, bytes, form);
+    if let Some(bytes) = &retained.bytes {
+        return explain_records(rt.alloc(), &retained.name, bytes, form);
     }
-    match read_path(rt, &kept.path, progress) {
-        Ok(bytes) => explain_records(rt.alloc(), &kept.name, &bytes, form),
+    match read_path(rt, &retained.path, progress) {
+        Ok(bytes) => explain_records(rt.alloc(), &retained.name, &bytes, form),
         Err(FileFault::OutOfMemory) => Err(AllocError),
         Err(FileFault::Read | FileFault::TooLarge) => Ok(Vec::new(rt.alloc())),
     }
 }
 
-// What is told of the records at fault of all files, one file after the other.
+// Descriptions of the invalid records of all files, one file after the other.
 fn list_faults<R: Files + AllocGlobal + Input>(
     rt: &R,
-    files: &[Kept],
+    files: &[RetainedFile],
     form: Form,
     progress: &Progress,
 ) -> Result<Vec<u8>, AllocError> {
     let mut list = Vec::new(rt.alloc());
-    'files: for kept in files {
-        list.extend_from_slice(&records_at_fault(rt, kept, form, progress)?)?;
+    'files: for retained in files {
+        list.extend_from_slice(&records_at_fault(rt, retained, form, progress)?)?;
     }
     Ok(list)
 }
 
-// Tells on standard output what the tables are, once all files are read; where records are at fault, these, once the list of
-// all of them is made. A file that is refused is explained where a person sees it.
+// Prints a summary of the tables on standard output after all files are read. If records are invalid, it prints the
+// complete list of them instead. At a terminal, the refusal of a file has details.
 fn check_tables<
     R: Files<File: FileExt + Send + Sync, Dir: Send>
         + AllocGlobal
@@ -179,15 +185,15 @@ fn check_tables<
         + Threads
         + Wait
         + Sync,
->(rt: &R, request: CheckRequest, seen: bool, progress: &Progress) -> Result<(), Told> {
+>(rt: &R, request: CheckRequest, interactive: bool, progress: &Progress) -> Result<(), Diagnostic> {
     let CheckRequest {
         tables: options,
         workers,
         form,
     } = request;
     let paths = paths_of(rt.alloc(), &options)?;
-    let tables = read_explained(rt, options, workers, seen, progress)?;
-    let kept = keep_all(rt, &tables, &paths)?;
+    let tables = read_table_files(rt, options, workers, interactive, progress)?;
+    let retained = retain_files(rt, &tables, &paths)?;
     progress.load();
     match check(rt, rt.alloc(), tables, workers, form) {
         Ok(text) => {
@@ -197,19 +203,18 @@ fn check_tables<
         Err(fault) => {
             if is_listed(fault) {
                 progress.end(rt);
-                let list = list_faults(rt, &kept, form, progress)?;
-                // Where the list cannot be printed, the line of the refusal still tells.
+                let list = list_faults(rt, &retained, form, progress)?;
+                // If the list cannot be printed, the refusal's line is still printed.
                 let _ = print_bytes(rt, &list);
             }
             let fault = AnswerFault::from(fault);
-            Err(refused(rt, fault, b"", &paths, None, form, seen, progress))
+            Err(refused(rt, fault, b"", &paths, None, form, interactive, progress))
         }
     }
 }
 
-// Answers the lines of standard input on standard output, once all files are read, each after a prompt where there is
-// somewhere to print it.
-fn converse<
+// Runs the commands on standard input after all files are read. If there is a terminal, a prompt precedes each command.
+fn run_session<
     R: Files<File: FileExt + Send + Sync, Dir: Send>
         + AllocGlobal
         + Input<Reader: Send>
@@ -221,30 +226,29 @@ fn converse<
 >(
     rt: &R,
     request: SessionRequest,
-    seen: bool,
+    interactive: bool,
     prompts: Option<W>,
     progress: &Progress,
-) -> Result<(), Told> {
+) -> Result<(), Diagnostic> {
     let SessionRequest {
         tables: options,
         form,
     } = request;
     let paths = paths_of(rt.alloc(), &options)?;
-    let tables = read_explained(rt, options, 1, seen, progress)?;
+    let tables = read_table_files(rt, options, 1, interactive, progress)?;
     progress.end(rt);
     let reader = rt.reader();
     let mut source = Source::over(Prompted { reader, prompts });
     let mut sink = Sink::over(io::writer(rt));
     match session(rt, rt.alloc(), tables, &mut source, &mut sink, form) {
         Ok(()) => Ok(()),
-        Err(SessionFault::Load(load)) if seen => Err(refused_load(
+        Err(SessionFault::Load(load)) if interactive => Err(refused_load(
             rt, load, &paths, form, progress,
         )),
-        Err(fault) => Err(Told::from(Refusal::from(fault))),
+        Err(fault) => Err(Diagnostic::from(Refusal::from(fault))),
     }
 }
 
-// Prints the bytes on standard output.
 fn print_bytes<R: Print>(rt: &R, bytes: &[u8]) -> Result<(), Refusal> {
     match Sink::over(io::writer(rt)).send(bytes) {
         Ok(()) => Ok(()),
@@ -252,8 +256,8 @@ fn print_bytes<R: Print>(rt: &R, bytes: &[u8]) -> Result<(), Refusal> {
     }
 }
 
-// Does what a request asks.
-fn carry_out<
+// Runs a request.
+fn dispatch<
     R: Files<File: FileExt + Send + Sync, Dir: Send>
         + AllocGlobal
         + Clock
@@ -266,21 +270,21 @@ fn carry_out<
 >(
     rt: &R,
     request: Request,
-    seen: bool,
+    interactive: bool,
     prompts: Option<W>,
     progress: &Progress,
-) -> Result<(), Told> {
+) -> Result<(), Diagnostic> {
     match request {
-        Request::Ask(request) => ask(rt, request, seen, progress),
-        Request::Session(request) => converse(rt, request, seen, prompts, progress),
-        Request::Draw(request) => draw_answer(rt, request, seen, progress),
-        Request::Check(request) => check_tables(rt, request, seen, progress),
+        Request::Ask(request) => ask(rt, request, interactive, progress),
+        Request::Session(request) => run_session(rt, request, interactive, prompts, progress),
+        Request::Draw(request) => draw_answer(rt, request, interactive, progress),
+        Request::Check(request) => check_tables(rt, request, interactive, progress),
         Request::Print(text) => Ok(print_bytes(rt, text.as_bytes())?),
     }
 }
 
-// The same, while a person is shown how far it has come.
-fn carry_out_seen<
+// Runs a request while another thread shows its progress.
+fn dispatch_with_progress<
     R: Files<File: FileExt + Send + Sync, Dir: Send>
         + AllocGlobal
         + Clock
@@ -290,16 +294,16 @@ fn carry_out_seen<
         + Wait
         + Sync,
     W: Write + Drop,
->(rt: &R, request: Request, prompts: Option<W>, progress: &Progress) -> Result<(), Told> {
+>(rt: &R, request: Request, prompts: Option<W>, progress: &Progress) -> Result<(), Diagnostic> {
     let work = || {
-        let done = carry_out(rt, request, true, prompts, progress);
+        let done = dispatch(rt, request, true, prompts, progress);
         progress.end(rt);
         done
     };
     thread::join(rt, || progress.show(rt, rt.alloc()), work).1
 }
 
-// Does what the command line asks.
+// Reads the command line and runs its request.
 fn run<
     R: Files<File: FileExt + Send + Sync, Dir: Send>
         + AllocGlobal
@@ -311,31 +315,31 @@ fn run<
         + Wait
         + Sync,
     W: Write + Drop,
->(rt: &R, seen: bool, prompts: Option<W>, progress: &Progress) -> Result<(), Told> {
+>(rt: &R, interactive: bool, prompts: Option<W>, progress: &Progress) -> Result<(), Diagnostic> {
     let words = read_words(rt)?;
     match read_command_line(rt.alloc(), &words) {
-        Ok(request) if seen => carry_out_seen(rt, request, prompts, progress),
-        Ok(request) => carry_out(rt, request, false, prompts, progress),
-        Err(misread) => Err(Told::of_command_line(misread, seen)),
+        Ok(request) if interactive => dispatch_with_progress(rt, request, prompts, progress),
+        Ok(request) => dispatch(rt, request, false, prompts, progress),
+        Err(usage_error) => Err(Diagnostic::of_command_line(usage_error, interactive)),
     }
 }
 
 fn main(rt: HostRuntime) -> ExitCode {
     let mut errors = rt.stderr();
-    let seen = errors.is_terminal();
+    let interactive = errors.is_terminal();
     let prompts = if rt.stdin().is_terminal() && rt.stdout().is_terminal() {
         Some(rt.stderr())
     } else {
         None
     };
     let progress = Progress::over(rt.stderr());
-    match run(&rt, seen, prompts, &progress) {
+    match run(&rt, interactive, prompts, &progress) {
         Ok(()) => ExitCode::SUCCESS,
-        Err(told) => {
-            // Where the line cannot be printed, the status still tells.
-            let _ = told.refusal.print(&mut errors);
-            let _ = errors.write_all(told.detail());
-            told.refusal.status()
+        Err(diagnostic) => {
+            // If the line cannot be printed, the exit status still reports the failure.
+            let _ = diagnostic.refusal.print(&mut errors);
+            let _ = errors.write_all(diagnostic.detail());
+            diagnostic.refusal.status()
         }
     }
 }

@@ -1,5 +1,5 @@
-// Files read in pieces, side by side: a large one by up to four threads, each of which touches pages of its own. All of
-// them read the one opened file, so the bytes are never those of two files of one name.
+// Reads a large file with up to four threads, each of which has pieces of its own. All of them read the same open file,
+// so the bytes never come from two files of one name.
 
 ghost use Rattle.std.specs.Prelude.{◌≡◌, ◌++◌, ℕ, IfErr, IfOk, IfSome, length};
 ghost use Rattle.std.specs.Global.{Vec};
@@ -14,18 +14,18 @@ use std::thread;
 use std::thread::Threads;
 use tq_engine::{FILE_LIMIT, FileFault, Source, read_file};
 use tq_event::FileBytes;
-use tq_loading::first_cut;
+use tq_load::first_cut;
 
-// A piece has about this many bytes or more.
-const LEAST_PIECE: u64 = 1_048_576;
+// A piece has at least about this many bytes.
+const MIN_PIECE_LENGTH: u64 = 1_048_576;
 
-// The most pieces of one file.
-const MOST_PIECES: u64 = 4;
+// The maximal number of pieces of one file.
+const MAX_PIECES: u64 = 4;
 
-// A line with which a piece can begin is looked for among this many bytes.
+// The number of bytes in which a start of a piece is searched.
 const ROOM: u64 = 65_536;
 
-// The place after this one at which a piece can begin; `None` where there is none near it.
+// The first place after this one at which a piece can begin; `None` if there is none within `ROOM` bytes.
 fn cut_near<F: ReadAt>(alloc: Global, file: &F, place: u64) -> Option<u64> {
     let left = Span {
         start: place,
@@ -36,8 +36,8 @@ fn cut_near<F: ReadAt>(alloc: Global, file: &F, place: u64) -> Option<u64> {
     Some(place.saturating_add(cut as u64))
 }
 
-// The spans of a source of `len` bytes that are read as pieces, by `workers` threads: one if it is small, or no other
-// can begin.
+// The spans of a source of `len` bytes that are read as pieces by `workers` threads. There is one if the source is
+// small or no other piece can begin.
 fn spans_of<F: ReadAt>(
     alloc: Global,
     file: &F,
@@ -47,7 +47,9 @@ fn spans_of<F: ReadAt>(
     ensures { IfOk result (λ spans. Tile spans.items 0 len) }
 {
     let mut spans = Vec::new(alloc);
-    let pieces = (len / LEAST_PIECE).min(u64::from(workers)).min(MOST_PIECES);
+    let pieces = (len / MIN_PIECE_LENGTH)
+        .min(u64::from(workers))
+        .min(MAX_PIECES);
     let mut start = 0;
     'pieces: for number in 1..pieces {
         let place = (len / pieces).saturating_mul(number);
@@ -68,8 +70,8 @@ fn spans_of<F: ReadAt>(
     Ok(spans)
 }
 
-// The bytes of spans, read one after the other.
-fn read_in_turn<F: ReadAt>(
+// Reads the spans one after the other.
+fn read_sequentially<F: ReadAt>(
     alloc: Global,
     file: &F,
     spans: &[Span],
@@ -85,7 +87,7 @@ fn read_in_turn<F: ReadAt>(
     Ok(pieces)
 }
 
-// The pieces that were read of both halves.
+// The pieces of both halves, or the first fault.
 fn both(
     front: Result<Vec<Vec<u8>>, FileFault>,
     back: Result<Vec<Vec<u8>>, FileFault>,
@@ -98,8 +100,8 @@ fn both(
     Ok(pieces)
 }
 
-// The bytes of spans, read by two threads.
-fn read_by_two<R: Threads, F: ReadAt + Sync>(
+// Reads the spans with two threads.
+fn read_with_two_threads<R: Threads, F: ReadAt + Sync>(
     rt: &R,
     alloc: Global,
     file: &F,
@@ -111,16 +113,16 @@ fn read_by_two<R: Threads, F: ReadAt + Sync>(
     let (front, back) = spans.split_at(spans.len() / 2);
     let read_front = || -> Result<Vec<Vec<u8>>, FileFault>
         ensures { IfOk result (λ pieces. AreSpans (F.bytes file.entry.now) front.entry.now pieces.items) }
-    { read_in_turn(alloc, file, front, progress) };
+    { read_sequentially(alloc, file, front, progress) };
     let read_back = || -> Result<Vec<Vec<u8>>, FileFault>
         ensures { IfOk result (λ pieces. AreSpans (F.bytes file.entry.now) back.entry.now pieces.items) }
-    { read_in_turn(alloc, file, back, progress) };
+    { read_sequentially(alloc, file, back, progress) };
     let (more, pieces) = thread::join(rt, read_back, read_front);
     both(pieces, more)
 }
 
-// The bytes of spans, read by four threads, or by two if there are fewer than three spans.
-fn read_by_four<R: Threads + Sync, F: ReadAt + Sync>(
+// Reads the spans with four threads, or with two if there are fewer than three spans.
+fn read_with_four_threads<R: Threads + Sync, F: ReadAt + Sync>(
     rt: &R,
     alloc: Global,
     file: &F,
@@ -130,20 +132,20 @@ fn read_by_four<R: Threads + Sync, F: ReadAt + Sync>(
     ensures { IfOk result (λ pieces. AreSpans (F.bytes file.now) spans.now pieces.items) }
 {
     if spans.len() < 3 {
-        return read_by_two(rt, alloc, file, spans, progress);
+        return read_with_two_threads(rt, alloc, file, spans, progress);
     }
     let (front, back) = spans.split_at(spans.len() / 2);
     let read_front = || -> Result<Vec<Vec<u8>>, FileFault>
         ensures { IfOk result (λ pieces. AreSpans (F.bytes file.entry.now) front.entry.now pieces.items) }
-    { read_by_two(rt, alloc, file, front, progress) };
+    { read_with_two_threads(rt, alloc, file, front, progress) };
     let read_back = || -> Result<Vec<Vec<u8>>, FileFault>
         ensures { IfOk result (λ pieces. AreSpans (F.bytes file.entry.now) back.entry.now pieces.items) }
-    { read_by_two(rt, alloc, file, back, progress) };
+    { read_with_two_threads(rt, alloc, file, back, progress) };
     let (more, pieces) = thread::join(rt, read_back, read_front);
     both(pieces, more)
 }
 
-// All bytes of pieces, one piece after the other; `None` if there are none.
+// The bytes of all pieces, in order; `None` if there are no pieces.
 fn joined(mut pieces: Vec<Vec<u8>>) -> Result<Option<FileBytes>, AllocError>
     ensures { IfOk result (λ found. IfSome found (λ read. read ≡ bytes_in pieces.items)) }
 {
@@ -154,8 +156,8 @@ fn joined(mut pieces: Vec<Vec<u8>>) -> Result<Option<FileBytes>, AllocError>
     Ok(FileBytes::of_pieces(front, more))
 }
 
-/// How many bytes a file has that can be read at any place; 0 if it is no such file, as a pipe, if its length is not
-/// known, or if it is too large, which reading it as a whole reports.
+/// The length of a file that can be read at any place. 0 if it cannot (a pipe), if the length is unknown, or if the
+/// file is too large; reading it as a whole reports that.
 pub fn len_of<F: OpenFile>(file: &F) -> u64 {
     match file.metadata() {
         Ok(metadata) if metadata.is_file() && metadata.len() <= FILE_LIMIT as u64 => metadata.len(),
@@ -163,8 +165,8 @@ pub fn len_of<F: OpenFile>(file: &F) -> u64 {
     }
 }
 
-/// The bytes of a large source, read by at most `workers` threads and at most four. `len` is how many bytes it is said
-/// to have. `None` if it is small, cannot be read or has fewer bytes.
+/// Reads a large source with at most `workers` threads and at most four. `len` is its expected length. `None` if it is
+/// small, cannot be read, or has fewer bytes; `OutOfMemory` if an allocation failed.
 pub fn read_pieces<R: Threads + Sync, F: ReadAt + Sync>(
     rt: &R,
     alloc: Global,
@@ -181,7 +183,7 @@ pub fn read_pieces<R: Threads + Sync, F: ReadAt + Sync>(
     if spans.len() < 2 {
         return Ok(None);
     }
-    match read_by_four(rt, alloc, file, &spans, progress) {
+    match read_with_four_threads(rt, alloc, file, &spans, progress) {
         Ok(pieces) => Ok(joined(pieces)?),
         Err(FileFault::OutOfMemory) => Err(FileFault::OutOfMemory),
         Err(_) => Ok(None),

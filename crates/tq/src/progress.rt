@@ -1,4 +1,4 @@
-// How far a question has come: one line on standard error, written anew in its place.
+// The progress of a query: one line on standard error, which is overwritten.
 
 use std::alloc::{AllocError, Global};
 use std::io::{self, Read, Stderr, Write};
@@ -6,19 +6,19 @@ use std::sync::atomic::{AtomicU64, Ordering};
 use std::sync::{Condvar, Mutex, Wait};
 use std::time::{Clock, Duration};
 
-// How long nothing is shown, and how long a line stands, in milliseconds.
-const SILENT: u64 = 1_000;
+// The delay before the line is first shown, and the time between two updates, both in milliseconds.
+const FIRST_DELAY: u64 = 1_000;
 
-const STANDS: u64 = 200;
+const REFRESH_INTERVAL: u64 = 200;
 
-// What has to be done is reading the files, loading them, and then answering.
+// The stages of a query.
 const READING: u64 = 0;
 
 const LOADING: u64 = 1;
 
-const ANSWERING: u64 = 2;
+const EXECUTING: u64 = 2;
 
-// The line of a terminal.
+// The line at the terminal.
 #[derive(Drop)]
 struct Line {
     errors: Stderr,
@@ -27,14 +27,14 @@ struct Line {
 }
 
 impl Line {
-    // Writes the text in the place of what is shown.
+    // Replaces what is shown by the text.
     fn rewrite(&mut self, text: &[u8]) {
-        // What cannot be shown is not missed.
+        // A failure to show progress is ignored.
         let _ = self.errors.write_all(text);
         self.is_shown = true;
     }
 
-    // Wipes what is shown, for good.
+    // Erases the line and shows nothing after that.
     fn end(&mut self) {
         if self.is_shown {
             let _ = self.errors.write_all(b"\r\x1b[K");
@@ -44,7 +44,7 @@ impl Line {
     }
 }
 
-/// What is done of a question so far.
+/// The progress of a query. Several threads update it.
 #[derive(Drop)]
 pub struct Progress {
     stage: AtomicU64,
@@ -60,13 +60,13 @@ fn push_number(text: &mut String, number: u64) -> Result<(), AllocError> {
     text.push_str(itoa::Buffer::new().format(number))
 }
 
-// So many bytes, in megabytes.
+// Appends the number of megabytes.
 fn push_megabytes(text: &mut String, bytes: u64) -> Result<(), AllocError> {
     push_number(text, bytes / 1_000_000)
 }
 
 impl Progress {
-    /// Nothing is done yet.
+    /// Progress with nothing done yet, shown on `errors`.
     pub fn over(errors: Stderr) -> Progress {
         Progress {
             stage: AtomicU64::new(READING),
@@ -83,39 +83,39 @@ impl Progress {
         }
     }
 
-    /// So many more bytes are to be read.
+    /// Adds to the bytes that are to be read.
     pub fn expect(&self, bytes: u64) {
         self.bytes.fetch_add(bytes, Ordering::SeqCst);
     }
 
-    /// So many more bytes were read.
+    /// Adds to the bytes that were read.
     pub fn add_read(&self, bytes: u64) {
         self.bytes_read.fetch_add(bytes, Ordering::SeqCst);
     }
 
-    /// So many more pieces of work are to be done.
+    /// Adds to the pieces of work that are to be done.
     pub fn expect_pieces(&self, pieces: u32) {
         self.pieces.fetch_add(u64::from(pieces), Ordering::SeqCst);
     }
 
-    /// A further piece of work is begun.
+    /// Counts a piece of work that begins.
     pub fn add_piece(&self) {
         self.pieces_begun.fetch_add(1, Ordering::SeqCst);
     }
 
-    /// The files are read, and are loaded next.
+    /// Begins the loading stage: all files are read.
     pub fn load(&self) {
         self.stage.store(LOADING, Ordering::SeqCst);
     }
 
-    /// The files are loaded, and the statement is answered next.
-    pub fn answer(&self) {
+    /// Begins the execution stage: all files are loaded.
+    pub fn begin_execution(&self) {
         self.pieces.store(0, Ordering::SeqCst);
         self.pieces_begun.store(0, Ordering::SeqCst);
-        self.stage.store(ANSWERING, Ordering::SeqCst);
+        self.stage.store(EXECUTING, Ordering::SeqCst);
     }
 
-    // How many megabytes were read, of how many.
+    // Appends the megabytes read so far and the total.
     fn push_reading(&self, text: &mut String) -> Result<(), AllocError> {
         let bytes = self.bytes.load(Ordering::SeqCst);
         let bytes_read = self.bytes_read.load(Ordering::SeqCst);
@@ -128,7 +128,7 @@ impl Progress {
         text.push_str(" MB")
     }
 
-    // How many pieces of work were begun, of how many.
+    // Appends the pieces begun so far and the total.
     fn push_pieces(&self, text: &mut String) -> Result<(), AllocError> {
         let begun = self.pieces_begun.load(Ordering::SeqCst);
         if begun == 0 {
@@ -140,7 +140,7 @@ impl Progress {
         push_number(text, self.pieces.load(Ordering::SeqCst))
     }
 
-    // The line as it is now.
+    // The line for the current state.
     fn text(&self, alloc: Global) -> Result<String, AllocError> {
         let mut text = String::from_str(alloc, "\r\x1b[Ktq: ")?;
         match self.stage.load(Ordering::SeqCst) {
@@ -157,36 +157,36 @@ impl Progress {
         Ok(text)
     }
 
-    /// Shows the line from the first second on, until the end.
+    /// Shows the line from the first second on, until `end` is called.
     pub fn show<R: Wait + Clock>(&self, rt: &R, alloc: Global) {
-        let mut stands = Duration::from_millis(SILENT);
+        let mut delay = Duration::from_millis(FIRST_DELAY);
         for _ in rt.forever() {
             let (mut line, waited) = self
                 .ended
-                .wait_timeout_while(rt, self.line.lock(rt), stands, |line| !line.is_ended);
+                .wait_timeout_while(rt, self.line.lock(rt), delay, |line| !line.is_ended);
             if !waited.timed_out() {
                 return;
             }
             if let Ok(text) = self.text(alloc) {
                 line.rewrite(text.as_bytes());
             }
-            stands = Duration::from_millis(STANDS);
+            delay = Duration::from_millis(REFRESH_INTERVAL);
         }
     }
 
-    /// Writes the text on standard error. What cannot be written there is no fault of the question.
+    /// Writes the text on standard error. A failed write is ignored.
     pub fn print<R: Wait>(&self, rt: &R, text: &[u8]) {
         let _ = self.line.lock(rt).errors.write_all(text);
     }
 
-    /// Wipes the line, for good.
+    /// Erases the line and shows nothing after that.
     pub fn end<R: Wait>(&self, rt: &R) {
         self.line.lock(rt).end();
         self.ended.notify_all();
     }
 }
 
-/// A reader whose bytes are counted.
+/// A reader that adds its bytes to the progress.
 #[derive(Drop)]
 pub struct Counted<'p, R> {
     pub reader: R,

@@ -1,8 +1,8 @@
-// The lines of a terminal, with a prompt before each.
+// Prompts at a terminal.
 
 use std::io::{self, Read, Write};
 
-/// A reader that prints a prompt before each read, where it has somewhere to print it.
+/// A reader that prints a prompt before each read if `prompts` is present.
 #[derive(Drop)]
 pub struct Prompted<R, W> {
     pub reader: R,
@@ -14,7 +14,7 @@ impl<R: Read, W: Write> Read for Prompted<R, W> {
 
     fn read(&mut self, buf: &mut [u8]) -> io::Result<usize> {
         if let Some(prompts) = &mut self.prompts {
-            // A prompt that cannot be printed is no fault of the session.
+            // A failed write of the prompt is ignored.
             let _ = prompts.write_all(b"tq> ");
         }
         self.reader.read(buf)

@@ -1,26 +1,26 @@
-// What the program prints where it gives no answer, and its status then.
+// The program's refusals: their lines on standard error and their exit statuses.
 
 ghost use Rattle.std.specs.Prelude.{◌≡◌, ◌++◌, [], false, if◌then◌else◌, IfOk, IfSome, None, OnOk, codes};
 ghost use Rattle.std.specs.Io.KnownBytes.{Appends};
 ghost use Rattle.std.specs.Process.{exit_status};
-ghost use Rattle.tq_explain.specs.Files.{IsFileDetail};
-ghost use Rattle.tq_explain.specs.PlanDetails.{IsPlanDetail};
+ghost use Rattle.tq_diagnostics.specs.Files.{IsFileDetail};
+ghost use Rattle.tq_diagnostics.specs.PlanDetails.{IsPlanDetail};
 ghost use Rattle.tq.specs.Report.{IsAnswerDetail, detail_of, line_of, reason_of, refused_answer, refused_command_line, refused_file, refused_session, status_of};
 
-use crate::command_line::{CommandLineFault, Misread};
+use crate::command_line::{CommandLineFault, UsageError};
 use std::alloc::{AllocError, Global};
 use std::io::{self, Write};
 use std::process::ExitCode;
 use tq_base::{Catalogue, Form};
+use tq_diagnostics::{explain_file, explain_plan, explain_statement};
 use tq_engine::{AnswerFault, FileFault, load_name, plan_name, sql_name};
 use tq_event::LoadFault;
-use tq_explain::{explain_file, explain_plan, explain_statement};
 use tq_plan::PlanFault;
 use tq_session::SessionFault;
-use tq_shown::write_shown;
+use tq_shown::write_printable;
 use tq_sql::SqlFault;
 
-/// Why the program gave no answer: one of the lines that it prints.
+/// Why the program gave no answer. Each is printed as one line.
 #[derive(Drop)]
 pub enum Refusal {
     BadCommandLine,
@@ -94,7 +94,7 @@ impl Refusal {
         }
     }
 
-    /// The status that the program ends with.
+    /// The exit status of the program.
     pub fn status(&self) -> ExitCode
         ensures { exit_status result ≡ status_of self.now }
     {
@@ -104,8 +104,8 @@ impl Refusal {
         }
     }
 
-    /// Prints the one line of the refusal. A fault is printed by its name, a path with a question mark for each hidden
-    /// character but the tab. It takes no memory.
+    /// Prints the refusal's line. A fault is printed by its name. In a path, each hidden character except the tab is
+    /// printed as a question mark. Allocates nothing.
     pub fn print<W: Write>(&self, errors: &mut W) -> io::Result<()>
         ensures { OnOk result (Appends (W.contents errors.old) (W.contents errors.new) (line_of self.now)) }
     {
@@ -113,7 +113,7 @@ impl Refusal {
             Refusal::BadCommandLine => errors.write_all(b"tq: BadCommandLine\n"),
             Refusal::CannotRead(path) => {
                 errors.write_all(b"tq: cannot read ")?;
-                write_shown(errors, path)?;
+                write_printable(errors, path)?;
                 errors.write_all(b"\n")
             }
             Refusal::Load(
@@ -139,7 +139,7 @@ impl Refusal {
     }
 }
 
-// A reason on a line of its own.
+// The reason as a line of its own.
 fn reason_line(alloc: Global, reason: &[u8]) -> Result<Vec<u8>, AllocError>
     ensures { IfOk result (λ text. text.items ≡ codes "  " ++ reason.now ++ codes "\n") }
 {
@@ -150,56 +150,61 @@ fn reason_line(alloc: Global, reason: &[u8]) -> Result<Vec<u8>, AllocError>
     Ok(text)
 }
 
-/// A refusal, and what a person is told of it below its line, if anything.
+/// A refusal, with details for people below its line if there are any.
 #[derive(Drop)]
-pub struct Told {
+pub struct Diagnostic {
     pub refusal: Refusal,
     pub detail: Option<Vec<u8>>,
 }
 
-impl From<Refusal> for Told {
-    ghost from_gives = { λ refusal told. (told.refusal ≡ refusal) × (told.detail ≡ None) };
+impl From<Refusal> for Diagnostic {
+    ghost from_gives = { λ refusal diagnostic. (diagnostic.refusal ≡ refusal) × (diagnostic.detail ≡ None) };
 
-    fn from(refusal: Refusal) -> Told {
-        Told {
+    fn from(refusal: Refusal) -> Diagnostic {
+        Diagnostic {
             refusal,
             detail: None,
         }
     }
 }
 
-impl From<AllocError> for Told {
+impl From<AllocError> for Diagnostic {
     ghost use Rattle.tq.specs.declared.report.Refusal.TheVariants.{OutOfMemory};
 
-    ghost from_gives = { λ _ told. (told.refusal ≡ OutOfMemory) × (told.detail ≡ None) };
+    ghost from_gives = { λ _ diagnostic. (diagnostic.refusal ≡ OutOfMemory) × (diagnostic.detail ≡ None) };
 
-    fn from(error: AllocError) -> Told {
-        Told::from(Refusal::from(error))
+    fn from(error: AllocError) -> Diagnostic {
+        Diagnostic::from(Refusal::from(error))
     }
 }
 
-impl Told {
-    /// The refusal of a command line that was not read; of what is told of it a person sees all, and a pipe nothing.
-    pub fn of_command_line(misread: Misread, seen: bool) -> Told
-        ensures refusal { result.refusal ≡ refused_command_line misread.fault }
-        ensures detail { detail_of result.detail ≡ (if seen then reason_of misread.detail else []) }
+impl Diagnostic {
+    /// The refusal of a command line. Its message is shown only if `interactive` is set.
+    pub fn of_command_line(usage_error: UsageError, interactive: bool) -> Diagnostic
+        ensures refusal { result.refusal ≡ refused_command_line usage_error.fault }
+        ensures detail { detail_of result.detail ≡ (if interactive then reason_of usage_error.detail else []) }
     {
-        let Misread { fault, detail } = misread;
+        let UsageError { fault, detail } = usage_error;
         let refusal = Refusal::from(fault);
         match detail {
-            Some(text) if seen => Told {
+            Some(text) if interactive => Diagnostic {
                 refusal,
                 detail: Some(text.into_bytes()),
             },
-            _ => Told {
+            _ => Diagnostic {
                 refusal,
                 detail: None,
             },
         }
     }
 
-    /// The refusal of a question; where it is to be explained, a fault of the statement's text is.
-    pub fn of_answer(alloc: Global, fault: AnswerFault, statement: &[u8], explain: bool) -> Told
+    /// The refusal of a statement. If `explain` is set, a fault of the statement's text has details.
+    pub fn of_answer(
+        alloc: Global,
+        fault: AnswerFault,
+        statement: &[u8],
+        explain: bool,
+    ) -> Diagnostic
         ensures refusal { result.refusal ≡ refused_answer fault }
         ensures detail { IfSome result.detail (λ text. IsAnswerDetail fault statement.now text.items) }
         ensures silent { explain ≡ false → result.detail ≡ None }
@@ -208,14 +213,14 @@ impl Told {
             AnswerFault::Sql(fault) if explain => explain_statement(alloc, statement, fault).ok(),
             _ => None,
         };
-        Told {
+        Diagnostic {
             refusal: Refusal::from(fault),
             detail,
         }
     }
 
-    /// The refusal of a file that was not read, and why, where there is a reason.
-    pub fn of_unread(alloc: Global, path: Vec<u8>, reason: &[u8]) -> Told
+    /// The refusal of a file that was not read, with the reason if it is not empty.
+    pub fn of_unreadable(alloc: Global, path: Vec<u8>, reason: &[u8]) -> Diagnostic
         ensures refusal { result.refusal ≡ Refusal.CannotRead path }
         ensures detail { IfSome result.detail (λ text. text.items ≡ codes "  " ++ reason.now ++ codes "\n") }
     {
@@ -224,42 +229,47 @@ impl Told {
         } else {
             None
         };
-        Told {
+        Diagnostic {
             refusal: Refusal::CannotRead(path),
             detail,
         }
     }
 
-    /// The refusal of a file that was not loaded, and what is told of it; the file at the path has these bytes.
-    pub fn of_load(alloc: Global, fault: LoadFault, path: &[u8], bytes: &[u8], form: Form) -> Told
+    /// The refusal of a file that was not loaded, with details from the file's bytes.
+    pub fn of_load(
+        alloc: Global,
+        fault: LoadFault,
+        path: &[u8],
+        bytes: &[u8],
+        form: Form,
+    ) -> Diagnostic
         ensures refusal { result.refusal ≡ Refusal.Load fault }
         ensures detail { IfSome result.detail (λ text. IsFileDetail form path.now bytes.now fault text.items) }
     {
-        Told {
+        Diagnostic {
             refusal: Refusal::Load(fault),
             detail: explain_file(alloc, path, bytes, fault, form).ok(),
         }
     }
 
-    /// The refusal of a question whose plan has this fault, explained over the tables, instants
-    /// written in the form.
+    /// The refusal for a fault of the plan, with details. `form` is how instants are written.
     pub fn of_plan(
         alloc: Global,
         fault: PlanFault,
         statement: &[u8],
         catalogue: &Catalogue,
         form: Form,
-    ) -> Told
+    ) -> Diagnostic
         ensures refusal { result.refusal ≡ Refusal.Plan fault }
         ensures detail { IfSome result.detail (λ text. IsPlanDetail form catalogue.now statement.now fault text.items) }
     {
-        Told {
+        Diagnostic {
             refusal: Refusal::Plan(fault),
             detail: explain_plan(alloc, statement, catalogue, fault, form).ok(),
         }
     }
 
-    /// The text below the line, empty if there is none.
+    /// The text below the line; empty if there is none.
     pub fn detail(&self) -> &[u8]
         ensures { result.now ≡ detail_of self.entry.now.detail }
     {

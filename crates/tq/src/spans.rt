@@ -1,4 +1,4 @@
-// Sources whose bytes are read at any place, by several threads at the same time, and spans of them.
+// Sources that several threads can read at any place, and spans of them.
 
 ghost use Rattle.std.specs.Prelude.{ℕ, List, Option, IfOk, None, option_map};
 ghost use Rattle.std.specs.Io.{ReadsAtMost};
@@ -11,18 +11,18 @@ use std::io::Read;
 use std::os::unix::fs::FileExt;
 use tq_engine::{FileFault, Source, read_file};
 
-/// A source whose bytes are read at any place, and stay the same meanwhile.
+/// A source that can be read at any place. Its bytes do not change meanwhile.
 pub trait ReadAt {
     // The bytes, if they are known.
     ghost bytes: { Self → Option (List ℕ) } = { λ _. None };
 
-    /// Reads bytes from the offset on; none only at the end or with no room.
+    /// Reads bytes from the offset on into the buffer. 0 only at the end of the source or if the buffer is empty.
     fn read_at(&self, buffer: &mut [u8], offset: u64) -> io::Result<usize>
         ensures bound { ReadsAtMost result buffer.new }
         ensures bytes { ReadsFrom (bytes self.now) offset result buffer.new };
 }
 
-/// An opened file. The standard library knows no bytes of a file, so none are known here.
+/// An open file. The standard library knows no bytes of a file, so none are known here.
 #[derive(Clone, Copy)]
 pub struct Opened<'f, F> {
     pub file: &'f F,
@@ -34,14 +34,14 @@ impl<F: FileExt> ReadAt for Opened<'_, F> {
     }
 }
 
-/// The places of a source from a start up to an end.
+/// The places of a source from `start` up to `end`.
 #[derive(Clone, Copy, Debug)]
 pub struct Span {
     pub start: u64,
     pub end: u64,
 }
 
-/// A reader of a span of a source that others read at the same time.
+/// A reader of a span of a source that other threads also read.
 #[derive(Drop)]
 pub struct SpanReader<'f, F> {
     pub file: &'f F,
@@ -60,7 +60,8 @@ impl<F: ReadAt> Read for SpanReader<'_, F> {
     }
 }
 
-/// The bytes of a span of the source. `Read` if some of them are not there.
+/// The bytes of a span of the source. `Read` if a read failed or the source ends before the span does; `OutOfMemory` if
+/// an allocation failed.
 pub fn read_span<F: ReadAt>(
     alloc: Global,
     file: &F,

@@ -10,7 +10,7 @@ use Rattle.tq_base.specs.declared.period.Period.{Period}
 use Rattle.tq_base.specs.declared.value.Value.{Value}
 use Rattle.tq_base.specs.Fragments.{at, copies, occurrences}
 use Rattle.tq_base.specs.Periods.{holds}
-use Rattle.tq_base.specs.Ranks.{value_rank}
+use Rattle.tq_base.specs.NormalizedKeys.{normalized_key}
 use Rattle.tq_base.specs.ValueOrder.{eq_from_same, same_from_eq}
 use Rattle.tq_agg.specs.declared.few.Bucket.{Bucket}
 use Rattle.tq_agg.specs.declared.summands.Summand.TheVariants.{One}
@@ -39,12 +39,12 @@ module _ (column : List Value) (window : Period) (ranks : List ℕ) (buckets : L
   pub others_before : All (λ x. value_of column x ∷ [] ≢ value_of column b ∷ []) (take i buckets)
   others_before k d below same =
       let before : k < i = omega (arith, below, length-take i buckets) in
-      let rank : Bucket → ℕ = λ x. value_rank (value_of column x) in
+      let prefix : Bucket → ℕ = λ x. normalized_key (value_of column x) in
       let one : get_or (take i buckets) k d ≡ get_or buckets k d = get_or-take i buckets k d before in
       let less : get_or ranks k 0 < get_or ranks i 0 = are.1 k i 0 before (omega (arith, lt, as_many column ranks buckets are i)) in
-      let at_k : get_or ranks k 0 ≡ rank (get_or buckets k d) = ap (λ l. get_or l k 0) are.0 ∙ get_or-map rank buckets k d 0 (omega (arith, before, lt)) in
-      let at_i : get_or ranks i 0 ≡ rank b = ap (λ l. get_or l i 0) are.0 ∙ get_or-map rank buckets i b 0 lt ∙ ap rank (sym is) in
-      let alike : rank (get_or buckets k d) ≡ rank b = ap rank (sym one) ∙ ap (λ l. value_rank (first_of l)) same in
+      let at_k : get_or ranks k 0 ≡ prefix (get_or buckets k d) = ap (λ l. get_or l k 0) are.0 ∙ get_or-map prefix buckets k d 0 (omega (arith, before, lt)) in
+      let at_i : get_or ranks i 0 ≡ prefix b = ap (λ l. get_or l i 0) are.0 ∙ get_or-map prefix buckets i b 0 lt ∙ ap prefix (sym is) in
+      let alike : prefix (get_or buckets k d) ≡ prefix b = ap prefix (sym one) ∙ ap (λ l. normalized_key (first_of l)) same in
       absurd (omega (arith, less, at_k, at_i, alike))
     where
       first_of : List Value → Value

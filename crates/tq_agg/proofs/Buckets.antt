@@ -14,11 +14,11 @@ use Rattle.tq_base.specs.RowValues.{value_at}
 use Rattle.tq_base.specs.declared.value.Value.{Value}
 use Rattle.tq_base.specs.declared.period.Period.{Period}
 use Rattle.tq_base.specs.declared.fragment.Fragment.{Fragment}
-use Rattle.tq_base.specs.Keys.{no_row, rank_tells}
-use Rattle.tq_base.specs.KeyLaws.{rank_tells_exact}
+use Rattle.tq_base.specs.Keys.{no_row, is_exact}
+use Rattle.tq_base.specs.SortKeyLaws.{is_exact_value}
 use Rattle.tq_base.specs.Periods.{holds}
 use Rattle.tq_base.specs.Relations.{column_of, values_at_number}
-use Rattle.tq_base.specs.Ranks.{ranks_tell, value_rank, HasBytes}
+use Rattle.tq_base.specs.NormalizedKeys.{prefixes_are_exact, normalized_key, HasBytes}
 use Rattle.tq_base.specs.Sweep.{pairs_head, pairs_tail, upto, upto-push}
 use Rattle.tq_agg.specs.declared.few.Bucket.{Bucket}
 use Rattle.tq_agg.specs.Buckets.{bucket_count, counted, keyed_count, value_of, AreCut, AreRanked, IsInside, IsTold}
@@ -35,43 +35,43 @@ Rising xs = AllPairs (λ r q. r < q) xs
 
 -- how many are below the one
 abbrev pub below : ℕ → List ℕ → ℕ
-below rank ranks = count_by (λ r. nat_lt r rank) ranks
+below prefix ranks = count_by (λ r. nat_lt r prefix) ranks
 
-below-cons : (rank x : ℕ) (xs : List ℕ) → below rank (x ∷ xs) ≡ cond (nat_lt x rank) 1 0 + below rank xs
-below-cons rank x xs = sum_by-cons (λ r. cond (nat_lt r rank) 1 0) x xs
+below-cons : (prefix x : ℕ) (xs : List ℕ) → below prefix (x ∷ xs) ≡ cond (nat_lt x prefix) 1 0 + below prefix xs
+below-cons prefix x xs = sum_by-cons (λ r. cond (nat_lt r prefix) 1 0) x xs
 
-none_below : (rank : ℕ) (xs : List ℕ) → All (λ r. rank ≤ r) xs → below rank xs ≡ 0
-none_below rank [] all = refl
-none_below rank (x ∷ xs) all =
-    let first : rank ≤ x = All-head (λ r. rank ≤ r) x xs all in
-    let rest = none_below rank xs (All-tail (λ r. rank ≤ r) x xs all) in
-    let sum = below-cons rank x xs in
+none_below : (prefix : ℕ) (xs : List ℕ) → All (λ r. prefix ≤ r) xs → below prefix xs ≡ 0
+none_below prefix [] all = refl
+none_below prefix (x ∷ xs) all =
+    let first : prefix ≤ x = All-head (λ r. prefix ≤ r) x xs all in
+    let rest = none_below prefix xs (All-tail (λ r. prefix ≤ r) x xs all) in
+    let sum = below-cons prefix x xs in
     grind (arith, nat_tests)
 
 -- those below stand at the front
-pub front_below : (rank : ℕ) (xs : List ℕ) → Rising xs → All (λ r. r < rank) (take (below rank xs) xs) × All (λ r. rank ≤ r) (drop (below rank xs) xs)
-front_below rank [] rise = (All-nil (λ r. r < rank), All-nil (λ r. rank ≤ r))
-front_below rank (x ∷ xs) rise = elim (cases_lt x rank) [
+pub front_below : (prefix : ℕ) (xs : List ℕ) → Rising xs → All (λ r. r < prefix) (take (below prefix xs) xs) × All (λ r. prefix ≤ r) (drop (below prefix xs) xs)
+front_below prefix [] rise = (All-nil (λ r. r < prefix), All-nil (λ r. prefix ≤ r))
+front_below prefix (x ∷ xs) rise = elim (cases_lt x prefix) [
   | inl less ↦
-      let rest = front_below rank xs (pairs_tail (λ r q. r < q) x xs rise) in
-      let many : below rank (x ∷ xs) ≡ suc (below rank xs) = one_more less in (
-        subst (λ n. All (λ r. r < rank) (take n (x ∷ xs))) (sym many) (All-cons (λ r. r < rank) x (take (below rank xs) xs) less rest.0),
-        subst (λ n. All (λ r. rank ≤ r) (drop n (x ∷ xs))) (sym many) rest.1,
+      let rest = front_below prefix xs (pairs_tail (λ r q. r < q) x xs rise) in
+      let many : below prefix (x ∷ xs) ≡ suc (below prefix xs) = one_more less in (
+        subst (λ n. All (λ r. r < prefix) (take n (x ∷ xs))) (sym many) (All-cons (λ r. r < prefix) x (take (below prefix xs) xs) less rest.0),
+        subst (λ n. All (λ r. prefix ≤ r) (drop n (x ∷ xs))) (sym many) rest.1,
       )
   | inr least ↦
-      let all : All (λ r. rank ≤ r) (x ∷ xs) = All-cons (λ r. rank ≤ r) x xs least (All-weaker (λ r. x < r) (λ r. rank ≤ r) (λ r lt. omega (arith, lt, least)) xs (pairs_head (λ r q. r < q) x xs rise)) in
-      let none = none_below rank (x ∷ xs) all in (
-        subst (λ n. All (λ r. r < rank) (take n (x ∷ xs))) (sym none) (All-nil (λ r. r < rank)),
-        subst (λ n. All (λ r. rank ≤ r) (drop n (x ∷ xs))) (sym none) all,
+      let all : All (λ r. prefix ≤ r) (x ∷ xs) = All-cons (λ r. prefix ≤ r) x xs least (All-weaker (λ r. x < r) (λ r. prefix ≤ r) (λ r lt. omega (arith, lt, least)) xs (pairs_head (λ r q. r < q) x xs rise)) in
+      let none = none_below prefix (x ∷ xs) all in (
+        subst (λ n. All (λ r. r < prefix) (take n (x ∷ xs))) (sym none) (All-nil (λ r. r < prefix)),
+        subst (λ n. All (λ r. prefix ≤ r) (drop n (x ∷ xs))) (sym none) all,
       )
 ]
   where
-    one_more : x < rank → below rank (x ∷ xs) ≡ suc (below rank xs)
-    one_more less = let sum = below-cons rank x xs in grind (arith, nat_tests)
+    one_more : x < prefix → below prefix (x ∷ xs) ≡ suc (below prefix xs)
+    one_more less = let sum = below-cons prefix x xs in grind (arith, nat_tests)
 
 -- those behind are above, where the first of them is another
-pub all_above : (rank place : ℕ) (xs : List ℕ) → Rising xs → All (λ r. rank ≤ r) (drop place xs) → (place < length xs → get_or xs place 0 ≢ rank) → All (λ r. rank < r) (drop place xs)
-all_above rank place xs rise all differs k d lt =
+pub all_above : (prefix place : ℕ) (xs : List ℕ) → Rising xs → All (λ r. prefix ≤ r) (drop place xs) → (place < length xs → get_or xs place 0 ≢ prefix) → All (λ r. prefix < r) (drop place xs)
+all_above prefix place xs rise all differs k d lt =
     let inside : place + k < length xs = omega (arith, lt, length-drop place xs) in
     let here : get_or (drop place xs) 0 d ≡ get_or xs place d = get_or-drop place xs 0 d ∙ ap (λ i. get_or xs i d) (let same : place + 0 ≡ place = omega arith in same) in
     let there : get_or (drop place xs) k d ≡ get_or xs (place + k) d = get_or-drop place xs k d in
@@ -80,10 +80,10 @@ all_above rank place xs rise all differs k d lt =
       | inl later ↦ let less = rise place (place + k) d (omega (arith, later)) inside in omega (arith, low, here, there, less)
       | inr first ↦
           let zero' : k ≡ 0 = omega (arith, first) in
-          elim (cases_lt rank (get_or xs place d)) [
+          elim (cases_lt prefix (get_or xs place d)) [
             | inl less ↦ omega (arith, less, there, ap (λ i. get_or xs i d) (let same : place + k ≡ place = omega (arith, zero') in same))
             | inr least ↦
-                absurd (differs (omega (arith, inside)) (default_same place xs (omega (arith, inside)) d ∙ (let same : get_or xs place d ≡ rank = omega (arith, least, low, here) in same)))
+                absurd (differs (omega (arith, inside)) (default_same place xs (omega (arith, inside)) d ∙ (let same : get_or xs place d ≡ prefix = omega (arith, least, low, here) in same)))
           ]
     ]
   where
@@ -122,30 +122,30 @@ added-set w (y ∷ xs) (suc place) x lt d = omega (arith, ints, added-set w xs p
 -- ---- buckets
 
 -- a value that is told is the only one of its rank
-pub told_alone : (v w : Value) → IsTold v → HasBytes w → value_rank v ≡ value_rank w → v ≡ w
+pub told_alone : (v w : Value) → IsTold v → HasBytes w → normalized_key v ≡ normalized_key w → v ≡ w
 told_alone v w told bytes same =
-    ranks_tell v w told.0 bytes (sym (rank_tells_exact v told.0) ∙ told.1) (sym (rank_tells_exact w bytes) ∙ ap rank_tells (sym same) ∙ told.1) same
+    prefixes_are_exact v w told.0 bytes (sym (is_exact_value v told.0) ∙ told.1) (sym (is_exact_value w bytes) ∙ ap is_exact (sym same) ∙ told.1) same
 
 module _ (column : List Value) (ranks : List ℕ) (buckets : List Bucket) (are : AreRanked column ranks buckets) (place : ℕ) where
   pub as_many : length ranks ≡ length buckets
-  as_many = ap length are.0 ∙ length-map buckets (λ b. value_rank (value_of column b))
+  as_many = ap length are.0 ∙ length-map buckets (λ b. normalized_key (value_of column b))
 
   -- the value of a bucket is the one of its rank
-  pub value_there : place < length ranks → (rank : ℕ) (w : Value) → rank ≡ get_or ranks place rank → rank ≡ value_rank w → HasBytes w → (d : Bucket) → value_of column (get_or buckets place d) ≡ w
-  value_there lt rank w is of bytes d =
+  pub value_there : place < length ranks → (prefix : ℕ) (w : Value) → prefix ≡ get_or ranks place prefix → prefix ≡ normalized_key w → HasBytes w → (d : Bucket) → value_of column (get_or buckets place d) ≡ w
+  value_there lt prefix w is of bytes d =
       let inside : place < length buckets = omega (arith, lt, as_many) in
       told_alone (value_of column (get_or buckets place d)) w (are.2 place d inside) bytes
-      (sym (get_or-map (λ b. value_rank (value_of column b)) buckets place d rank inside) ∙ ap (λ l. get_or l place rank) (sym are.0) ∙ sym is ∙ of)
+      (sym (get_or-map (λ b. normalized_key (value_of column b)) buckets place d prefix inside) ∙ ap (λ l. get_or l place prefix) (sym are.0) ∙ sym is ∙ of)
 
   -- one more bucket, of a value that has none
-  pub one_more : (rank : ℕ) (b : Bucket) → place ≡ below rank ranks → rank ≡ value_rank (value_of column b) → IsTold (value_of column b)
-      → (place < length ranks → get_or ranks place 0 ≢ rank) → AreRanked column (insert ranks place rank) (insert buckets place b)
-  one_more rank b there of told differs =
-      let fronts = front_below rank ranks are.1 in
-      let before : All (λ r. r < rank) (take place ranks) = subst (λ n. All (λ r. r < rank) (take n ranks)) (sym there) fronts.0 in
-      let after : All (λ r. rank ≤ r) (drop place ranks) = subst (λ n. All (λ r. rank ≤ r) (drop n ranks)) (sym there) fronts.1 in (
-        ap (λ l. insert l place rank) are.0 ∙ ap (insert (map (λ b. value_rank (value_of column b)) buckets) place) of ∙ sym (map-insert (λ b. value_rank (value_of column b)) buckets place b),
-        rising_insert place ranks rank are.1 before (all_above rank place ranks are.1 after differs),
+  pub one_more : (prefix : ℕ) (b : Bucket) → place ≡ below prefix ranks → prefix ≡ normalized_key (value_of column b) → IsTold (value_of column b)
+      → (place < length ranks → get_or ranks place 0 ≢ prefix) → AreRanked column (insert ranks place prefix) (insert buckets place b)
+  one_more prefix b there of told differs =
+      let fronts = front_below prefix ranks are.1 in
+      let before : All (λ r. r < prefix) (take place ranks) = subst (λ n. All (λ r. r < prefix) (take n ranks)) (sym there) fronts.0 in
+      let after : All (λ r. prefix ≤ r) (drop place ranks) = subst (λ n. All (λ r. prefix ≤ r) (drop n ranks)) (sym there) fronts.1 in (
+        ap (λ l. insert l place prefix) are.0 ∙ ap (insert (map (λ b. normalized_key (value_of column b)) buckets) place) of ∙ sym (map-insert (λ b. normalized_key (value_of column b)) buckets place b),
+        rising_insert place ranks prefix are.1 before (all_above prefix place ranks are.1 after differs),
         All-insert (λ b. IsTold (value_of column b)) buckets place b are.2 told,
       )
 
@@ -153,9 +153,9 @@ module _ (column : List Value) (ranks : List ℕ) (buckets : List Bucket) (are :
   pub other_edges : place < length buckets → (b new : Bucket) → b ≡ get_or buckets place b → new.row ≡ b.row → AreRanked column ranks (set buckets place new)
   other_edges lt b new is same =
       let alike : value_of column new ≡ value_of column (get_or buckets place b) = ap (value_at column) same ∙ ap (value_of column) is in (
-        are.0 ∙ sym (set-get_or (map (λ b. value_rank (value_of column b)) buckets) place 0)
-            ∙ ap (set (map (λ b. value_rank (value_of column b)) buckets) place) (get_or-map (λ b. value_rank (value_of column b)) buckets place b 0 lt ∙ ap value_rank (sym alike))
-            ∙ sym (map-set (λ b. value_rank (value_of column b)) buckets place new),
+        are.0 ∙ sym (set-get_or (map (λ b. normalized_key (value_of column b)) buckets) place 0)
+            ∙ ap (set (map (λ b. normalized_key (value_of column b)) buckets) place) (get_or-map (λ b. normalized_key (value_of column b)) buckets place b 0 lt ∙ ap normalized_key (sym alike))
+            ∙ sym (map-set (λ b. normalized_key (value_of column b)) buckets place new),
         are.1,
         All-set (λ b. IsTold (value_of column b)) buckets place new (subst IsTold (sym alike) (are.2 place b lt)) are.2,
       )

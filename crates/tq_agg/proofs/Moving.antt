@@ -11,10 +11,10 @@ use Rattle.std.proofs.lemmas.List.Elements.{All-head, All-map, All-tail}
 use Rattle.std.proofs.lemmas.List.Sorted.{All-permutation, IsNonDecreasingBy-from_sort}
 use Rattle.tq_base.specs.declared.period.Period.{Period}
 use Rattle.tq_base.specs.declared.fragment.Fragment.{Fragment}
-use Rattle.tq_base.specs.declared.sides.Key.{Key}
-use Rattle.tq_base.specs.declared.sides.Mark.TheVariants.{Unknown}
-use Rattle.tq_base.specs.declared.sides.Side.TheVariants.{Left}
-use Rattle.tq_base.specs.Keys.{key_row, no_row, IsKey, SidesState}
+use Rattle.tq_base.specs.declared.sort_input.SortKey.{SortKey}
+use Rattle.tq_base.specs.declared.sort_input.RunStart.TheVariants.{Unknown}
+use Rattle.tq_base.specs.declared.sort_input.Side.TheVariants.{Left}
+use Rattle.tq_base.specs.Keys.{key_row, no_row, IsSortKey, SortInputState}
 use Rattle.tq_base.specs.Periods.{holds}
 use Rattle.tq_base.specs.Sweep.{pairs_tail, upto, upto-cons, upto_none, Rises}
 use Rattle.tq_agg.specs.declared.bounds.End.{End}
@@ -36,7 +36,7 @@ moved_rises : (window : Period) (a b : ℕ) → a ≤ b → moved window a ≤ m
 moved_rises window a b le = omega (arith, le)
 
 -- the keys' starts are in order
-pub starts_in_order : (window : Period) (keys : List Key) → IsNonDecreasingBy (λ (k : Key). k.start) keys → AreInOrder window (map (start_in window) keys)
+pub starts_in_order : (window : Period) (keys : List SortKey) → IsNonDecreasingBy (λ (k : SortKey). k.start) keys → AreInOrder window (map (start_in window) keys)
 starts_in_order window keys rise = (
   λ i j d lt below.
       let inside : j < length keys = omega (arith, below, length-map keys (start_in window)) in
@@ -45,8 +45,8 @@ starts_in_order window keys rise = (
   All-map (λ b. (window.start ≤ b) × (b ≤ window.end)) (start_in window) keys (λ i d lt. moved_within window (get_or keys i d).start),
 )
   where
-    no_key : Key
-    no_key = record { rank = 0; start = 0; row = 0; side = Left; mark = Unknown }
+    no_key : SortKey
+    no_key = record { prefix = 0; start = 0; row = 0; side = Left; run_start = Unknown }
 
 -- and so are the ends
 pub ends_in_order : (window : Period) (ends : List End) → IsSortedByKey (λ (e : End). e.at) nat_cmp ends → All (λ (e : End). (window.start ≤ e.at) × (e.at ≤ window.end)) ends
@@ -61,19 +61,19 @@ ends_in_order window ends sorted within = (
 
 -- ---- what is made of the keys of a group
 
-module _ (sides : SidesState) (window : Period) (keys : List Key) (ends : List End) (same : IsPermutation (map (end_in sides window) keys) ends) where
+module _ (sort_input : SortInputState) (window : Period) (keys : List SortKey) (ends : List End) (same : IsPermutation (map (end_in sort_input window) keys) ends) where
   pub ends_within : All (λ (e : End). (window.start ≤ e.at) × (e.at ≤ window.end)) ends
   ends_within =
-      All-permutation (λ (e : End). (window.start ≤ e.at) × (e.at ≤ window.end)) (map (end_in sides window) keys) ends same
-      (All-map (λ (e : End). (window.start ≤ e.at) × (e.at ≤ window.end)) (end_in sides window) keys (λ i d lt. moved_within window (key_row sides (get_or keys i d)).period.end))
+      All-permutation (λ (e : End). (window.start ≤ e.at) × (e.at ≤ window.end)) (map (end_in sort_input window) keys) ends same
+      (All-map (λ (e : End). (window.start ≤ e.at) × (e.at ≤ window.end)) (end_in sort_input window) keys (λ i d lt. moved_within window (key_row sort_input (get_or keys i d)).period.end))
 
-  pub keys_small : (s : Summand) → HaveSmall s (map (key_row sides) keys) → AreSmallKeys sides s keys
-  keys_small s have i d lt = subst (λ (f : Fragment). IsSmall s f.values) (get_or-map (key_row sides) keys i d no_row lt) (have i no_row (omega (arith, lt, length-map keys (key_row sides))))
+  pub keys_small : (s : Summand) → HaveSmall s (map (key_row sort_input) keys) → AreSmallKeys sort_input s keys
+  keys_small s have i d lt = subst (λ (f : Fragment). IsSmall s f.values) (get_or-map (key_row sort_input) keys i d no_row lt) (have i no_row (omega (arith, lt, length-map keys (key_row sort_input))))
 
-  pub ends_small : (s : Summand) → HaveSmall s (map (key_row sides) keys) → AreSmallEnds sides s ends
+  pub ends_small : (s : Summand) → HaveSmall s (map (key_row sort_input) keys) → AreSmallEnds sort_input s ends
   ends_small s have =
-      All-permutation (λ (e : End). IsSmall s (key_row sides (end_key e)).values) (map (end_in sides window) keys) ends same
-      (All-map (λ (e : End). IsSmall s (key_row sides (end_key e)).values) (end_in sides window) keys (keys_small s have))
+      All-permutation (λ (e : End). IsSmall s (key_row sort_input (end_key e)).values) (map (end_in sort_input window) keys) ends same
+      (All-map (λ (e : End). IsSmall s (key_row sort_input (end_key e)).values) (end_in sort_input window) keys (keys_small s have))
 
 -- ---- at an instant
 
@@ -146,29 +146,29 @@ upto_added {X} at w (x ∷ xs) t rise = elim (cases_lt t (at x)) [
     begun : (b : ℕ) (n : ℤ) → b ≤ t → cond (nat_le b t) n (pos 0) ≡ n
     begun b n le = grind (arith, ints, nat_tests)
 
-module _ (sides : SidesState) (window : Period) (s : Summand) (t : ℕ) where
-  each_held : (keys : List Key) → All (IsKey sides) keys
-      → added (λ k. cond (nat_le (start_in window k) t) (key_weight sides s k) (pos 0)) keys -ℤ added (λ k. cond (nat_le (end_in sides window k).at t) (key_weight sides s k) (pos 0)) keys
-      ≡ added (held_weight s window t) (map (key_row sides) keys)
+module _ (sort_input : SortInputState) (window : Period) (s : Summand) (t : ℕ) where
+  each_held : (keys : List SortKey) → All (IsSortKey sort_input) keys
+      → added (λ k. cond (nat_le (start_in window k) t) (key_weight sort_input s k) (pos 0)) keys -ℤ added (λ k. cond (nat_le (end_in sort_input window k).at t) (key_weight sort_input s k) (pos 0)) keys
+      ≡ added (held_weight s window t) (map (key_row sort_input) keys)
   each_held [] are = omega (arith, ints)
   each_held (k ∷ keys) are =
-      let is : IsKey sides k = All-head (IsKey sides) k keys are in
-      let row = key_row sides k in
-      let start : cond (nat_le (start_in window k) t) (key_weight sides s k) (pos 0) ≡ cond (nat_le (moved window row.period.start) t) (weight_of s row.values) (pos 0) =
+      let is : IsSortKey sort_input k = All-head (IsSortKey sort_input) k keys are in
+      let row = key_row sort_input k in
+      let start : cond (nat_le (start_in window k) t) (key_weight sort_input s k) (pos 0) ≡ cond (nat_le (moved window row.period.start) t) (weight_of s row.values) (pos 0) =
       ap (λ b. cond (nat_le (moved window b) t) (weight_of s row.values) (pos 0)) is.start in
-      omega (arith, ints, start, cut_adds row.period window t (weight_of s row.values), each_held keys (All-tail (IsKey sides) k keys are))
+      omega (arith, ints, start, cut_adds row.period window t (weight_of s row.values), each_held keys (All-tail (IsSortKey sort_input) k keys are))
 
-  pub upto_held : (keys : List Key) (ends : List End) → All (IsKey sides) keys → IsPermutation (map (end_in sides window) keys) ends
+  pub upto_held : (keys : List SortKey) (ends : List End) → All (IsSortKey sort_input) keys → IsPermutation (map (end_in sort_input window) keys) ends
       → Rises (map (start_in window) keys) → Rises (map (λ (e : End). e.at) ends)
-      → total_of sides s (take (upto (map (start_in window) keys) t) keys) (take (upto (map (λ (e : End). e.at) ends) t) ends) ≡ total_held s window (map (key_row sides) keys) t
+      → total_of sort_input s (take (upto (map (start_in window) keys) t) keys) (take (upto (map (λ (e : End). e.at) ends) t) ends) ≡ total_held s window (map (key_row sort_input) keys) t
   upto_held keys ends are same rise ends_rise =
-      let w : End → ℤ = λ e. cond (nat_le e.at t) (key_weight sides s (end_key e)) (pos 0) in
+      let w : End → ℤ = λ e. cond (nat_le e.at t) (key_weight sort_input s (end_key e)) (pos 0) in
       omega (
         arith,
         ints,
-        upto_added (start_in window) (key_weight sides s) keys t rise,
-        upto_added (λ (e : End). e.at) (λ e. key_weight sides s (end_key e)) ends t ends_rise,
-        added-IsPermutation w (map (end_in sides window) keys) ends same,
-        added-map w (end_in sides window) keys,
+        upto_added (start_in window) (key_weight sort_input s) keys t rise,
+        upto_added (λ (e : End). e.at) (λ e. key_weight sort_input s (end_key e)) ends t ends_rise,
+        added-IsPermutation w (map (end_in sort_input window) keys) ends same,
+        added-map w (end_in sort_input window) keys,
         each_held keys are,
       )

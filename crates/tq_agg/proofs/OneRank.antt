@@ -7,7 +7,7 @@ use Rattle.std.proofs.lemmas.List.{get_or-map, length-map, take-append-drop}
 use Rattle.std.proofs.lemmas.List.Elements.{All-append, All-head, All-tail, All-weaker}
 use Rattle.std.proofs.lemmas.List.Sums.{sum_by-append}
 use Rattle.tq_base.specs.declared.value.Value.{Value}
-use Rattle.tq_base.specs.Ranks.{value_rank}
+use Rattle.tq_base.specs.NormalizedKeys.{normalized_key}
 use Rattle.tq_base.specs.Sweep.{pairs_head, pairs_tail, upto}
 use Rattle.tq_agg.specs.declared.few.Bucket.{Bucket}
 use Rattle.tq_agg.specs.Buckets.{bucket_count, counted_at, value_of, AreRanked, IsFound, IsTold}
@@ -18,68 +18,68 @@ use Rattle.tq_agg.proofs.Buckets.{all_above, as_many, below, front_below, told_a
 
 -- ---- elements of one rank
 
-module _ {X : Type 0} (f : X → ℕ) (w : X → ℤ) (rank : ℕ) where
+module _ {X : Type 0} (f : X → ℕ) (w : X → ℤ) (prefix : ℕ) where
   -- another rank
   abbrev Apart : ℕ → Type 0
-  Apart r = (r < rank) ⊎ (rank < r)
+  Apart r = (r < prefix) ⊎ (prefix < r)
 
-  another : (r : ℕ) → Apart r → (r == rank) ≡ false
+  another : (r : ℕ) → Apart r → (r == prefix) ≡ false
   another r (inl less) = grind (arith, nat_tests)
   another r (inr more) = grind (arith, nat_tests)
 
   -- where all have another rank, nothing is added
-  pub none_ranked : (xs : List X) → All Apart (map f xs) → added (λ x. cond (f x == rank) (w x) (pos 0)) xs ≡ pos 0
+  pub none_ranked : (xs : List X) → All Apart (map f xs) → added (λ x. cond (f x == prefix) (w x) (pos 0)) xs ≡ pos 0
   none_ranked [] apart = refl
   none_ranked (x ∷ xs) apart =
       omega (arith, ints, ap (λ b. cond b (w x) (pos 0)) (another (f x) (All-head Apart (f x) (map f xs) apart)), none_ranked xs (All-tail Apart (f x) (map f xs) apart))
 
   -- where the ranks rise, the one at the place is added alone
-  pub one_ranked : (xs : List X) → Rising (map f xs) → (place : ℕ) → place < length xs → (d : X) → f (get_or xs place d) ≡ rank → added (λ x. cond (f x == rank) (w x) (pos 0)) xs ≡ w (get_or xs place d)
+  pub one_ranked : (xs : List X) → Rising (map f xs) → (place : ℕ) → place < length xs → (d : X) → f (get_or xs place d) ≡ prefix → added (λ x. cond (f x == prefix) (w x) (pos 0)) xs ≡ w (get_or xs place d)
   one_ranked [] rise place lt d is = absurd (omega (arith, lt))
   one_ranked (x ∷ xs) rise zero lt d is =
-      let same : (f x == rank) ≡ true = grind (arith, nat_tests) in
+      let same : (f x == prefix) ≡ true = grind (arith, nat_tests) in
       let rest : All Apart (map f xs) = All-weaker (λ r. f x < r) Apart (λ r less. inr (omega (arith, less, is))) (map f xs) (pairs_head (λ r q. r < q) (f x) (map f xs) rise) in
       omega (arith, ints, ap (λ b. cond b (w x) (pos 0)) same, none_ranked xs rest)
   one_ranked (x ∷ xs) rise (suc place) lt d is =
       let there : get_or (map f xs) place 0 ≡ f (get_or xs place d) = get_or-map f xs place d 0 (omega (arith, lt)) in
       let less : f x < get_or (map f xs) place 0 = pairs_head (λ r q. r < q) (f x) (map f xs) rise place 0 (omega (arith, lt, length-map xs f)) in
-      let other : (f x == rank) ≡ false = another (f x) (inl (omega (arith, less, there, is))) in
+      let other : (f x == prefix) ≡ false = another (f x) (inl (omega (arith, less, there, is))) in
       omega (arith, ints, ap (λ b. cond b (w x) (pos 0)) other, one_ranked xs (pairs_tail (λ r q. r < q) (f x) (map f xs) rise) place (omega (arith, lt)) d is)
 
 -- ---- the bucket of a rank
 
-module _ (column : List Value) (ranks : List ℕ) (buckets : List Bucket) (are : AreRanked column ranks buckets) (rank place : ℕ) (t : ℕ) (key : List Value) where
+module _ (column : List Value) (ranks : List ℕ) (buckets : List Bucket) (are : AreRanked column ranks buckets) (prefix place : ℕ) (t : ℕ) (key : List Value) where
   -- the rank of the bucket at the place
-  pub rank_there : place < length ranks → get_or ranks place 0 ≡ rank → (d : Bucket) → value_rank (value_of column (get_or buckets place d)) ≡ rank
-  rank_there lt is d = sym (get_or-map (λ b. value_rank (value_of column b)) buckets place d 0 (omega (arith, lt, as_many column ranks buckets are 0))) ∙ ap (λ l. get_or l place 0) (sym are.0) ∙ is
+  pub rank_there : place < length ranks → get_or ranks place 0 ≡ prefix → (d : Bucket) → normalized_key (value_of column (get_or buckets place d)) ≡ prefix
+  rank_there lt is d = sym (get_or-map (λ b. normalized_key (value_of column b)) buckets place d 0 (omega (arith, lt, as_many column ranks buckets are 0))) ∙ ap (λ l. get_or l place 0) (sym are.0) ∙ is
 
   -- it alone is counted
-  pub one_counted : place < length ranks → get_or ranks place 0 ≡ rank → (d : Bucket) → counted_at column rank t key buckets ≡ bucket_count column t key (get_or buckets place d)
+  pub one_counted : place < length ranks → get_or ranks place 0 ≡ prefix → (d : Bucket) → counted_at column prefix t key buckets ≡ bucket_count column t key (get_or buckets place d)
   one_counted lt is d =
-      one_ranked (λ b. value_rank (value_of column b)) (bucket_count column t key) rank buckets (subst Rising are.0 are.1) place (omega (arith, lt, as_many column ranks buckets are 0)) d (rank_there lt is d)
+      one_ranked (λ b. normalized_key (value_of column b)) (bucket_count column t key) prefix buckets (subst Rising are.0 are.1) place (omega (arith, lt, as_many column ranks buckets are 0)) d (rank_there lt is d)
 
   -- none is, where no bucket has it
-  pub none_counted_at : place ≡ below rank ranks → (place < length ranks → get_or ranks place 0 ≢ rank) → counted_at column rank t key buckets ≡ pos 0
+  pub none_counted_at : place ≡ below prefix ranks → (place < length ranks → get_or ranks place 0 ≢ prefix) → counted_at column prefix t key buckets ≡ pos 0
   none_counted_at there differs =
-      let fronts = front_below rank ranks are.1 in
-      let before : All (λ r. r < rank) (take place ranks) = subst (λ n. All (λ r. r < rank) (take n ranks)) (sym there) fronts.0 in
-      let least : All (λ r. rank ≤ r) (drop place ranks) = subst (λ n. All (λ r. rank ≤ r) (drop n ranks)) (sym there) fronts.1 in
-      let after : All (λ r. rank < r) (drop place ranks) = all_above rank place ranks are.1 least differs in
-      let apart : All (λ r. (r < rank) ⊎ (rank < r)) ranks =
-      subst (All (λ r. (r < rank) ⊎ (rank < r))) (take-append-drop place ranks)
-      (All-append (λ r. (r < rank) ⊎ (rank < r)) (take place ranks) (drop place ranks) (All-weaker (λ r. r < rank) (λ r. (r < rank) ⊎ (rank < r)) (λ r less. inl less) (take place ranks) before)
-      (All-weaker (λ r. rank < r) (λ r. (r < rank) ⊎ (rank < r)) (λ r more. inr more) (drop place ranks) after)) in
-      none_ranked (λ b. value_rank (value_of column b)) (bucket_count column t key) rank buckets (subst (All (λ r. (r < rank) ⊎ (rank < r))) are.0 apart)
+      let fronts = front_below prefix ranks are.1 in
+      let before : All (λ r. r < prefix) (take place ranks) = subst (λ n. All (λ r. r < prefix) (take n ranks)) (sym there) fronts.0 in
+      let least : All (λ r. prefix ≤ r) (drop place ranks) = subst (λ n. All (λ r. prefix ≤ r) (drop n ranks)) (sym there) fronts.1 in
+      let after : All (λ r. prefix < r) (drop place ranks) = all_above prefix place ranks are.1 least differs in
+      let apart : All (λ r. (r < prefix) ⊎ (prefix < r)) ranks =
+      subst (All (λ r. (r < prefix) ⊎ (prefix < r))) (take-append-drop place ranks)
+      (All-append (λ r. (r < prefix) ⊎ (prefix < r)) (take place ranks) (drop place ranks) (All-weaker (λ r. r < prefix) (λ r. (r < prefix) ⊎ (prefix < r)) (λ r less. inl less) (take place ranks) before)
+      (All-weaker (λ r. prefix < r) (λ r. (r < prefix) ⊎ (prefix < r)) (λ r more. inr more) (drop place ranks) after)) in
+      none_ranked (λ b. normalized_key (value_of column b)) (bucket_count column t key) prefix buckets (subst (All (λ r. (r < prefix) ⊎ (prefix < r))) are.0 apart)
 
 -- the bounds of both lists
 pub both_upto : (front back : List ℕ) (t : ℕ) → upto (front ++ back) t ≡ upto front t + upto back t
 both_upto front back t = sum_by-append (λ b. cond (nat_le b t) 1 0) front back
 
 -- the rows of a bucket of the rank go into the one of those found so far
-pub both_counted : (column : List Value) (rank : ℕ) (t : ℕ) (key : List Value) (old found new : Bucket) → IsFound column rank old → IsTold (value_of column found) → value_rank (value_of column found) ≡ rank → new.row ≡ found.row
+pub both_counted : (column : List Value) (prefix : ℕ) (t : ℕ) (key : List Value) (old found new : Bucket) → IsFound column prefix old → IsTold (value_of column found) → normalized_key (value_of column found) ≡ prefix → new.row ≡ found.row
     → new.edges.starts.items ≡ old.edges.starts.items ++ found.edges.starts.items → new.edges.ends.items ≡ old.edges.ends.items ++ found.edges.ends.items
     → bucket_count column t key new ≡ bucket_count column t key old +ℤ bucket_count column t key found
-both_counted column rank t key old found new is told of row starts ends = by is
+both_counted column prefix t key old found new is told of row starts ends = by is
   where
     more : count_upto new.edges.starts.items new.edges.ends.items t ≡ count_upto old.edges.starts.items old.edges.ends.items t +ℤ count_upto found.edges.starts.items found.edges.ends.items t
     more =
@@ -114,7 +114,7 @@ both_counted column rank t key old found new is told of row starts ends = by is
     as_found : bucket_count column t key new ≡ cond (same_row (value_of column found ∷ []) key) (count_upto new.edges.starts.items new.edges.ends.items t) (pos 0)
     as_found = ap (λ v. cond (same_row (v ∷ []) key) (count_upto new.edges.starts.items new.edges.ends.items t) (pos 0)) same
 
-    by : IsFound column rank old → bucket_count column t key new ≡ bucket_count column t key old +ℤ bucket_count column t key found
+    by : IsFound column prefix old → bucket_count column t key new ≡ bucket_count column t key old +ℤ bucket_count column t key found
     by (inl empty) =
         as_found
         ∙ with_none (same_row (value_of column found ∷ []) key) (same_row (value_of column old ∷ []) key)

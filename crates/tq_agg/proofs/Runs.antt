@@ -12,18 +12,18 @@ use Rattle.std.proofs.lemmas.List.Sorted.{IsNonDecreasingBy-from_all_adjacent, I
 use Rattle.tq_base.specs.RowValues.{value_at}
 use Rattle.tq_base.specs.declared.period.Period.{Period}
 use Rattle.tq_base.specs.declared.fragment.Fragment.{Fragment}
-use Rattle.tq_base.specs.declared.sides.Key.{Key}
-use Rattle.tq_base.specs.declared.sides.Mark.TheVariants.{Unknown}
-use Rattle.tq_base.specs.declared.sides.Side.{Side}
-use Rattle.tq_base.specs.declared.sides.Side.TheVariants.{Left, Right}
-use Rattle.tq_base.specs.KeyLaws.{alike}
-use Rattle.tq_base.specs.Keys.{columns_on, held, held_on, key_cmp, key_row, key_values, overlapping, value_key_cmp, Held, IsKey, Rises, SidesState}
+use Rattle.tq_base.specs.declared.sort_input.SortKey.{SortKey}
+use Rattle.tq_base.specs.declared.sort_input.RunStart.TheVariants.{Unknown}
+use Rattle.tq_base.specs.declared.sort_input.Side.{Side}
+use Rattle.tq_base.specs.declared.sort_input.Side.TheVariants.{Left, Right}
+use Rattle.tq_base.specs.SortKeyLaws.{alike}
+use Rattle.tq_base.specs.Keys.{columns_on, held, held_on, key_cmp, key_row, key_values, overlapping, value_key_cmp, Held, IsSortKey, Rises, SortInputState}
 use Rattle.tq_base.specs.ValueOrder.{values_cmp}
 use Rattle.tq_agg.specs.GroupKeys.{key_of, AreOfKey}
 use Rattle.tq_agg.proofs.Grouping.{IsRun, RiseByKey}
 
-abbrev pub no_key : Key
-no_key = record { rank = 0; start = 0; row = 0; side = Left; mark = Unknown }
+abbrev pub no_key : SortKey
+no_key = record { prefix = 0; start = 0; row = 0; side = Left; run_start = Unknown }
 
 second_of : (r s : Ordering) → r ≡ Equal → is_lt (ordering_then r s) ≡ false → is_lt s ≡ false
 second_of Less s equal is = cc
@@ -35,14 +35,14 @@ not_less m n is = grind (arith, nat_tests)
 
 module _ (rows : List Fragment) (columns : List ℕ) where
   -- the rows on both sides
-  abbrev pub groups_state : SidesState
+  abbrev pub groups_state : SortInputState
   groups_state = record { left = rows; right = rows; left_columns = columns; right_columns = columns }
 
-  abbrev row_of : Key → Fragment
+  abbrev row_of : SortKey → Fragment
   row_of k = key_row groups_state k
 
   -- the values of a key are those of its row in the key columns
-  pub of_columns : (k : Key) → key_values groups_state k ≡ key_of columns (row_of k)
+  pub of_columns : (k : SortKey) → key_values groups_state k ≡ key_of columns (row_of k)
   of_columns k = ap (λ places. map (value_at (row_of k).values) places) (same k.side)
     where
       same : (side : Side) → columns_on groups_state side ≡ columns
@@ -53,12 +53,12 @@ module _ (rows : List Fragment) (columns : List ℕ) where
   rows_held [] = refl
   rows_held (f ∷ others) = ap (λ l. f ∷ l) (rows_held others)
 
-  held_rows : (keys : List Key) → map (λ (h : Held). h.row) (map (held groups_state) keys) ≡ map row_of keys
+  held_rows : (keys : List SortKey) → map (λ (h : Held). h.row) (map (held groups_state) keys) ≡ map row_of keys
   held_rows [] = refl
   held_rows (k ∷ keys) = ap (λ l. row_of k ∷ l) (held_rows keys)
 
   -- the rows of the sorted keys are those gathered, in an order
-  pub rows_same : (window : Period) (none keys sorted : List Key) → none ≡ [] → map (held groups_state) keys ≡ map (held groups_state) none ++ held_on Left (overlapping window rows) → IsPermutation (map (held groups_state) keys) (map (held groups_state) sorted)
+  pub rows_same : (window : Period) (none keys sorted : List SortKey) → none ≡ [] → map (held groups_state) keys ≡ map (held groups_state) none ++ held_on Left (overlapping window rows) → IsPermutation (map (held groups_state) keys) (map (held groups_state) sorted)
       → IsPermutation (overlapping window rows) (map row_of sorted)
   rows_same window none keys sorted is_none are same =
       let row : Held → Fragment = λ (h : Held). h.row in
@@ -68,7 +68,7 @@ module _ (rows : List Fragment) (columns : List ℕ) where
       (subst (IsPermutation (map row (map (held groups_state) keys))) (held_rows sorted) (IsPermutation-map row (map (held groups_state) keys) (map (held groups_state) sorted) same))
 
   -- the rows of sorted keys rise by their keys
-  pub rows_rise : (sorted : List Key) → Rises groups_state sorted → RiseByKey columns (map row_of sorted)
+  pub rows_rise : (sorted : List SortKey) → Rises groups_state sorted → RiseByKey columns (map row_of sorted)
   rows_rise sorted rise = record {
     rises = λ i j d before short above.
         let below : j < length sorted = omega (arith, short, length-map sorted row_of) in
@@ -80,11 +80,11 @@ module _ (rows : List Fragment) (columns : List ℕ) where
   }
 
   -- in a run of sorted keys no start is after the next
-  pub run_starts : (sorted : List Key) (start len : ℕ) → All (IsKey groups_state) sorted → IsSorted (key_cmp groups_state) sorted
-      → ((d : Key) → All (λ k. key_values groups_state k ≡ key_values groups_state (get_or (drop start sorted) 0 d)) (take len (drop start sorted)))
-      → IsNonDecreasingBy (λ (k : Key). k.start) (take len (drop start sorted))
+  pub run_starts : (sorted : List SortKey) (start len : ℕ) → All (IsSortKey groups_state) sorted → IsSorted (key_cmp groups_state) sorted
+      → ((d : SortKey) → All (λ k. key_values groups_state k ≡ key_values groups_state (get_or (drop start sorted) 0 d)) (take len (drop start sorted)))
+      → IsNonDecreasingBy (λ (k : SortKey). k.start) (take len (drop start sorted))
   run_starts sorted start len are order alike' =
-      IsNonDecreasingBy-from_all_adjacent (λ (k : Key). k.start) (take len (drop start sorted))
+      IsNonDecreasingBy-from_all_adjacent (λ (k : SortKey). k.start) (take len (drop start sorted))
       (λ k d lt.
       let long = length-take len (drop start sorted) in
       let all = length-drop start sorted in
@@ -100,9 +100,9 @@ module _ (rows : List Fragment) (columns : List ℕ) where
       sym (ap (λ x. key_values groups_state x) next) ∙ alike' d (k + 1) d lt ∙ sym (alike' d k d (omega (arith, lt))) ∙ ap (λ x. key_values groups_state x) here in
       let tied = alike groups_state b a (are (start + k + 1) d below) (are (start + k) d (omega (arith, below))) same in
       let le : a.start ≤ b.start = not_less b.start a.start (second_of (value_key_cmp groups_state b a) (nat_cmp b.start a.start) tied (order (start + k) d (omega arith) below)) in
-      omega (arith, le, ap (λ (x : Key). x.start) here, ap (λ (x : Key). x.start) next))
+      omega (arith, le, ap (λ (x : SortKey). x.start) here, ap (λ (x : SortKey). x.start) next))
 
-  module _ (sorted : List Key) (start len : ℕ) where
+  module _ (sorted : List SortKey) (start len : ℕ) where
     -- the rows of the run
     pub run_rows : map row_of (take len (drop start sorted)) ≡ take len (drop start (map row_of sorted))
     run_rows = sym (take-map row_of len (drop start sorted)) ∙ ap (take len) (sym (drop-map row_of start sorted))
@@ -112,8 +112,8 @@ module _ (rows : List Fragment) (columns : List ℕ) where
     first_row = row_of (get_or (drop start sorted) 0 no_key)
 
     pub is_run : start < length sorted → (0 < length (drop start sorted) → 0 < len) → len ≤ length (drop start sorted)
-        → ((d : Key) → All (λ k. key_values groups_state k ≡ key_values groups_state (get_or (drop start sorted) 0 d)) (take len (drop start sorted)))
-        → ((d : Key) → len < length (drop start sorted) → key_values groups_state (get_or (drop start sorted) len d) ≢ key_values groups_state (get_or (drop start sorted) 0 d))
+        → ((d : SortKey) → All (λ k. key_values groups_state k ≡ key_values groups_state (get_or (drop start sorted) 0 d)) (take len (drop start sorted)))
+        → ((d : SortKey) → len < length (drop start sorted) → key_values groups_state (get_or (drop start sorted) len d) ≢ key_values groups_state (get_or (drop start sorted) 0 d))
         → IsRun columns (map row_of sorted) start len first_row
     is_run below some within alike ends =
         let long = length-drop start sorted in

@@ -5,8 +5,8 @@ use Rattle.std.proofs.lemmas.List.{drop-map, get_or-map, length-map, take-map, t
 use Rattle.std.proofs.lemmas.List.Elements.{All-map}
 use Rattle.tq_base.specs.declared.period.Period.{Period}
 use Rattle.tq_base.specs.declared.value.Value.{Value}
-use Rattle.tq_base.specs.declared.sides.Key.{Key}
-use Rattle.tq_base.specs.Keys.{SidesState}
+use Rattle.tq_base.specs.declared.sort_input.SortKey.{SortKey}
+use Rattle.tq_base.specs.Keys.{SortInputState}
 use Rattle.tq_agg.specs.declared.bounds.End.{End}
 use Rattle.tq_agg.specs.declared.summands.Summand.{Summand}
 use Rattle.tq_agg.specs.Bounds.{start_in, IsBoundAtFront}
@@ -16,8 +16,8 @@ use Rattle.tq_agg.proofs.Moving.{no_end}
 use Rattle.tq_agg.proofs.Runs.{no_key}
 
 -- after so many have begun and so many have ended
-abbrev pub totals_shown : SidesState → List Value → List Summand → List Key → List End → ℕ → ℕ → List Value → ℕ
-totals_shown sides key summands keys ends begun ended v = shown_copies key (totals_of sides summands (take begun keys) (take ended ends)) v
+abbrev pub totals_shown : SortInputState → List Value → List Summand → List SortKey → List End → ℕ → ℕ → List Value → ℕ
+totals_shown sort_input key summands keys ends begun ended v = shown_copies key (totals_of sort_input summands (take begun keys) (take ended ends)) v
 
 -- the elements from the place on, as the code cuts them out
 abbrev pub rest : {X : Type 0} → List X → ℕ → List X
@@ -41,7 +41,7 @@ module _ {X : Type 0} (bound : X → ℕ) (none : X) (xs : List X) (place at len
       omega (arith, is, ap (λ l. bound (get_or l len none)) (take_rest xs place), ap (λ l. get_or l len d) (drop-map bound place xs), get_or-map bound (drop place xs) len none d inside)
 
 module _ (window : Period) (at : ℕ) where
-  front_of : (keys : List Key) (ends : List End) → IsBoundAtFront window at keys ends → IsAtFront at (map (start_in window) keys) (map (λ (e : End). e.at) ends)
+  front_of : (keys : List SortKey) (ends : List End) → IsBoundAtFront window at keys ends → IsAtFront at (map (start_in window) keys) (map (λ (e : End). e.at) ends)
   front_of keys ends front = (
     λ d some. let inside : 0 < length keys = omega (arith, some, length-map keys (start_in window)) in let is = front.0 no_key inside in omega (arith, is, get_or-map (start_in window) keys 0 no_key d inside),
     λ d some. let inside : 0 < length ends = omega (arith, some, length-map ends (λ (e : End). e.at)) in let is = front.1 no_end inside in omega (arith, is, get_or-map (λ (e : End). e.at) ends 0 no_end d inside),
@@ -52,7 +52,7 @@ module _ (window : Period) (at : ℕ) where
   )
 
   -- the bound at the front of what is left
-  pub front_mapped : (keys : List Key) (ends : List End) (begun ended : ℕ) → IsBoundAtFront window at (rest keys begun) (rest ends ended)
+  pub front_mapped : (keys : List SortKey) (ends : List End) (begun ended : ℕ) → IsBoundAtFront window at (rest keys begun) (rest ends ended)
       → IsAtFront at (drop begun (map (start_in window) keys)) (drop ended (map (λ (e : End). e.at) ends))
   front_mapped keys ends begun ended front =
       subst (λ l. IsAtFront at l (drop ended (map (λ (e : End). e.at) ends))) (sym (drop-map (start_in window) begun keys))

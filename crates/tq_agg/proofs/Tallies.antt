@@ -12,7 +12,7 @@ use Rattle.tq_base.specs.declared.period.Period.{Period}
 use Rattle.tq_base.specs.declared.value.Value.{Value}
 use Rattle.tq_base.specs.Fragments.{at, copies, occurrences}
 use Rattle.tq_base.specs.Periods.{holds}
-use Rattle.tq_base.specs.Ranks.{value_rank}
+use Rattle.tq_base.specs.NormalizedKeys.{normalized_key}
 use Rattle.tq_base.specs.Relations.{column_of}
 use Rattle.tq_base.specs.Sweep.{pairs_head, pairs_tail}
 use Rattle.tq_base.specs.ValueOrder.{eq_from_same, same_from_eq}
@@ -55,7 +55,7 @@ rank_place r (q ∷ xs) rise (suc i) lt =
     ap (λ b. length (cond b (q ∷ filter (λ cut. nat_le cut x) xs) (filter (λ cut. nat_le cut x) xs))) upto ∙ ap suc (rank_place q xs rest i (omega (arith, lt)))
 
 -- so a value whose rank stands at a place is of the share of the number of the place
-share_place : (ranks : List ℕ) → Rising ranks → (w : Value) (i : ℕ) → i < length ranks → get_or ranks i 0 ≡ value_rank w → rank_share ranks w ≡ i
+share_place : (ranks : List ℕ) → Rising ranks → (w : Value) (i : ℕ) → i < length ranks → get_or ranks i 0 ≡ normalized_key w → rank_share ranks w ≡ i
 share_place [] rise w i lt is = absurd (omega (arith, lt))
 share_place (r ∷ ranks) rise w i lt is = subst (λ n. length (filter (λ cut. nat_le cut n) ranks) ≡ i) is (rank_place r ranks rise i lt)
 
@@ -73,30 +73,30 @@ same_place ranks rise i j i_lt j_lt = elim (cases_lt i j) [
 ]
 
 -- where one of them stands
-pub place_of_one : (ranks : List ℕ) (rank : ℕ) → IsAmong ranks rank → (i : ℕ) × (i < length ranks) × (get_or ranks i 0 ≡ rank)
-place_of_one [] rank among = absurd (false≢true among)
-place_of_one (r ∷ ranks) rank among = by (r == rank) refl (λ later. place_of_one ranks rank later)
+pub place_of_one : (ranks : List ℕ) (prefix : ℕ) → IsAmong ranks prefix → (i : ℕ) × (i < length ranks) × (get_or ranks i 0 ≡ prefix)
+place_of_one [] prefix among = absurd (false≢true among)
+place_of_one (r ∷ ranks) prefix among = by (r == prefix) refl (λ later. place_of_one ranks prefix later)
   where
-    by : (b : Bool) → (r == rank) ≡ b → (IsAmong ranks rank → (i : ℕ) × (i < length ranks) × (get_or ranks i 0 ≡ rank)) → (i : ℕ) × (i < length (r ∷ ranks)) × (get_or (r ∷ ranks) i 0 ≡ rank)
-    by true is later = (0, omega arith, eqb-true r rank is)
+    by : (b : Bool) → (r == prefix) ≡ b → (IsAmong ranks prefix → (i : ℕ) × (i < length ranks) × (get_or ranks i 0 ≡ prefix)) → (i : ℕ) × (i < length (r ∷ ranks)) × (get_or (r ∷ ranks) i 0 ≡ prefix)
+    by true is later = (0, omega arith, eqb-true r prefix is)
     by false is later =
-        let (i, lt, there) = later (sym (ap (λ b. b || list_any (λ q. q == rank) ranks) is) ∙ among) in
+        let (i, lt, there) = later (sym (ap (λ b. b || list_any (λ q. q == prefix) ranks) is) ∙ among) in
         (suc i, omega (arith, lt), there)
 
 -- what stands at a place is one of them
-pub one_at : (ranks : List ℕ) (rank i : ℕ) → i < length ranks → get_or ranks i 0 ≡ rank → IsAmong ranks rank
-one_at [] rank i lt is = absurd (omega (arith, lt))
-one_at (r ∷ ranks) rank zero lt is = let same : (r == rank) ≡ true = grind (arith, nat_tests) in ap (λ b. b || list_any (λ q. q == rank) ranks) same
-one_at (r ∷ ranks) rank (suc i) lt is = ap (λ b. (r == rank) || b) (one_at ranks rank i (omega (arith, lt)) is) ∙ either (r == rank)
+pub one_at : (ranks : List ℕ) (prefix i : ℕ) → i < length ranks → get_or ranks i 0 ≡ prefix → IsAmong ranks prefix
+one_at [] prefix i lt is = absurd (omega (arith, lt))
+one_at (r ∷ ranks) prefix zero lt is = let same : (r == prefix) ≡ true = grind (arith, nat_tests) in ap (λ b. b || list_any (λ q. q == prefix) ranks) same
+one_at (r ∷ ranks) prefix (suc i) lt is = ap (λ b. (r == prefix) || b) (one_at ranks prefix i (omega (arith, lt)) is) ∙ either (r == prefix)
   where
     either : (b : Bool) → (b || true) ≡ true
     either true = refl
     either false = refl
 
 -- a value whose rank is one of the ranks has the rank at a place exactly where it is of the share of this place
-same_test : (ranks : List ℕ) → Rising ranks → (number : ℕ) → number < length ranks → (w : Value) → IsAmong ranks (value_rank w) → (value_rank w == get_or ranks number 0) ≡ (rank_share ranks w == number)
+same_test : (ranks : List ℕ) → Rising ranks → (number : ℕ) → number < length ranks → (w : Value) → IsAmong ranks (normalized_key w) → (normalized_key w == get_or ranks number 0) ≡ (rank_share ranks w == number)
 same_test ranks rise number lt w among =
-    let (i, within, is) = place_of_one ranks (value_rank w) among in
+    let (i, within, is) = place_of_one ranks (normalized_key w) among in
     ap (λ n. n == get_or ranks number 0) (sym is)
     ∙ same_place ranks rise i number within lt
     ∙ ap (λ n. n == number) (sym (share_place ranks rise w i within is))
@@ -155,8 +155,8 @@ module _ (ranks : List ℕ) (number : ℕ) (key : List Value) (is : Bool) (tells
 
   module _ (rise : Rising ranks) (lt : number < length ranks) (column : List Value) (t : ℕ) where
     -- so is what a bucket counts, where its rank is the one of this number
-    bucket_left : (b : Bucket) → IsAmong ranks (value_rank (value_of column b))
-        → cond (value_rank (value_of column b) == get_or ranks number 0) (bucket_count column t key b) (pos 0) ≡ cond is (bucket_count column t key b) (pos 0)
+    bucket_left : (b : Bucket) → IsAmong ranks (normalized_key (value_of column b))
+        → cond (normalized_key (value_of column b) == get_or ranks number 0) (bucket_count column t key b) (pos 0) ≡ cond is (bucket_count column t key b) (pos 0)
     bucket_left b among =
         ap (λ s. cond s (bucket_count column t key b) (pos 0)) (same_test ranks rise number lt (value_of column b) among)
         ∙ value_left (value_of column b) (count_upto b.edges.starts.items b.edges.ends.items t)
@@ -165,9 +165,9 @@ module _ (ranks : List ℕ) (number : ℕ) (key : List Value) (is : Bool) (tells
     buckets_left : (own : List ℕ) (buckets : List Bucket) → AreRanked column own buckets → All (IsAmong ranks) own
         → counted_at column (get_or ranks number 0) t key buckets ≡ cond is (counted column t key buckets) (pos 0)
     buckets_left own buckets are among =
-        added-alike (λ (b : Bucket). cond (value_rank (value_of column b) == get_or ranks number 0) (bucket_count column t key b) (pos 0)) (λ (b : Bucket). cond is (bucket_count column t key b) (pos 0)) buckets
+        added-alike (λ (b : Bucket). cond (normalized_key (value_of column b) == get_or ranks number 0) (bucket_count column t key b) (pos 0)) (λ (b : Bucket). cond is (bucket_count column t key b) (pos 0)) buckets
         (λ k d inside. bucket_left (get_or buckets k d)
-        (subst (IsAmong ranks) (ap (λ l. get_or l k 0) are.0 ∙ get_or-map (λ b. value_rank (value_of column b)) buckets k d 0 inside)
+        (subst (IsAmong ranks) (ap (λ l. get_or l k 0) are.0 ∙ get_or-map (λ b. normalized_key (value_of column b)) buckets k d 0 inside)
         (among k 0 (omega (arith, inside, as_many column own buckets are k)))))
         ∙ added-test is (bucket_count column t key) buckets
 
@@ -213,23 +213,23 @@ share_shown rows window column tallies ranks number are of lt out shown t v =
         ∙ sym (rows_left ranks number (take 1 v) (begins_in_share ranks number v) tells column window t rows)
 
 -- what the bucket of one value shows is what is counted of its rank
-pub value_shown : (column : List Value) (window : Period) (rank : ℕ) (tallies : List Tally) (b : Bucket) → ((t : ℕ) (key : List Value) → bucket_count column t key b ≡ counted_in column rank t key tallies) → (out : List Fragment)
+pub value_shown : (column : List Value) (window : Period) (prefix : ℕ) (tallies : List Tally) (b : Bucket) → ((t : ℕ) (key : List Value) → bucket_count column t key b ≡ counted_in column prefix t key tallies) → (out : List Fragment)
     → ((t : ℕ) (v : List Value) → copies out v t ≡ cond (holds window t) (shown_copies (value_of column b ∷ []) (count_upto b.edges.starts.items b.edges.ends.items t ∷ []) v) 0)
-    → (t : ℕ) (v : List Value) → copies out v t ≡ cond (holds window t) (shown_copies (take 1 v) (counted_in column rank t (take 1 v) tallies ∷ []) v) 0
-value_shown column window rank tallies b counts out shown t v = shown t v ∙ split (same_row (value_of column b ∷ []) (take 1 v)) refl
+    → (t : ℕ) (v : List Value) → copies out v t ≡ cond (holds window t) (shown_copies (take 1 v) (counted_in column prefix t (take 1 v) tallies ∷ []) v) 0
+value_shown column window prefix tallies b counts out shown t v = shown t v ∙ split (same_row (value_of column b ∷ []) (take 1 v)) refl
   where
     -- where the row's first value is that of the bucket, all of the bucket counts, else nothing does
     split : (s : Bool) → same_row (value_of column b ∷ []) (take 1 v) ≡ s
         → cond (holds window t) (shown_copies (value_of column b ∷ []) (count_upto b.edges.starts.items b.edges.ends.items t ∷ []) v) 0
-        ≡ cond (holds window t) (shown_copies (take 1 v) (counted_in column rank t (take 1 v) tallies ∷ []) v) 0
+        ≡ cond (holds window t) (shown_copies (take 1 v) (counted_in column prefix t (take 1 v) tallies ∷ []) v) 0
     split true equal =
-        let all : count_upto b.edges.starts.items b.edges.ends.items t ≡ counted_in column rank t (take 1 v) tallies =
+        let all : count_upto b.edges.starts.items b.edges.ends.items t ≡ counted_in column prefix t (take 1 v) tallies =
         sym (ap (λ s. cond s (count_upto b.edges.starts.items b.edges.ends.items t) (pos 0)) equal) ∙ counts t (take 1 v) in
         ap (λ key. cond (holds window t) (shown_copies key (count_upto b.edges.starts.items b.edges.ends.items t ∷ []) v) 0) (same_from_eq (value_of column b ∷ []) (take 1 v) equal)
         ∙ ap (λ n. cond (holds window t) (shown_copies (take 1 v) (n ∷ []) v) 0) all
     split false differ =
         let differs : value_of column b ∷ [] ≢ take 1 v = λ same. false≢true (sym differ ∙ eq_from_same (value_of column b ∷ []) (take 1 v) same) in
-        let no_count : pos 0 ≡ counted_in column rank t (take 1 v) tallies =
+        let no_count : pos 0 ≡ counted_in column prefix t (take 1 v) tallies =
         sym (ap (λ s. cond s (count_upto b.edges.starts.items b.edges.ends.items t) (pos 0)) differ) ∙ counts t (take 1 v) in
         ap (λ n. cond (holds window t) n 0) (other_shown (value_of column b ∷ []) 1 (count_upto b.edges.starts.items b.edges.ends.items t ∷ []) v refl differs)
         ∙ ap (λ n. cond (holds window t) (shown_copies (take 1 v) (n ∷ []) v) 0) no_count

@@ -7,9 +7,9 @@ use Rattle.tq_base.specs.declared.value.Value.{Value}
 use Rattle.tq_base.specs.Contents.{Int, Text}
 use Rattle.tq_base.specs.declared.period.Period.{Period}
 use Rattle.tq_base.specs.declared.fragment.Fragment.{Fragment}
-use Rattle.tq_base.specs.Keys.{rank_tells}
+use Rattle.tq_base.specs.Keys.{is_exact}
 use Rattle.tq_base.specs.Periods.{holds}
-use Rattle.tq_base.specs.Ranks.{value_rank, HasBytes}
+use Rattle.tq_base.specs.NormalizedKeys.{normalized_key, HasBytes}
 use Rattle.tq_base.specs.Relations.{column_of}
 use Rattle.tq_agg.specs.declared.few.Bucket.{Bucket}
 use Rattle.tq_agg.specs.declared.few.Tally.{Tally}
@@ -23,12 +23,12 @@ value_of column b = value_at column b.row
 
 -- its rank tells the value wholly
 abbrev pub IsTold : Value → Type 0
-IsTold value = HasBytes value × (rank_tells (value_rank value) ≡ true)
+IsTold value = HasBytes value × (is_exact (normalized_key value) ≡ true)
 
 -- the ranks are those of the buckets' values, which they tell, and rise
 abbrev pub AreRanked : List Value → List ℕ → List Bucket → Type 0
 AreRanked column ranks buckets =
-    (ranks ≡ map (λ b. value_rank (value_of column b)) buckets)
+    (ranks ≡ map (λ b. normalized_key (value_of column b)) buckets)
     × AllPairs (λ r q. r < q) ranks
     × All (λ b. IsTold (value_of column b)) buckets
 
@@ -61,20 +61,20 @@ pub record IsTally (rows : List Fragment) (window : Period) (column start end : 
 
 -- the bucket has no rows, or those of the value that the rank tells
 abbrev pub IsFound : List Value → ℕ → Bucket → Type 0
-IsFound column rank b = ((b.edges.starts.items ≡ []) × (b.edges.ends.items ≡ [])) ⊎ (IsTold (value_of column b) × (value_rank (value_of column b) ≡ rank))
+IsFound column prefix b = ((b.edges.starts.items ≡ []) × (b.edges.ends.items ≡ [])) ⊎ (IsTold (value_of column b) × (normalized_key (value_of column b) ≡ prefix))
 
 -- how many rows of the key, of those whose value has the rank, have begun by the instant and not ended
 abbrev pub counted_at : List Value → ℕ → ℕ → List Value → List Bucket → ℤ
-counted_at column rank t key buckets =
-    added (λ (b : Bucket). cond (value_rank (value_of column b) == rank) (bucket_count column t key b) (pos 0)) buckets
+counted_at column prefix t key buckets =
+    added (λ (b : Bucket). cond (normalized_key (value_of column b) == prefix) (bucket_count column t key b) (pos 0)) buckets
 
 -- the same over the buckets of all stretches
 abbrev pub counted_in : List Value → ℕ → ℕ → List Value → List Tally → ℤ
-counted_in column rank t key tallies = added (λ (b : Tally). counted_at column rank t key b.list.items) tallies
+counted_in column prefix t key tallies = added (λ (b : Tally). counted_at column prefix t key b.list.items) tallies
 
 -- one of these numbers
 abbrev pub IsAmong : List ℕ → ℕ → Type 0
-IsAmong ranks rank = list_any (λ r. r == rank) ranks ≡ true
+IsAmong ranks prefix = list_any (λ r. r == prefix) ranks ≡ true
 
 -- the ranks, which rise, are those of all values in buckets
 pub record AreRanksOf (ranks : List ℕ) (tallies : List Tally) : Type 0 where
@@ -90,7 +90,7 @@ pub record AreTallies (rows : List Fragment) (window : Period) (column : ℕ) (t
 
 -- the share of a value, by the ranks: as many of them, without the first, as are not above its own
 abbrev pub rank_share : List ℕ → Value → ℕ
-rank_share ranks value = length (filter (λ cut. nat_le cut (value_rank value)) (drop 1 ranks))
+rank_share ranks value = length (filter (λ cut. nat_le cut (normalized_key value)) (drop 1 ranks))
 
 -- ---- this is known in one way at most
 

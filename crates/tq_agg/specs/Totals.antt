@@ -8,9 +8,9 @@ use Rattle.tq_base.specs.declared.period.Period.{Period}
 use Rattle.tq_base.specs.declared.fragment.Fragment.{Fragment}
 use Rattle.tq_base.specs.ValueOrder.{values_cmp}
 use Rattle.tq_base.specs.Periods.{holds}
-use Rattle.tq_base.specs.declared.sides.Key.{Key}
-use Rattle.tq_base.specs.declared.sides.Mark.TheVariants.{Unknown}
-use Rattle.tq_base.specs.Keys.{key_row, SidesState}
+use Rattle.tq_base.specs.declared.sort_input.SortKey.{SortKey}
+use Rattle.tq_base.specs.declared.sort_input.RunStart.TheVariants.{Unknown}
+use Rattle.tq_base.specs.Keys.{key_row, SortInputState}
 use Rattle.tq_base.specs.Relations.{values_at_number}
 use Rattle.tq_base.specs.Sweep.{upto}
 use Rattle.tq_base.specs.RowValues.{number_of, value_at}
@@ -30,8 +30,8 @@ added weight [] = pos 0
 added weight (x ∷ xs) = weight x +ℤ added weight xs
 
 -- what the row of a key adds
-abbrev pub key_weight : SidesState → Summand → Key → ℤ
-key_weight sides s k = weight_of s (key_row sides k).values
+abbrev pub key_weight : SortInputState → Summand → SortKey → ℤ
+key_weight sort_input s k = weight_of s (key_row sort_input k).values
 
 -- the numbers are what the first rows add, row after row
 abbrev pub AreWeights : List Fragment → Summand → List ℤ → Type 0
@@ -42,20 +42,20 @@ abbrev pub HaveWeights : List Fragment → List Summand → List (List ℤ) → 
 HaveWeights rows summands lists = (place : ℕ) (d : Summand) → place < length summands → AreWeights rows (slice_index_or summands place d) (slice_index_or lists place [])
 
 -- the key of the row that ends
-abbrev pub end_key : End → Key
-end_key e = record { rank = 0; start = 0; row = e.row; side = e.side; mark = Unknown }
+abbrev pub end_key : End → SortKey
+end_key e = record { prefix = 0; start = 0; row = e.row; side = e.side; run_start = Unknown }
 
 -- what the rows of the keys add, without those of the ends
-abbrev pub total_of : SidesState → Summand → List Key → List End → ℤ
-total_of sides s keys ends = added (key_weight sides s) keys -ℤ added (λ e. key_weight sides s (end_key e)) ends
+abbrev pub total_of : SortInputState → Summand → List SortKey → List End → ℤ
+total_of sort_input s keys ends = added (key_weight sort_input s) keys -ℤ added (λ e. key_weight sort_input s (end_key e)) ends
 
-abbrev pub totals_of : SidesState → List Summand → List Key → List End → List ℤ
-totals_of sides summands keys ends = map (λ s. total_of sides s keys ends) summands
+abbrev pub totals_of : SortInputState → List Summand → List SortKey → List End → List ℤ
+totals_of sort_input summands keys ends = map (λ s. total_of sort_input s keys ends) summands
 
 -- what the rows that have begun by the instant add, without those that have ended
-abbrev pub totals_upto : SidesState → Period → List Summand → List Key → List End → ℕ → List ℤ
-totals_upto sides window summands keys ends t =
-    totals_of sides summands (take (upto (map (start_in window) keys) t) keys) (take (upto (map (λ e. e.at) ends) t) ends)
+abbrev pub totals_upto : SortInputState → Period → List Summand → List SortKey → List End → ℕ → List ℤ
+totals_upto sort_input window summands keys ends t =
+    totals_of sort_input summands (take (upto (map (start_in window) keys) t) keys) (take (upto (map (λ e. e.at) ends) t) ends)
 
 -- what the row adds where it is valid at the instant, inside the window, else 0
 abbrev pub held_weight : Summand → Period → ℕ → Fragment → ℤ
@@ -77,12 +77,12 @@ abbrev pub HaveSmall : Summand → List Fragment → Type 0
 HaveSmall s rows = All (λ r. IsSmall s r.values) rows
 
 -- the row of each key adds one
-abbrev pub AreSmallKeys : SidesState → Summand → List Key → Type 0
-AreSmallKeys sides s keys = All (λ k. IsSmall s (key_row sides k).values) keys
+abbrev pub AreSmallKeys : SortInputState → Summand → List SortKey → Type 0
+AreSmallKeys sort_input s keys = All (λ k. IsSmall s (key_row sort_input k).values) keys
 
 -- the row of each end adds one
-abbrev pub AreSmallEnds : SidesState → Summand → List End → Type 0
-AreSmallEnds sides s ends = All (λ e. IsSmall s (key_row sides (end_key e)).values) ends
+abbrev pub AreSmallEnds : SortInputState → Summand → List End → Type 0
+AreSmallEnds sort_input s ends = All (λ e. IsSmall s (key_row sort_input (end_key e)).values) ends
 
 -- whether the first of the totals, the count of rows, is not 0
 abbrev pub has_rows : List ℤ → Bool

@@ -3,14 +3,14 @@
 ghost use Rattle.std.specs.Prelude.{◌≡◌, ◌<◌, ◌≤◌, ℕ, [], All, IfSome, IsPermutation, IsSortedByKey, OnOk, length, map, slice_index_or, take};
 ghost use Rattle.std.specs.Ordering.{nat_cmp};
 ghost use Rattle.tq_base.specs.declared.fragment.Fragment.{Fragment};
-ghost use Rattle.tq_base.specs.KeySides.{state_of};
+ghost use Rattle.tq_base.specs.SortInputs.{state_of};
 ghost use Rattle.tq_base.specs.Keys.{key_row};
-ghost use Rattle.tq_base.specs.declared.sides.Key.{Key};
+ghost use Rattle.tq_base.specs.declared.sort_input.SortKey.{SortKey};
 ghost use Rattle.tq_agg.specs.declared.bounds.End.{End};
 ghost use Rattle.tq_agg.specs.Bounds.{end_in, moved, start_in, IsBoundAtFront};
 
 use std::alloc::AllocError;
-use tq_base::{Bound, Instant, Key, Period, Side, Sides};
+use tq_base::{Bound, Instant, Period, Side, SortInput, SortKey};
 
 // Where a row ends, and which row it is.
 #[derive(Clone, Copy)]
@@ -32,7 +32,7 @@ fn moved(number: u64, window: &Period) -> Bound
 }
 
 // Where the row of a key begins, in the window.
-fn start_in(key: &Key, window: &Period) -> Bound
+fn start_in(key: &SortKey, window: &Period) -> Bound
     ensures { result ≡ start_in window.now key.now }
 {
     moved(key.start, window)
@@ -40,32 +40,32 @@ fn start_in(key: &Key, window: &Period) -> Bound
 
 // Where the row of the key ends. Rows of a group lie anywhere, so their ends are read out of one list: in a loop that does
 // little more than this, the processor waits for many of them at once.
-fn end_of(sides: &Sides<'_>, lefts: &[Period], key: &Key) -> Bound
-    requires { lefts.now ≡ map (λ (row : Fragment). row.period) sides.now.left.now.items }
-    ensures { result ≡ (key_row (state_of sides.now) key.now).period.end }
+fn end_of(sort_input: &SortInput<'_>, lefts: &[Period], key: &SortKey) -> Bound
+    requires { lefts.now ≡ map (λ (row : Fragment). row.period) sort_input.now.left.now.items }
+    ensures { result ≡ (key_row (state_of sort_input.now) key.now).period.end }
 {
     match (key.side, lefts.get(key.row as usize)) {
         (Side::Left, Some(period)) => period.end,
-        _ => sides.period(key).end,
+        _ => sort_input.period(key).end,
     }
 }
 
 // Where the rows of the keys end, in the window and in order, takes the place of what stands in the list.
 pub(crate) fn fill_ends(
-    sides: &Sides<'_>,
-    keys: &[Key],
+    sort_input: &SortInput<'_>,
+    keys: &[SortKey],
     window: &Period,
     ends: &mut Vec<End>,
 ) -> Result<(), AllocError>
-    ensures same { OnOk result (IsPermutation (map (end_in (state_of sides.now) window.now) keys.now) ends.new.items) }
+    ensures same { OnOk result (IsPermutation (map (end_in (state_of sort_input.now) window.now) keys.now) ends.new.items) }
     ensures sorted { OnOk result (IsSortedByKey (λ (e : End). e.at) nat_cmp ends.new.items) }
 {
     ends.clear();
     ends.reserve(keys.len())?;
-    let lefts = sides.left.periods();
+    let lefts = sort_input.left.periods();
     'keys: for key in keys {
         ends.push_reserved(End {
-            at: moved(end_of(sides, lefts, key).number(), window),
+            at: moved(end_of(sort_input, lefts, key).number(), window),
             row: key.row,
             side: key.side,
         });
@@ -75,7 +75,7 @@ pub(crate) fn fill_ends(
 }
 
 // The first bound at which a row begins or ends.
-pub(crate) fn first_bound(keys: &[Key], ends: &[End], window: &Period) -> Option<Bound>
+pub(crate) fn first_bound(keys: &[SortKey], ends: &[End], window: &Period) -> Option<Bound>
     ensures first { IfSome result (λ at. IsBoundAtFront window.now at keys.now ends.now) }
     ensures none { result ≡ None → (keys.now ≡ []) × (ends.now ≡ []) }
 {
@@ -95,10 +95,10 @@ pub(crate) fn first_bound(keys: &[Key], ends: &[End], window: &Period) -> Option
 }
 
 // How many rows at the front begin by the bound.
-pub(crate) fn starts_by(keys: &[Key], at: Bound, window: &Period) -> usize
+pub(crate) fn starts_by(keys: &[SortKey], at: Bound, window: &Period) -> usize
     ensures within { result ≤ length keys.now }
     ensures by { All (λ k. start_in window.now k ≤ at) (take result keys.now) }
-    ensures then { (d : Key) → result < length keys.now → at < start_in window.now (slice_index_or keys.now result d) }
+    ensures then { (d : SortKey) → result < length keys.now → at < start_in window.now (slice_index_or keys.now result d) }
 {
     let mut len = 0;
     'keys: for key in keys {

@@ -5,9 +5,9 @@ ghost use Rattle.std.specs.Prelude.{◌≡◌, ◌+◌, ◌<◌, ◌≤◌, ◌^
 ghost use Rattle.tq_base.specs.declared.fragment.Fragment.{Fragment};
 ghost use Rattle.tq_base.specs.declared.value.Value.{Value};
 ghost use Rattle.tq_base.specs.Fragments.{at, copies, occurrences};
-ghost use Rattle.tq_base.specs.declared.sides.Key.{Key};
-ghost use Rattle.tq_base.specs.Keys.{key_row, IsKey};
-ghost use Rattle.tq_base.specs.KeySides.{state_of};
+ghost use Rattle.tq_base.specs.declared.sort_input.SortKey.{SortKey};
+ghost use Rattle.tq_base.specs.Keys.{key_row, IsSortKey};
+ghost use Rattle.tq_base.specs.SortInputs.{state_of};
 ghost use Rattle.tq_base.specs.Periods.{holds};
 ghost use Rattle.tq_ops.specs.Ordinary.{HasInside, IsEmptyOutside};
 ghost use Rattle.tq_agg.specs.Grouping.{AreSummable, count_rows, grouped_rows};
@@ -21,7 +21,7 @@ use crate::summands::{Summand, summands_of, weights_of};
 use crate::sweeping::{Group, Head, SweepRoom, sweep, sweep_room};
 use crate::weighed::sum_few;
 use std::alloc::{AllocError, Global};
-use tq_base::{Key, Period, Relation, Rows, Side, Sides};
+use tq_base::{Period, Relation, Rows, Side, SortInput, SortKey};
 
 // What one group after another is gone through in: where its rows end, and what it is swept in.
 #[derive(Drop)]
@@ -43,8 +43,8 @@ fn empty_room(alloc: Global) -> Room
 // The rows that the group makes go to the end of the list. The room is empty of values before and after.
 fn add_group(
     alloc: Global,
-    sides: &Sides<'_>,
-    keys: &[Key],
+    sort_input: &SortInput<'_>,
+    keys: &[SortKey],
     window: &Period,
     summands: &[Summand],
     weights: &[Vec<i64>],
@@ -52,28 +52,28 @@ fn add_group(
     out: &mut Rows,
 ) -> Result<(), AllocError>
     requires empty { room.old.swept.values.items ≡ [] }
-    requires keys { All (IsKey (state_of sides.now)) keys.now }
-    requires starts { IsNonDecreasingBy (λ (k : Key). k.start) keys.now }
+    requires keys { All (IsSortKey (state_of sort_input.now)) keys.now }
+    requires starts { IsNonDecreasingBy (λ (k : SortKey). k.start) keys.now }
     requires short { length keys.now < 2 ^ 63 }
-    requires small { All (λ s. HaveSmall s (map (key_row (state_of sides.now)) keys.now)) summands.now }
-    requires weights { HaveWeights sides.now.left.now.items summands.now (map (λ list. list.items) weights.now) }
-    requires width { out.old.width ≡ length sides.now.left_columns.now + length summands.now }
+    requires small { All (λ s. HaveSmall s (map (key_row (state_of sort_input.now)) keys.now)) summands.now }
+    requires weights { HaveWeights sort_input.now.left.now.items summands.now (map (λ list. list.items) weights.now) }
+    requires width { out.old.width ≡ length sort_input.now.left_columns.now + length summands.now }
     ensures emptied { OnOk result (room.new.swept.values.items ≡ []) }
     ensures width { out.new.width ≡ out.old.width }
-    ensures rows { OnOk result ((k : List Value) → AreOfKey sides.now.left_columns.now k (map (key_row (state_of sides.now)) keys.now) → (t : ℕ) (v : List Value) → copies out.new.items v t
-        ≡ copies out.old.items v t + (if holds window.now t then shown_copies k (totals_held summands.now window.now (map (key_row (state_of sides.now)) keys.now) t) v else 0)) }
+    ensures rows { OnOk result ((k : List Value) → AreOfKey sort_input.now.left_columns.now k (map (key_row (state_of sort_input.now)) keys.now) → (t : ℕ) (v : List Value) → copies out.new.items v t
+        ≡ copies out.old.items v t + (if holds window.now t then shown_copies k (totals_held summands.now window.now (map (key_row (state_of sort_input.now)) keys.now) t) v else 0)) }
 {
     let Some(first) = keys.first() else {
         return Ok(());
     };
-    fill_ends(sides, keys, window, &mut room.ends)?;
-    let row = sides.row(first);
+    fill_ends(sort_input, keys, window, &mut room.ends)?;
+    let row = sort_input.row(first);
     let head = Head {
         row: &row,
-        keys: sides.left_columns,
+        keys: sort_input.left_columns,
     };
     let group = Group {
-        sides,
+        sort_input,
         keys,
         ends: &room.ends,
         weights,
@@ -109,24 +109,31 @@ pub fn group_count_sum(
         }
     }
     let summands = summands_of(alloc, sums)?;
-    let sides = Sides {
+    let sort_input = SortInput {
         left: &*rows,
         right: &*rows,
         left_columns: keys,
         right_columns: keys,
     };
     let mut sorted = Vec::new(alloc);
-    sides.add_keys(Side::Left, Some(window), &mut sorted)?;
-    sides.sort(&mut sorted)?;
+    sort_input.add_keys(Side::Left, Some(window), &mut sorted)?;
+    sort_input.sort(&mut sorted)?;
     let weights = weights_of(alloc, rows, &summands)?;
     let mut room = empty_room(alloc);
     let mut out = Rows::new(alloc, keys.len() + summands.len());
     let mut start = 0;
     'groups: while start < sorted.len() {
-        let end = start + sides.run_len(&sorted[start..]);
+        let end = start + sort_input.run_len(&sorted[start..]);
         let group = &sorted[start..end];
         add_group(
-            alloc, &sides, group, window, &summands, &weights, &mut room, &mut out,
+            alloc,
+            &sort_input,
+            group,
+            window,
+            &summands,
+            &weights,
+            &mut room,
+            &mut out,
         )?;
         start = end;
     }

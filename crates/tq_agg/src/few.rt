@@ -21,7 +21,7 @@ use crate::changes::Changes;
 use crate::edges::{Edges, sweep_edges};
 use crate::sweeping::Head;
 use std::alloc::{AllocError, Global};
-use tq_base::{ColumnView, Period, Relation, Rows, rank_of, rank_tells};
+use tq_base::{ColumnView, Period, Relation, Rows, is_exact, normalized_key};
 
 // No more values than these: the rank of each row is compared with the ranks of all.
 const MOST: usize = 64;
@@ -45,12 +45,12 @@ pub struct Tally {
 }
 
 // How many of the ranks are below the one. All are compared, so that there is no branch to guess.
-pub(crate) fn place_of(ranks: &[u128], rank: u128) -> usize
-    ensures { result ≡ count_by (λ r. nat_lt r rank) ranks.now }
+pub(crate) fn place_of(ranks: &[u128], prefix: u128) -> usize
+    ensures { result ≡ count_by (λ r. nat_lt r prefix) ranks.now }
 {
     let mut place = 0;
     'ranks: for other in ranks {
-        place += usize::from(*other < rank);
+        place += usize::from(*other < prefix);
     }
     place
 }
@@ -72,15 +72,15 @@ pub(crate) fn bucket_at(
     ensures changes_cut { (window : Period) → AreChangesCut window buckets.old.list.items → IfOk result (λ found. IfSome found (λ _. AreChangesCut window buckets.new.list.items)) }
     ensures weights { IfOk result (λ found. IfSome found (λ _. (f : ℤ → ℤ) (t : ℕ) (key : List Value) → weighed f column.now t key buckets.new.list.items ≡ weighed f column.now t key buckets.old.list.items)) }
 {
-    let rank = rank_of(column.at(row));
-    let place = place_of(&buckets.ranks, rank);
-    if place < buckets.ranks.len() && buckets.ranks[place] == rank {
+    let prefix = normalized_key(column.at(row));
+    let place = place_of(&buckets.ranks, prefix);
+    if place < buckets.ranks.len() && buckets.ranks[place] == prefix {
         return Ok(Some(place));
     }
-    if buckets.ranks.len() >= MOST || !rank_tells(rank) {
+    if buckets.ranks.len() >= MOST || !is_exact(prefix) {
         return Ok(None);
     }
-    buckets.ranks.insert(place, rank)?;
+    buckets.ranks.insert(place, prefix)?;
     buckets.list.insert(
         place,
         Bucket {

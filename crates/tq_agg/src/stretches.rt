@@ -19,15 +19,15 @@ use std::alloc::{AllocError, Global};
 use tq_base::{Period, Relation, Rows};
 
 // The rows of the rank, if there is a bucket for it, go into the other bucket, which becomes one of their value.
-fn add_rank(buckets: &Tally, rank: u128, bucket: &mut Bucket) -> Result<(), AllocError>
+fn add_rank(buckets: &Tally, prefix: u128, bucket: &mut Bucket) -> Result<(), AllocError>
     requires { length buckets.now.ranks.items ≡ length buckets.now.list.items }
     ensures inside { (window : Period) → AreCut window buckets.now.list.items → IsInside window bucket.old → OnOk result (IsInside window bucket.new) }
-    ensures found { (column : List Value) → AreRanked column buckets.now.ranks.items buckets.now.list.items → IsFound column rank bucket.old → OnOk result (IsFound column rank bucket.new) }
-    ensures counts { (column : List Value) → AreRanked column buckets.now.ranks.items buckets.now.list.items → IsFound column rank bucket.old
-        → (t : ℕ) (key : List Value) → OnOk result (bucket_count column t key bucket.new ≡ bucket_count column t key bucket.old +ℤ counted_at column rank t key buckets.now.list.items) }
+    ensures found { (column : List Value) → AreRanked column buckets.now.ranks.items buckets.now.list.items → IsFound column prefix bucket.old → OnOk result (IsFound column prefix bucket.new) }
+    ensures counts { (column : List Value) → AreRanked column buckets.now.ranks.items buckets.now.list.items → IsFound column prefix bucket.old
+        → (t : ℕ) (key : List Value) → OnOk result (bucket_count column t key bucket.new ≡ bucket_count column t key bucket.old +ℤ counted_at column prefix t key buckets.now.list.items) }
 {
-    let place = place_of(&buckets.ranks, rank);
-    if place < buckets.ranks.len() && buckets.ranks[place] == rank {
+    let place = place_of(&buckets.ranks, prefix);
+    if place < buckets.ranks.len() && buckets.ranks[place] == prefix {
         let found = &buckets.list[place];
         bucket.row = found.row;
         bucket.edges.add_all(&found.edges)?;
@@ -36,11 +36,11 @@ fn add_rank(buckets: &Tally, rank: u128, bucket: &mut Bucket) -> Result<(), Allo
 }
 
 // The rows of the rank of all stretches in one bucket.
-fn rows_of_rank(alloc: Global, tallies: &[Tally], rank: u128) -> Result<Bucket, AllocError>
+fn rows_of_rank(alloc: Global, tallies: &[Tally], prefix: u128) -> Result<Bucket, AllocError>
     requires { All (λ (b : AnyTally). length b.ranks.items ≡ length b.list.items) tallies.now }
     ensures inside { (window : Period) → All (λ (b : AnyTally). AreCut window b.list.items) tallies.now → IfOk result (IsInside window) }
     ensures counts { (column : List Value) → All (λ (b : AnyTally). AreRanked column b.ranks.items b.list.items) tallies.now
-        → (t : ℕ) (key : List Value) → IfOk result (λ bucket. bucket_count column t key bucket ≡ counted_in column rank t key tallies.now) }
+        → (t : ℕ) (key : List Value) → IfOk result (λ bucket. bucket_count column t key bucket ≡ counted_in column prefix t key tallies.now) }
 {
     let mut bucket = Bucket {
         row: 0,
@@ -48,7 +48,7 @@ fn rows_of_rank(alloc: Global, tallies: &[Tally], rank: u128) -> Result<Bucket, 
         changes: Changes::none(alloc),
     };
     'tallies: for buckets in tallies {
-        add_rank(buckets, rank, &mut bucket)?;
+        add_rank(buckets, prefix, &mut bucket)?;
     }
     Ok(bucket)
 }
@@ -89,16 +89,16 @@ pub fn are_whole(tallies: &[Tally]) -> bool
 fn rise(ranks: &[u128]) -> bool
     ensures { IsTrue result → AllPairs (λ r q. r < q) ranks.now }
 {
-    ranks.is_sorted_by(|rank, next| rank < next)
+    ranks.is_sorted_by(|prefix, next| prefix < next)
 }
 
 // Whether each of the ranks is one of all.
 fn are_among(all: &[u128], ranks: &[u128]) -> bool
     ensures { IsTrue result → All (IsAmong all.now) ranks.now }
 {
-    'ranks: for rank in ranks {
-        let place = place_of(all, *rank);
-        if place >= all.len() || all[place] != *rank {
+    'ranks: for prefix in ranks {
+        let place = place_of(all, *prefix);
+        if place >= all.len() || all[place] != *prefix {
             return false;
         }
     }

@@ -6,7 +6,7 @@ ghost use Rattle.tq_base.specs.RowValues.{number_of};
 ghost use Rattle.tq_agg.specs.Totals.{weight_of, AreWeights, HaveWeights};
 
 use std::alloc::{AllocError, Global};
-use tq_base::{Relation, Row, Seen, Value};
+use tq_base::{Relation, Row, Value, ValueRef};
 
 // What each row adds to a total: 1, or the number in the column, which is 0 for a text and where the row
 // has no such column.
@@ -20,9 +20,9 @@ pub(crate) enum Summand {
 pub(crate) fn number_of(value: &Value) -> i128
     ensures { result ≡ number_of value.now }
 {
-    match value.seen() {
-        Seen::Int(number) => number,
-        Seen::Text(_) => 0,
+    match value.as_ref() {
+        ValueRef::Int(number) => number,
+        ValueRef::Text(_) => 0,
     }
 }
 

@@ -5,11 +5,11 @@ ghost use Rattle.std.specs.Prelude.{◌≡◌, ◌++◌, ◌+◌, ◌<◌, ◌�
 ghost use Rattle.std.specs.Bool.{OnTrue};
 ghost use Rattle.std.specs.Ordering.{nat_cmp};
 ghost use Rattle.tq_base.specs.declared.value.Value.{Value};
-ghost use Rattle.tq_base.specs.declared.sides.Key.{Key};
+ghost use Rattle.tq_base.specs.declared.sort_input.SortKey.{SortKey};
 ghost use Rattle.tq_base.specs.Contents.{Int};
 ghost use Rattle.tq_base.specs.Fragments.{copies};
 ghost use Rattle.tq_base.specs.Keys.{key_row};
-ghost use Rattle.tq_base.specs.KeySides.{state_of};
+ghost use Rattle.tq_base.specs.SortInputs.{state_of};
 ghost use Rattle.tq_base.specs.Periods.{holds};
 ghost use Rattle.tq_ops.specs.Ordinary.{projection};
 ghost use Rattle.tq_agg.specs.declared.bounds.End.{End};
@@ -20,7 +20,7 @@ use crate::bounds::{End, ends_by, first_bound, starts_by};
 use crate::summands::{Summand, weight};
 use std::alloc::{AllocError, Global};
 use std::mem;
-use tq_base::{Bound, Instant, Key, Mark, Period, Row, Rows, Side, Sides, Value};
+use tq_base::{Bound, Instant, Period, Row, Rows, RunStart, Side, SortInput, SortKey, Value};
 
 // What stands before the totals in the rows of a group: the values of one of its rows in the key
 // columns.
@@ -53,8 +53,8 @@ pub(crate) fn sweep_room(alloc: Global) -> SweepRoom
 // A group of rows: their keys in the order of their starts, and where they end, in order.
 #[derive(Clone, Copy)]
 pub(crate) struct Group<'a> {
-    pub(crate) sides: &'a Sides<'a>,
-    pub(crate) keys: &'a [Key],
+    pub(crate) sort_input: &'a SortInput<'a>,
+    pub(crate) keys: &'a [SortKey],
     pub(crate) ends: &'a [End],
     // What the rows of the left side add to each summand, as far as it is listed.
     pub(crate) weights: &'a [Vec<i64>],
@@ -95,51 +95,56 @@ fn listed(weights: &[Vec<i64>], place: usize) -> &[i64]
 }
 
 // What the row of the key adds, which is looked up where it is not listed.
-fn key_weight(summand: Summand, weights: &[i64], sides: &Sides<'_>, key: &Key) -> i128
-    requires { AreWeights sides.now.left.now.items summand weights.now }
-    ensures { result ≡ key_weight (state_of sides.now) summand key.now }
+fn key_weight(summand: Summand, weights: &[i64], sort_input: &SortInput<'_>, key: &SortKey) -> i128
+    requires { AreWeights sort_input.now.left.now.items summand weights.now }
+    ensures { result ≡ key_weight (state_of sort_input.now) summand key.now }
 {
     match (key.side, weights.get(key.row as usize)) {
         (Side::Left, Some(weight)) => i128::from(*weight),
-        _ => weight(summand, &sides.row(key)),
+        _ => weight(summand, &sort_input.row(key)),
     }
 }
 
 // What the rows of the keys add.
-fn added_keys(summand: Summand, weights: &[i64], sides: &Sides<'_>, keys: &[Key]) -> i128
-    requires weights { AreWeights sides.now.left.now.items summand weights.now }
-    requires small { AreSmallKeys (state_of sides.now) summand keys.now }
-    ensures { result ≡ added (key_weight (state_of sides.now) summand) keys.now }
+fn added_keys(
+    summand: Summand,
+    weights: &[i64],
+    sort_input: &SortInput<'_>,
+    keys: &[SortKey],
+) -> i128
+    requires weights { AreWeights sort_input.now.left.now.items summand weights.now }
+    requires small { AreSmallKeys (state_of sort_input.now) summand keys.now }
+    ensures { result ≡ added (key_weight (state_of sort_input.now) summand) keys.now }
 {
     if is_one(summand) {
         return number_of(keys.len());
     }
     let mut total: i128 = 0;
     'keys: for key in keys {
-        total += key_weight(summand, weights, sides, key);
+        total += key_weight(summand, weights, sort_input, key);
     }
     total
 }
 
 // What the rows that end add.
-fn added_ends(summand: Summand, weights: &[i64], sides: &Sides<'_>, ends: &[End]) -> i128
-    requires weights { AreWeights sides.now.left.now.items summand weights.now }
-    requires small { AreSmallEnds (state_of sides.now) summand ends.now }
-    ensures { result ≡ added (λ (e : End). key_weight (state_of sides.now) summand (end_key e)) ends.now }
+fn added_ends(summand: Summand, weights: &[i64], sort_input: &SortInput<'_>, ends: &[End]) -> i128
+    requires weights { AreWeights sort_input.now.left.now.items summand weights.now }
+    requires small { AreSmallEnds (state_of sort_input.now) summand ends.now }
+    ensures { result ≡ added (λ (e : End). key_weight (state_of sort_input.now) summand (end_key e)) ends.now }
 {
     if is_one(summand) {
         return number_of(ends.len());
     }
     let mut total: i128 = 0;
     'ends: for end in ends {
-        let key = Key {
-            rank: 0,
+        let key = SortKey {
+            prefix: 0,
             start: 0,
             row: end.row,
             side: end.side,
-            mark: Mark::Unknown,
+            run_start: RunStart::Unknown,
         };
-        total += key_weight(summand, weights, sides, &key);
+        total += key_weight(summand, weights, sort_input, &key);
     }
     total
 }
@@ -170,19 +175,19 @@ fn fill_totals(
     requires ends_within { to.ended ≤ length group.now.ends.now }
     requires short { length group.now.keys.now < 2 ^ 63 }
     requires ends_short { length group.now.ends.now < 2 ^ 63 }
-    requires small { All (λ s. AreSmallKeys (state_of group.now.sides.now) s group.now.keys.now) summands.now }
-    requires ends_small { All (λ s. AreSmallEnds (state_of group.now.sides.now) s group.now.ends.now) summands.now }
-    requires weights { HaveWeights group.now.sides.now.left.now.items summands.now (map (λ list. list.items) group.now.weights.now) }
-    requires totals { totals.now ≡ totals_of (state_of group.now.sides.now) summands.now (take from.begun group.now.keys.now) (take from.ended group.now.ends.now) }
-    ensures { OnOk result (next.new.items ≡ totals_of (state_of group.now.sides.now) summands.now (take to.begun group.now.keys.now) (take to.ended group.now.ends.now)) }
+    requires small { All (λ s. AreSmallKeys (state_of group.now.sort_input.now) s group.now.keys.now) summands.now }
+    requires ends_small { All (λ s. AreSmallEnds (state_of group.now.sort_input.now) s group.now.ends.now) summands.now }
+    requires weights { HaveWeights group.now.sort_input.now.left.now.items summands.now (map (λ list. list.items) group.now.weights.now) }
+    requires totals { totals.now ≡ totals_of (state_of group.now.sort_input.now) summands.now (take from.begun group.now.keys.now) (take from.ended group.now.ends.now) }
+    ensures { OnOk result (next.new.items ≡ totals_of (state_of group.now.sort_input.now) summands.now (take to.begun group.now.keys.now) (take to.ended group.now.ends.now)) }
 {
     let keys = &group.keys[from.begun..to.begun];
     let ends = &group.ends[from.ended..to.ended];
     next.clear();
     'summands: for (place, summand) in summands.iter().enumerate() {
         let weights = listed(group.weights, place);
-        let begun = added_keys(*summand, weights, group.sides, keys);
-        let ended = added_ends(*summand, weights, group.sides, ends);
+        let begun = added_keys(*summand, weights, group.sort_input, keys);
+        let ended = added_ends(*summand, weights, group.sort_input, ends);
         next.push(totals[place] + (begun - ended))?;
     }
     Ok(())
@@ -292,20 +297,20 @@ pub(crate) fn sweep(
     room: &mut SweepRoom,
     out: &mut Rows,
 ) -> Result<(), AllocError>
-    requires starts { IsNonDecreasingBy (λ (k : Key). k.start) group.now.keys.now }
+    requires starts { IsNonDecreasingBy (λ (k : SortKey). k.start) group.now.keys.now }
     requires ends { IsSortedByKey (λ (e : End). e.at) nat_cmp group.now.ends.now }
     requires within { All (λ (e : End). (window.now.start ≤ e.at) × (e.at ≤ window.now.end)) group.now.ends.now }
     requires short { length group.now.keys.now < 2 ^ 63 }
     requires ends_short { length group.now.ends.now < 2 ^ 63 }
-    requires small { All (λ s. AreSmallKeys (state_of group.now.sides.now) s group.now.keys.now) summands.now }
-    requires ends_small { All (λ s. AreSmallEnds (state_of group.now.sides.now) s group.now.ends.now) summands.now }
-    requires weights { HaveWeights group.now.sides.now.left.now.items summands.now (map (λ list. list.items) group.now.weights.now) }
+    requires small { All (λ s. AreSmallKeys (state_of group.now.sort_input.now) s group.now.keys.now) summands.now }
+    requires ends_small { All (λ s. AreSmallEnds (state_of group.now.sort_input.now) s group.now.ends.now) summands.now }
+    requires weights { HaveWeights group.now.sort_input.now.left.now.items summands.now (map (λ list. list.items) group.now.weights.now) }
     requires empty { room.old.values.items ≡ [] }
     requires width { out.old.width ≡ length head.now.keys.now + length summands.now }
     ensures emptied { OnOk result (room.new.values.items ≡ []) }
     ensures width { out.new.width ≡ out.old.width }
     ensures rows { OnOk result ((t : ℕ) (v : List Value) → copies out.new.items v t ≡ copies out.old.items v t
-        + (if holds window.now t then shown_copies (projection head.now.keys.now head.now.row.now) (totals_upto (state_of group.now.sides.now) window.now summands.now group.now.keys.now group.now.ends.now t) v else 0)) }
+        + (if holds window.now t then shown_copies (projection head.now.keys.now head.now.row.now) (totals_upto (state_of group.now.sort_input.now) window.now summands.now group.now.keys.now group.now.ends.now t) v else 0)) }
 {
     clear_totals(summands, &mut room.totals)?;
     let mut since = Bound::at(window.start);

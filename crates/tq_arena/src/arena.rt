@@ -1,4 +1,4 @@
-//! Nodes that keep the numbers under which they were put in.
+//! Nodes that keep their numbers.
 
 ghost use Rattle.std.specs.Prelude.{◌≡◌, ◌+◌, ◌<◌, ◌≤◌, ◌++◌, ◌∷◌, [], length, min, slice_get, slice_index_or, Some, OnOk, OnErr};
 ghost use Rattle.std.specs.Borrow.{Lends, sem};
@@ -36,7 +36,7 @@ impl<N> Model for Arena<N> {
 }
 
 impl<N> Arena<N> {
-    /// An arena of no nodes, which takes no memory before the first `reserve`.
+    /// An arena without nodes. It allocates nothing before the first `reserve`.
     pub fn new(alloc: Global) -> Arena<N>
         ensures { result.nodes ≡ [] }
     {
@@ -52,7 +52,7 @@ impl<N> Arena<N> {
         self.nodes.len() as u32
     }
 
-    /// For how many more nodes memory is kept.
+    /// The number of further nodes for which memory is reserved.
     pub fn room(&self) -> u32
         ensures { result ≡ self.now.room }
     {
@@ -60,8 +60,7 @@ impl<N> Arena<N> {
         (self.nodes.capacity() - len).min(4294967295 - len) as u32
     }
 
-    /// Keeps memory for at least `count` more nodes, and leaves the nodes.
-    /// Out of memory: the room is as before.
+    /// Reserves memory for at least `count` more nodes. After `AllocError` the arena is unchanged.
     pub fn reserve(&mut self, count: u32) -> Result<(), AllocError>
         requires { length self.old.nodes + count ≤ 4294967295 }
         ensures nodes { self.new.nodes ≡ self.old.nodes }
@@ -71,7 +70,7 @@ impl<N> Arena<N> {
         self.nodes.reserve(count as usize)
     }
 
-    /// Puts a node in under the next number; takes no memory.
+    /// Adds a node and returns its number, the next one; allocates nothing.
     pub fn push_reserved(&mut self, node: N) -> NodeNo
         requires { 0 < self.old.room }
         ensures number { result.0 ≡ length self.old.nodes }
@@ -83,7 +82,7 @@ impl<N> Arena<N> {
         NodeNo(number)
     }
 
-    /// The node under the number; the meter counts one read.
+    /// The node with the number; the meter counts one read.
     pub fn read(&self, number: NodeNo, meter: &mut Meter) -> &N
         requires { number.0 < length self.now.nodes }
         ensures node { slice_get self.now.nodes number.0 ≡ Some result.now }
@@ -93,7 +92,7 @@ impl<N> Arena<N> {
         &self.nodes[number.0 as usize]
     }
 
-    /// The node under the number, to be changed in its place.
+    /// The node with the number, for changes in place. It counts no read.
     pub fn change(&mut self, number: NodeNo) -> &mut N
         requires { number.0 < length self.old.nodes }
         ensures* writes_back { sem 𝓛 (Lends (the_row N.row) N.row self.entry result (with_node self.old number.0)) }

@@ -1,9 +1,10 @@
-//! Nodes by number, whose reads are counted.
+//! An arena: a list of nodes that keep their numbers, with counted reads.
 //!
-//! An `Arena` is a list of nodes: the first node put in has the number 0, the next one 1, and a node
-//! keeps its number for good. Memory is taken by `reserve` alone, so a caller that reserves first can
-//! put in and change several nodes without a step that fails in between. Each `read` is counted by the
-//! `Meter` that is lent to it. What a node is, the arena doesn't know.
+//! The first node has the number 0, the next one 1. Only `Arena::reserve` allocates, so a caller that reserves first
+//! can add and change several nodes without an error in between. Each `Arena::read` is counted by a `Meter`. Contracts
+//! see an arena as `Contents` in `specs/Contents.antt`. What a node is, the arena does not know.
+//!
+//! Open `src/arena.rt` first.
 #![tactic(auto)]
 
 mod arena;

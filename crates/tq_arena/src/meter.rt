@@ -26,14 +26,14 @@ impl Meter {
         Meter { count: 0 }
     }
 
-    /// The reads so far; the count stays at `u64::MAX` once it is there.
+    /// The number of reads so far; it stays at `u64::MAX` once it reaches that.
     pub fn count(&self) -> u64
         ensures { result ≡ self.now }
     {
         self.count
     }
 
-    // One more read.
+    // Counts one more read.
     pub(crate) fn add_read(&mut self)
         ensures { self.new ≡ min (self.old + 1) u64.MAX }
     {

@@ -1,4 +1,4 @@
--- One column of rows, the values of which stand at places of a list that are so many apart.
+-- One column of rows whose values are at equally spaced places of a list.
 use Rattle.std.proofs.Common.{inl, inr, cond, suc, zero, ◌≡◌, ◌≤◌, ◌<◌, ◌+◌, ◌*◌, ℕ, List, [], ◌∷◌, length, map, get_or, sym, refl, ap, ◌∙◌, arith}
 use Rattle.std.specs.List.{range_with_len}
 use Rattle.std.specs.Prelude.{All, Option, pos}
@@ -13,20 +13,20 @@ use Rattle.tq_base.specs.declared.period.Period.{Period}
 use Rattle.tq_base.specs.declared.parts.Part.{Part}
 use Rattle.tq_base.specs.declared.parts.Place.{Place}
 use Rattle.tq_base.specs.Contents.{Int}
-use Rattle.tq_base.specs.KeyLaws.{all_values}
+use Rattle.tq_base.specs.SortKeyLaws.{all_values}
 use Rattle.tq_base.specs.Keys.{no_row}
 use Rattle.tq_base.specs.Parts.{cell, chosen_column, column_cells, number_in, rows_at, rows_by_number, value_there, values_there}
 use Rattle.tq_base.specs.Relations.{column_of, values_at_number}
 use Rattle.tq_base.proofs.RelationLemmas.{column_value}
 
--- the value of a row that is there, and of one that is not
+-- the value of a row that exists, and of one that does not
 value_here : (rows : ℕ) (values : List Value) (step place number : ℕ) → number < rows → value_there rows values step place number ≡ value_at values (number * step + place)
 value_here rows values step place number less = ap (λ b. cond b (value_at values (number * step + place)) (Int (pos 0))) (lt-ltb number rows less)
 
 pub value_past : (rows : ℕ) (values : List Value) (step place number : ℕ) → rows ≤ number → value_there rows values step place number ≡ Int (pos 0)
 value_past rows values step place number past = ap (λ b. cond b (value_at values (number * step + place)) (Int (pos 0))) (le-ltb number rows past)
 
--- the value of a column in the row of this number, where the values of the column stand there
+-- the value of a column in the row with this number, if the column's values are at these places
 pub value_found : (items : List Fragment) (rows : ℕ) (values : List Value) (step place column number : ℕ) → rows ≡ length items
     → ((k : ℕ) (d : Fragment) → k < length items → value_at (get_or items k d).values column ≡ value_at values (k * step + place))
     → value_there rows values step place number ≡ value_at (values_at_number items number) column
@@ -37,7 +37,7 @@ value_found items rows values step place column number many found = elim (cases_
       ∙ sym (ap (λ (row : Fragment). value_at row.values column) (get_or_past items number no_row past))
 ]
 
--- the value at a place, and where there is no such place
+-- the value at a place, and at a place that does not exist
 pub read_there : (rows : ℕ) (values : List Value) (step column : ℕ) (numbers : Option (List ℕ)) (len row : ℕ) → row < len
     → value_at (values_there rows values step column numbers len) row ≡ value_there rows values step column (number_in numbers row)
 read_there rows values step column numbers len row less =
@@ -49,7 +49,7 @@ read_past rows values step column numbers len row past =
     get_or_past (values_there rows values step column numbers len) row (Int (pos 0))
     (let short : length (values_there rows values step column numbers len) ≤ row = omega (arith, past, length-map-range_with_len (λ place. value_there rows values step column (number_in numbers place)) 0 len) in short)
 
--- a column in one row after the other is that of the rows
+-- a column of rows that are chosen by number, row by row
 columned_from : (parts : List Part) (columns : List (Option Place)) (column place : ℕ) (periods : List Period)
     → map (λ k. cell (rows_at parts k) (chosen_column columns column)) (range_with_len place (length periods)) ≡ column_of (rows_by_number parts columns place periods) column
 unfolding rows_by_number

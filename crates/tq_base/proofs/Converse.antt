@@ -1,4 +1,4 @@
--- Rows in order that are just the maximal runs are the layers.
+-- Ordered rows that are exactly the maximal runs are the layers.
 use Rattle.std.proofs.Common.{◌≡◌, ℕ, zero, suc, ◌+◌, ◌-◌, ◌<◌, ◌≤◌, eqb, Bool, true, false, cond, ◌||◌, List, [], ◌∷◌, length, get_or, sum_by, refl, sym, ap, ◌∙◌, subst, arith, inl, inr}
 use Rattle.std.specs.Prelude.{All, IsSorted}
 use Rattle.std.specs.List.{AllZip, IsDistinct, list_any, zip}
@@ -17,10 +17,10 @@ use Rattle.tq_base.specs.Layers.{TakesIn, IsCoalesced, IsLayers, IsRun, RowsAreR
 use Rattle.tq_base.proofs.Unique.{held_from}
 use Rattle.tq_base.proofs.Runs.{Labelled, Labels, counts_at, levels_at, length-levels_at, all_labelled, found, found_run, distinct_levels, none_by_recursion}
 
--- ---- a run round an instant
+-- ---- a run around an instant
 
 module _ (m : List Value → ℕ → ℕ) (v : List Value) (level : ℕ) where
-  -- an instant down to which there are as many copies all along, and no further
+  -- the earliest instant from which there are at least this many copies without a break
   record First (t : ℕ) : Type 0 where
     start : ℕ
     sooner : start ≤ t
@@ -121,7 +121,7 @@ module _ (m : List Value → ℕ → ℕ) (v : List Value) (level : ℕ) where
         }
   ]
 
--- ---- the levels of the rows that hold an instant are those of the copies there
+-- ---- the levels of the rows that hold an instant are those of its copies
 
 or_right : (a b : Bool) → b ≡ true → (a || b) ≡ true
 or_right true b e = refl
@@ -174,7 +174,7 @@ module _ (m : List Value → ℕ → ℕ) (table : List Fragment) (ends : EndsBy
       distinct : IsDistinct eqb (0 ∷ levels_at v t (zip table is.levels))
       distinct = (none_by_recursion 0 all (no_zero (list_any (eqb 0) all) refl), distinct_levels m v t (zip table is.levels) runs is.once)
 
-  -- and no fewer
+  -- and no fewer rows than copies
   at_least : (v : List Value) (t : ℕ) → m v t ≤ length (levels_at v t (zip table is.levels))
   at_least v t = omega (arith, le-length_from_below (0 ∷ levels_at v t (zip table is.levels)) (m v t + 1) each)
     where
@@ -194,7 +194,7 @@ module _ (m : List Value → ℕ → ℕ) (table : List Fragment) (ends : EndsBy
   abbrev Run : Fragment → Type 0
   Run f = (level : ℕ) × IsRun m f.values level f.period
 
-  -- of two rows of the same values, one that begins inside the other or at its end lies inside it
+  -- if one row begins inside another with the same values, or at its end, it lies inside it
   coalesced : IsCoalesced table
   coalesced i d in_i j e in_j = takes_in (get_or table i d) (get_or table j e) (row_run table is.levels is.runs i d in_i) (row_run table is.levels is.runs j e in_j)
     where

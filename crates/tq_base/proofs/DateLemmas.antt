@@ -17,7 +17,7 @@ use Rattle.tq_base.specs.Dates.{CivilDate, date_in, date_of, day_of, days_before
 use Rattle.tq_base.specs.Numbers.{instant_of, natural_up_to}
 use Rattle.tq_base.specs.declared.form.Form.TheVariants.{Dates}
 
--- a date of the calendar, of a year from 1 on
+-- a date of the calendar with a year from 1 on
 abbrev pub InCalendar : CivilDate → Type 0
 InCalendar date = (1 ≤ date.year) × (1 ≤ date.month) × (date.month ≤ 12) × (1 ≤ date.day) × (date.day ≤ days_in_month (pos date.year) date.month)
 
@@ -92,7 +92,7 @@ year_within n h =
             absurd (omega (arith, day_count-end, day_count-day_of_year (pos date.year) date.month date.day held.3))
         by_year false e = grind (arith, nat_tests)
 
--- a date of the calendar whose year has four digits, as `jiff` has it
+-- a date of the calendar whose year has four digits, as `jiff` represents it
 abbrev pub jiff_date : (date : CivilDate) → InCalendar date → date.year ≤ 9999 → Date
 jiff_date date h four = record {
   year = pos date.year;
@@ -108,7 +108,7 @@ counts : (a b : CivilDate) (ha : InCalendar a) (fa : a.year ≤ 9999) (hb : InCa
 unfolding days_from_civil
 counts a b ha fa hb fb e = ap (λ (n : ℕ). pos n -ℤ pos (day_count (pos 1970) 1 1)) e
 
--- of two such dates with one count the parts are the same
+-- two such dates with the same day count have the same parts
 pub same_count : (a b : CivilDate) → InCalendar a → a.year ≤ 9999 → InCalendar b → b.year ≤ 9999 → count_of a ≡ count_of b → a ≡ b
 same_count a b ha fa hb fb e =
     let parts = epoch_day_injective (jiff_date a ha fa) (jiff_date b hb fb) (counts a b ha fa hb fb e) in
@@ -117,7 +117,7 @@ same_count a b ha fa hb fb e =
     civil_same : (a b : CivilDate) → a.year ≡ b.year → a.month ≡ b.month → a.day ≡ b.day → a ≡ b
     civil_same a b year month day = λ i. record { year = year i; month = month i; day = day i }
 
--- the days from 0001-01-01 on, and those of years of four digits, have these counts
+-- the days from 0001-01-01 on, and those with years of four digits, have these counts
 pub count_within : (date : CivilDate) → InCalendar date → date.year ≤ 9999 → (3_652_791 ≤ count_of date) × (count_of date ≤ 7_304_849)
 count_within date h four =
     (by (nat_lt 1 date.year) refl, (day_count_bounds (pos date.year) date.month date.day ((omega (arith, signed_arith), omega (arith, signed_arith)), (h.1, h.2), (h.3, h.4))).1)
@@ -133,7 +133,7 @@ count_within date h four =
         let first : day_count (pos date.year) 1 1 ≡ 3_652_791 = rw one first_count in
         omega (arith, first, day_count-day_of_year (pos date.year) date.month date.day h.3)
 
--- the day of the date is the day whose date it is
+-- the day of a date is the day that has this date
 pub date_of_day : (date : CivilDate) → InCalendar date → date.year ≤ 9999 → (days_before date ≤ 3_652_058) × (date_of (days_before date) ≡ date)
 date_of_day date h four =
     let within = count_within date h four in
@@ -141,7 +141,7 @@ date_of_day date h four =
     let is = date_of_is (days_before date) in
     (most, same_count (date_of (days_before date)) date is.0 (year_within (days_before date) most) h four (omega (arith, first_count)))
 
--- the days before the date of a day are so many
+-- the number of days before the date of a day is the day
 pub day_of_date : (n : ℕ) → days_before (date_of n) ≡ n
 day_of_date n = let is = date_of_is n in omega (arith, first_count)
 
@@ -154,7 +154,7 @@ jiff_day d n most e =
     let same : epoch_day d ≡ epoch_day (jiff_date (date_of n) is.0 four) = omega (arith, signed_arith, days_from_civil-day_count (pos (date_of n).year) (date_of n).month (date_of n).day) in
     epoch_day_injective d (jiff_date (date_of n) is.0 four) same
 
--- the tests of a date, and what they say
+-- the tests of a date, and what they mean
 tests : (y m d long : ℕ) → Decides (nat_le 1 y && nat_le y 9999 && nat_le 1 m && nat_le m 12 && nat_le 1 d && nat_le d long)
     ((1 ≤ y) × (y ≤ 9999) × (1 ≤ m) × (m ≤ 12) × (1 ≤ d) × (d ≤ long))
 tests y m d long = (λ t. grind (arith, nat_tests), λ p. grind (arith, nat_tests))
@@ -178,7 +178,7 @@ day_of_none date never = by (is_date date) refl
     by true e = let is = is_date_is date e in absurd (never is.0 is.1)
     by false e = refl
 
--- the bytes are of the form of a date
+-- the bytes have the form of a date
 pub record IsSpelled (bytes : List ℕ) : Type 0 where
   pub ten : length bytes ≡ 10
   pub year : list_all is_ascii_digit (take 4 bytes) ≡ true
@@ -200,7 +200,7 @@ spelled_if bytes s =
     (spelled_tests (length bytes) (get_or bytes 4 0) (get_or bytes 7 0) (list_all is_ascii_digit (take 4 bytes)) (list_all is_ascii_digit (slice_range bytes 5 7)) (list_all is_ascii_digit (slice_range bytes 8 10))).1
     (s.ten, s.year, s.dash, s.month, s.second_dash, s.day)
 
--- bytes that are no date are no instant
+-- bytes that are not a valid date are not a valid instant
 pub no_date : (bytes : List ℕ) → (IsSpelled bytes → InCalendar (date_in bytes) → (date_in bytes).year ≤ 9999 → ⊥) → None ≡ instant_of Dates bytes
 no_date bytes never = by (is_date_text bytes) refl
   where
@@ -230,7 +230,7 @@ natural_some limit value bytes some = by (nat_lt 0 (length bytes)) (list_all is_
     by true false c eb ec n = absurd (let other : None ≡ Some value = sym n in cc)
     by true true false eb ec n = absurd (let other : None ≡ Some value = sym n in cc)
 
--- the date that `jiff` has of a year, a month and a day is in the calendar, and lies so many days after its first one
+-- the date that `jiff` makes of a year, a month and a day is in the calendar; its day count is from the first date
 pub jiff_has : (d : Date) (k : ℕ) (date : CivilDate) → 1 ≤ date.year → IsYmd (pos date.year) (pos date.month) (pos date.day) d → epoch_day d +ℤ pos 4_371_587 ≡ pos k
     → (3_652_425 ≤ k) × (day_of date ≡ Some (k - 3_652_425))
 jiff_has d k date low h e =
@@ -249,7 +249,7 @@ jiff_has d k date low h e =
     let days : days_before date ≡ k - 3_652_425 = omega (arith, first_count) in
     (omega arith, day_of_some date here four ∙ ap Some days)
 
--- bytes that are of the form of a date and write it are its day
+-- bytes that have the form of a date, and write one, are read as its day
 pub instant_of_date : (bytes : List ℕ) (date : CivilDate) → IsSpelled bytes → digits_value 10 (take 4 bytes) ≡ date.year → digits_value 10 (slice_range bytes 5 7) ≡ date.month → digits_value 10 (slice_range bytes 8 10) ≡ date.day
     → day_of date ≡ instant_of Dates bytes
 instant_of_date bytes date s year month day =

@@ -21,7 +21,7 @@ use Rattle.tq_base.specs.Layering.{rows_of}
 use Rattle.tq_base.specs.Sweep.{Sweep, begun, finished, reordered, opens, cancels, closes, some_open, opened_before, pairs_head}
 use Rattle.tq_base.specs.Groups.{Grouping, grouping_starts, grouping_ends, closes_group}
 
--- ---- a list in order
+-- ---- a sorted list
 
 module _ {X : Type 0} (R : X → X → Ordering) (o : IsTotalOrder R) where
   abbrev place : X → List X → List X
@@ -138,7 +138,7 @@ ordered_layering_exists periods =
 
 -- ---- the groups
 
--- how many rows in front have the values
+-- the number of rows at the front that have the values
 record Front (v : List Value) (rows : List Fragment) : Type 0 where
   len : ℕ
   alike : All (λ f. f.values ≡ v) (take len rows)

@@ -2,13 +2,13 @@ pub mod ColumnLemmas
 pub mod Converse
 pub mod DateLemmas
 pub mod Existence
-pub mod KeyLemmas
+pub mod SortKeyLemmas
 pub mod NameLemmas
 pub mod NumberLemmas
 pub mod RelationLemmas
 pub mod RowListLemmas
 pub mod Runs
 pub mod SlotLemmas
-pub mod TellingLemmas
+pub mod DateTextLemmas
 pub mod Unique
-pub mod UntoldLemmas
+pub mod TieBreakLemmas

@@ -1,4 +1,4 @@
--- A folded name is one that may be shown.
+-- A folded name may be shown.
 use Rattle.std.proofs.Common.{◌≡◌, ℕ, true, ◌&&◌, not, List, [], ◌∷◌, length, nat_le, refl, arith}
 use Rattle.std.specs.Char.{is_ascii_uppercase, to_ascii_lowercase}
 use Rattle.std.specs.List.{list_all}
@@ -46,7 +46,7 @@ same_length : (bytes : List ℕ) → length (folded bytes) ≡ length bytes
 same_length [] = refl
 same_length (b ∷ bs) = omega (arith, same_length bs)
 
--- what a folded name is
+-- what a folded name satisfies
 pub shown-folded : (bytes : List ℕ) → is_name bytes ≡ true → is_shown_name (folded bytes) ≡ true
 shown-folded bytes h =
     let most = and_parts (has_name_form bytes && nat_le (length bytes) 64) (not (is_reserved bytes)) h in

@@ -6,12 +6,12 @@ use Rattle.std.specs.Str.Parse.{digits_value_after}
 use Rattle.std.proofs.lemmas.Bool.Decides.{nat_tests}
 use Rattle.std.proofs.lemmas.List.{at_drop_more}
 
--- what the digits write when they follow those of n, if all is at most the limit
+-- the number that the digits write after those of n, if the whole is at most the limit
 abbrev pub natural_after : ℕ → ℕ → List ℕ → Option ℕ
 natural_after limit n bytes =
     cond (list_all is_ascii_digit bytes && nat_le (digits_value_after 10 n bytes) limit) (Some (digits_value_after 10 n bytes)) None
 
--- digits do not make a number smaller
+-- further digits do not make a number smaller
 pub digits_value_after-le : (n : ℕ) (bytes : List ℕ) → n ≤ digits_value_after 10 n bytes
 digits_value_after-le n [] = omega arith
 digits_value_after-le n (b ∷ bs) = omega (arith, digits_value_after-le (n * 10 + digit_value b) bs)
@@ -31,7 +31,7 @@ too_large limit n bytes above = by (list_all is_ascii_digit bytes) (nat_le (digi
 pub digit_is : (b : ℕ) → 48 ≤ b → b ≤ 57 → digit_value b ≡ b - 48
 digit_is b low high = grind (arith, nat_tests)
 
--- one more digit that makes the number too large
+-- one more digit makes the number too large
 pub exceeds : (limit n : ℕ) (bytes : List ℕ) (i : ℕ) → i < length bytes → 48 ≤ get_or bytes i 0 → get_or bytes i 0 ≤ 57
     → limit < n * 10 + (get_or bytes i 0 - 48) → natural_after limit n (drop i bytes) ≡ None
 exceeds limit n bytes i here low high above =

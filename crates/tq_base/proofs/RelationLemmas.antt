@@ -1,4 +1,4 @@
--- Rows by their numbers in parts, and what becomes of them where parts and columns change.
+-- Rows by their numbers in parts, and the effect of changes of parts and columns.
 use Rattle.std.proofs.Common.{suc, zero, ◌≡◌, ◌≤◌, ◌<◌, ◌+◌, ◌-◌, ℕ, List, [], ◌∷◌, ◌++◌, length, map, get_or, set, drop, take, subst, sym, refl, ap, ◌∙◌, arith}
 use Rattle.std.specs.List.{range_with_len}
 use Rattle.std.specs.Prelude.{All, Option, Some, None}
@@ -13,12 +13,12 @@ use Rattle.tq_base.specs.declared.fragment.Fragment.{Fragment}
 use Rattle.tq_base.specs.declared.period.Period.{Period}
 use Rattle.tq_base.specs.declared.parts.Part.{Part}
 use Rattle.tq_base.specs.declared.parts.Place.{Place}
-use Rattle.tq_base.specs.declared.relation.Line.{Line}
+use Rattle.tq_base.specs.declared.relation.RowPeriod.{RowPeriod}
 use Rattle.tq_base.specs.declared.relation.Pair.{Pair}
-use Rattle.tq_base.specs.KeyLaws.{all_values}
+use Rattle.tq_base.specs.SortKeyLaws.{all_values}
 use Rattle.tq_base.specs.Keys.{no_row}
 use Rattle.tq_base.specs.Parts.{cell, cells, chosen_column, first_column, moved_column, part_values, rows_at, rows_by_number, source_list, IsIn}
-use Rattle.tq_base.specs.Relations.{line_of, pair_of, projected, row_at, values_at_number}
+use Rattle.tq_base.specs.Relations.{row_period_of, pair_of, projected, row_at, values_at_number}
 
 -- ---- rows by number
 
@@ -32,7 +32,7 @@ unfolding rows_by_number
 periods-rows_by_number parts columns place [] = refl
 periods-rows_by_number parts columns place (period ∷ periods) = ap (λ ps. period ∷ ps) (periods-rows_by_number parts columns (suc place) periods)
 
--- the values of a row are those of the columns at its place
+-- the values of a row are those of its columns at its place
 values_from : (parts : List Part) (columns : List (Option Place)) (place : ℕ) (periods : List Period) (k : ℕ) (d : Fragment) → k < length periods → (get_or (rows_by_number parts columns place periods) k d).values ≡ cells (rows_at parts (place + k)) columns
 unfolding rows_by_number
 values_from parts columns place [] k d less = absurd (omega (arith, less))
@@ -50,7 +50,7 @@ widths-rows_by_number parts columns periods = λ k d less.
     ap length (values-rows_by_number parts columns periods k d (let inside : k < length periods = omega (arith, less, length-rows_by_number parts columns 0 periods) in inside))
     ∙ length-map columns (cell (rows_at parts k))
 
--- rows that have the periods, and at each place the values of the columns, are those by number
+-- rows with these periods, and with the values of the columns at each place, are the rows by number
 pub same_rows : (parts : List Part) (columns : List (Option Place)) (periods : List Period) (rows : List Fragment) → map (λ (row : Fragment). row.period) rows ≡ periods
     → ((k : ℕ) (d : Fragment) → k < length rows → (get_or rows k d).values ≡ cells (rows_at parts k) columns) → rows_by_number parts columns 0 periods ≡ rows
 same_rows parts columns periods rows same values = same_lists (rows_by_number parts columns 0 periods) rows (lengths ∙ len) each
@@ -97,23 +97,23 @@ whole_rows part columns width numbers first wide =
 pub first_columns_in : (numbers : List ℕ) → All (IsIn 1) (map first_column numbers)
 first_columns_in numbers = All-map (IsIn 1) first_column numbers (λ k d less. omega arith)
 
--- ---- lines
+-- ---- rows with periods
 
-pub picked_rows : (old new : List Part) (columns : List (Option Place)) (periods : List Period) (lines : List Line)
-    → ((k : ℕ) → k < length (map (λ (line : Line). line.row) lines) → rows_at new k ≡ rows_at old (get_or (map (λ (line : Line). line.row) lines) k 0))
-    → All (λ (line : Line). line.row < length (rows_by_number old columns 0 periods)) lines
-    → rows_by_number new columns 0 (map (λ (line : Line). line.period) lines) ≡ map (line_of (rows_by_number old columns 0 periods)) lines
-picked_rows old new columns periods lines same within =
-    same_rows new columns (map (λ (line : Line). line.period) lines) (map (line_of rows) lines)
-    (map-map (λ (row : Fragment). row.period) (line_of rows) lines)
+pub taken_rows : (old new : List Part) (columns : List (Option Place)) (periods : List Period) (row_periods : List RowPeriod)
+    → ((k : ℕ) → k < length (map (λ (row_period : RowPeriod). row_period.row) row_periods) → rows_at new k ≡ rows_at old (get_or (map (λ (row_period : RowPeriod). row_period.row) row_periods) k 0))
+    → All (λ (row_period : RowPeriod). row_period.row < length (rows_by_number old columns 0 periods)) row_periods
+    → rows_by_number new columns 0 (map (λ (row_period : RowPeriod). row_period.period) row_periods) ≡ map (row_period_of (rows_by_number old columns 0 periods)) row_periods
+taken_rows old new columns periods row_periods same within =
+    same_rows new columns (map (λ (row_period : RowPeriod). row_period.period) row_periods) (map (row_period_of rows) row_periods)
+    (map-map (λ (row : Fragment). row.period) (row_period_of rows) row_periods)
     (λ k d less.
-    let inside : k < length lines = omega (arith, less, length-map lines (line_of rows)) in
-    let below : k < length (map (λ (line : Line). line.row) lines) = omega (arith, inside, length-map lines (λ (line : Line). line.row)) in
-    let line : Line = record { row = 0; period = d.period } in
-    let here : get_or (map (line_of rows) lines) k d ≡ line_of rows (get_or lines k line) = get_or-map (line_of rows) lines k line d inside in
-    let row : get_or (map (λ (line : Line). line.row) lines) k 0 ≡ (get_or lines k line).row = get_or-map (λ (line : Line). line.row) lines k line 0 inside in
-    let number = (get_or lines k line).row in
-    let stands : number < length periods = omega (arith, within k line inside, length-rows_by_number old columns 0 periods) in
+    let inside : k < length row_periods = omega (arith, less, length-map row_periods (row_period_of rows)) in
+    let below : k < length (map (λ (row_period : RowPeriod). row_period.row) row_periods) = omega (arith, inside, length-map row_periods (λ (row_period : RowPeriod). row_period.row)) in
+    let row_period : RowPeriod = record { row = 0; period = d.period } in
+    let here : get_or (map (row_period_of rows) row_periods) k d ≡ row_period_of rows (get_or row_periods k row_period) = get_or-map (row_period_of rows) row_periods k row_period d inside in
+    let row : get_or (map (λ (row_period : RowPeriod). row_period.row) row_periods) k 0 ≡ (get_or row_periods k row_period).row = get_or-map (λ (row_period : RowPeriod). row_period.row) row_periods k row_period 0 inside in
+    let number = (get_or row_periods k row_period).row in
+    let stands : number < length periods = omega (arith, within k row_period inside, length-rows_by_number old columns 0 periods) in
     ap (λ (row : Fragment). row.values) here
     ∙ values-rows_by_number old columns periods number no_row stands
     ∙ ap (λ n. cells (rows_at old n) columns) (sym row)
@@ -167,7 +167,7 @@ moved_cells : (left right : List (List Value)) (columns : List (Option Place)) �
 moved_cells left right [] = refl
 moved_cells left right (column ∷ columns) = λ i. moved_cell left right column i ∷ moved_cells left right columns i
 
--- the values of the left columns, then those of the right ones
+-- the values of the left columns, then those of the right columns
 pub both_cells : (left right : List Part) (left_columns right_columns : List (Option Place)) (parts k : ℕ) → parts ≡ length left → All (IsIn (length left)) left_columns
     → cells (rows_at (left ++ right) k) (left_columns ++ map (moved_column parts) right_columns) ≡ cells (rows_at left k) left_columns ++ cells (rows_at right k) right_columns
 both_cells left right left_columns right_columns parts k are within =
@@ -262,7 +262,7 @@ chosen_in parts (column ∷ columns) are (suc number) = chosen_in parts columns 
 pub all_chosen_in : (parts : ℕ) (columns : List (Option Place)) (numbers : List ℕ) → All (IsIn parts) columns → All (IsIn parts) (map (chosen_column columns) numbers)
 all_chosen_in parts columns numbers are = All-map (IsIn parts) (chosen_column columns) numbers (λ k d less. chosen_in parts columns are (get_or numbers k d))
 
--- ---- parts that are numbered anew, one by one
+-- ---- parts that are renumbered one by one
 
 rows_more : (parts : List Part) (part : Part) (k : ℕ) → rows_at (parts ++ part ∷ []) k ≡ rows_at parts k ++ part_values part k ∷ []
 rows_more parts part k = map-append (λ part. part_values part k) parts (part ∷ [])

@@ -1,4 +1,4 @@
--- Rows that lie one behind the other in one list of values.
+-- Rows of one width, stored one after the other in one list of values.
 use Rattle.std.proofs.Common.{suc, zero, ◌≡◌, ◌≤◌, ◌<◌, ◌+◌, ◌*◌, ℕ, List, [], ◌∷◌, ◌++◌, length, take, drop, map, get_or, sym, refl, ap, ◌∙◌, arith, length-drop}
 use Rattle.std.specs.Prelude.{All}
 use Rattle.std.specs.List.{flat_map}
@@ -43,7 +43,7 @@ widths-rows_from width values (period ∷ periods) fill =
     let first : length (take width values) ≡ width = length-take-le width values (grind (arith, fill)) in
     All-cons (λ (row : Fragment). length row.values ≡ width) (record { values = take width values; period = period }) (rows_from width (drop width values) periods) first rest
 
--- a row that is put behind the values, with its period behind the periods, is the last row
+-- if a row's values and its period are appended, it is the last row
 pub push-rows_from : (width : ℕ) (values row : List Value) (periods : List Period) (period : Period) → length values ≡ length periods * width → length row ≡ width → rows_from width (values ++ row) (periods ++ period ∷ []) ≡ rows_from width values periods ++ record { values = row; period = period } ∷ []
 unfolding rows_from
 push-rows_from width [] row [] period fill fits =
@@ -58,7 +58,7 @@ push-rows_from width values row (first ∷ periods) period fill fits =
     let others : rows_from width (drop width values ++ row) (periods ++ period ∷ []) ≡ rows_from width (drop width values) periods ++ record { values = row; period = period } ∷ [] = push-rows_from width (drop width values) row periods period left fits in
     rw (values_stay, rest, others) refl
 
--- values that are put behind the values, with their periods behind the periods, are the last rows
+-- if the values and periods of rows are appended, they are the last rows
 pub append-rows_from : (width : ℕ) (values more : List Value) (periods later : List Period) → length values ≡ length periods * width → rows_from width (values ++ more) (periods ++ later) ≡ rows_from width values periods ++ rows_from width more later
 unfolding rows_from
 append-rows_from width [] more [] later fill = refl
@@ -71,7 +71,7 @@ append-rows_from width values more (first ∷ periods) later fill =
     let others : rows_from width (drop width values ++ more) (periods ++ later) ≡ rows_from width (drop width values) periods ++ rows_from width more later = append-rows_from width (drop width values) more periods later left in
     rw (values_stay, rest, others) refl
 
--- the first rows, so many, have the first values and periods
+-- the first `len` rows have the first values and periods
 pub take-rows_from : (width : ℕ) (values : List Value) (periods : List Period) (k : ℕ) → rows_from width (take (k * width) values) (take k periods) ≡ take k (rows_from width values periods)
 unfolding rows_from
 take-rows_from width values periods zero = refl
@@ -83,22 +83,22 @@ take-rows_from width values (period ∷ periods) (suc k) =
     let rest : rows_from width (take (k * width) (drop width values)) (take k periods) ≡ take k (rows_from width (drop width values) periods) = take-rows_from width (drop width values) periods k in
     rw (place, first, later, rest) refl
 
--- the values of a row lie within those of all rows
+-- the values of a row are among those of all rows
 pub row_inside : (row rows width total : ℕ) → row < rows → total ≡ rows * width → row * width + width ≤ total
 row_inside row rows width total less fill = grind (arith, less, fill)
 
--- as many values as two lists of rows have together
+-- the number of values of two lists of rows together
 pub fill_both : (values more rows others width : ℕ) → values ≡ rows * width → more ≡ others * width → values + more ≡ (rows + others) * width
 fill_both values more rows others width fill fills = grind (arith, fill, fills)
 
--- the values of rows, one row behind the other, with one row more
+-- the values of rows, one row after the other, with one more row
 pub values_more : (rows : List Fragment) (k : ℕ) (d : Fragment) → k < length rows
     → flat_map (λ (row : Fragment). row.values) (take k rows) ++ (get_or rows k d).values ≡ flat_map (λ (row : Fragment). row.values) (take (k + 1) rows)
 values_more rows k d less =
     flat_map_more (λ (row : Fragment). row.values) [] (take k rows) (get_or rows k d)
     ∙ ap (flat_map (λ (row : Fragment). row.values)) (sym (take_more rows k d less))
 
--- how many values rows of one width have
+-- the number of values of rows of one width
 pub length-values : (width : ℕ) (rows : List Fragment) → All (λ (row : Fragment). length row.values ≡ width) rows → length (flat_map (λ (row : Fragment). row.values) rows) ≡ length rows * width
 length-values width [] wide = let none : 0 ≡ 0 * width = omega arith in none
 length-values width (row ∷ rows) wide =
@@ -108,7 +108,7 @@ length-values width (row ∷ rows) wide =
     let all : length (row.values ++ flat_map (λ (r : Fragment). r.values) rows) ≡ suc (length rows) * width = grind (arith, others, first, both) in
     all
 
--- rows of one width are made again of their values and periods
+-- rows of one width are the rows that their values and periods make
 made_again : (width : ℕ) (rows : List Fragment) → All (λ (row : Fragment). length row.values ≡ width) rows
     → rows_from width (flat_map (λ (row : Fragment). row.values) rows) (map (λ (row : Fragment). row.period) rows) ≡ rows
 unfolding rows_from

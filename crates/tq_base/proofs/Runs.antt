@@ -1,4 +1,4 @@
--- Each row of an ordered, coalesced table is a maximal run at a level of its own.
+-- Each row of an ordered, coalesced table is a maximal run, at a level of its own.
 use Rattle.std.proofs.Common.{◌≡◌, ℕ, zero, suc, ◌+◌, ◌<◌, ◌≤◌, ◌≢◌, ◌-◌, eqb, Bool, true, false, cond, ◌&&◌, ◌||◌, ◌==◌, List, [], ◌∷◌, ◌++◌, length, get_or, sum_by, sym, refl, ap, ◌∙◌, subst, arith, inl, inr, ◌⊎◌, append_assoc}
 use Rattle.std.specs.Prelude.{All, AllPairs, Contains, nat_le, nat_lt}
 use Rattle.std.specs.List.{AllZip, AllByRecursion, IsDistinct, list_any, zip}
@@ -18,15 +18,15 @@ use Rattle.tq_base.specs.Copies.{tally, copies-sum_by}
 use Rattle.tq_base.specs.Layers.{TakesIn, IsLayers, IsRun, RowsAreRuns}
 use Rattle.tq_base.proofs.Unique.{tally_one, tally_is, held_from, period_same}
 
--- 1 where g has the values of f and its period is a larger one round that of f
+-- 1 if g has the values of f and a larger period that contains f's
 abbrev around : Fragment → Fragment → ℕ
 around f g = cond (eq_by_cmp values_cmp g.values f.values && (nat_le g.period.start f.period.start && (nat_le f.period.end g.period.end && (nat_lt g.period.start f.period.start || nat_lt f.period.end g.period.end)))) 1 0
 
--- 1 where g is as f
+-- 1 if g equals f
 abbrev equal : Fragment → Fragment → ℕ
 equal f g = cond (eq_by_cmp values_cmp g.values f.values && ((g.period.start == f.period.start) && (g.period.end == f.period.end))) 1 0
 
--- the level of a row that has these before it
+-- the level of a row after these rows
 abbrev level_of : List Fragment → List Fragment → Fragment → ℕ
 level_of table front f = 1 + sum_by (around f) table + sum_by (equal f) front
 
@@ -40,7 +40,7 @@ around_one f g n is same start end more =
     let e = eq_from_same g.values f.values same in
     elim more [ inl a ↦ grind (arith, nat_tests) | inr a ↦ grind (arith, nat_tests) ]
 
--- a row is at most one of these: larger round f, or as f; and then it holds each instant of f
+-- a row contains f, or equals f, but not both; in both cases it holds each instant of f
 around_cases : (f g : Fragment) (t : ℕ) (b : Bool) → eq_by_cmp values_cmp g.values f.values ≡ b → f.period.start ≤ t → t < f.period.end → around f g + equal f g ≤ tally f.values t g
 around_cases f g t true e from to = grind (arith, nat_tests)
 around_cases f g t false e from to = grind (arith, nat_tests)
@@ -74,7 +74,7 @@ sum_le_two a b c (f ∷ fs) h =
     omega (arith, sum_by-cons a f fs, sum_by-cons b f fs, sum_by-cons c f fs, sum_le_two a b c fs h, h f)
 
 module _ (m : List Value → ℕ → ℕ) (table : List Fragment) (is : IsLayers m table) where
-  -- a row that holds the end of f, or the instant before it, is a larger one round it
+  -- a row that holds the end of f, or the instant before it, contains f
   outside : (f : Fragment) (t : ℕ) → All (λ g. f.values ≡ g.values → TakesIn f.period g.period) table → All (λ g. g.values ≡ f.values → TakesIn g.period f.period) table → (t ≡ f.period.end) ⊎ (t + 1 ≡ f.period.start) → All (λ g. tally f.values t g ≤ around f g) table
   outside f t takes taken at k d lt =
       let g = get_or table k d in
@@ -114,7 +114,7 @@ module _ (m : List Value → ℕ → ℕ) (table : List Fragment) (is : IsLayers
     runs_from (front ++ f ∷ []) back (split ∙ sym (append_assoc front (f ∷ []) back)) (All-tail (λ f. All (λ g. f.values ≡ g.values → TakesIn f.period g.period) table) f back takes) (All-tail (λ f. All (λ g. g.values ≡ f.values → TakesIn g.period f.period) table) f back taken),
   )
 
--- further on, a row as f has a higher level
+-- a later row equal to f has a higher level
 levels_rise : (table front back : List Fragment) (f : Fragment) (low : ℕ) → low ≤ sum_by (equal f) front → All (λ x. x.0 ≡ f → 1 + sum_by (around f) table + low ≤ x.1) (zip back (levels_of table front back))
 levels_rise table front [] f low h = All-nil (λ x. x.0 ≡ f → 1 + sum_by (around f) table + low ≤ x.1)
 levels_rise table front (g ∷ back) f low h =
@@ -132,12 +132,12 @@ levels_differ table front (f ∷ back) =
     (levels_rise table (front ++ f ∷ []) back f (sum_by (equal f) front + 1) (omega (arith, sum_by_push (equal f) front f, equal_itself f _ refl))))
     (levels_differ table (front ++ f ∷ []) back)
 
--- ---- each run has a row: the levels of the rows that hold an instant are as many as there are copies, and all differ
+-- ---- each run has a row: the rows that hold an instant have as many levels as there are copies, all different
 
 abbrev pub Labelled : Type 0
 Labelled = Fragment × ℕ
 
--- the rows of the values that hold the instant
+-- the rows with the values that hold the instant
 abbrev pub counts_at : List Value → ℕ → Labelled → Bool
 counts_at v t x = holds x.0.period t && eq_by_cmp values_cmp x.0.values v
 
@@ -160,7 +160,7 @@ length-levels_at R v t (f ∷ rows) [] all = absurd all
 length-levels_at R v t (f ∷ rows) (j ∷ levels) all =
     omega (arith, length_cond (counts_at v t (f, j)) j (levels_at v t (zip rows levels)), and_cond (holds f.period t) (eq_by_cmp values_cmp f.values v) _ refl, length-levels_at R v t rows levels all.1, sum_by-cons (tally v t) f rows)
 
--- a labelled row of the values that holds the instant, and its level
+-- a row with the values that holds the instant, and its level
 pub record Found (v : List Value) (t level : ℕ) (xs : List Labelled) : Type 0 where
   pub row : Labelled
   pub stands : Contains xs row
@@ -195,7 +195,7 @@ none_by_recursion x (y ∷ ys) none =
     (parts.0, none_by_recursion x ys parts.1)
 
 module _ (m : List Value → ℕ → ℕ) where
-  -- two runs of one level that hold an instant are one
+  -- two runs at one level that hold a common instant are equal
   pub same_run : (v : List Value) (level t : ℕ) (p q : Period) → IsRun m v level p → IsRun m v level q → holds p t ≡ true → holds q t ≡ true → p ≡ q
   same_run v level t p q a b in_p in_q =
       let hp = held_from p t in_p in
@@ -249,7 +249,7 @@ module _ (m : List Value → ℕ → ℕ) where
       split false is rest = rest
       split true is rest = (none_by_recursion x.1 (levels_at v t xs) (no_other is (list_any (eqb x.1) (levels_at v t xs)) refl), rest)
 
-  -- as many levels as copies, all different and none above that number: so each is there
+  -- as many levels as copies, all different and none greater: so each level occurs
   each_run : (xs : List Labelled) → All Labels xs → AllPairs (λ x y. x ≢ y) xs → (v : List Value) (level : ℕ) (p : Period) → IsRun m v level p → length (levels_at v p.start xs) ≡ m v p.start → Contains xs (record { values = v; period = p }, level)
   unfolding IsDistinct
   each_run xs runs once v level p run long = split (list_any (eqb level) (levels_at v p.start xs)) refl

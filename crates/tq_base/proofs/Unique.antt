@@ -45,7 +45,7 @@ copies-cons f fs v t =
 copies-nil : (v : List Value) (t : ℕ) → copies [] v t ≡ 0
 copies-nil v t = refl
 
--- no copies where each row of the values is not valid at the instant
+-- there are no copies if no row with the values is valid at the instant
 copies_none : (fs : List Fragment) (v : List Value) (t : ℕ) → All (λ f. tally v t f ≡ 0) fs → copies fs v t ≡ 0
 copies_none [] v t h = refl
 copies_none (f ∷ fs) v t h =
@@ -56,7 +56,7 @@ copies_le [] v s t h = omega arith
 copies_le (f ∷ fs) v s t h =
     omega (arith, copies-cons f fs v s, copies-cons f fs v t, copies_le fs v s t (All-tail (λ f. tally v s f ≤ tally v t f) f fs h), All-head (λ f. tally v s f ≤ tally v t f) f fs h)
 
--- the tally of a row is 1 where it has the values and holds the instant
+-- the tally of a row is 1 if it has the values and holds the instant
 pub tally_one : (v : List Value) (t : ℕ) (f : Fragment) (n : ℕ) → n ≡ tally v t f → f.values ≡ v → f.period.start ≤ t → t < f.period.end → n ≡ 1
 tally_one v t f n is same from to =
     let e = eq_from_same f.values v same in
@@ -78,7 +78,7 @@ tally_is v t f = tally_cases v t f (holds f.period t) (eq_by_cmp values_cmp f.va
 
 -- ---- the order
 
--- h does not stand before f in an ordered table
+-- h does not come before f in an ordered table
 pub record After (f h : Fragment) : Type 0 where
   pub values_up : values_cmp f.values h.values ≢ Greater
   pub start_up : f.values ≡ h.values → f.period.start ≤ h.period.start
@@ -130,7 +130,7 @@ one_at_start f a =
     omega (arith, copies-cons f a f.values f.period.start, tally_one f.values f.period.start f _ refl refl (omega arith) ordered)
 
 module _ (f g : Fragment) (a b : List Fragment) (alike : (v : List Value) (t : ℕ) → copies (f ∷ a) v t ≡ copies (g ∷ b) v t) (g_first : All (λ h. After g h) (g ∷ b)) where
-  -- the first values of the one are not below those of the other
+  -- the first values of one table are not below those of the other
   not_below : values_cmp f.values g.values ≢ Less
   not_below below =
       let v = f.values in
@@ -142,7 +142,7 @@ module _ (f g : Fragment) (a b : List Fragment) (alike : (v : List Value) (t : �
       absurd (omega (arith, none, one_at_start f a, alike v t))
 
   module _ (same : f.values ≡ g.values) where
-    -- it begins no sooner
+    -- its first row does not begin earlier
     not_sooner : g.period.start ≤ f.period.start
     not_sooner = elim (cases_lt f.period.start g.period.start) [
       | inr le ↦ le
@@ -156,7 +156,7 @@ module _ (f g : Fragment) (a b : List Fragment) (alike : (v : List Value) (t : �
           absurd (omega (arith, none, one_at_start f a, alike v t))
     ]
 
-    -- and ends no sooner
+    -- and does not end earlier
     not_shorter : f.period.start ≡ g.period.start → All (λ h. After f h) (f ∷ a) → IsCoalesced (f ∷ a) → g.period.end ≤ f.period.end
     not_shorter at f_first coalesced = elim (cases_lt f.period.end g.period.end) [
       | inr le ↦ le

@@ -6,13 +6,14 @@ pub data Content : Type 0 where
   Int : ℤ → Content
   Text : List ℕ → Content
 
--- a number of 64 signed bits, or a text of at most 14 bytes: it lies in the value itself, and its rank tells it wholly
-abbrev pub has_exact_rank : Content → Bool
-has_exact_rank (Int (pos n)) = nat_lt n (2 ^ 63)
-has_exact_rank (Int (negsuc n)) = nat_lt n (2 ^ 63)
-has_exact_rank (Text t) = nat_le (length t) 14
+-- a number of 64 signed bits or a text of at most 14 bytes: the value stores it without a box, and its prefix
+-- determines it
+abbrev pub has_exact_prefix : Content → Bool
+has_exact_prefix (Int (pos n)) = nat_lt n (2 ^ 63)
+has_exact_prefix (Int (negsuc n)) = nat_lt n (2 ^ 63)
+has_exact_prefix (Text t) = nat_le (length t) 14
 
--- the first so many bytes, zeros where there are no more
+-- the first `places` bytes, padded with zeros
 abbrev pub padded : ℕ → List ℕ → List ℕ
 padded zero bytes = []
 padded (suc places) [] = 0 ∷ padded places []

@@ -1,4 +1,4 @@
--- Laws of `copies`: what an append, a reordering or a change of one group does to it.
+-- Laws of `copies`: the effect of appending, of reordering, and of changing one group.
 use Rattle.std.specs.Prelude.{◌≡◌, ℕ, ◌+◌, Bool, true, false, List, [], ◌∷◌, ◌++◌, map, filter, count_by, sum_by, IsPermutation, refl}
 use Rattle.std.proofs.Common.{cond, sym, ap, ◌∙◌, arith}
 use Rattle.std.specs.Ordering.{eq_by_cmp}
@@ -14,7 +14,7 @@ use Rattle.tq_base.specs.Fragments.{copies}
 abbrev pub tally : List Value → ℕ → Fragment → ℕ
 tally v t f = cond (holds f.period t) (cond (eq_by_cmp values_cmp f.values v) 1 0) 0
 
--- the cases of `copies-sum_by`, by whether the fragment is valid at the instant
+-- the cases of `copies-sum_by`: the fragment is valid at the instant, or not
 copies-cons : (b : Bool) (u v : List Value) (rest : List (List Value)) (n : ℕ) → count_by (λ w. eq_by_cmp values_cmp w v) rest ≡ n → count_by (λ w. eq_by_cmp values_cmp w v) (cond b (u ∷ rest) rest) ≡ cond b (cond (eq_by_cmp values_cmp u v) 1 0) 0 + n
 copies-cons true u v rest n e =
     sum_by-cons (λ w. cond (eq_by_cmp values_cmp w v) 1 0) u rest ∙ ap (λ m. cond (eq_by_cmp values_cmp u v) 1 0 + m) e

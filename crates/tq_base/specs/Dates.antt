@@ -1,4 +1,4 @@
--- Dates: `YYYY-MM-DD` in the Gregorian calendar carried back (ISO 8601), years 1 to 9999. Day 0 is 0001-01-01.
+-- Dates: `YYYY-MM-DD` in the proleptic Gregorian calendar (ISO 8601), years 1 to 9999. Day 0 is 0001-01-01.
 use Rattle.std.specs.Prelude.{ℕ, zero, suc, ◌+◌, ◌-◌, ◌/◌, ◌%◌, pos, Bool, ◌&&◌, if◌then◌else◌, ◌==◌, nat_le, nat_lt, List, [], ◌∷◌, ◌++◌, length, take, slice_index, slice_range, Option, Some, None}
 use Rattle.std.specs.Char.{is_ascii_digit}
 use Rattle.std.specs.List.{list_all}
@@ -11,7 +11,7 @@ pub record CivilDate : Type 0 where
   pub month : ℕ
   pub day : ℕ
 
--- the calendar has this date, and its year has four digits
+-- the date exists in the calendar, and its year has four digits
 abbrev pub is_date : CivilDate → Bool
 is_date date =
     nat_le 1 date.year && nat_le date.year 9999 && nat_le 1 date.month && nat_le date.month 12
@@ -26,20 +26,20 @@ next_date date =
     then record { year = date.year; month = date.month + 1; day = 1 }
     else record { year = date.year + 1; month = 1; day = 1 })
 
--- the date of each day, from 0001-01-01 on
+-- the date of each day, counted from 0001-01-01
 unfoldable pub date_of : ℕ → CivilDate
 date_of zero = record { year = 1; month = 1; day = 1 }
 date_of (suc n) = next_date (date_of n)
 
--- the days that lie between 0001-01-01 and the date
+-- the number of days from 0001-01-01 to the date
 abbrev pub days_before : CivilDate → ℕ
 days_before date = day_count (pos date.year) date.month date.day - day_count (pos 1) 1 1
 
--- the day of a date of the calendar
+-- the day of a date, if the date exists
 abbrev pub day_of : CivilDate → Option ℕ
 day_of date = if is_date date then Some (days_before date) else None
 
--- the last digit of a number, its last two, and its last four
+-- the last digit of a number; below, its last two and its last four
 abbrev pub digit : ℕ → ℕ
 digit n = 48 + n % 10
 
@@ -53,13 +53,13 @@ four_digits n = digit (n / 1000) ∷ digit (n / 100) ∷ two_digits n
 abbrev pub date_text : CivilDate → List ℕ
 date_text date = four_digits date.year ++ 45 ∷ two_digits date.month ++ 45 ∷ two_digits date.day
 
--- the bytes are of that form
+-- the bytes have the form of `date_text`
 abbrev pub is_date_text : List ℕ → Bool
 is_date_text bytes =
     (length bytes == 10) && list_all is_ascii_digit (take 4 bytes) && (slice_index bytes 4 == 45)
     && list_all is_ascii_digit (slice_range bytes 5 7) && (slice_index bytes 7 == 45) && list_all is_ascii_digit (slice_range bytes 8 10)
 
--- the year, the month and the day that such bytes write
+-- the year, month and day that bytes of this form write
 abbrev pub date_in : List ℕ → CivilDate
 date_in bytes = record {
   year = digits_value 10 (take 4 bytes);

@@ -1,4 +1,4 @@
--- Fragments: their order, what is valid at an instant, and how often.
+-- Fragments: their order, which values are valid at an instant, and with how many copies.
 use Rattle.std.specs.Prelude.{ℕ, List, map, filter, count_by}
 use Rattle.std.specs.Cmp.{IsTotalOrder, nat_cmp_total, on_total, then_total}
 use Rattle.std.specs.Ordering.{nat_cmp, on, then_cmp, eq_by_cmp}
@@ -22,15 +22,15 @@ fragment_total =
     (then_total (on_total (λ f. f.values) values_total) (on_total (λ f. f.period.start) nat_cmp_total))
     (on_total (λ f. f.period.end) nat_cmp_total)
 
--- the values, valid in the period
+-- the fragment with these values and this period
 abbrev pub fragment_of : (List Value × Period) → Fragment
 fragment_of row = record { values = row.0; period = row.1 }
 
--- the values valid at the instant: those of each fragment whose period holds it
+-- the snapshot: the values of each fragment whose period holds the instant
 abbrev pub at : List Fragment → ℕ → List (List Value)
 at fragments t = map (λ f. f.values) (filter (λ f. holds f.period t) fragments)
 
--- how often the values stand in a list
+-- how often the values occur in a list
 abbrev pub occurrences : List (List Value) → List Value → ℕ
 occurrences lists v = count_by (λ u. eq_by_cmp values_cmp u v) lists
 

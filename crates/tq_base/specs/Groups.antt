@@ -1,4 +1,4 @@
--- A pass over groups of rows of equal values: what holds between two groups, and that each group keeps it.
+-- A pass over groups of rows with equal values: the invariant between two groups, and that each group preserves it.
 use Rattle.std.proofs.Common.{append-nil, length, ◌<◌, ◌-◌, inl, inr, length-append, ◌≡◌, ◌≢◌, ℕ, ◌+◌, Bool, true, false, cond, List, [], ◌∷◌, ◌++◌, get_or, map, sym, refl, ap, ◌∙◌, subst, arith, IfSome, slice_get}
 use Rattle.std.specs.Prelude.{All, AllPairs, IsSorted, IsPermutation}
 use Rattle.std.specs.Ordering.{eq_by_cmp, is_lt, ordering_reverse, ordering_then, nat_cmp}
@@ -73,7 +73,7 @@ one_group true false n = refl
 one_group false true n = refl
 one_group false false n = refl
 
--- where each fragment has the values v, there are copies of v alone, as many as periods hold the instant
+-- if every fragment has the values v, only v has copies: one for each period that holds the instant
 copies-group : (v : List Value) (fs : List Fragment) (w : List Value) (t : ℕ) → All (λ f. f.values ≡ v) fs → copies fs w t ≡ cond (eq_by_cmp values_cmp v w) (held (map (λ f. f.period) fs) t) 0
 copies-group v [] w t alike = zero_either (eq_by_cmp values_cmp v w)
   where
@@ -107,7 +107,7 @@ holds_start p n is = let ordered : p.start < p.end = p.ordered in grind (arith, 
 
 -- ---- the pass
 
--- between two groups: the rows still to come, and the table so far
+-- the invariant between two groups: the rows still to come, and the table so far
 pub record Grouping (rows rest table : List Fragment) : Type 0 where
   pub counted : (v : List Value) (t : ℕ) → copies table v t + copies rest v t ≡ copies rows v t
   pub coalesced : IsCoalesced table
@@ -115,7 +115,7 @@ pub record Grouping (rows rest table : List Fragment) : Type 0 where
   pub rising : AllPairs (λ f g. NotAbove f.values g.values) rest
   pub ordered : IsSorted fragment_cmp table
 
--- two sorted lists, where nothing of the second is less than anything of the first
+-- two sorted lists, if nothing in the second is less than anything in the first
 pub sorted-append : {X : Type 0} (lt : X → X → Bool) (xs ys : List X) → IsSortedBy lt xs → IsSortedBy lt ys → All (λ y. All (λ x. lt y x ≡ false) xs) ys → IsSortedBy lt (xs ++ ys)
 sorted-append {X} lt xs ys first second across k d low high = elim (cases_lt (k + 1) (length xs)) [
   | inl inside ↦
@@ -135,13 +135,13 @@ sorted-append {X} lt xs ys first second across k d low high = elim (cases_lt (k 
       ]
 ]
 
--- rows of values below are less
+-- rows with lesser values are less
 pub not_less : (f g : Fragment) → Below f.values g.values → is_lt (fragment_cmp g f) ≡ false
 not_less f g below =
     let above : values_cmp g.values f.values ≡ Greater = values_total.antisymm g.values f.values ∙ ap ordering_reverse below in
     ap (λ r. is_lt (ordering_then (ordering_then r (nat_cmp g.period.start f.period.start)) (nat_cmp g.period.end f.period.end))) above
 
--- rows of one list of values stand as their periods do
+-- rows with the same values are ordered as their periods
 rows_sorted : (v : List Value) (ps : List Period) → IsSorted period_cmp ps → IsSorted fragment_cmp (rows_of v ps)
 rows_sorted v ps sorted k d low high =
     let row : Period → Fragment = λ p. record { values = v; period = p } in
@@ -158,7 +158,7 @@ table_ordered v table ps below sorted in_order =
     (All-weaker (λ g. g.values ≡ v) (λ g. All (λ f. is_lt (fragment_cmp g f) ≡ false) table)
     (λ g same k d lt. not_less (get_or table k d) g (subst (λ u. Below (get_or table k d).values u) (sym same) (below k d lt))) (rows_of v ps) (rows_alike v ps))
 
--- rows of one group and rows of values below it
+-- rows of one group after rows with lesser values
 coalesced-append : (v : List Value) (table : List Fragment) (ps : List Period) → All (λ f. Below f.values v) table → IsCoalesced table → IsNested ps → IsCoalesced (table ++ rows_of v ps)
 coalesced-append v table ps below coalesced nested =
     All-append (λ f. All (λ g. f.values ≡ g.values → TakesIn f.period g.period) (table ++ added)) table added
@@ -176,7 +176,7 @@ coalesced-append v table ps below coalesced nested =
     added : List Fragment
     added = rows_of v ps
 
--- the rows after a group are above it
+-- the rows after a group have greater values
 above_group : (v : List Value) (others : List Fragment) → All (λ g. NotAbove v g.values) others → AllPairs (λ f g. NotAbove f.values g.values) others → IfSome (slice_get others 0) (λ f. f.values ≢ v) → All (λ g. Below v g.values) others
 above_group v [] not_above rising differs = All-nil (λ g. Below v g.values)
 above_group v (h ∷ others) not_above rising differs =
@@ -184,7 +184,7 @@ above_group v (h ∷ others) not_above rising differs =
     All-cons (λ g. Below v g.values) h others first
     (All-weaker (λ g. NotAbove h.values g.values) (λ g. Below v g.values) (λ g not_above. below_then v h.values g.values first not_above) others (pairs_head (λ f g. NotAbove f.values g.values) h others rising))
 
--- one group goes into the table
+-- one group is added to the table
 pub adds_group : (rows : List Fragment) (x : Fragment) (group others table new : List Fragment) → Grouping rows ((x ∷ group) ++ others) table → All (λ f. f.values ≡ x.values) (x ∷ group) → IfSome (slice_get others 0) (λ f. f.values ≢ x.values) → AddsLayers x.values (x ∷ group) table new → Grouping rows others new
 adds_group rows x group others table new w alike differs adds = subst (Grouping rows others) (sym adds.added) (record {
   counted = λ u t. omega (arith, w.counted u t, copies-append table added u t, copies-append (x ∷ group) others u t, copies-group v (x ∷ group) u t alike, copies-group v added u t (rows_alike v ps), held_same u t);
@@ -227,7 +227,7 @@ rising-from_sort rows sorted i j d lt below above =
     let yes : is_lt (fragment_cmp g f) ≡ true = ap is_lt less in
     cc
 
--- before the first group
+-- the invariant holds before the first group
 pub grouping_starts : (rows sorted : List Fragment) → IsPermutation rows sorted → IsSorted fragment_cmp sorted → Grouping rows sorted []
 grouping_starts rows sorted same order = record {
   counted = λ v t. omega (arith, copies-IsPermutation rows sorted v t same);
@@ -245,7 +245,7 @@ grouping_ends rows table w = record {
   counted = λ v t. omega (arith, w.counted v t);
 }
 
--- one group, which may be empty, goes into the table
+-- one group, which may be empty, is added to the table
 pub closes_group : (rows group others table new : List Fragment) (v : List Value) → Grouping rows (group ++ others) table → All (λ f. f.values ≡ v) group → IfSome (slice_get others 0) (λ f. f.values ≢ v) → AddsLayers v group table new → Grouping rows others new
 closes_group rows [] others table new v w alike differs adds = subst (Grouping rows others) (sym (adds.added ∙ unchanged adds.layering adds.is_layering.held_alike)) w
   where

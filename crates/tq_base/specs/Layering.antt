@@ -1,4 +1,4 @@
--- Layers of one row of values: its periods alone. What `coalesce` makes of each group of equal values.
+-- Layers of the periods of one list of values: what `coalesce` makes of each group of rows with equal values.
 use Rattle.std.specs.Prelude.{◌≡◌, ℕ, List, All, IsSorted, count_by, ◌++◌, map}
 use Rattle.std.specs.Cmp.{IsTotalOrder, nat_cmp_total, on_total, then_total}
 use Rattle.std.specs.Ordering.{nat_cmp, on, then_cmp}
@@ -13,11 +13,11 @@ use Rattle.tq_base.specs.Layers.{TakesIn}
 abbrev pub held : List Period → ℕ → ℕ
 held periods t = count_by (λ p. holds p t) periods
 
--- each period takes in each other that overlaps or meets it and begins later
+-- each period contains each other period that overlaps or meets it and begins later
 abbrev pub IsNested : List Period → Type 0
 IsNested periods = All (λ p. All (λ q. TakesIn p q) periods) periods
 
--- nested periods that hold each instant as often
+-- nested periods that hold each instant as often as the given periods do
 pub record IsLayering (periods layering : List Period) : Type 0 where
   pub nested : IsNested layering
   pub held_alike : (t : ℕ) → held layering t ≡ held periods t
@@ -29,11 +29,11 @@ period_cmp = then_cmp (on (λ p. p.start) nat_cmp) (on (λ p. p.end) nat_cmp)
 pub period_total : IsTotalOrder period_cmp
 period_total = then_total (on_total (λ p. p.start) nat_cmp_total) (on_total (λ p. p.end) nat_cmp_total)
 
--- a row of the values for each period
+-- one row with the values for each period
 abbrev pub rows_of : List Value → List Period → List Fragment
 rows_of v periods = map (λ p. record { values = v; period = p }) periods
 
--- new is old followed by a row of the values for each period of a layering of the group's periods, in order
+-- new is old, followed by one row with the values for each period of a layering of the group's periods, in order
 pub record AddsLayers (v : List Value) (group old new : List Fragment) : Type 0 where
   pub layering : List Period
   pub is_layering : IsLayering (map (λ f. f.period) group) layering

@@ -4,9 +4,9 @@ pub mod Copies
 pub mod Dates
 pub mod Fragments
 pub mod Groups
-pub mod KeyLaws
+pub mod SortKeyLaws
 pub mod KeyRanges
-pub mod KeySides
+pub mod SortInputs
 pub mod Keys
 pub mod Layering
 pub mod Layers
@@ -17,13 +17,13 @@ pub mod Parts
 pub mod Periods
 pub mod PlaceViews
 pub mod Ranges
-pub mod Ranks
+pub mod NormalizedKeys
 pub mod Relations
 pub mod Results
 pub mod RowLists
 pub mod RowValues
 pub mod Slots
 pub mod Sweep
-pub mod Untold
+pub mod TieBreak
 pub mod ValueOrder
 pub mod Values

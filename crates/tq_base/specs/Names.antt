@@ -12,22 +12,22 @@ is_name_start b = is_ascii_alphabetic b || b == 95
 abbrev pub is_name_byte : ℕ → Bool
 is_name_byte b = is_ascii_alphanumeric b || b == 95
 
--- begins as a name does and goes on as one
+-- a name's first byte, followed by name bytes
 abbrev pub has_name_form : List ℕ → Bool
 has_name_form [] = false
 has_name_form (b ∷ bs) = is_name_start b && list_all is_name_byte bs
 
--- the words of the language
+-- the reserved words of the language
 abbrev pub reserved_words : List (List ℕ)
 reserved_words =
     codes "validtime" ∷ codes "period" ∷ codes "select" ∷ codes "from" ∷ codes "where" ∷ codes "group" ∷ codes "by" ∷ codes "and"
     ∷ codes "or" ∷ codes "not" ∷ codes "count" ∷ codes "sum" ∷ codes "as" ∷ codes "except" ∷ codes "all" ∷ []
 
--- a word of the language, in any ASCII case
+-- a reserved word, in any ASCII case
 unfoldable pub is_reserved : List ℕ → Bool
 is_reserved bytes = list_any (λ word. str_eq_ignore_ascii_case word bytes) reserved_words
 
--- 1 to 64 bytes of the form of a name, and no reserved word
+-- 1 to 64 bytes in the form of a name, and not a reserved word
 abbrev pub is_name : List ℕ → Bool
 is_name bytes = has_name_form bytes && nat_le (length bytes) 64 && not (is_reserved bytes)
 
@@ -39,7 +39,7 @@ folded bytes = map to_ascii_lowercase bytes
 abbrev pub folded_name : List ℕ → Option (List ℕ)
 folded_name bytes = if is_name bytes then Some (folded bytes) else None
 
--- a folded name, or the name `count` or `sum` that an answer's column may have
+-- a folded name, or the name `count` or `sum` of an answer's column
 abbrev pub is_shown_name : List ℕ → Bool
 is_shown_name bytes =
     has_name_form bytes && nat_le (length bytes) 64 && list_all (λ b. not (is_ascii_uppercase b)) bytes

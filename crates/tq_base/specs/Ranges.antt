@@ -1,5 +1,5 @@
--- Lists of rows one after the other, where the values of each list are below those of every later one: layers of
--- ranges of values are together the layers of all. This project's own.
+-- Lists of rows, each with values below those of every later list: the layers of the ranges, one after the other, are
+-- the layers of all.
 use Rattle.std.specs.Prelude.{◌≡◌, ℕ, suc, ◌+◌, ◌<◌, List, [], ◌∷◌, ◌++◌, length, slice_index_or, sum_by, refl, All}
 use Rattle.std.specs.List.{flat_map, range_with_len}
 use Rattle.std.proofs.Common.{ap, sym, ◌∙◌, arith, get_or}
@@ -14,15 +14,15 @@ use Rattle.tq_base.specs.Fragments.{fragment_cmp}
 use Rattle.tq_base.specs.Groups.{below_differs, not_less, sorted-append, Below}
 use Rattle.tq_base.specs.Layers.{IsCoalesced, IsLayers, TakesIn}
 
--- the values of each row are below those of every other one
+-- each row of the first list has values below those of each row of the second
 abbrev pub AreBelow : List Fragment → List Fragment → Type 0
 AreBelow rows others = All (λ f. All (λ g. Below f.values g.values) others) rows
 
--- the rows of each list are below those of every later one
-abbrev pub StandInOrder : List (List Fragment) → Type 0
-StandInOrder lists = (i j : ℕ) (d : List Fragment) → i < j → j < length lists → AreBelow (slice_index_or lists i d) (slice_index_or lists j d)
+-- the rows of each list are below those of every later list
+abbrev pub AreAscending : List (List Fragment) → Type 0
+AreAscending lists = (i j : ℕ) (d : List Fragment) → i < j → j < length lists → AreBelow (slice_index_or lists i d) (slice_index_or lists j d)
 
--- the rows of all lists, one list after the other
+-- the concatenation of the lists
 abbrev pub one_after_other : List (List Fragment) → List Fragment
 one_after_other lists = flat_map (λ rows. rows) lists
 
@@ -41,7 +41,7 @@ coalesced-append rows others first second below =
     (λ j e in' same. absurd (below_differs (get_or rows j e).values f.values (below j e in' k d less) (sym same)))
     (second k d less))
 
--- layers of values, then layers of values above them, are the layers of both
+-- the layers of some values, followed by the layers of greater values, are the layers of both
 pub layers_follow : (m n : List Value → ℕ → ℕ) (rows others : List Fragment) → IsLayers m rows → IsLayers n others → AreBelow rows others → IsLayers (λ v t. m v t + n v t) (rows ++ others)
 layers_follow m n rows others first second below = record {
   ordered = sorted-append (λ x y. is_lt (fragment_cmp x y)) rows others first.ordered second.ordered
@@ -58,8 +58,8 @@ all_of P (rows ∷ lists) each =
     rw (flat_map-cons (λ (l : List Fragment). l) rows lists)
     (All-append P rows (one_after_other lists) (each 0 rows (omega arith)) (all_of P lists (λ j d less. each (suc j) d (omega (arith, less)))))
 
--- where each list is the layers of some copies, all of them are the layers of the copies together
-pub layers_of_all : (count : ℕ → List Value → ℕ → ℕ) (first : ℕ) (lists : List (List Fragment)) → ((i : ℕ) (d : List Fragment) → i < length lists → IsLayers (count (first + i)) (get_or lists i d)) → StandInOrder lists
+-- if each list is the layers of a count of copies, their concatenation is the layers of the sum of the counts
+pub layers_of_all : (count : ℕ → List Value → ℕ → ℕ) (first : ℕ) (lists : List (List Fragment)) → ((i : ℕ) (d : List Fragment) → i < length lists → IsLayers (count (first + i)) (get_or lists i d)) → AreAscending lists
     → IsLayers (λ v t. sum_by (λ i. count i v t) (range_with_len first (length lists))) (one_after_other lists)
 layers_of_all count first [] each order = record { ordered = λ k d low high. absurd (omega (arith, low, high)); coalesced = All-nil _; counted = λ v t. refl }
 layers_of_all count first (rows ∷ lists) each order =

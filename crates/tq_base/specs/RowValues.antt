@@ -1,4 +1,4 @@
--- The values of a row by their places. This project's own.
+-- Access to the values of a row by place. This project's own.
 use Rattle.std.specs.Prelude.{ℕ, ℤ, pos, List, slice_index_or}
 use Rattle.tq_base.specs.declared.value.Value.{Value}
 use Rattle.tq_base.specs.Contents.{Int, Text}
@@ -7,7 +7,7 @@ use Rattle.tq_base.specs.Contents.{Int, Text}
 abbrev pub value_at : List Value → ℕ → Value
 value_at row place = slice_index_or row place (Int (pos 0))
 
--- the number that a value counts as: a text counts as 0
+-- the number of a value; a text counts as 0
 abbrev pub number_of : Value → ℤ
 number_of (Int n) = n
 number_of (Text t) = pos 0

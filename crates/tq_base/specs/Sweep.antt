@@ -1,4 +1,4 @@
--- A sweep over starts and ends: what holds between two of its steps, and that each step keeps it.
+-- A sweep over starts and ends of periods: the invariant between two steps, and that each step preserves it.
 use Rattle.std.proofs.Common.{◌≡◌, ℕ, suc, ◌+◌, ◌<◌, ◌≤◌, cond, List, [], ◌∷◌, ◌++◌, length, get_or, drop, map, count_by, sym, refl, ap, ◌∙◌, subst, arith, length-append}
 use Rattle.std.specs.Prelude.{All, AllPairs, nat_le, IsSorted, IsPermutation}
 use Rattle.std.specs.Ordering.{nat_cmp}
@@ -32,11 +32,11 @@ held-cons p ps t = sum_by-cons (λ q. cond (holds q t) 1 0) p ps
 pub held-push : (ps : List Period) (p : Period) (t : ℕ) → held (ps ++ p ∷ []) t ≡ held ps t + cond (holds p t) 1 0
 held-push ps p t = sum_by_push (λ q. cond (holds q t) 1 0) ps p
 
--- a period holds an instant where it has begun and not ended
+-- a period holds an instant if it has begun and has not ended
 held_one : (p : Period) (t : ℕ) → cond (holds p t) 1 0 + cond (nat_le p.end t) 1 0 ≡ cond (nat_le p.start t) 1 0
 held_one p t = let o : p.start < p.end = p.ordered in grind (arith, nat_tests)
 
--- so do as many as have begun and not ended
+-- the number of periods that hold t: those that have begun without those that have ended
 pub held-map : (ps : List Period) (t : ℕ) → held ps t + upto (map (λ p. p.end) ps) t ≡ upto (map (λ p. p.start) ps) t
 held-map [] t = refl
 held-map (p ∷ ps) t =
@@ -68,7 +68,7 @@ all_last P xs y h =
     let all = h (length xs) y (omega (arith, length-append xs (y ∷ []))) in
     rw (get_or_push xs y y (length xs) refl) at all
 
--- between two steps: the starts and ends still to come, the starts that are opened, and the periods made
+-- the invariant between two steps: the starts and ends still to come, the open starts, and the periods made
 pub record Sweep (periods : List Period) (starts ends opened : List ℕ) (made : List Period) : Type 0 where
   pub balanced : (t : ℕ) → held made t + upto opened t + upto starts t ≡ held periods t + upto ends t
   pub paired : length opened + length starts ≡ length ends
@@ -102,7 +102,7 @@ module _ (periods : List Period) where
       later : All (λ x. s < x) (e ∷ ends)
       later = All-cons (λ x. s < x) e ends lt (All-weaker (λ x. e ≤ x) (λ x. s < x) (λ x le. omega arith) ends (pairs_head (λ x y. x ≤ y) e ends w.ends_rise))
 
-  -- a start at the next end goes with it
+  -- a start at the next end cancels it
   pub cancels : (s : ℕ) (starts : List ℕ) (e : ℕ) (ends opened : List ℕ) (made : List Period) → s ≡ e → Sweep periods (s ∷ starts) (e ∷ ends) opened made → Sweep periods starts ends opened made
   cancels s starts e ends opened made same w = record {
     balanced = λ t. omega (arith, w.balanced t, upto-cons s starts t, upto-cons e ends t, ap {B = ℕ} (λ x. cond (nat_le x t) 1 0) same);
@@ -118,7 +118,7 @@ module _ (periods : List Period) where
     made_apart = w.made_apart;
   }
 
-  -- where each start to come is after the next end, the newest opened start ends there
+  -- if every start to come is after the next end, the newest open start ends there
   pub closes : (starts : List ℕ) (e : ℕ) (ends opened : List ℕ) (p : Period) (made : List Period) → p.end ≡ e → All (λ s. e < s) starts → Sweep periods starts (e ∷ ends) (opened ++ p.start ∷ []) made → Sweep periods starts ends opened (made ++ p ∷ [])
   closes starts e ends opened p made same after w = record {
     balanced = λ t. omega (arith, w.balanced t, held-push made p t, upto-push opened p.start t, upto-cons e ends t, held_one p t, ap {B = ℕ} (λ x. cond (nat_le x t) 1 0) same);
@@ -136,7 +136,7 @@ module _ (periods : List Period) where
     made_apart = λ k d below. All-push (λ q. q.start < get_or opened k d → q.end < get_or opened k d) made p (all_front (λ r. All (λ p. p.start < r → p.end < r) made) opened p.start w.made_apart k d below) (λ begins. absurd (omega (arith, pairs_last (λ x y. x ≤ y) opened p.start w.open_rises k d below)));
   }
 
--- nothing is at most t where all is above it
+-- no number is at most t if all are greater
 pub upto_none : (xs : List ℕ) (t : ℕ) → All (λ x. t < x) xs → upto xs t ≡ 0
 upto_none [] t above = refl
 upto_none (x ∷ xs) t above =
@@ -145,7 +145,7 @@ upto_none (x ∷ xs) t above =
     let sum = upto-cons x xs t in
     grind (arith, nat_tests)
 
--- no period holds t where each ends by it
+-- no period holds t if each ends at or before t
 pub held_none : (ps : List Period) (t : ℕ) → All (λ p. p.end ≤ t) ps → held ps t ≡ 0
 held_none [] t before = refl
 held_none (p ∷ ps) t before =
@@ -157,7 +157,7 @@ held_none (p ∷ ps) t before =
 upto_one : (x : ℕ) (n : ℕ) → n ≡ cond (nat_le x x) 1 0 → n ≡ 1
 upto_one x n e = grind (arith, nat_tests)
 
--- where each start to come is after the next end, a start is open
+-- if every start to come is after the next end, at least one start is open
 pub some_open : (periods : List Period) (starts : List ℕ) (e : ℕ) (ends opened : List ℕ) (made : List Period) → All (λ s. e < s) starts → Sweep periods starts (e ∷ ends) opened made → 0 < length opened
 some_open periods starts e ends [] made after w =
     absurd (omega (arith, w.balanced e, upto_none starts e after, held_none made e (All-head (λ e. All (λ p. p.end ≤ e) made) e ends w.made_before_ends), upto-cons e ends e, upto_one e _ refl))
@@ -172,7 +172,7 @@ finished periods [] (r ∷ opened) made w = absurd (omega (arith, w.paired))
 Rises-from_sort : (xs : List ℕ) → IsSorted nat_cmp xs → Rises xs
 Rises-from_sort xs sorted i j d lt below = IsNonDecreasingBy-from_sort (λ x. x) xs sorted i j d (omega arith) below
 
--- at the start, nothing is open and nothing is made
+-- the invariant holds at first, with nothing open and nothing made
 pub begun : (periods : List Period) (starts ends : List ℕ) → IsPermutation (map (λ p. p.start) periods) starts → IsSorted nat_cmp starts → IsPermutation (map (λ p. p.end) periods) ends → IsSorted nat_cmp ends → Sweep periods starts ends [] []
 begun periods starts ends starts_same starts_sorted ends_same ends_sorted = record {
   balanced = λ t. omega (arith, held-map periods t, sum_by-IsPermutation (λ (x : ℕ). cond (nat_le x t) 1 0) (map (λ p. p.start) periods) starts starts_same, sum_by-IsPermutation (λ (x : ℕ). cond (nat_le x t) 1 0) (map (λ p. p.end) periods) ends ends_same);
@@ -188,7 +188,7 @@ begun periods starts ends starts_same starts_sorted ends_same ends_sorted = reco
   made_apart = All-nil (λ r. All (λ p. p.start < r → p.end < r) []);
 }
 
--- in order from place i on, where the start there is after the end
+-- every start from place i on is after the end, if the starts are in order and the one at place i is
 pub all_after : (starts : List ℕ) (i e : ℕ) → Rises (drop i starts) → (i < length starts → e < get_or starts i 0) → All (λ s. e < s) (drop i starts)
 all_after starts i e rise first k d below =
     let here : i < length starts = omega (arith, length-drop i starts) in
@@ -199,11 +199,11 @@ all_after starts i e rise first k d below =
     (pairs_head (λ x y. x ≤ y) (get_or starts i 0) (drop (i + 1) starts) (rw split at rise))))
     k d below
 
--- the element at place i, read as an index does, begins what is left from there
+-- the rest of the list from place i on begins with the element at place i
 pub drop_read : {X : Type 0} (xs : List X) (i : ℕ) (x : X) → i < length xs → x ≡ get_or xs i x → drop i xs ≡ x ∷ drop (i + 1) xs
 drop_read xs i x lt is = drop_more xs i x lt ∙ ap (λ y. y ∷ drop (i + 1) xs) (sym is)
 
--- the steps, where equations tell the lists' parts
+-- the steps, for lists that are given by equations
 module _ (periods : List Period) {starts ends opened : List ℕ} {made : List Period} (w : Sweep periods starts ends opened made) where
   pub opens_by : (s e : ℕ) (starts' ends' : List ℕ) → starts ≡ s ∷ starts' → ends ≡ e ∷ ends' → s < e → Sweep periods starts' ends (opened ++ s ∷ []) made
   opens_by s e starts' ends' a b lt = rw b (opens periods s starts' e ends' opened made lt (rw (a, b) at w))
@@ -222,7 +222,7 @@ module _ (periods : List Period) {starts ends opened : List ℕ} {made : List Pe
   pub some_open_by : (e : ℕ) (ends' : List ℕ) → ends ≡ e ∷ ends' → All (λ s. e < s) starts → 0 < length opened
   some_open_by e ends' a after = some_open periods starts e ends' opened made after (rw a at w)
 
--- the periods of a layering in another order are one too
+-- a layering stays one in any order
 pub reordered : (periods layering sorted : List Period) → IsPermutation layering sorted → IsLayering periods layering → IsLayering periods sorted
 reordered periods layering sorted same is = record {
   nested = All-permutation (λ p. All (λ q. TakesIn p q) sorted) layering sorted same (λ k d lt. All-permutation (λ q. TakesIn (get_or layering k d) q) layering sorted same (is.nested k d lt));

@@ -3,23 +3,23 @@
 ghost use Rattle.std.specs.Prelude.{◌≡◌, ◌↔◌, ◌<◌, ◌≤◌, IfOk, IfSome, IsTrue, length, position};
 ghost use Rattle.std.specs.Str.{str_eq_ignore_ascii_case};
 
-use crate::items::Items;
+use crate::list::List;
 use crate::name::{Name, is_same_word};
-use crate::value::{Seen, Value};
+use crate::value::{Value, ValueRef};
 use crate::values::Values;
 use std::alloc::{AllocError, Global};
 
-/// The most bytes of a text in a table.
+/// The most bytes that a text of a table has.
 pub const MAX_TEXT: usize = 1_000;
 
-/// What the values of a column are: numbers of 64 signed bits, or texts of at most 1,000 bytes.
+/// The kind of a column: integers of 64 signed bits, or texts of at most 1,000 bytes.
 #[derive(Clone, Copy, PartialEq, Eq, Debug)]
 pub enum Kind {
     Int,
     Text,
 }
 
-/// A column of values.
+/// A column: its name and its kind.
 #[derive(Drop, Debug)]
 pub struct Column {
     pub name: Name,
@@ -30,13 +30,13 @@ pub struct Column {
 #[derive(Drop, Debug)]
 pub struct Schema {
     pub name: Name,
-    pub columns: Items<Column>,
+    pub columns: List<Column>,
 }
 
 /// All tables, at most 16, numbered from 0.
 #[derive(Drop, Debug)]
 pub struct Catalogue {
-    pub tables: Items<Schema>,
+    pub tables: List<Schema>,
     ghost few: { length tables ≤ 16 },
 }
 
@@ -47,9 +47,9 @@ impl Kind {
     pub fn takes(self, value: &Value) -> bool
         ensures { IsTrue result ↔ IsOfKind self value.now }
     {
-        match (self, value.seen()) {
-            (Kind::Int, Seen::Int(number)) => i64::try_from(number).is_ok(),
-            (Kind::Text, Seen::Text(text)) => text.len() <= MAX_TEXT,
+        match (self, value.as_ref()) {
+            (Kind::Int, ValueRef::Int(number)) => i64::try_from(number).is_ok(),
+            (Kind::Text, ValueRef::Text(text)) => text.len() <= MAX_TEXT,
             _ => false,
         }
     }
@@ -58,7 +58,7 @@ impl Kind {
 impl Schema {
     ghost use Rattle.tq_base.specs.Catalogues.{Fit};
 
-    /// Whether the values are a row of the table: one for each column, of its kind and size.
+    /// Whether the values are a row of the table: one value for each column, of its kind and size.
     pub fn fits(&self, values: &Values) -> bool
         ensures { IsTrue result ↔ Fit self.now.columns values.now }
     {
@@ -76,8 +76,7 @@ impl Schema {
     }
 }
 
-// An equal list of columns.
-fn copy_columns(alloc: Global, columns: &[Column]) -> Result<Items<Column>, AllocError>
+fn copy_columns(alloc: Global, columns: &[Column]) -> Result<List<Column>, AllocError>
     ensures { IfOk result (λ copy. copy ≡ columns.now) }
 {
     let mut copy = Vec::with_capacity(alloc, columns.len())?;
@@ -87,11 +86,10 @@ fn copy_columns(alloc: Global, columns: &[Column]) -> Result<Items<Column>, Allo
             kind: column.kind,
         })?;
     }
-    Ok(Items::of(copy))
+    Ok(List::of(copy))
 }
 
-// An equal list of tables.
-fn copy_tables(alloc: Global, tables: &[Schema]) -> Result<Items<Schema>, AllocError>
+fn copy_tables(alloc: Global, tables: &[Schema]) -> Result<List<Schema>, AllocError>
     ensures { IfOk result (λ copy. copy ≡ tables.now) }
 {
     let mut copy = Vec::with_capacity(alloc, tables.len())?;
@@ -101,10 +99,10 @@ fn copy_tables(alloc: Global, tables: &[Schema]) -> Result<Items<Schema>, AllocE
             columns: copy_columns(alloc, table.columns.get())?,
         })?;
     }
-    Ok(Items::of(copy))
+    Ok(List::of(copy))
 }
 
-// The place of the first table of this name.
+// The place of the first table with this name.
 fn place_of(tables: &[Schema], name: &[u8]) -> Option<usize>
     ensures value { result ≡ position (λ table. str_eq_ignore_ascii_case table.name name.now) tables.now }
     ensures within { IfSome result (λ place. place < length tables.now) }
@@ -117,8 +115,7 @@ fn place_of(tables: &[Schema], name: &[u8]) -> Option<usize>
 impl Catalogue {
     ghost use Rattle.tq_base.specs.Catalogues.{table_number};
 
-    /// The number of the table of this name, which may be written in any ASCII case; `None` where there
-    /// is none.
+    /// The number of the table with this name, in any ASCII case; `None` if there is no such table.
     pub fn table(&self, name: &[u8]) -> Option<u32>
         ensures { result ≡ table_number self.now name.now }
     {
@@ -128,7 +125,7 @@ impl Catalogue {
         }
     }
 
-    /// An equal catalogue; `AllocError` where a growth was refused.
+    /// An equal catalogue. `AllocError` if an allocation failed.
     pub fn try_copy(&self, alloc: Global) -> Result<Catalogue, AllocError>
         ensures { IfOk result (λ copy. copy ≡ self.now) }
     {

@@ -1,4 +1,4 @@
-//! One column of a relation, for loops over rows: what is the same for all rows is looked up once.
+//! Access to one column of a relation in loops over rows: the part, the place and the step are looked up once.
 
 ghost use Rattle.std.specs.Prelude.{◌≡◌, ◌+◌, ◌*◌, ◌<◌, ◌≤◌, ◌++◌, OnOk, length, map, pos, vec_capacity, vec_len};
 ghost use Rattle.std.specs.List.{list_all, range_with_len};
@@ -6,17 +6,17 @@ ghost use Rattle.std.specs.Option.{option_copied};
 ghost use Rattle.tq_base.specs.Contents.{Int};
 ghost use Rattle.tq_base.specs.KeyRanges.{is_number_in};
 ghost use Rattle.tq_base.specs.RowValues.{value_at};
-ghost use Rattle.tq_base.specs.Parts.{column_cells, number_in, part_values, value_there, StandThere};
+ghost use Rattle.tq_base.specs.Parts.{column_cells, number_in, part_values, value_there, AreThere};
 
 use crate::key_range::KeyRange;
-use crate::looks::{LOOKS, Looks};
 use crate::parts::{Part, Place};
+use crate::prefetch::{PREFETCHED, Prefetch};
 use crate::short_text::SHORT;
 use crate::value::Value;
 use std::alloc::AllocError;
 use std::marker::Model;
 
-/// The values of one column, lent: one for each row of a relation; seen as their list.
+/// The borrowed values of one column, one for each row of a relation. Contracts see their list.
 #[derive(Drop)]
 pub struct ColumnView<'a> {
     values: &'a [Value],
@@ -33,16 +33,16 @@ impl<'a> Model for ColumnView<'a> {
     ghost use Rattle.std.specs.Option.{option_copied};
     ghost use Rattle.tq_base.specs.declared.value.Value.{Value as OneValue};
     ghost use Rattle.tq_base.specs.Contents.{Int};
-    ghost use Rattle.tq_base.specs.Parts.{values_there, StandThere};
+    ghost use Rattle.tq_base.specs.Parts.{values_there, AreThere};
 
     ghost Value = { List OneValue };
 
     ghost view = { λ v. values_there v.rows v.values.now v.step v.place (option_copied v.numbers) v.len };
 
-    ghost invariant = { λ v. (v.zero.now ≡ Int (pos 0)) × StandThere v.rows v.values.now v.step v.place };
+    ghost invariant = { λ v. (v.zero.now ≡ Int (pos 0)) × AreThere v.rows v.values.now v.step v.place };
 }
 
-// So many rows that do not have the column.
+// A column that the `len` rows do not have: each value is the number 0.
 fn nowhere<'a>(len: usize, zero: &'a Value) -> ColumnView<'a>
     requires { zero.now ≡ Int (pos 0) }
     ensures { result ≡ map (λ _. Int (pos 0)) (range_with_len 0 len) }
@@ -58,7 +58,7 @@ fn nowhere<'a>(len: usize, zero: &'a Value) -> ColumnView<'a>
     }
 }
 
-// The column in the first so many rows of the part.
+// The column in the first `len` rows of the part.
 fn in_part<'a>(part: &'a Part<'a>, column: u32, len: usize, zero: &'a Value) -> ColumnView<'a>
     requires { zero.now ≡ Int (pos 0) }
     ensures { result ≡ map (λ place. value_at (part_values part.now place) column) (range_with_len 0 len) }
@@ -78,7 +78,7 @@ fn in_part<'a>(part: &'a Part<'a>, column: u32, len: usize, zero: &'a Value) -> 
     }
 }
 
-// The number at the place; where there are no numbers, that is the place itself.
+// The number at the place; the place itself if there is no list of numbers.
 #[inline]
 fn number_in(numbers: Option<&[u32]>, place: usize) -> usize
     ensures { result ≡ number_in (option_copied numbers.entry) place }
@@ -89,8 +89,8 @@ fn number_in(numbers: Option<&[u32]>, place: usize) -> usize
     }
 }
 
-// The value in the row of this number, of so many rows, which stands so many steps behind that in the row before; a row
-// that is not there has the number 0.
+// The value of row `number` in a column that begins at `place` and has one value every `step` values. The number 0 if
+// there is no such row among the first `rows`.
 #[inline]
 fn value_there<'a>(
     values: &'a [Value],
@@ -100,7 +100,7 @@ fn value_there<'a>(
     number: usize,
     zero: &'a Value,
 ) -> &'a Value
-    requires stand { StandThere rows values.now step place }
+    requires stand { AreThere rows values.now step place }
     requires zero { zero.now ≡ Int (pos 0) }
     ensures { result.now ≡ value_there rows values.now step place number }
 {
@@ -111,7 +111,7 @@ fn value_there<'a>(
 }
 
 impl<'a> ColumnView<'a> {
-    // The column in the first so many rows of the parts; one that stands nowhere is the number 0.
+    // The column in the first `len` rows of the parts; a column without a place is the number 0.
     pub(crate) fn of(
         parts: &'a [Part<'a>],
         column: Option<Place>,
@@ -137,7 +137,7 @@ impl<'a> ColumnView<'a> {
         self.len
     }
 
-    // The value of the row; a row that is not there counts as the number 0.
+    // The value of the row; a row that does not exist counts as the number 0.
     #[inline]
     pub(crate) fn value(&self, row: usize) -> &'a Value
         ensures { result.now ≡ value_at self.now row }
@@ -155,15 +155,15 @@ impl<'a> ColumnView<'a> {
         )
     }
 
-    /// The value of the row; a row that is not there counts as the number 0.
+    /// The value of the row; a row that does not exist counts as the number 0.
     pub fn at(&self, row: u32) -> &'a Value
         ensures { result.now ≡ value_at self.now row }
     {
         self.value(row as usize)
     }
 
-    /// Whether each value is a number of the range. Values lie anywhere, so all are looked at whatever the others are,
-    /// in a loop that does no more: in such a loop the processor waits for many of them at once.
+    /// Whether each value is a number in the range. The loop reads every value, without an early exit, so that the
+    /// processor overlaps many cache misses.
     pub fn are_numbers_in(&self, range: &KeyRange) -> bool
         ensures { result ≡ list_all (is_number_in range.now) self.now }
     {
@@ -182,7 +182,7 @@ impl<'a> ColumnView<'a> {
         are
     }
 
-    // Whether a value lies in a box among those of the rows from the one on and before the other.
+    // Whether a value of the rows from `from` up to and not including `end` is boxed.
     fn any_boxed(&self, from: usize, end: usize) -> bool {
         let mut any = false;
         'rows: for row in from..end {
@@ -199,27 +199,27 @@ impl<'a> ColumnView<'a> {
         any
     }
 
-    // Whether there may be values in boxes among those of as many rows from this one on as are looked at together.
-    // Where rows stand in another order than their values, these are looked at together; others lie side by side.
+    // Whether the next `PREFETCHED` rows may have boxed values in this column. Rows in another order than their values
+    // are prefetched here; rows in the order of their values lie next to each other and need no prefetch.
     #[inline(never)]
     pub(crate) fn has_boxed(&self, from: u32) -> bool {
         if self.numbers.is_none() {
             return true;
         }
         let from = from as usize;
-        let end = self.len.min(from + LOOKS);
+        let end = self.len.min(from + PREFETCHED);
         if !self.any_boxed(from, end) {
             return false;
         }
-        let mut looks = Looks::new(self.value(from));
+        let mut prefetch = Prefetch::new(self.value(from));
         'rows: for row in from..end {
-            looks.push(self.value(row));
+            prefetch.push(self.value(row));
         }
-        looks.longest() > SHORT
+        prefetch.longest() > SHORT
     }
 }
 
-// Copies of the values that the columns have in the row go to the end of the list, which has room for them.
+// Appends copies of the row's values to the list, which has room for them.
 pub(crate) fn push_values(
     columns: &[ColumnView<'_>],
     row: usize,

@@ -1,4 +1,4 @@
-//! Dates of the Gregorian calendar carried back, as `YYYY-MM-DD`.
+//! Dates of the proleptic Gregorian calendar, as `YYYY-MM-DD`.
 
 ghost use Rattle.std.specs.Prelude.{◌≡◌, ◌≤◌, ◌+◌, ◌%◌, ◌+ℤ◌, drop, pos, take};
 ghost use Rattle.jiff_core.specs.Date.{epoch_day};
@@ -11,13 +11,13 @@ use crate::period::Instant;
 use jiff::ToSpan;
 use jiff::civil::{Date, date};
 
-/// The day of 9999-12-31, the last that has a date.
+/// The day of 9999-12-31, the last day with a date.
 pub const LAST_DAY: u64 = 3_652_058;
 
-// The days from -9999-01-01, from which `jiff` counts, to 0001-01-01.
+// The days from -9999-01-01, where the count of `jiff` begins, to 0001-01-01.
 const DAYS_BEFORE: u64 = 3_652_425;
 
-/// The day of a date; `None` where the bytes are no date of the years 1 to 9999.
+/// The day of a date; `None` if the bytes are not a date of the years 1 to 9999.
 pub fn read_date(bytes: &[u8]) -> Option<Instant>
     ensures { result ≡ instant_of Dates bytes.now }
 {
@@ -30,14 +30,13 @@ pub fn read_date(bytes: &[u8]) -> Option<Instant>
     instant_on(year, month, day)
 }
 
-// The first date of `jiff`, -9999-01-01.
 fn first_date() -> Date
     ensures { epoch_day result +ℤ pos 4_371_587 ≡ pos 0 }
 {
     date(-9999, 1, 1)
 }
 
-// The days from the first date of `jiff` to this one.
+// The days from the first date of `jiff`, -9999-01-01, to this one.
 fn days_from_first(date: Date) -> u64
     ensures { epoch_day date +ℤ pos 4_371_587 ≡ pos result }
 {
@@ -45,7 +44,7 @@ fn days_from_first(date: Date) -> u64
     date.duration_since(first).as_hours().unsigned_abs() / 24
 }
 
-// The date that many days after the first one of `jiff`.
+// The date that many days after the first date of `jiff`.
 fn date_after_first(days: u32) -> Date
     requires { days ≤ 7_304_483 }
     ensures { epoch_day result +ℤ pos 4_371_587 ≡ pos days }
@@ -57,7 +56,7 @@ fn date_after_first(days: u32) -> Date
     }
 }
 
-// The day of the date of these parts; `None` where the calendar has no such date.
+// The day of the date with these parts; `None` if the calendar has no such date.
 fn instant_on(year: u64, month: u64, day: u64) -> Option<Instant>
     requires year_in { year ≤ 9999 }
     requires month_in { month ≤ 12 }
@@ -73,7 +72,7 @@ fn instant_on(year: u64, month: u64, day: u64) -> Option<Instant>
     }
 }
 
-// The year, the month and the day in the month of the date of a day.
+// The year, the month and the day of the month of a day.
 fn parts_of(day: u32) -> (u32, u32, u32)
     requires { day ≤ 3652058 }
     ensures year { result.0 ≡ (date_of day).year }
@@ -88,14 +87,13 @@ fn parts_of(day: u32) -> (u32, u32, u32)
     )
 }
 
-// The last digit.
 fn digit(number: u32) -> u8
     ensures { result ≡ 48 + number % 10 }
 {
     b'0' + (number % 10) as u8
 }
 
-/// Writes the date of a day at the front of the array, and tells that it took ten bytes.
+/// Writes the date of a day to the front of the array and returns 10, the number of bytes written.
 pub fn put_date(day: u32, into: &mut [u8; 12]) -> usize
     requires { day ≤ 3652058 }
     ensures text { take result into.new ≡ date_text (date_of day) }

@@ -1,4 +1,4 @@
-//! Rows of one width, side by side in one list of values, each with the period at which it is valid.
+//! Rows of one width, stored one after the other in one list of values, with a second list of their periods.
 
 ghost use Rattle.std.specs.Prelude.{◌≡◌, ◌++◌, ◌∷◌, [], ◌<◌, ◌≤◌, ◌+◌, ◌*◌, ℕ, List, All, IfOk, OnErr, OnOk, drop, length, map, slice_index_or, take, vec_capacity, vec_len};
 ghost use Rattle.tq_base.specs.declared.fragment.Fragment.{Fragment};
@@ -16,10 +16,10 @@ use std::{mem, thread};
 /// The most rows of one list, so that a row's number has 32 bits.
 pub(crate) const MAX_ROWS: usize = 4_294_967_295;
 
-// So many rows are moved by one thread sooner than by two.
+// Below this number of rows, one thread moves them faster than two.
 const FEW_ROWS: usize = 8_192;
 
-// Copies of the values go to the end of the list, or some of them where a growth was refused.
+// Appends copies of the values; some of them if an allocation failed.
 pub(crate) fn push_copies(values: &mut Vec<Value>, row: &[Value]) -> Result<(), AllocError>
     ensures added { OnOk result (values.new.items ≡ values.old.items ++ row.now) }
     ensures kept { take (length values.old.items) values.new.items ≡ values.old.items }
@@ -30,7 +30,7 @@ pub(crate) fn push_copies(values: &mut Vec<Value>, row: &[Value]) -> Result<(), 
     Ok(())
 }
 
-// Copies of the values go to the end of the list. Where a growth was refused it is as before.
+// Appends copies of the values; none of them if an allocation failed.
 fn add_copies(values: &mut Vec<Value>, row: &[Value]) -> Result<(), AllocError>
     ensures added { OnOk result (values.new.items ≡ values.old.items ++ row.now) }
     ensures err { OnErr result (values.new.items ≡ values.old.items) }
@@ -43,15 +43,15 @@ fn add_copies(values: &mut Vec<Value>, row: &[Value]) -> Result<(), AllocError>
     added
 }
 
-// Those of the row's values that are kept go to the end of the list, which has room for them; the others are dropped.
-fn move_kept(slots: &[Slot], row: &mut Vec<Value>, values: &mut Vec<Value>)
+// Appends the row's values in the stored columns to the list, which has room for them, and drops the others.
+fn move_stored(slots: &[Slot], row: &mut Vec<Value>, values: &mut Vec<Value>)
     requires wide { length row.old.items ≡ length slots.now }
     requires room { vec_len values.old + length (kept_of slots.now row.old.items) ≤ vec_capacity values.old }
     ensures values { values.new.items ≡ values.old.items ++ kept_of slots.now row.old.items }
     ensures row { row.new.items ≡ [] }
 {
     'slots: for (place, slot) in slots.iter().enumerate() {
-        if let Slot::Kept(_) = slot {
+        if let Slot::Stored(_) = slot {
             let value = mem::replace(&mut row[place], Value::int(0));
             values.push_reserved(value);
         }
@@ -59,7 +59,6 @@ fn move_kept(slots: &[Slot], row: &mut Vec<Value>, values: &mut Vec<Value>)
     row.clear();
 }
 
-// The items of both lists, the ones behind the others.
 fn joined<T: Drop>(list: Vec<T>, other: Vec<T>) -> Result<Vec<T>, AllocError>
     ensures { IfOk result (λ all. all.items ≡ list.items ++ other.items) }
 {
@@ -69,8 +68,7 @@ fn joined<T: Drop>(list: Vec<T>, other: Vec<T>) -> Result<Vec<T>, AllocError>
     Ok(all)
 }
 
-/// Rows of one width in the order of the pushes, each with the period at which it is valid; seen as their
-/// width and their list.
+/// Rows of one width in the order of the pushes, each with its period. Contracts see their width and their list.
 #[derive(Drop, Debug)]
 pub(crate) struct DenseRows {
     width: usize,
@@ -90,7 +88,6 @@ impl Model for DenseRows {
 }
 
 impl DenseRows {
-    /// No rows.
     pub(crate) fn new(alloc: Global, width: usize) -> DenseRows
         ensures width { result.width ≡ width }
         ensures rows { result.items ≡ [] }
@@ -102,7 +99,7 @@ impl DenseRows {
         }
     }
 
-    // The rows of these values, one row behind the other, with these periods.
+    // The rows that the values make, `width` values each, with these periods.
     pub(crate) fn of_values(width: usize, values: Vec<Value>, periods: Vec<Period>) -> DenseRows
         requires fill { length values.items ≡ length periods.items * width }
         requires few { length periods.items ≤ 4294967295 }
@@ -115,7 +112,6 @@ impl DenseRows {
         }
     }
 
-    /// How many values each row has.
     pub(crate) fn width(&self) -> usize
         ensures width { result ≡ self.now.width }
         ensures rows { All (λ (row : Fragment). length row.values ≡ self.now.width) self.now.items }
@@ -123,7 +119,6 @@ impl DenseRows {
         self.width
     }
 
-    /// How many rows there are.
     pub(crate) fn len(&self) -> usize
         ensures len { result ≡ length self.now.items }
         ensures few { result ≤ 4294967295 }
@@ -131,14 +126,12 @@ impl DenseRows {
         self.periods.len()
     }
 
-    /// The periods of the rows.
     pub(crate) fn periods(&self) -> &[Period]
         ensures { result.now ≡ map (λ (row : Fragment). row.period) self.now.items }
     {
         self.periods.as_slice()
     }
 
-    /// When the row is valid.
     pub(crate) fn period(&self, row: usize) -> Period
         requires { row < length self.now.items }
         ensures { (d : Fragment) → result ≡ (slice_index_or self.now.items row d).period }
@@ -146,7 +139,6 @@ impl DenseRows {
         self.periods()[row]
     }
 
-    /// The values of the row.
     pub(crate) fn values(&self, row: usize) -> &[Value]
         requires { row < length self.now.items }
         ensures { (d : Fragment) → result.now ≡ (slice_index_or self.now.items row d).values }
@@ -156,7 +148,7 @@ impl DenseRows {
         &values[start..start + self.width]
     }
 
-    // The values of all rows, one row behind the other.
+    // The values of all rows, one row after the other.
     pub(crate) fn all_values(&self) -> &[Value]
         ensures len { length result.now ≡ length self.now.items * self.now.width }
         ensures rows { (k : ℕ) (d : Fragment) → k < length self.now.items → (slice_index_or self.now.items k d).values ≡ take self.now.width (drop (k * self.now.width) result.now) }
@@ -164,8 +156,8 @@ impl DenseRows {
         self.values.as_slice()
     }
 
-    /// Adds a row of these values, which are moved out of their list. `AllocError` where a growth was
-    /// refused or there are 2^32 - 1 rows: then all is as before.
+    /// Adds a row and moves the values out of `row`. `AllocError` if an allocation failed or there are 2^32 - 1 rows
+    /// already: then nothing has changed.
     pub(crate) fn push(&mut self, row: &mut Vec<Value>, period: Period) -> Result<(), AllocError>
         requires { length row.old.items ≡ self.old.width }
         ensures width { self.new.width ≡ self.old.width }
@@ -183,9 +175,9 @@ impl DenseRows {
         Ok(())
     }
 
-    /// Adds a row of those of these values that are kept, which are moved out of their list; the others are dropped.
-    /// `AllocError` where a growth was refused or there are 2^32 - 1 rows: then all is as before.
-    pub(crate) fn push_kept(
+    /// Adds a row of the values in the stored columns, moved out of `row`; the other values are dropped. `AllocError`
+    /// if an allocation failed or there are 2^32 - 1 rows already: then nothing has changed.
+    pub(crate) fn push_stored(
         &mut self,
         slots: &[Slot],
         row: &mut Vec<Value>,
@@ -204,13 +196,13 @@ impl DenseRows {
         }
         self.periods.reserve(1)?;
         self.values.reserve(self.width)?;
-        move_kept(slots, row, &mut self.values);
+        move_stored(slots, row, &mut self.values);
         self.periods.push_reserved(period);
         Ok(())
     }
 
-    /// Adds a row of copies of these values. `AllocError` where a growth was refused or there are 2^32 - 1
-    /// rows: then all is as before.
+    /// Adds a row of copies of the values. `AllocError` if an allocation failed or there are 2^32 - 1 rows already:
+    /// then nothing has changed.
     pub(crate) fn push_copy(&mut self, row: &[Value], period: Period) -> Result<(), AllocError>
         requires { length row.now ≡ self.old.width }
         ensures width { self.new.width ≡ self.old.width }
@@ -226,7 +218,7 @@ impl DenseRows {
         Ok(())
     }
 
-    /// Keeps the first rows, so many; all of them where there are no more.
+    /// Keeps at most the first `len` rows.
     pub(crate) fn truncate(&mut self, len: usize)
         ensures width { self.new.width ≡ self.old.width }
         ensures rows { self.new.items ≡ take len self.old.items }
@@ -237,8 +229,8 @@ impl DenseRows {
         }
     }
 
-    /// The rows, then those of the other, as wide. No value is copied. `AllocError` where a growth was refused, or
-    /// where there are 2^32 rows or more.
+    /// The rows, then those of `other`, which has the same width. Moves the values without copying them. `AllocError`
+    /// if an allocation failed or there are 2^32 rows or more.
     pub(crate) fn followed_by(self, other: DenseRows) -> Result<DenseRows, AllocError>
         requires { other.width ≡ self.width }
         ensures width { IfOk result (λ rows. rows.width ≡ self.width) }
@@ -254,8 +246,8 @@ impl DenseRows {
         })
     }
 
-    /// What `followed_by` gives. Where there are several workers and the other has many rows, one thread moves their
-    /// values and another their periods.
+    /// The same as `followed_by`. With several workers and many rows in `other`, one thread moves the values while
+    /// another moves the periods.
     pub(crate) fn followed_by_among<R: Threads>(
         self,
         rt: &R,

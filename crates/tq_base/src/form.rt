@@ -1,4 +1,4 @@
-//! How instants are written.
+//! The two forms in which instants are written: numbers and dates.
 
 ghost use Rattle.std.specs.Prelude.{◌≡◌, ◌≤◌, ◌<◌, decimal, drop, take};
 ghost use Rattle.tq_base.specs.Numbers.{bound_of, instant_of, instant_text};
@@ -14,11 +14,11 @@ use itoa::Buffer;
 pub enum Form {
     /// In decimal: `738944`.
     Numbers,
-    /// As the date of the day of that number, day 0 being 0001-01-01: `2024-02-29`.
+    /// As the date of the day with that number: `2024-02-29`. Day 0 is 0001-01-01.
     Dates,
 }
 
-/// An instant: digits of a value of at most 999,999,999,999, or a date of the years 1 to 9999.
+/// Reads an instant: a number of at most 999,999,999,999, or a date of the years 1 to 9999. `None` if it is neither.
 pub fn read_instant(bytes: &[u8], form: Form) -> Option<Instant>
     ensures { result ≡ instant_of form bytes.now }
 {
@@ -28,7 +28,7 @@ pub fn read_instant(bytes: &[u8], form: Form) -> Option<Instant>
     }
 }
 
-/// An instant, or `forever` in any ASCII case.
+/// Reads an instant, or `forever` in any ASCII case. `None` if the bytes are neither.
 pub fn read_bound(bytes: &[u8], form: Form) -> Option<Bound>
     ensures { result ≡ bound_of form bytes.now }
 {
@@ -51,8 +51,8 @@ fn put_number(number: u64, into: &mut [u8; 12]) -> usize
     text.len()
 }
 
-/// Writes the instant at the front of the array and tells how many bytes that took, and leaves what is behind them
-/// as it was. In dates, an instant after 9999-12-31 has no date and is written as its number.
+/// Writes the instant to the front of the array and returns the number of bytes written; the rest of the array stays as
+/// it was. In dates, an instant after 9999-12-31 is written as its number.
 pub fn put_instant(instant: Instant, form: Form, into: &mut [u8; 12]) -> usize
     ensures text { take result into.new ≡ instant_text form instant }
     ensures rest { drop result into.new ≡ drop result into.old }

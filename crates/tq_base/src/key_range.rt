@@ -2,7 +2,7 @@
 
 ghost use Rattle.std.specs.Prelude.{◌≡◌, ◌≤ℤ◌, IsSome, IfSome, ◌↔◌};
 
-/// The keys from `low` to `high`, both among them.
+/// The keys from `low` to `high`, both included. A range is never empty.
 #[derive(Clone, Copy, PartialEq, Eq, Debug)]
 pub struct KeyRange {
     pub low: i64,
@@ -13,7 +13,7 @@ pub struct KeyRange {
 impl KeyRange {
     ghost use Rattle.std.specs.Int.{int_max, int_min};
 
-    /// The keys from the low to the high one; `None` where the low one is above the high one.
+    /// The keys from `low` to `high`; `None` if `low` is above `high`.
     pub fn new(low: i64, high: i64) -> Option<KeyRange>
         ensures valid { IsSome result ↔ (low ≤ℤ high) }
         ensures low { IfSome result (λ r. r.low ≡ low) }
@@ -37,7 +37,7 @@ impl KeyRange {
         }
     }
 
-    /// The keys that are in both ranges; `None` where there is none.
+    /// The keys in both ranges; `None` if they have no key in common.
     pub fn common(self, other: KeyRange) -> Option<KeyRange>
         ensures valid { IsSome result ↔ (int_max self.low other.low ≤ℤ int_min self.high other.high) }
         ensures low { IfSome result (λ r. r.low ≡ int_max self.low other.low) }
@@ -46,7 +46,7 @@ impl KeyRange {
         KeyRange::new(self.low.max(other.low), self.high.min(other.high))
     }
 
-    /// The keys from the lowest to the highest one of both ranges.
+    /// The smallest range that contains both.
     pub fn hull(self, other: KeyRange) -> KeyRange
         ensures low { result.low ≡ int_min self.low other.low }
         ensures high { result.high ≡ int_max self.high other.high }

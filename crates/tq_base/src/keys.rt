@@ -1,44 +1,44 @@
-//! Keys: rows of one or two relations, each stood for by 32 bytes, by which they are sorted and parted into runs of
-//! equal values.
+//! Sorting of rows by keys. A key has 32 bytes and stands for a row of one or two relations. Sorted keys are cut into
+//! runs with equal values.
 
 ghost use Rattle.std.specs.Prelude.{◌≡◌, ◌≢◌, ◌<◌, ◌≤◌, ◌++◌, ◌&&◌, ◌||◌, nat_eq, nat_lt, All, IsPermutation, IsSorted, OnErr, OnOk, drop, length, map, slice_index_or, take, true};
 ghost use Rattle.std.specs.Bool.{OnTrue};
 ghost use Rattle.std.specs.Option.{option_copied};
 ghost use Rattle.tq_base.specs.RowValues.{value_at};
-ghost use Rattle.tq_base.specs.declared.sides.Key.{Key};
-ghost use Rattle.tq_base.specs.KeySides.{state_of};
-ghost use Rattle.tq_base.specs.Keys.{begins_run, columns_on, first_rank, held, held_on, is_within, key_cmp, key_row, key_values, no_row, rank_tells, rows_on, told_cmp, value_key_cmp, within, AreMarked, AreTold, BeginsWithBytes, IsFresh, IsKey, Rises};
+ghost use Rattle.tq_base.specs.declared.sort_input.SortKey.{SortKey};
+ghost use Rattle.tq_base.specs.SortInputs.{state_of};
+ghost use Rattle.tq_base.specs.Keys.{begins_run, columns_on, first_prefix, held, held_on, is_within, key_cmp, key_row, key_values, no_row, is_exact, rows_on, prefix_start_cmp, value_key_cmp, within, HaveRunStarts, AreExact, BeginsWithBytes, IsFresh, IsSortKey, Rises};
 ghost use Rattle.tq_base.specs.PlaceViews.{first_in, IsFirstOn};
 ghost use Rattle.tq_base.specs.ValueOrder.{value_cmp, values_cmp};
 
 use crate::column_view::ColumnView;
-use crate::looks::LOOKS;
 use crate::packed::sort_packed;
 use crate::period::{Bound, Instant, Period};
-use crate::rank::{rank_in_place, rank_of};
+use crate::prefetch::PREFETCHED;
+use crate::prefixes::{normalized_key, prefix_in_place};
 use crate::relation::Relation;
 use crate::row::Row;
-use crate::sides::{Key, Mark, Side, Sides};
+use crate::sort_input::{RunStart, Side, SortInput, SortKey};
 use std::alloc::{AllocError, Global};
 use std::cmp::Ordering;
 
-// The least rank of a text, and that of numbers beyond those of 64 signed bits.
-const TEXT_RANK: u128 = 1 << 120;
+// The least prefix of a text.
+const TEXT_PREFIX: u128 = 1 << 120;
 
-const WIDE_RANK: u128 = 1 << 64;
+// The greatest prefix of a number of 64 signed bits. All greater numbers have the next one.
+const WIDE_PREFIX: u128 = 1 << 64;
 
-// How long runs have to be on average to be long.
+// The average length from which runs count as long.
 const LONG_RUN: usize = 1024;
 
-// How the values in the two columns stand to each other; a column that a row does not have counts as the
-// number 0.
+// Compares the values in the two columns; a column that a row does not have counts as the number 0.
 fn compare_at(one: &Row<'_>, column: u32, other: &Row<'_>, other_column: u32) -> Ordering
     ensures { result ≡ value_cmp (value_at one.now column) (value_at other.now other_column) }
 {
     one.at(column).compare(other.at(other_column))
 }
 
-// The first instant alone.
+// The period of the first instant alone.
 fn first_period() -> Period
     ensures { result ≡ no_row.period }
 {
@@ -47,7 +47,7 @@ fn first_period() -> Period
     Period { start, end }
 }
 
-// The period of a row, the first instant where there is no such row.
+// The period of a row; that of the first instant if there is no such row.
 fn period_in(rows: &Relation<'_>, row: u32) -> Period
     ensures { result ≡ (slice_index_or rows.now.items row no_row).period }
 {
@@ -57,7 +57,7 @@ fn period_in(rows: &Relation<'_>, row: u32) -> Period
     }
 }
 
-// Whether the period overlaps the window, if there is one.
+// Whether the period overlaps the window; true if there is no window.
 fn is_within(period: &Period, window: Option<&Period>) -> bool
     ensures { result ≡ is_within (option_copied window.entry) period.now }
 {
@@ -70,25 +70,25 @@ fn is_within(period: &Period, window: Option<&Period>) -> bool
     }
 }
 
-// The rank of the row's value in the column, 0 where there is no column.
-fn rank_in(column: &Option<ColumnView<'_>>, row: u32, are_boxed: bool) -> u128
-    ensures rank { result ≡ first_rank (first_in column.now row) }
+// The prefix of the row's value in the column; 0 if there is no column.
+fn prefix_in(column: &Option<ColumnView<'_>>, row: u32, are_boxed: bool) -> u128
+    ensures prefix { result ≡ first_prefix (first_in column.now row) }
     ensures bytes { BeginsWithBytes (first_in column.now row) }
 {
     match column {
         Some(column) => {
             let value = column.at(row);
             if are_boxed {
-                rank_of(value)
+                normalized_key(value)
             } else {
-                rank_in_place(value)
+                prefix_in_place(value)
             }
         }
         None => 0,
     }
 }
 
-// Whether there may be values in boxes in the column from the row on, as far as values are looked at together.
+// Whether the next `PREFETCHED` rows may have boxed values in the column.
 fn has_boxed(column: &Option<ColumnView<'_>>, row: u32) -> bool {
     match column {
         Some(column) => column.has_boxed(row),
@@ -96,51 +96,50 @@ fn has_boxed(column: &Option<ColumnView<'_>>, row: u32) -> bool {
     }
 }
 
-/// Whether a rank tells its value wholly: two values of this rank are the same.
-pub fn rank_tells(rank: u128) -> bool
-    ensures { result ≡ rank_tells rank }
+/// Whether a prefix determines its value: two values with this prefix are equal.
+pub fn is_exact(prefix: u128) -> bool
+    ensures { result ≡ is_exact prefix }
 {
-    if rank < TEXT_RANK {
-        0 < rank && rank <= WIDE_RANK
+    if prefix < TEXT_PREFIX {
+        0 < prefix && prefix <= WIDE_PREFIX
     } else {
-        rank % 256 < 15
+        prefix % 256 < 15
     }
 }
 
-// Whether each rank tells its value wholly.
-fn do_ranks_tell(keys: &[Key]) -> bool
-    ensures { OnTrue result (All (λ k. rank_tells k.rank ≡ true) keys.now) }
+fn are_prefixes_exact(keys: &[SortKey]) -> bool
+    ensures { OnTrue result (All (λ k. is_exact k.prefix ≡ true) keys.now) }
 {
-    keys.iter().all(|key| rank_tells(key.rank))
+    keys.iter().all(|key| is_exact(key.prefix))
 }
 
-// Whether a key comes before the other by the ranks, then by the starts. All is compared, so that sorting, which asks
-// this of most pairs of keys, has no branch to guess.
-fn is_told_below(one: &Key, other: &Key) -> bool
-    ensures { result ≡ (nat_lt one.now.rank other.now.rank || (nat_eq one.now.rank other.now.rank && nat_lt one.now.start other.now.start)) }
+// Compares the prefixes, then the starts. Both comparisons are always made, so that sorting, which calls this for most
+// pairs of keys, has no branch to predict.
+fn is_prefix_below(one: &SortKey, other: &SortKey) -> bool
+    ensures { result ≡ (nat_lt one.now.prefix other.now.prefix || (nat_eq one.now.prefix other.now.prefix && nat_lt one.now.start other.now.start)) }
 {
-    (one.rank < other.rank) | ((one.rank == other.rank) & (one.start < other.start))
+    (one.prefix < other.prefix) | ((one.prefix == other.prefix) & (one.start < other.start))
 }
 
-// By the ranks, then by the starts.
-pub(crate) fn compare_told(one: &Key, other: &Key) -> Ordering
-    ensures { result ≡ told_cmp one.now other.now }
+// Compares the prefixes, then the starts.
+pub(crate) fn compare_prefix_start(one: &SortKey, other: &SortKey) -> Ordering
+    ensures { result ≡ prefix_start_cmp one.now other.now }
 {
-    if is_told_below(one, other) {
+    if is_prefix_below(one, other) {
         Ordering::Less
-    } else if is_told_below(other, one) {
+    } else if is_prefix_below(other, one) {
         Ordering::Greater
     } else {
         Ordering::Equal
     }
 }
 
-// Whether the keys rise and fall in long runs: as counts do over a time in which rows come and then go.
-fn are_long_runs(keys: &[Key]) -> bool {
+// Whether the keys rise and fall in long runs, as counts do over a time in which rows come and then go.
+fn are_long_runs(keys: &[SortKey]) -> bool {
     let mut turns_left = keys.len() / LONG_RUN;
     let mut rises = true;
     'keys: for place in 1..keys.len() {
-        if is_told_below(&keys[place], &keys[place - 1]) == rises {
+        if is_prefix_below(&keys[place], &keys[place - 1]) == rises {
             if turns_left == 0 {
                 return false;
             }
@@ -151,27 +150,27 @@ fn are_long_runs(keys: &[Key]) -> bool {
     true
 }
 
-// Sorts keys whose ranks tell all that is compared: no row is read. A stable sort takes runs as they stand,
-// and is slower where there are none: there keys are packed to be sorted, if they can be.
-fn sort_told(keys: &mut Vec<Key>) -> Result<(), AllocError>
+// Sorts keys whose prefixes determine all compared values; no row is read. The stable sort is fast on long runs. Other
+// keys are packed for the sort if possible.
+fn sort_exact(keys: &mut Vec<SortKey>) -> Result<(), AllocError>
     ensures same { OnOk result (IsPermutation keys.old.items keys.new.items) }
-    ensures order { OnOk result (IsSorted told_cmp keys.new.items) }
+    ensures order { OnOk result (IsSorted prefix_start_cmp keys.new.items) }
     ensures kept { OnErr result (keys.new.items ≡ keys.old.items) }
 {
     if are_long_runs(keys) {
-        keys.sort_by(|one, other| compare_told(one, other))?;
+        keys.sort_by(|one, other| compare_prefix_start(one, other))?;
     } else {
         let alloc = *keys.allocator();
         if !sort_packed(alloc, keys) {
-            keys.sort_unstable_by(|one, other| compare_told(one, other));
+            keys.sort_unstable_by(|one, other| compare_prefix_start(one, other));
         }
     }
     Ok(())
 }
 
-impl<'a> Sides<'a> {
-    /// The row that the key stands for.
-    pub fn row(&self, key: &Key) -> Row<'a>
+impl<'a> SortInput<'a> {
+    /// The values of the key's row.
+    pub fn row(&self, key: &SortKey) -> Row<'a>
         ensures { result ≡ (key_row (state_of self.now) key.now).values }
     {
         match key.side {
@@ -180,8 +179,8 @@ impl<'a> Sides<'a> {
         }
     }
 
-    /// The period of the row that the key stands for.
-    pub fn period(&self, key: &Key) -> Period
+    /// The period of the key's row.
+    pub fn period(&self, key: &SortKey) -> Period
         ensures { result ≡ (key_row (state_of self.now) key.now).period }
     {
         match key.side {
@@ -190,7 +189,6 @@ impl<'a> Sides<'a> {
         }
     }
 
-    // The rows of the side.
     fn rows(&self, side: Side) -> &Relation<'a>
         ensures { result.now.items ≡ rows_on (state_of self.now) side }
     {
@@ -211,10 +209,10 @@ impl<'a> Sides<'a> {
         }
     }
 
-    // How the values in the columns from the place on stand to each other. Not inlined, so that loops over keys whose ranks
-    // tell all stay short.
+    // Compares the values in the columns from the place on. Not inlined, so that loops over keys that prefixes decide
+    // stay short.
     #[inline(never)]
-    fn compare_rows(&self, first: usize, one: &Key, other: &Key) -> Ordering
+    fn compare_rows(&self, first: usize, one: &SortKey, other: &SortKey) -> Ordering
         ensures { result ≡ values_cmp (drop first (key_values (state_of self.now) one.now)) (drop first (key_values (state_of self.now) other.now)) }
     {
         let (row, columns) = (self.row(one), self.columns(one.side));
@@ -228,9 +226,9 @@ impl<'a> Sides<'a> {
         Ordering::Equal
     }
 
-    // How the values that are compared stand to each other from the place on. Where none is left, no row is looked up.
+    // Compares the compared values from the place on. No row is read if none is left.
     #[inline]
-    pub(crate) fn compare_from(&self, first: usize, one: &Key, other: &Key) -> Ordering
+    pub(crate) fn compare_from(&self, first: usize, one: &SortKey, other: &SortKey) -> Ordering
         ensures { result ≡ values_cmp (drop first (key_values (state_of self.now) one.now)) (drop first (key_values (state_of self.now) other.now)) }
     {
         if first >= self.left_columns.len() {
@@ -239,28 +237,28 @@ impl<'a> Sides<'a> {
         self.compare_rows(first, one, other)
     }
 
-    /// By the ranks, then by the values that these do not tell.
-    pub fn compare_values(&self, one: &Key, other: &Key) -> Ordering
+    /// Compares the prefixes, then the values that they do not decide.
+    pub fn compare_values(&self, one: &SortKey, other: &SortKey) -> Ordering
         ensures { result ≡ value_key_cmp (state_of self.now) one.now other.now }
     {
-        match one.rank.cmp(&other.rank) {
+        match one.prefix.cmp(&other.prefix) {
             Ordering::Equal => {
-                let first = if rank_tells(one.rank) { 1 } else { 0 };
+                let first = if is_exact(one.prefix) { 1 } else { 0 };
                 self.compare_from(first, one, other)
             }
             order => order,
         }
     }
 
-    /// By the ranks, by the values that these do not tell, then by the starts.
-    pub fn compare(&self, one: &Key, other: &Key) -> Ordering
+    /// Compares the prefixes, the values that they do not decide, then the starts.
+    pub fn compare(&self, one: &SortKey, other: &SortKey) -> Ordering
         ensures { result ≡ key_cmp (state_of self.now) one.now other.now }
     {
         self.compare_values(one, other)
             .then(one.start.cmp(&other.start))
     }
 
-    // The column of the side that is compared first, if one is.
+    // The column that is compared first on the side, if any.
     fn first_column(&self, side: Side) -> Option<ColumnView<'_>>
         ensures { IsFirstOn (state_of self.now) side result }
     {
@@ -270,7 +268,7 @@ impl<'a> Sides<'a> {
         }
     }
 
-    // The key of the row, of which the column is compared first.
+    // The key of the row, given the column that is compared first.
     fn key_of(
         &self,
         side: Side,
@@ -278,7 +276,7 @@ impl<'a> Sides<'a> {
         column: &Option<ColumnView<'_>>,
         are_boxed: bool,
         period: &Period,
-    ) -> Key
+    ) -> SortKey
         requires stands { row < length (rows_on (state_of self.now) side) }
         requires first { IsFirstOn (state_of self.now) side column.now }
         requires period { (slice_index_or (rows_on (state_of self.now) side) row no_row).period ≡ period.now }
@@ -286,22 +284,22 @@ impl<'a> Sides<'a> {
         ensures side { result.side ≡ side }
         ensures row { result.row ≡ row }
     {
-        Key {
-            rank: rank_in(column, row, are_boxed),
+        SortKey {
+            prefix: prefix_in(column, row, are_boxed),
             start: period.start.number(),
             row,
             side,
-            mark: Mark::Unknown,
+            run_start: RunStart::Unknown,
         }
     }
 
-    /// The keys of the rows of the side, or of those that overlap the window where there is one, go to the end
-    /// of the list. `AllocError` where a growth was refused: then the list is as before.
+    /// Appends the keys of the side's rows, or of those that overlap the window if there is one. `AllocError` if an
+    /// allocation failed: then the list has not changed.
     pub fn add_keys(
         &self,
         side: Side,
         window: Option<&Period>,
-        keys: &mut Vec<Key>,
+        keys: &mut Vec<SortKey>,
     ) -> Result<(), AllocError>
         ensures rows { OnOk result (map (held (state_of self.now)) keys.new.items
             ≡ map (held (state_of self.now)) keys.old.items ++ held_on side (within (option_copied window.entry) (rows_on (state_of self.now) side))) }
@@ -314,7 +312,7 @@ impl<'a> Sides<'a> {
         let column = self.first_column(side);
         let mut are_boxed = true;
         'rows: for (row, period) in rows.periods().iter().enumerate() {
-            if row % LOOKS == 0 {
+            if row % PREFETCHED == 0 {
                 are_boxed = has_boxed(&column, row as u32);
             }
             if is_within(period, window) {
@@ -324,32 +322,30 @@ impl<'a> Sides<'a> {
         Ok(())
     }
 
-    // Whether the keys are in order.
-    fn are_sorted(&self, keys: &[Key]) -> bool
+    fn are_sorted(&self, keys: &[SortKey]) -> bool
         ensures { OnTrue result (IsSorted (key_cmp (state_of self.now)) keys.now) }
     {
         keys.is_sorted_by(|one, other| self.compare(one, other).is_le())
     }
 
-    // Whether the ranks tell all values that are compared.
-    fn are_told(&self, keys: &[Key]) -> bool
-        ensures { OnTrue result (AreTold (state_of self.now) keys.now) }
+    // Whether the prefixes determine all compared values. If false, they may still do so.
+    fn are_exact(&self, keys: &[SortKey]) -> bool
+        ensures { OnTrue result (AreExact (state_of self.now) keys.now) }
     {
         match self.left_columns.len() {
             0 => true,
-            1 => do_ranks_tell(keys),
+            1 => are_prefixes_exact(keys),
             _ => false,
         }
     }
 
-    /// Sorts the keys by the values that are compared, then by start, and marks keys that are seen to begin a run
-    /// or to go on with it. What is in order already is not sorted. `AllocError` where a growth was refused: then
-    /// the keys stand as before.
-    pub fn sort(&self, keys: &mut Vec<Key>) -> Result<(), AllocError>
+    /// Sorts the keys by the compared values, then by start, and sets the run starts that it learns. Keys that are in
+    /// order already are left as they are. `AllocError` if an allocation failed: then the keys have not changed.
+    pub fn sort(&self, keys: &mut Vec<SortKey>) -> Result<(), AllocError>
         requires keys { All (IsFresh (state_of self.now)) keys.old.items }
         ensures rows { OnOk result (IsPermutation (map (held (state_of self.now)) keys.old.items) (map (held (state_of self.now)) keys.new.items)) }
-        ensures keys { OnOk result (All (IsKey (state_of self.now)) keys.new.items) }
-        ensures marks { OnOk result (AreMarked (state_of self.now) keys.new.items) }
+        ensures keys { OnOk result (All (IsSortKey (state_of self.now)) keys.new.items) }
+        ensures run_starts { OnOk result (HaveRunStarts (state_of self.now) keys.new.items) }
         ensures order { OnOk result (IsSorted (key_cmp (state_of self.now)) keys.new.items) }
         ensures rises { OnOk result (Rises (state_of self.now) keys.new.items) }
         ensures kept { OnErr result (keys.new.items ≡ keys.old.items) }
@@ -357,37 +353,37 @@ impl<'a> Sides<'a> {
         if self.are_sorted(keys) {
             return Ok(());
         }
-        if self.are_told(keys) {
-            sort_told(keys)?;
+        if self.are_exact(keys) {
+            sort_exact(keys)?;
         } else {
-            self.sort_untold(keys);
+            self.break_ties(keys);
         }
         Ok(())
     }
 
-    // Whether the key at the place, before which all have the values of the first one, has others. Where it is
-    // marked, no row is read.
-    fn begins_run(&self, place: usize, key: &Key, first: &Key) -> bool
+    // Whether the key at the place has other values than `first`, which has those of all keys before it. No row is read
+    // if the key's run start is known.
+    fn begins_run(&self, place: usize, key: &SortKey, first: &SortKey) -> bool
         ensures { result ≡ begins_run (state_of self.now) place key.now first.now }
     {
         if place == 0 {
             return false;
         }
-        match key.mark {
-            Mark::Unknown => self.compare_values(key, first).is_ne(),
-            Mark::Begins => true,
-            Mark::GoesOn => false,
+        match key.run_start {
+            RunStart::Unknown => self.compare_values(key, first).is_ne(),
+            RunStart::Begins => true,
+            RunStart::GoesOn => false,
         }
     }
 
-    /// How many keys at the front have the values of the first in the columns that are compared.
-    pub fn run_len(&self, keys: &[Key]) -> usize
-        requires keys { All (IsKey (state_of self.now)) keys.now }
-        requires marks { AreMarked (state_of self.now) keys.now }
+    /// The number of keys at the front that have the compared values of the first key.
+    pub fn run_len(&self, keys: &[SortKey]) -> usize
+        requires keys { All (IsSortKey (state_of self.now)) keys.now }
+        requires run_starts { HaveRunStarts (state_of self.now) keys.now }
         ensures within { result ≤ length keys.now }
         ensures some { 0 < length keys.now → 0 < result }
-        ensures alike { (d : Key) → All (λ k. key_values (state_of self.now) k ≡ key_values (state_of self.now) (slice_index_or keys.now 0 d)) (take result keys.now) }
-        ensures ends { (d : Key) → result < length keys.now
+        ensures alike { (d : SortKey) → All (λ k. key_values (state_of self.now) k ≡ key_values (state_of self.now) (slice_index_or keys.now 0 d)) (take result keys.now) }
+        ensures ends { (d : SortKey) → result < length keys.now
             → key_values (state_of self.now) (slice_index_or keys.now result d) ≢ key_values (state_of self.now) (slice_index_or keys.now 0 d) }
     {
         let Some(first) = keys.first() else {

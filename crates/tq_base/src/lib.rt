@@ -1,10 +1,11 @@
-//! The vocabulary of valid-time tables: instants, bounds and periods; names, values and the rows
-//! that they make; relations, which name rows of such lists; tables of a catalogue; fragments, which are
-//! values with a period.
+//! The vocabulary of valid-time tables: instants, bounds, periods, names, values, rows, relations, schemas, sort keys.
 //!
-//! What the rest of the project says of tables over time is said in the words of this crate's
-//! `specs/`: which values are valid at an instant, how many copies of them, and the layers of such a
-//! count, the one ordered, coalesced table that has just these copies at each instant.
+//! The definitions in `specs/` say what is valid at an instant (`at`), with how many copies (`copies`), and what the
+//! layers of that count are. `IsLayers m table`: the table is ordered, coalesced, and has exactly these copies at each
+//! instant. There is exactly one such table (the laws in `src/laws.rt`). Contracts of the crates above cite these
+//! definitions.
+//!
+//! Open `src/period.rt` and `src/value.rt` first, then `specs/Layers.antt`. README.md describes how rows are stored.
 #![tactic(auto)]
 
 mod catalogue;
@@ -13,11 +14,10 @@ mod dates;
 mod dense;
 mod form;
 mod fragment;
-mod items;
 mod key_range;
 mod keys;
 pub mod laws;
-mod looks;
+mod list;
 mod medium_text;
 mod name;
 mod number;
@@ -25,13 +25,14 @@ mod packed;
 mod parts;
 mod period;
 mod place_view;
-mod rank;
+mod prefetch;
+mod prefixes;
 mod relation;
 mod row;
 mod rows;
 mod short_text;
-mod sides;
-mod untold;
+mod sort_input;
+mod tie_break;
 mod value;
 mod values;
 
@@ -40,16 +41,16 @@ pub use column_view::ColumnView;
 pub use dates::LAST_DAY;
 pub use form::{Form, put_instant, read_bound, read_instant};
 pub use fragment::Fragment;
-pub use items::Items;
 pub use key_range::KeyRange;
-pub use keys::rank_tells;
+pub use keys::is_exact;
+pub use list::List;
 pub use name::{MAX_NAME, Name, RESERVED, fold_name, is_name, is_reserved, is_same_word};
 pub use number::{read_int, read_natural};
 pub use period::{Bound, FOREVER, Instant, Period};
-pub use rank::rank_of;
-pub use relation::{Line, Pair, Relation};
+pub use prefixes::normalized_key;
+pub use relation::{Pair, Relation, RowPeriod};
 pub use row::Row;
 pub use rows::Rows;
-pub use sides::{Key, Mark, Side, Sides, all_columns};
-pub use value::{Seen, Text, Value};
+pub use sort_input::{RunStart, Side, SortInput, SortKey, all_columns};
+pub use value::{Text, Value, ValueRef};
 pub use values::Values;

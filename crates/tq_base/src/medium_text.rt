@@ -1,4 +1,4 @@
-//! Texts of middle length, which a value keeps in a small box, and their last bytes beside it.
+//! Texts of 15 to 20 bytes: a value stores them in a small box, and their last bytes next to the pointer to it.
 
 ghost use Rattle.std.specs.Prelude.{◌≡◌, ◌≤◌, length};
 
@@ -6,15 +6,15 @@ use crate::short_text::SHORT;
 use std::marker::Model;
 use std::str;
 
-/// How many bytes of such a text follow those that its rank tells: so many lie in the value itself.
+/// The most bytes of such a text that its prefix does not determine. The value itself stores them.
 const TAIL: usize = 6;
 
-/// How many bytes of a text lie in such a box. With their number, at either end, they take 22, for which the C library's
-/// allocator takes 32.
+/// The most bytes of a text in such a box. With the length at both ends the box takes 22 bytes, for which the C
+/// library's allocator uses 32.
 pub(crate) const MEDIUM: usize = SHORT + TAIL;
 
-/// A text of at most 20 bytes, seen as its bytes. How many they are stands at both ends, since a box often lies over two
-/// lines of the processor's cache: whoever asks for the text waits for both at once.
+/// A text of at most 20 bytes. Contracts see its bytes. The length is stored at both ends, because a box often crosses
+/// a cache line: reading both lengths loads both lines at the same time.
 #[derive(Drop, Debug)]
 pub(crate) struct MediumText {
     len: u8,
@@ -49,16 +49,14 @@ impl MediumText {
         }
     }
 
-    /// The text lent.
     pub(crate) fn get(&self) -> &str
         ensures { result.now ≡ self.now }
     {
         let len = self.len.min(self.len_behind);
-        // A text is made of a `str` alone.
+        // The bytes come from a `str` only.
         unsafe { str::from_utf8_unchecked(&self.bytes[..len as usize]) }
     }
 
-    /// An equal text.
     pub(crate) fn copy(&self) -> MediumText
         ensures { result ≡ self.now }
     {
@@ -70,7 +68,7 @@ impl MediumText {
     }
 }
 
-/// The bytes of a text of middle length that its rank does not tell, seen as their list.
+/// The bytes of a medium text after its first 14. Contracts see their list.
 #[derive(Drop, Debug)]
 pub(crate) struct Tail {
     len: u8,
@@ -101,14 +99,12 @@ impl Tail {
         }
     }
 
-    /// The bytes lent.
     pub(crate) fn get(&self) -> &[u8]
         ensures { result.now ≡ self.now }
     {
         &self.bytes[..self.len as usize]
     }
 
-    /// The same bytes.
     pub(crate) fn copy(&self) -> Tail
         ensures { result ≡ self.now }
     {

@@ -1,60 +1,58 @@
-//! Keys that lie close together, sorted by one number of 64 bits each.
+//! Sorting of keys that lie close together, by one number of 64 bits for each key.
 
 ghost use Rattle.std.specs.Prelude.{◌≡◌, All, IfSome, IsPermutation, IsSorted, false, length, map};
 ghost use Rattle.std.specs.Bool.{OnTrue};
 ghost use Rattle.tq_base.specs.declared.packed.Corner.{Corner};
 ghost use Rattle.tq_base.specs.declared.packed.Packed.{Packed};
-ghost use Rattle.tq_base.specs.declared.sides.Key.{Key};
-ghost use Rattle.tq_base.specs.Keys.{told_cmp};
+ghost use Rattle.tq_base.specs.declared.sort_input.SortKey.{SortKey};
+ghost use Rattle.tq_base.specs.Keys.{prefix_start_cmp};
 ghost use Rattle.tq_base.specs.Packed.{pack, unpack, IsAbove, IsNear, IsOfKey};
 
-use crate::sides::{Key, Mark, Side};
+use crate::sort_input::{RunStart, Side, SortKey};
 use std::alloc::Global;
 
-// What ranks and starts may lie apart to be packed: 2^32.
+// The difference in prefix, and in start, below which keys can be packed: 2^32.
 const SPAN: u64 = 0x1_0000_0000;
 
-// A key, of which rank and start are one number.
+// A key with prefix and start in one number.
 #[derive(Clone, Copy)]
 struct Packed {
     order: u64,
     row: u32,
     side: Side,
-    mark: Mark,
+    run_start: RunStart,
 }
 
-// The least rank and the least start of keys.
+// The least prefix and the least start of some keys.
 #[derive(Clone, Copy)]
 struct Corner {
-    rank: u128,
+    prefix: u128,
     start: u64,
 }
 
-// The corner of the keys, below which none of them lies.
-fn corner_of(keys: &[Key]) -> Corner
+fn corner_of(keys: &[SortKey]) -> Corner
     ensures { All (IsAbove result) keys.now }
 {
     let mut corner = Corner {
-        rank: u128::MAX,
+        prefix: u128::MAX,
         start: u64::MAX,
     };
     'keys: for key in keys {
-        corner.rank = corner.rank.min(key.rank);
+        corner.prefix = corner.prefix.min(key.prefix);
         corner.start = corner.start.min(key.start);
     }
     corner
 }
 
-// Whether the key lies so near the corner that it can be packed.
-fn is_near(corner: Corner, key: &Key) -> bool
+// Whether the key can be packed: its prefix and its start are less than `SPAN` above the corner.
+fn is_near(corner: Corner, key: &SortKey) -> bool
     requires { IsAbove corner key.now }
     ensures { OnTrue result (IsNear corner key.now) }
 {
-    (key.rank - corner.rank < u128::from(SPAN)) & (key.start - corner.start < SPAN)
+    (key.prefix - corner.prefix < u128::from(SPAN)) & (key.start - corner.start < SPAN)
 }
 
-// Whether each of the keys can be packed.
-fn are_near(corner: Corner, keys: &[Key]) -> bool
+fn are_near(corner: Corner, keys: &[SortKey]) -> bool
     requires { All (IsAbove corner) keys.now }
     ensures { OnTrue result (All (IsNear corner) keys.now) }
 {
@@ -66,36 +64,34 @@ fn are_near(corner: Corner, keys: &[Key]) -> bool
     true
 }
 
-// The key packed.
-fn pack(corner: Corner, key: &Key) -> Packed
+fn pack(corner: Corner, key: &SortKey) -> Packed
     requires { IsNear corner key.now }
     ensures packed { result ≡ pack corner key.now }
     ensures of_key { IsOfKey corner result }
 {
     Packed {
-        order: (key.rank - corner.rank) as u64 * SPAN + (key.start - corner.start),
+        order: (key.prefix - corner.prefix) as u64 * SPAN + (key.start - corner.start),
         row: key.row,
         side: key.side,
-        mark: key.mark,
+        run_start: key.run_start,
     }
 }
 
-// The key that was packed.
-fn unpack(corner: Corner, packed: &Packed) -> Key
+fn unpack(corner: Corner, packed: &Packed) -> SortKey
     requires { IsOfKey corner packed.now }
     ensures { result ≡ unpack corner packed.now }
 {
-    Key {
-        rank: corner.rank + u128::from(packed.order / SPAN),
+    SortKey {
+        prefix: corner.prefix + u128::from(packed.order / SPAN),
         start: corner.start + packed.order % SPAN,
         row: packed.row,
         side: packed.side,
-        mark: packed.mark,
+        run_start: packed.run_start,
     }
 }
 
-// The keys packed, in a list of their own; none where a growth was refused.
-fn pack_all(alloc: Global, corner: Corner, keys: &[Key]) -> Option<Vec<Packed>>
+// All keys packed; `None` if an allocation failed.
+fn pack_all(alloc: Global, corner: Corner, keys: &[SortKey]) -> Option<Vec<Packed>>
     requires { All (IsNear corner) keys.now }
     ensures packed { IfSome result (λ all. all.items ≡ map (pack corner) keys.now) }
     ensures of_keys { IfSome result (λ all. All (IsOfKey corner) all.items) }
@@ -109,8 +105,8 @@ fn pack_all(alloc: Global, corner: Corner, keys: &[Key]) -> Option<Vec<Packed>>
     Some(all)
 }
 
-// The keys that were packed take the places of those that stand there.
-fn unpack_all(corner: Corner, all: &[Packed], keys: &mut [Key])
+// Overwrites the keys with the unpacked ones.
+fn unpack_all(corner: Corner, all: &[Packed], keys: &mut [SortKey])
     requires len { length all.now ≡ length keys.old }
     requires all { All (IsOfKey corner) all.now }
     ensures { keys.new ≡ map (unpack corner) all.now }
@@ -120,10 +116,11 @@ fn unpack_all(corner: Corner, all: &[Packed], keys: &mut [Key])
     }
 }
 
-/// Sorts keys by ranks and starts where they can be packed and there is memory for it; whether that was so.
-pub(crate) fn sort_packed(alloc: Global, keys: &mut Vec<Key>) -> bool
+/// Sorts the keys by prefix and start, if they can be packed and there is memory for it. Returns whether it did; if
+/// not, the keys have not changed.
+pub(crate) fn sort_packed(alloc: Global, keys: &mut Vec<SortKey>) -> bool
     ensures same { IsPermutation keys.old.items keys.new.items }
-    ensures order { OnTrue result (IsSorted told_cmp keys.new.items) }
+    ensures order { OnTrue result (IsSorted prefix_start_cmp keys.new.items) }
     ensures kept { result ≡ false → keys.new.items ≡ keys.old.items }
 {
     let corner = corner_of(keys);

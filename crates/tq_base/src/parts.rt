@@ -1,4 +1,4 @@
-// What a relation is made of: sources of rows, and where the values of a column stand.
+// The parts of a relation: sources of rows, and the place of each column's values.
 
 ghost use Rattle.std.specs.Prelude.{◌≡◌, ◌<◌, ℕ, IfOk, OnOk, length, map, pos, slice_index_or};
 ghost use Rattle.std.specs.Option.{option_copied};
@@ -11,28 +11,28 @@ use crate::rows::Rows;
 use crate::value::Value;
 use std::alloc::{AllocError, Global};
 
-// Rows, lent or made.
+// Rows, borrowed or owned.
 #[derive(Drop, Debug)]
 pub(crate) enum Source<'a> {
     Lent(&'a Rows),
     Made(Rows),
 }
 
-// Rows of a source: all of them as they stand, or those of these numbers.
+// Rows of a source: all of them, or those with these numbers.
 #[derive(Drop, Debug)]
 pub(crate) struct Part<'a> {
     pub(crate) source: Source<'a>,
     pub(crate) numbers: Option<Vec<u32>>,
 }
 
-// Where the values of a column stand: in which part, and in which column there.
+// The place of a column: the part, and the column in its source.
 #[derive(Clone, Copy, Debug)]
 pub(crate) struct Place {
     pub(crate) part: u32,
     pub(crate) column: u32,
 }
 
-// The value of the column in the row of this number; where there is no such row, or it has no such column, the number 0.
+// The value of the column in the row with this number; the number 0 if there is no such row or no such column.
 fn value_of<'a>(rows: &'a Rows, number: u32, column: u32, zero: &'a Value) -> &'a Value
     requires { zero.now ≡ Int (pos 0) }
     ensures { result.now ≡ value_at (values_at_number rows.now.items number) column }
@@ -44,7 +44,7 @@ fn value_of<'a>(rows: &'a Rows, number: u32, column: u32, zero: &'a Value) -> &'
     rows.value(number, column).unwrap_or(zero)
 }
 
-// The numbers at these places, 0 where there is none.
+// The numbers at these places, 0 for a place that does not exist.
 fn numbers_at(alloc: Global, numbers: &[u32], places: &[u32]) -> Result<Vec<u32>, AllocError>
     ensures { IfOk result (λ chosen. chosen.items ≡ map (λ place. slice_index_or numbers.now place 0) places.now) }
 {
@@ -70,7 +70,6 @@ fn numbers_of(
 }
 
 impl Source<'_> {
-    // The rows.
     pub(crate) fn rows(&self) -> &Rows
         ensures { result.now ≡ source_list self.now }
     {
@@ -92,7 +91,7 @@ impl Part<'_> {
         }
     }
 
-    // The numbers in its source of the rows, none where they are all rows as they stand.
+    // The numbers of the rows in their source; `None` if the part has all rows of the source.
     pub(crate) fn numbers(&self) -> Option<&[u32]>
         ensures { (place : ℕ) → number_in (option_copied result) place ≡ number_at self.now.numbers place }
     {
@@ -102,7 +101,6 @@ impl Part<'_> {
         }
     }
 
-    // The value of the column in the row at the place.
     fn value<'a>(&'a self, place: u32, column: u32, zero: &'a Value) -> &'a Value
         requires { zero.now ≡ Int (pos 0) }
         ensures { result.now ≡ value_at (part_values self.now place) column }
@@ -110,7 +108,7 @@ impl Part<'_> {
         value_of(self.source.rows(), self.number(place), column, zero)
     }
 
-    // The rows at these places take the place of the rows. Where a growth was refused they stay.
+    // Replaces the rows by those at these places. If an allocation failed, they have not changed.
     pub(crate) fn renumber(&mut self, alloc: Global, places: &[u32]) -> Result<(), AllocError>
         ensures { OnOk result ((k : ℕ) → k < length places.now → part_values self.new k ≡ part_values self.old (slice_index_or places.now k 0)) }
     {
@@ -118,8 +116,12 @@ impl Part<'_> {
         Ok(())
     }
 
-    // The rows at these places, lent.
-    pub(crate) fn picked(&self, alloc: Global, places: &[u32]) -> Result<Part<'_>, AllocError>
+    // A part with the rows at these places that borrows the source.
+    pub(crate) fn take_rows_ref(
+        &self,
+        alloc: Global,
+        places: &[u32],
+    ) -> Result<Part<'_>, AllocError>
         ensures { (k : ℕ) → k < length places.now → IfOk result (λ part. part_values part k ≡ part_values self.now (slice_index_or places.now k 0)) }
     {
         Ok(Part {
@@ -129,7 +131,7 @@ impl Part<'_> {
     }
 }
 
-// The value of the column in the row at the place; one that stands nowhere is the number 0.
+// The value of the column in the row at the place; a column without a place has the number 0.
 pub(crate) fn value_in<'a>(
     parts: &'a [Part<'a>],
     column: &Option<Place>,

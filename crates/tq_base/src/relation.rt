@@ -1,11 +1,11 @@
-//! Relations: rows by their numbers in other lists of rows, so that operators move no values.
+//! Relations: rows of other lists, chosen by number, so that operators move no values.
 
 ghost use Rattle.std.specs.Prelude.{◌≡◌, ◌<◌, ◌≤◌, ◌+◌, ◌++◌, ℕ, All, IfOk, List, OnOk, length, map, slice_index_or};
 ghost use Rattle.std.specs.List.{flat_map, range_with_len};
 ghost use Rattle.tq_base.specs.declared.fragment.Fragment.{Fragment};
 ghost use Rattle.tq_base.specs.Keys.{no_row};
 ghost use Rattle.tq_base.specs.Parts.{chosen_column, first_column, first_periods, moved_column, periods_of, rows_at, source_list};
-ghost use Rattle.tq_base.specs.Relations.{column_of, line_of, pair_of, projected, row_at, values_at_number, AreLines};
+ghost use Rattle.tq_base.specs.Relations.{column_of, row_period_of, pair_of, projected, row_at, values_at_number, AreRowPeriods};
 
 use crate::column_view::{ColumnView, push_values};
 use crate::dense::MAX_ROWS;
@@ -17,14 +17,14 @@ use crate::value::Value;
 use std::alloc::{AllocError, Global};
 use std::marker::Model;
 
-/// The number of a row, and when it is valid.
+/// The number of a row, and the period in which it is valid.
 #[derive(Clone, Copy, Debug)]
-pub struct Line {
+pub struct RowPeriod {
     pub row: u32,
     pub period: Period,
 }
 
-/// The numbers of a left and a right row, and when they are valid together.
+/// The numbers of a left and a right row, and the period in which both are valid.
 #[derive(Clone, Copy, Debug)]
 pub struct Pair {
     pub left: u32,
@@ -32,15 +32,15 @@ pub struct Pair {
     pub period: Period,
 }
 
-// The periods of rows: those of the first part's source, or others.
+// The periods of rows: those of the first part's source, or a list of their own.
 #[derive(Drop, Debug)]
 enum Periods {
     First,
     Own(Vec<Period>),
 }
 
-/// Rows of one width, each with the period at which it is valid, whose values stand where they stood: in lists
-/// of rows that are lent or made, by their numbers there; seen as their width and their list.
+/// Rows of one width, each with its period. The values stay in the lists of rows that the relation borrows or owns; it
+/// refers to them by number. Contracts see the width and the list of rows.
 #[derive(Drop, Debug)]
 pub struct Relation<'a> {
     parts: Vec<Part<'a>>,
@@ -62,7 +62,7 @@ impl<'a> Model for Relation<'a> {
     ghost invariant = { λ r. (r.zero ≡ Int (pos 0)) × (length (periods_of r.parts.items r.periods) ≤ 4294967295) × (All (IsIn (length r.parts.items)) r.columns.items) };
 }
 
-// A column for each of the first so many, of the first part.
+// The places of the first `width` columns of the first part.
 fn first_columns(alloc: Global, width: usize) -> Result<Vec<Option<Place>>, AllocError>
     ensures { IfOk result (λ columns. columns.items ≡ map first_column (range_with_len 0 width)) }
 {
@@ -76,7 +76,7 @@ fn first_columns(alloc: Global, width: usize) -> Result<Vec<Option<Place>>, Allo
     Ok(columns)
 }
 
-// The columns of these numbers, nowhere where there is none.
+// The places of the columns with these numbers; none for a column that does not exist.
 fn chosen_columns(
     alloc: Global,
     columns: &[Option<Place>],
@@ -91,7 +91,7 @@ fn chosen_columns(
     Ok(chosen)
 }
 
-// The column where the parts stand so many places further behind.
+// The place of the column, after `parts` other parts were put in front of its own.
 fn moved_column(column: Option<Place>, parts: usize) -> Result<Option<Place>, AllocError>
     ensures { IfOk result (λ moved. moved ≡ moved_column parts column) }
 {
@@ -107,7 +107,7 @@ fn moved_column(column: Option<Place>, parts: usize) -> Result<Option<Place>, Al
     }
 }
 
-// The columns, then the others, whose parts stand so many places further behind.
+// The columns, then the others, whose parts come after the `parts` parts of the first.
 fn both_columns(
     alloc: Global,
     columns: &[Option<Place>],
@@ -123,7 +123,7 @@ fn both_columns(
     Ok(both)
 }
 
-// The rows at these places take the place of the rows of each part. Where a growth was refused, some of them did.
+// Replaces the rows of each part by those at these places. If an allocation failed, some parts may have changed.
 fn renumber(alloc: Global, parts: &mut Vec<Part<'_>>, places: &[u32]) -> Result<(), AllocError>
     ensures len { length parts.new.items ≡ length parts.old.items }
     ensures rows { OnOk result ((k : ℕ) → k < length places.now → rows_at parts.new.items k ≡ rows_at parts.old.items (slice_index_or places.now k 0)) }
@@ -134,23 +134,22 @@ fn renumber(alloc: Global, parts: &mut Vec<Part<'_>>, places: &[u32]) -> Result<
     Ok(())
 }
 
-// The rows at these places of each part, lent.
-fn picked_parts<'a>(
+// For each part, the rows at these places, borrowed.
+fn take_parts<'a>(
     alloc: Global,
     parts: &'a [Part<'_>],
     places: &[u32],
 ) -> Result<Vec<Part<'a>>, AllocError>
-    ensures len { IfOk result (λ picked. length picked.items ≡ length parts.now) }
-    ensures rows { (k : ℕ) → k < length places.now → IfOk result (λ picked. rows_at picked.items k ≡ rows_at parts.now (slice_index_or places.now k 0)) }
+    ensures len { IfOk result (λ taken. length taken.items ≡ length parts.now) }
+    ensures rows { (k : ℕ) → k < length places.now → IfOk result (λ taken. rows_at taken.items k ≡ rows_at parts.now (slice_index_or places.now k 0)) }
 {
-    let mut picked = Vec::with_capacity(alloc, parts.len())?;
+    let mut taken = Vec::with_capacity(alloc, parts.len())?;
     'parts: for part in parts {
-        picked.push(part.picked(alloc, places)?)?;
+        taken.push(part.take_rows_ref(alloc, places)?)?;
     }
-    Ok(picked)
+    Ok(taken)
 }
 
-// The periods of the rows of the first part's source.
 fn first_periods<'a>(parts: &'a [Part<'_>]) -> &'a [Period]
     ensures { result.now ≡ first_periods parts.now }
 {
@@ -160,7 +159,6 @@ fn first_periods<'a>(parts: &'a [Part<'_>]) -> &'a [Period]
     }
 }
 
-// The periods of the rows.
 fn periods_of<'a>(parts: &'a [Part<'_>], periods: &'a Periods) -> &'a [Period]
     ensures { result.now ≡ periods_of parts.now periods.now }
 {
@@ -170,8 +168,8 @@ fn periods_of<'a>(parts: &'a [Part<'_>], periods: &'a Periods) -> &'a [Period]
     }
 }
 
-// The periods of these numbers. They may lie apart from one another, and reads in a short loop of their own wait for
-// memory together.
+// The periods with these numbers. They may lie anywhere in memory; in a short loop of their own the processor overlaps
+// many cache misses.
 fn periods_at(alloc: Global, periods: &[Period], numbers: &[u32]) -> Result<Vec<Period>, AllocError>
     requires { All (λ number. number < length periods.now) numbers.now }
     ensures { IfOk result (λ chosen. chosen.items ≡ map (λ number. slice_index_or periods.now number no_row.period) numbers.now) }
@@ -183,42 +181,46 @@ fn periods_at(alloc: Global, periods: &[Period], numbers: &[u32]) -> Result<Vec<
     Ok(chosen)
 }
 
-// The rows of lines.
-fn rows_of(alloc: Global, lines: &[Line]) -> Result<Vec<u32>, AllocError>
-    ensures { IfOk result (λ rows. rows.items ≡ map (λ (line : Line). line.row) lines.now) }
+fn rows_of(alloc: Global, row_periods: &[RowPeriod]) -> Result<Vec<u32>, AllocError>
+    ensures { IfOk result (λ rows. rows.items ≡ map (λ (row_period : RowPeriod). row_period.row) row_periods.now) }
 {
-    lines.iter().map(|line| line.row).collect(alloc)
+    row_periods
+        .iter()
+        .map(|row_period| row_period.row)
+        .collect(alloc)
 }
 
-// The periods of lines.
-fn line_periods(alloc: Global, lines: &[Line]) -> Result<Vec<Period>, AllocError>
-    ensures { IfOk result (λ periods. periods.items ≡ map (λ (line : Line). line.period) lines.now) }
+fn periods_of_row_periods(
+    alloc: Global,
+    row_periods: &[RowPeriod],
+) -> Result<Vec<Period>, AllocError>
+    ensures { IfOk result (λ periods. periods.items ≡ map (λ (row_period : RowPeriod). row_period.period) row_periods.now) }
 {
-    lines.iter().map(|line| line.period).collect(alloc)
+    row_periods
+        .iter()
+        .map(|row_period| row_period.period)
+        .collect(alloc)
 }
 
-// The left rows of pairs.
 fn left_rows(alloc: Global, pairs: &[Pair]) -> Result<Vec<u32>, AllocError>
     ensures { IfOk result (λ rows. rows.items ≡ map (λ (pair : Pair). pair.left) pairs.now) }
 {
     pairs.iter().map(|pair| pair.left).collect(alloc)
 }
 
-// The right rows of pairs.
 fn right_rows(alloc: Global, pairs: &[Pair]) -> Result<Vec<u32>, AllocError>
     ensures { IfOk result (λ rows. rows.items ≡ map (λ (pair : Pair). pair.right) pairs.now) }
 {
     pairs.iter().map(|pair| pair.right).collect(alloc)
 }
 
-// The periods of pairs.
 fn pair_periods(alloc: Global, pairs: &[Pair]) -> Result<Vec<Period>, AllocError>
     ensures { IfOk result (λ periods. periods.items ≡ map (λ (pair : Pair). pair.period) pairs.now) }
 {
     pairs.iter().map(|pair| pair.period).collect(alloc)
 }
 
-// The relation of the rows of one source.
+// The relation with all rows of one source.
 fn whole<'a>(alloc: Global, source: Source<'a>) -> Result<Relation<'a>, AllocError>
     ensures { IfOk result (λ relation. relation ≡ source_list source.entry) }
 {
@@ -240,21 +242,21 @@ fn whole<'a>(alloc: Global, source: Source<'a>) -> Result<Relation<'a>, AllocErr
 }
 
 impl<'a> Relation<'a> {
-    /// The rows as they stand, lent. `AllocError` where a growth was refused.
+    /// All rows, borrowed. `AllocError` if an allocation failed.
     pub fn of(alloc: Global, rows: &'a Rows) -> Result<Relation<'a>, AllocError>
         ensures { IfOk result (λ relation. relation ≡ rows.now) }
     {
         whole(alloc, Source::Lent(rows))
     }
 
-    /// The rows as they stand, moved in. `AllocError` where a growth was refused.
-    pub fn made(alloc: Global, rows: Rows) -> Result<Relation<'a>, AllocError>
+    /// All rows, moved in. `AllocError` if an allocation failed.
+    pub fn owned(alloc: Global, rows: Rows) -> Result<Relation<'a>, AllocError>
         ensures { IfOk result (λ relation. relation ≡ rows) }
     {
         whole(alloc, Source::Made(rows))
     }
 
-    /// How many values each row has.
+    /// The number of values in each row.
     pub fn width(&self) -> usize
         ensures width { result ≡ self.now.width }
         ensures rows { All (λ (row : Fragment). length row.values ≡ self.now.width) self.now.items }
@@ -262,7 +264,7 @@ impl<'a> Relation<'a> {
         self.columns.len()
     }
 
-    /// How many rows there are.
+    /// The number of rows.
     pub fn len(&self) -> usize
         ensures len { result ≡ length self.now.items }
         ensures few { result ≤ 4294967295 }
@@ -270,14 +272,14 @@ impl<'a> Relation<'a> {
         periods_of(&self.parts, &self.periods).len()
     }
 
-    /// The periods of the rows.
+    /// The periods of the rows, in their order.
     pub fn periods(&self) -> &[Period]
         ensures { result.now ≡ map (λ (row : Fragment). row.period) self.now.items }
     {
         periods_of(&self.parts, &self.periods)
     }
 
-    /// When the row is valid.
+    /// The period of the row.
     pub fn period(&self, row: usize) -> Period
         requires { row < length self.now.items }
         ensures { (d : Fragment) → result ≡ (slice_index_or self.now.items row d).period }
@@ -285,7 +287,7 @@ impl<'a> Relation<'a> {
         self.periods()[row]
     }
 
-    /// The values of the row, none where there is no such row.
+    /// The values of the row; none if there is no such row.
     pub fn row(&self, row: usize) -> Row<'_>
         ensures { result ≡ values_at_number self.now.items row }
     {
@@ -301,7 +303,6 @@ impl<'a> Relation<'a> {
         }
     }
 
-    // The values of the column at the place; a column that the rows do not have counts as the number 0.
     fn column_at(&self, place: usize) -> ColumnView<'_>
         ensures { result ≡ column_of self.now.items place }
     {
@@ -309,17 +310,17 @@ impl<'a> Relation<'a> {
         ColumnView::of(self.parts.as_slice(), place, self.len(), &self.zero)
     }
 
-    /// The values of the column, numbered from 0, lent row by row; a column that the rows do not have counts as the
-    /// number 0. For loops over rows: what is the same for all of them is looked up once.
+    /// The values of the column, numbered from 0, for loops over rows. A column that the rows do not have counts as the
+    /// number 0.
     pub fn column(&self, column: u32) -> ColumnView<'_>
         ensures { result ≡ column_of self.now.items column }
     {
         self.column_at(column as usize)
     }
 
-    // The rows of these numbers, each at the period in its place, take the place of the rows. Where a growth was refused
-    // the rows are no longer of use.
-    fn set_placed(
+    // Replaces the rows by those with these numbers, each valid in the period at its place. If an allocation failed,
+    // the relation must not be used further.
+    fn set_rows_and_periods(
         &mut self,
         alloc: Global,
         numbers: &[u32],
@@ -327,47 +328,51 @@ impl<'a> Relation<'a> {
     ) -> Result<(), AllocError>
         requires few { length periods.items ≤ 4294967295 }
         ensures width { self.new.width ≡ self.old.width }
-        ensures rows { (lines : List Line) → AreLines lines numbers.now periods.items → All (λ (line : Line). line.row < length self.old.items) lines
-            → OnOk result (self.new.items ≡ map (line_of self.old.items) lines) }
+        ensures rows { (row_periods : List RowPeriod) → AreRowPeriods row_periods numbers.now periods.items → All (λ (row_period : RowPeriod). row_period.row < length self.old.items) row_periods
+            → OnOk result (self.new.items ≡ map (row_period_of self.old.items) row_periods) }
     {
         self.periods = Periods::Own(periods);
         renumber(alloc, &mut self.parts, numbers)
     }
 
-    /// The rows of these numbers, each at the period in its place. `AllocError` where a growth was refused, or where
+    /// The rows with these numbers, each valid in the period at its place. `AllocError` if an allocation failed or
     /// there are 2^32 periods or more.
-    pub fn placed(
+    pub fn take_with_periods(
         self,
         alloc: Global,
         numbers: &[u32],
         periods: Vec<Period>,
     ) -> Result<Relation<'a>, AllocError>
         ensures width { IfOk result (λ out. out.width ≡ self.entry.width) }
-        ensures rows { (lines : List Line) → AreLines lines numbers.now periods.items → All (λ (line : Line). line.row < length self.entry.items) lines
-            → IfOk result (λ out. out.items ≡ map (line_of self.entry.items) lines) }
+        ensures rows { (row_periods : List RowPeriod) → AreRowPeriods row_periods numbers.now periods.items → All (λ (row_period : RowPeriod). row_period.row < length self.entry.items) row_periods
+            → IfOk result (λ out. out.items ≡ map (row_period_of self.entry.items) row_periods) }
     {
         if periods.len() > MAX_ROWS {
             return Err(AllocError);
         }
         let mut out = self;
-        out.set_placed(alloc, numbers, periods)?;
+        out.set_rows_and_periods(alloc, numbers, periods)?;
         Ok(out)
     }
 
-    /// The rows of these numbers, each at the line's period. `AllocError` where a growth was refused, or where
-    /// there are 2^32 lines or more.
-    pub fn pick(self, alloc: Global, lines: &[Line]) -> Result<Relation<'a>, AllocError>
-        requires { All (λ (line : Line). line.row < length self.items) lines.now }
+    /// The rows with these numbers, each valid in the period given with it. `AllocError` if an allocation failed or
+    /// there are 2^32 entries or more.
+    pub fn take_row_periods(
+        self,
+        alloc: Global,
+        row_periods: &[RowPeriod],
+    ) -> Result<Relation<'a>, AllocError>
+        requires { All (λ (row_period : RowPeriod). row_period.row < length self.items) row_periods.now }
         ensures width { IfOk result (λ out. out.width ≡ self.entry.width) }
-        ensures rows { IfOk result (λ out. out.items ≡ map (line_of self.entry.items) lines.now) }
+        ensures rows { IfOk result (λ out. out.items ≡ map (row_period_of self.entry.items) row_periods.now) }
     {
-        let rows = rows_of(alloc, lines)?;
-        let periods = line_periods(alloc, lines)?;
-        self.placed(alloc, &rows, periods)
+        let rows = rows_of(alloc, row_periods)?;
+        let periods = periods_of_row_periods(alloc, row_periods)?;
+        self.take_with_periods(alloc, &rows, periods)
     }
 
-    // The rows of these numbers take the place of the rows, each at its own period. Where a growth was refused the rows
-    // are no longer of use.
+    // Replaces the rows by those with these numbers, with their periods. If an allocation failed, the relation must not
+    // be used further.
     fn set_numbers(&mut self, alloc: Global, numbers: &[u32]) -> Result<(), AllocError>
         requires few { length numbers.now ≤ 4294967295 }
         requires within { All (λ number. number < length self.old.items) numbers.now }
@@ -378,9 +383,9 @@ impl<'a> Relation<'a> {
         renumber(alloc, &mut self.parts, numbers)
     }
 
-    /// The rows of these numbers, in their order. `AllocError` where a growth was refused, or where there are 2^32
-    /// numbers or more.
-    pub fn keep(self, alloc: Global, numbers: &[u32]) -> Result<Relation<'a>, AllocError>
+    /// The rows with these numbers, in this order, with their periods. `AllocError` if an allocation failed or there
+    /// are 2^32 numbers or more.
+    pub fn take_rows(self, alloc: Global, numbers: &[u32]) -> Result<Relation<'a>, AllocError>
         requires { All (λ number. number < length self.items) numbers.now }
         ensures width { IfOk result (λ out. out.width ≡ self.entry.width) }
         ensures rows { IfOk result (λ out. out.items ≡ map (row_at self.entry.items) numbers.now) }
@@ -393,9 +398,9 @@ impl<'a> Relation<'a> {
         Ok(out)
     }
 
-    /// The same rows, lent. `AllocError` where a growth was refused, or where there are
+    /// The same as `take_rows`, as a relation that borrows the rows. `AllocError` if an allocation failed or there are
     /// 2^32 numbers or more.
-    pub fn picked(&self, alloc: Global, numbers: &[u32]) -> Result<Relation<'_>, AllocError>
+    pub fn take_rows_ref(&self, alloc: Global, numbers: &[u32]) -> Result<Relation<'_>, AllocError>
         requires { All (λ number. number < length self.now.items) numbers.now }
         ensures width { IfOk result (λ out. out.width ≡ self.now.width) }
         ensures rows { IfOk result (λ out. out.items ≡ map (row_at self.now.items) numbers.now) }
@@ -405,15 +410,15 @@ impl<'a> Relation<'a> {
         }
         let periods = periods_at(alloc, self.periods(), numbers)?;
         Ok(Relation {
-            parts: picked_parts(alloc, &self.parts, numbers)?,
+            parts: take_parts(alloc, &self.parts, numbers)?,
             columns: self.columns.to_vec(alloc)?,
             periods: Periods::Own(periods),
             zero: Value::int(0),
         })
     }
 
-    // Of each pair the values of its left row, then those of its right one, at the pair's period, take the place of
-    // the left rows. Where a growth was refused the rows are no longer of use.
+    // Replaces the rows by one row for each pair: the left row's values, then the right row's, valid in the pair's
+    // period. If an allocation failed, the relation must not be used further.
     fn set_pairs(
         &mut self,
         alloc: Global,
@@ -442,8 +447,8 @@ impl<'a> Relation<'a> {
         Ok(())
     }
 
-    /// Of each pair the values of its left row, then those of its right one, at the pair's period. `AllocError`
-    /// where a growth was refused, or where there are 2^32 pairs or more.
+    /// One row for each pair: the values of its left row, then those of its right row, valid in the pair's period.
+    /// `AllocError` if an allocation failed or there are 2^32 pairs or more.
     pub fn pair(
         alloc: Global,
         left: Relation<'a>,
@@ -463,7 +468,7 @@ impl<'a> Relation<'a> {
         Ok(out)
     }
 
-    // The columns of these numbers take the place of the columns; where a growth was refused they stay.
+    // Replaces the columns by those with these numbers. If an allocation failed, they have not changed.
     fn set_columns(&mut self, alloc: Global, columns: &[u32]) -> Result<(), AllocError>
         ensures width { OnOk result (self.new.width ≡ length columns.now) }
         ensures rows { OnOk result (self.new.items ≡ map (projected columns.now) self.old.items) }
@@ -472,8 +477,8 @@ impl<'a> Relation<'a> {
         Ok(())
     }
 
-    /// Of each row the values in the columns, in their order; a column that the rows do not have has the number
-    /// 0. Periods stay as they are. `AllocError` where a growth was refused.
+    /// The given columns of each row, in this order; a column that the rows do not have is the number 0. The periods
+    /// stay the same. `AllocError` if an allocation failed.
     pub fn project(self, alloc: Global, columns: &[u32]) -> Result<Relation<'a>, AllocError>
         ensures width { IfOk result (λ out. out.width ≡ length columns.now) }
         ensures rows { IfOk result (λ out. out.items ≡ map (projected columns.now) self.entry.items) }
@@ -483,7 +488,6 @@ impl<'a> Relation<'a> {
         Ok(out)
     }
 
-    // The values of all columns.
     fn all_columns(&self, alloc: Global) -> Result<Vec<ColumnView<'_>>, AllocError>
         ensures { IfOk result (λ columns. columns.items ≡ map (column_of self.now.items) (range_with_len 0 self.now.width)) }
     {
@@ -494,7 +498,7 @@ impl<'a> Relation<'a> {
         Ok(columns)
     }
 
-    // The values of all rows, copied, one row behind the other.
+    // Copies of the values of all rows, one row after the other.
     fn copied_values(&self, alloc: Global) -> Result<Vec<Value>, AllocError>
         ensures { IfOk result (λ values. values.items ≡ flat_map (λ (row : Fragment). row.values) self.now.items) }
     {
@@ -509,7 +513,7 @@ impl<'a> Relation<'a> {
         Ok(values)
     }
 
-    /// The rows, their values copied. `AllocError` where a growth was refused.
+    /// A copy of the rows with their values. `AllocError` if an allocation failed.
     pub fn copied(&self, alloc: Global) -> Result<Rows, AllocError>
         ensures { IfOk result (λ rows. rows ≡ self.now) }
     {
@@ -519,10 +523,10 @@ impl<'a> Relation<'a> {
         Ok(Rows::of_values(alloc, self.width(), values, periods))
     }
 
-    /// The same rows, their values copied, so that nothing is lent. `AllocError` where a growth was refused.
-    pub fn detached<'b>(&self, alloc: Global) -> Result<Relation<'b>, AllocError>
+    /// A copy of the relation that owns its rows. `AllocError` if an allocation failed.
+    pub fn to_owned<'b>(&self, alloc: Global) -> Result<Relation<'b>, AllocError>
         ensures { IfOk result (λ relation. relation ≡ self.now) }
     {
-        Relation::made(alloc, self.copied(alloc)?)
+        Relation::owned(alloc, self.copied(alloc)?)
     }
 }

@@ -1,4 +1,4 @@
-//! A row that is lent: its values, wherever they stand.
+//! One row of a relation, borrowed.
 
 ghost use Rattle.std.specs.Prelude.{◌≡◌, ◌++◌, OnOk, length, map, pos};
 ghost use Rattle.tq_base.specs.Contents.{Int};
@@ -10,7 +10,7 @@ use crate::value::Value;
 use std::alloc::AllocError;
 use std::marker::Model;
 
-/// The values of a row of a relation, lent; seen as their list.
+/// The values of a row of a relation, borrowed. Contracts see their list.
 #[derive(Drop)]
 pub struct Row<'a> {
     parts: &'a [Part<'a>],
@@ -51,14 +51,14 @@ impl<'a> Row<'a> {
         }
     }
 
-    /// How many values the row has.
+    /// The number of values in the row.
     pub fn len(&self) -> usize
         ensures { result ≡ length self.now }
     {
         self.columns.len()
     }
 
-    /// The value at the place, counted from 0; one that the row does not have counts as the number 0.
+    /// The value at the place, counted from 0; a place that the row does not have counts as the number 0.
     pub fn value(&self, place: usize) -> &'a Value
         ensures { result.now ≡ value_at self.now place }
     {
@@ -75,7 +75,7 @@ impl<'a> Row<'a> {
         self.value(column as usize)
     }
 
-    /// Copies of the values in the columns go to the end of the list. `AllocError` where a growth was refused.
+    /// Appends copies of the values in the columns to `room`. `AllocError` if an allocation failed.
     pub fn show(&self, columns: &[u32], room: &mut Vec<Value>) -> Result<(), AllocError>
         ensures { OnOk result (room.new.items ≡ room.old.items ++ map (value_at self.now) columns.now) }
     {
@@ -85,7 +85,7 @@ impl<'a> Row<'a> {
         Ok(())
     }
 
-    /// Copies of all values go to the end of the list. `AllocError` where a growth was refused.
+    /// Appends copies of all values to `room`. `AllocError` if an allocation failed.
     pub fn show_all(&self, room: &mut Vec<Value>) -> Result<(), AllocError>
         ensures { OnOk result (room.new.items ≡ room.old.items ++ self.now) }
     {

@@ -1,5 +1,5 @@
-//! Rows of one width, each with the period at which it is valid. Of each row all values are kept, or those of some of its
-//! columns, where the others have the same value in each row.
+//! Rows of one width, each with its period. The rows store all columns, or only some of them if the others have the
+//! same value in each row.
 
 ghost use Rattle.std.specs.Prelude.{◌≡◌, ◌≢◌, false, ◌++◌, ◌∷◌, [], ◌<◌, ◌≤◌, ◌+◌, ◌*◌, ℕ, List, None, pos, All, IfOk, IfSome, IsTrue, OnErr, OnOk, if◌then◌else◌, length, map, slice_index_or, take};
 ghost use Rattle.std.specs.List.{flat_map};
@@ -8,95 +8,94 @@ ghost use Rattle.tq_base.specs.declared.rows.Slot.{Slot as AnySlot};
 ghost use Rattle.tq_base.specs.declared.value.Value.{Value as AnyValue};
 ghost use Rattle.tq_base.specs.RowValues.{value_at};
 ghost use Rattle.tq_base.specs.Contents.{Int, Text};
-ghost use Rattle.tq_base.specs.Parts.{StandThere};
+ghost use Rattle.tq_base.specs.Parts.{AreThere};
 ghost use Rattle.tq_base.specs.RowLists.{rows_from};
-ghost use Rattle.tq_base.specs.Slots.{seen_values, slot_value, AreLeftOut, AreNumbered, AreSlots, IsLeftOut, IsText};
+ghost use Rattle.tq_base.specs.Slots.{values_of_stored, slot_value, AreLeftOut, AreNumbered, AreSlots, IsLeftOut, IsText};
 
 use crate::catalogue::{Column, Kind};
 use crate::dense::{DenseRows, push_copies};
 use crate::period::Period;
-use crate::value::{Seen, Value};
+use crate::value::{Value, ValueRef};
 use std::alloc::{AllocError, Global};
 use std::marker::Model;
 use std::thread::Threads;
 
-// Where the value of a column stands: at this place of those that are kept of each row, or nowhere, since it is the number
-// 0 or the empty text in each row.
+// Where the value of a column is: at this place among the stored values of the row, or not stored. A column is not
+// stored if each row has the number 0 or the empty text there.
 #[derive(Clone, Copy, Debug)]
 pub(crate) enum Slot {
-    Kept(usize),
+    Stored(usize),
     Zero,
     Empty,
 }
 
-/// Rows of one width in the order of the pushes, each with the period at which it is valid; seen as their
-/// width and their list.
+/// Rows of one width in the order of the pushes, each with its period. Contracts see the width and the list of rows.
 #[derive(Drop, Debug)]
 pub struct Rows {
     alloc: Global,
     dense: DenseRows,
-    // Of each column where its value stands; none where all values are kept, one behind the other.
+    // The slot of each column; empty if all columns are stored.
     slots: Vec<Slot>,
-    // The empty text, where there are slots.
+    // The empty text, if there are slots.
     texts: Vec<Value>,
 }
 
 impl Model for Rows {
     ghost use Rattle.std.specs.Prelude.{map};
     ghost use Rattle.tq_base.specs.RowLists.{RowList};
-    ghost use Rattle.tq_base.specs.Slots.{seen_row, seen_width, AreSlots};
+    ghost use Rattle.tq_base.specs.Slots.{row_of_stored, width_of_slots, AreSlots};
 
     ghost Value = { RowList };
 
-    ghost view = { λ r. record { width = seen_width r.slots.items r.dense.width; items = map (seen_row r.slots.items) r.dense.items } };
+    ghost view = { λ r. record { width = width_of_slots r.slots.items r.dense.width; items = map (row_of_stored r.slots.items) r.dense.items } };
 
     ghost invariant = { λ r. AreSlots r.slots.items r.dense.width r.texts.items };
 }
 
-// Whether all values are kept.
-fn keep_all(slots: &[Slot]) -> bool
+// Whether all columns are stored.
+fn has_all_columns(slots: &[Slot]) -> bool
     ensures all { IsTrue result → slots.now ≡ [] }
     ensures some { result ≡ false → slots.now ≢ [] }
 {
     slots.is_empty()
 }
 
-// The slot of the column; one that the rows do not have is the number 0.
+// The slot of the column; a column that the rows do not have is the number 0.
 fn slot_of(slots: &[Slot], column: u32) -> Slot
-    ensures value { (kept : List AnyValue) → slot_value kept result ≡ value_at (seen_values slots.now kept) column }
+    ensures value { (kept : List AnyValue) → slot_value kept result ≡ value_at (values_of_stored slots.now kept) column }
     ensures text { (width : ℕ) (texts : List AnyValue) → AreSlots slots.now width texts → IsText result texts }
 {
-    if keep_all(slots) {
-        return Slot::Kept(column as usize);
+    if has_all_columns(slots) {
+        return Slot::Stored(column as usize);
     }
     slots.get(column as usize).copied().unwrap_or(Slot::Zero)
 }
 
-// The value that stands in the slot, where these are kept of its row; `None` where that is the number 0 in each row.
+// The value in the slot, given the stored values of the row; `None` if it is the number 0 in each row.
 fn value_in<'a>(slot: Slot, kept: &'a [Value], texts: &'a [Value]) -> Option<&'a Value>
     requires { IsText slot texts.now }
     ensures some { IfSome result (λ value. value.now ≡ slot_value kept.now slot) }
     ensures none { result ≡ None → slot_value kept.now slot ≡ Int (pos 0) }
 {
     match slot {
-        Slot::Kept(place) => kept.get(place),
+        Slot::Stored(place) => kept.get(place),
         Slot::Zero => None,
         Slot::Empty => texts.first(),
     }
 }
 
-// The slot of a column of this kind, behind so many that are kept.
-fn next_slot(kind: Kind, is_kept: bool, kept: usize) -> Slot
-    ensures { (slots : List AnySlot) → AreNumbered 0 slots kept → AreNumbered 0 (slots ++ result ∷ []) (if is_kept then kept + 1 else kept) }
+// The slot of a column of this kind, after `kept` stored columns.
+fn next_slot(kind: Kind, is_stored: bool, kept: usize) -> Slot
+    ensures { (slots : List AnySlot) → AreNumbered 0 slots kept → AreNumbered 0 (slots ++ result ∷ []) (if is_stored then kept + 1 else kept) }
 {
-    match (is_kept, kind) {
-        (true, _) => Slot::Kept(kept),
+    match (is_stored, kind) {
+        (true, _) => Slot::Stored(kept),
         (false, Kind::Int) => Slot::Zero,
         (false, Kind::Text) => Slot::Empty,
     }
 }
 
-// The slots of the columns, of which some are kept, and how many these are.
+// The slots of the columns, and how many columns are stored.
 fn slots_of(
     alloc: Global,
     columns: &[Column],
@@ -108,28 +107,28 @@ fn slots_of(
     let mut slots = Vec::with_capacity(alloc, columns.len())?;
     let mut count: usize = 0;
     'columns: for (place, column) in columns.iter().enumerate() {
-        let is_kept = kept.get(place).copied().unwrap_or(true);
-        slots.push(next_slot(column.kind, is_kept, count))?;
-        if is_kept {
+        let is_stored = kept.get(place).copied().unwrap_or(true);
+        slots.push(next_slot(column.kind, is_stored, count))?;
+        if is_stored {
             count += 1;
         }
     }
     Ok((slots, count))
 }
 
-// Whether the value is the one that the column has in each row, where it is not kept.
+// Whether the slot stores the value, or the value is the one that every row has in this column.
 fn is_left_out(slot: Slot, value: &Value) -> bool
     ensures { IsTrue result → IsLeftOut slot value.now }
 {
-    match (slot, value.seen()) {
-        (Slot::Kept(_), _) => true,
-        (Slot::Zero, Seen::Int(number)) => number == 0,
-        (Slot::Empty, Seen::Text(text)) => text.is_empty(),
+    match (slot, value.as_ref()) {
+        (Slot::Stored(_), _) => true,
+        (Slot::Zero, ValueRef::Int(number)) => number == 0,
+        (Slot::Empty, ValueRef::Text(text)) => text.is_empty(),
         _ => false,
     }
 }
 
-// The same of all values of a row.
+// Whether `is_left_out` is true of each value of the row.
 fn are_left_out(slots: &[Slot], row: &[Value]) -> bool
     requires { length row.now ≡ length slots.now }
     ensures { IsTrue result → AreLeftOut slots.now row.now }
@@ -146,7 +145,7 @@ fn is_same(slot: Slot, other: Slot) -> bool
     ensures { IsTrue result → slot ≡ other }
 {
     match (slot, other) {
-        (Slot::Kept(place), Slot::Kept(other)) => place == other,
+        (Slot::Stored(place), Slot::Stored(other)) => place == other,
         (Slot::Zero, Slot::Zero) => true,
         (Slot::Empty, Slot::Empty) => true,
         _ => false,
@@ -167,7 +166,7 @@ fn are_same(slots: &[Slot], others: &[Slot]) -> bool
     true
 }
 
-// A copy of the value that stands in the slot.
+// A copy of the value in the slot.
 fn copied_in(slot: Slot, kept: &[Value], texts: &[Value]) -> Result<Value, AllocError>
     requires { IsText slot texts.now }
     ensures { IfOk result (λ copy. copy ≡ slot_value kept.now slot) }
@@ -178,7 +177,7 @@ fn copied_in(slot: Slot, kept: &[Value], texts: &[Value]) -> Result<Value, Alloc
     }
 }
 
-// Copies of the values that stand in the slots go to the end of the list, or some of them where a growth was refused.
+// Appends copies of the values in the slots; some of them if an allocation failed.
 fn push_shown(
     slots: &[Slot],
     kept: &[Value],
@@ -194,8 +193,8 @@ fn push_shown(
     Ok(())
 }
 
-// The values of a column, lent: that of the first row stands at the place, and that of each other so many steps behind the
-// one before.
+// The values of a column, borrowed: the first row's value is at `place`, each further one `step` places after the one
+// before.
 #[derive(Clone, Copy)]
 pub(crate) struct ColumnValues<'a> {
     pub(crate) values: &'a [Value],
@@ -204,7 +203,7 @@ pub(crate) struct ColumnValues<'a> {
 }
 
 impl Rows {
-    // The rows as they stand, of which all values are kept.
+    // Rows that store all columns.
     fn whole(alloc: Global, dense: DenseRows) -> Rows
         ensures { result ≡ dense }
     {
@@ -216,7 +215,7 @@ impl Rows {
         }
     }
 
-    /// No rows.
+    /// Rows of this width, at first none.
     pub fn new(alloc: Global, width: usize) -> Rows
         ensures width { result.width ≡ width }
         ensures rows { result.items ≡ [] }
@@ -224,9 +223,14 @@ impl Rows {
         Rows::whole(alloc, DenseRows::new(alloc, width))
     }
 
-    /// No rows. As long as every row has the number 0 or the empty text in the columns that `kept` leaves out, these
-    /// columns take no memory. Columns after the end of `kept` are kept. `AllocError` if an allocation failed.
-    pub fn keeping(alloc: Global, columns: &[Column], kept: &[bool]) -> Result<Rows, AllocError>
+    /// Rows with these columns, at first none. Columns that `kept` leaves out take no memory as long as each row has
+    /// the number 0 or the empty text in them. Columns after the end of `kept` are stored. `AllocError` if an
+    /// allocation failed.
+    pub fn with_columns(
+        alloc: Global,
+        columns: &[Column],
+        kept: &[bool],
+    ) -> Result<Rows, AllocError>
         ensures width { IfOk result (λ rows. rows.width ≡ length columns.now) }
         ensures rows { IfOk result (λ rows. rows.items ≡ []) }
     {
@@ -244,7 +248,7 @@ impl Rows {
         })
     }
 
-    // The rows of these values, one row behind the other, with these periods.
+    // The rows that the values make, `width` values each, with these periods.
     pub(crate) fn of_values(
         alloc: Global,
         width: usize,
@@ -258,19 +262,19 @@ impl Rows {
         Rows::whole(alloc, DenseRows::of_values(width, values, periods))
     }
 
-    /// How many values each row has.
+    /// The number of values in each row.
     pub fn width(&self) -> usize
         ensures width { result ≡ self.now.width }
         ensures rows { All (λ (row : Fragment). length row.values ≡ self.now.width) self.now.items }
     {
         let kept = self.dense.width();
-        if keep_all(&self.slots) {
+        if has_all_columns(&self.slots) {
             return kept;
         }
         self.slots.len()
     }
 
-    /// How many rows there are.
+    /// The number of rows.
     pub fn len(&self) -> usize
         ensures len { result ≡ length self.now.items }
         ensures few { result ≤ 4294967295 }
@@ -278,14 +282,14 @@ impl Rows {
         self.dense.len()
     }
 
-    /// The periods of the rows.
+    /// The periods of the rows, in their order.
     pub fn periods(&self) -> &[Period]
         ensures { result.now ≡ map (λ (row : Fragment). row.period) self.now.items }
     {
         self.dense.periods()
     }
 
-    /// When the row is valid.
+    /// The period of the row.
     pub fn period(&self, row: usize) -> Period
         requires { row < length self.now.items }
         ensures { (d : Fragment) → result ≡ (slice_index_or self.now.items row d).period }
@@ -293,8 +297,8 @@ impl Rows {
         self.periods()[row]
     }
 
-    /// The value of the row in the column; `None` where each row has the number 0 there, so too where the rows do not have
-    /// the column.
+    /// The value of the row in the column; `None` if each row has the number 0 there, also for a column that the rows
+    /// do not have.
     pub fn value(&self, row: usize, column: u32) -> Option<&Value>
         requires { row < length self.now.items }
         ensures some { IfSome result (λ value. (d : Fragment) → value.now ≡ value_at (slice_index_or self.now.items row d).values column) }
@@ -304,31 +308,31 @@ impl Rows {
         value_in(slot, self.dense.values(row), &self.texts)
     }
 
-    /// Copies of the row's values go to the end of the list, or some of them where a growth was refused.
+    /// Appends copies of the row's values to `room`; some of them if an allocation failed.
     pub fn show(&self, row: usize, room: &mut Vec<Value>) -> Result<(), AllocError>
         requires { row < length self.now.items }
         ensures { (d : Fragment) → OnOk result (room.new.items ≡ room.old.items ++ (slice_index_or self.now.items row d).values) }
     {
         let kept = self.dense.values(row);
-        if keep_all(&self.slots) {
+        if has_all_columns(&self.slots) {
             return push_copies(room, kept);
         }
         push_shown(&self.slots, kept, &self.texts, room)
     }
 
-    // The values of the column; `None` where each row has the number 0 there.
+    // The values of the column; `None` if each row has the number 0 there.
     pub(crate) fn column(&self, column: u32) -> Option<ColumnValues<'_>>
-        ensures stand { IfSome result (λ found. StandThere (length self.now.items) found.values.now found.step found.place) }
+        ensures stand { IfSome result (λ found. AreThere (length self.now.items) found.values.now found.step found.place) }
         ensures found { IfSome result (λ found. (k : ℕ) (d : Fragment) → k < length self.now.items → value_at (slice_index_or self.now.items k d).values column ≡ value_at found.values.now (k * found.step + found.place)) }
         ensures none { result ≡ None → (k : ℕ) (d : Fragment) → k < length self.now.items → value_at (slice_index_or self.now.items k d).values column ≡ Int (pos 0) }
     {
         match slot_of(&self.slots, column) {
-            Slot::Kept(place) if place < self.dense.width() => Some(ColumnValues {
+            Slot::Stored(place) if place < self.dense.width() => Some(ColumnValues {
                 values: self.dense.all_values(),
                 step: self.dense.width(),
                 place,
             }),
-            Slot::Kept(_) => None,
+            Slot::Stored(_) => None,
             Slot::Zero => None,
             Slot::Empty => Some(ColumnValues {
                 values: self.texts.as_slice(),
@@ -349,7 +353,7 @@ impl Rows {
         Ok(values)
     }
 
-    // A copy of the rows that keeps all values.
+    // A copy of the rows that stores all columns.
     fn widened(&self) -> Result<DenseRows, AllocError>
         ensures { IfOk result (λ dense. dense ≡ self.now) }
     {
@@ -359,17 +363,17 @@ impl Rows {
         Ok(DenseRows::of_values(self.width(), values, periods))
     }
 
-    // The same rows, with all values kept.
+    // The same rows, storing all columns.
     fn into_dense(self) -> Result<DenseRows, AllocError>
         ensures { IfOk result (λ dense. dense ≡ self) }
     {
-        if keep_all(&self.slots) {
+        if has_all_columns(&self.slots) {
             return Ok(self.dense);
         }
         self.widened()
     }
 
-    // Adds a row and keeps all values of all rows from then on.
+    // Adds a row, after which all columns are stored.
     fn push_wide(&mut self, row: &mut Vec<Value>, period: Period) -> Result<(), AllocError>
         requires { length row.old.items ≡ self.old.width }
         ensures width { self.new.width ≡ self.old.width }
@@ -384,9 +388,9 @@ impl Rows {
         Ok(())
     }
 
-    /// Adds a row of these values, which are moved out of their list. If a column that is left out has another value
-    /// than the number 0 or the empty text, the rows keep all columns from then on. `AllocError` if an allocation
-    /// failed or there are 2^32 - 1 rows: then all is as before.
+    /// Adds a row and moves the values out of `row`. If a left-out column has another value than the number 0 or the
+    /// empty text, the rows store all columns from then on. `AllocError` if an allocation failed or there are 2^32 - 1
+    /// rows already: then nothing has changed.
     pub fn push(&mut self, row: &mut Vec<Value>, period: Period) -> Result<(), AllocError>
         requires { length row.old.items ≡ self.old.width }
         ensures width { self.new.width ≡ self.old.width }
@@ -395,24 +399,24 @@ impl Rows {
         ensures err { OnErr result (self.new ≡ self.old) }
         ensures kept { OnErr result (row.new.items ≡ row.old.items) }
     {
-        if keep_all(&self.slots) {
+        if has_all_columns(&self.slots) {
             return self.dense.push(row, period);
         }
         if !are_left_out(&self.slots, row) {
             return self.push_wide(row, period);
         }
-        self.dense.push_kept(&self.slots, row, period)
+        self.dense.push_stored(&self.slots, row, period)
     }
 
-    /// Adds a row of copies of these values, as `push` does. `AllocError` if an allocation failed or there are
-    /// 2^32 - 1 rows: then all is as before.
+    /// Adds a row of copies of the values, as `push` does. `AllocError` if an allocation failed or there are 2^32 - 1
+    /// rows already: then nothing has changed.
     pub fn push_copy(&mut self, row: &[Value], period: Period) -> Result<(), AllocError>
         requires { length row.now ≡ self.old.width }
         ensures width { self.new.width ≡ self.old.width }
         ensures pushed { OnOk result (self.new.items ≡ self.old.items ++ record { values = row.now; period = period } ∷ []) }
         ensures err { OnErr result (self.new ≡ self.old) }
     {
-        if keep_all(&self.slots) {
+        if has_all_columns(&self.slots) {
             return self.dense.push_copy(row, period);
         }
         let mut values = Vec::new(self.alloc);
@@ -421,7 +425,7 @@ impl Rows {
     }
 
     /// Adds a copy of a row of other rows, as `push` does. `AllocError` if an allocation failed or there are 2^32 - 1
-    /// rows: then all is as before.
+    /// rows already: then nothing has changed.
     pub fn push_row(&mut self, rows: &Rows, row: usize) -> Result<(), AllocError>
         requires row { row < length rows.now.items }
         requires width { (d : Fragment) → length (slice_index_or rows.now.items row d).values ≡ self.old.width }
@@ -430,7 +434,7 @@ impl Rows {
         ensures err { OnErr result (self.new ≡ self.old) }
     {
         let period = rows.period(row);
-        if keep_all(&self.slots) && keep_all(&rows.slots) {
+        if has_all_columns(&self.slots) && has_all_columns(&rows.slots) {
             return self.dense.push_copy(rows.dense.values(row), period);
         }
         let mut values = Vec::new(self.alloc);
@@ -438,7 +442,7 @@ impl Rows {
         self.push(&mut values, period)
     }
 
-    /// Keeps the first rows, so many; all of them where there are no more.
+    /// Keeps at most the first `len` rows.
     pub fn truncate(&mut self, len: usize)
         ensures width { self.new.width ≡ self.old.width }
         ensures rows { self.new.items ≡ take len self.old.items }
@@ -446,8 +450,8 @@ impl Rows {
         self.dense.truncate(len);
     }
 
-    /// The rows, then those of the other, which have the same width. No value is copied if both keep the same columns;
-    /// otherwise the result keeps all of them. `AllocError` if an allocation failed or there are 2^32 rows or more.
+    /// The rows, then those of `other`, which has the same width. No value is copied if both store the same columns;
+    /// otherwise the result stores all columns. `AllocError` if an allocation failed or there are 2^32 rows or more.
     pub fn followed_by(self, other: Rows) -> Result<Rows, AllocError>
         requires { other.width ≡ self.width }
         ensures width { IfOk result (λ rows. rows.width ≡ self.width) }
@@ -466,8 +470,8 @@ impl Rows {
         })
     }
 
-    /// What `followed_by` gives. Where there are several workers and the other has many rows, one thread moves their
-    /// values and another their periods.
+    /// The same as `followed_by`. With several workers and many rows in `other`, one thread moves the values while
+    /// another moves the periods.
     pub fn followed_by_among<R: Threads>(
         self,
         rt: &R,

@@ -1,28 +1,28 @@
-//! Texts that lie in a value itself.
+//! Texts of at most 14 bytes, which a value stores without a box.
 
 ghost use Rattle.std.specs.Prelude.{◌≡◌, ◌+◌, ◌*◌, ◌^◌, ◌<◌, ◌≤◌, length, true, All};
 ghost use Rattle.std.specs.Ordering.{nat_cmp};
 ghost use Rattle.std.specs.Cmp.Lexicographic.{slice_cmp};
 ghost use Rattle.tq_base.specs.Contents.{padded, Text};
-ghost use Rattle.tq_base.specs.Ranks.{has_exact_rank, prefix, value_rank, HasBytes};
+ghost use Rattle.tq_base.specs.NormalizedKeys.{has_exact_prefix, prefix_number, normalized_key, HasBytes};
 
 use std::cmp::Ordering;
 use std::marker::Model;
 use std::str;
 
-/// How many bytes of a text lie in the value itself.
+/// The most bytes of a text that a value stores without a box.
 pub const SHORT: usize = 14;
 
-// The ranks of texts begin there: 2^120.
+// The least prefix of a text: 2^120.
 const TEXTS: u128 = 0x100_0000_0000_0000_0000_0000_0000_0000;
 
-// How far the first eight bytes stand above the others: 2^56.
+// The factor of the first eight bytes in a prefix: 2^56.
 const FIRST_STEP: u128 = 0x100_0000_0000_0000;
 
-// What the last six bytes stay below: 2^48.
+// The last six bytes are a number below this: 2^48.
 const LAST_SPAN: u64 = 0x1_0000_0000_0000;
 
-/// The first 14 bytes, zeros where there are no more.
+/// The first 14 bytes, padded with zeros.
 pub fn head_of(text: &[u8]) -> [u8; SHORT]
     ensures { result ≡ padded 14 text.now }
 {
@@ -35,9 +35,9 @@ pub fn head_of(text: &[u8]) -> [u8; SHORT]
     head
 }
 
-/// The rank of a text with these first bytes, and of this length, of which 15 is the most.
-pub fn text_rank(head: &[u8; SHORT], len: u8) -> u128
-    ensures rank { result ≡ 2 ^ 120 + prefix 14 0 head.now * 256 + len }
+/// The prefix of a text with these first 14 bytes; `len` is its length, or 15 if it is longer than 14.
+pub fn text_prefix(head: &[u8; SHORT], len: u8) -> u128
+    ensures prefix { result ≡ 2 ^ 120 + prefix_number 14 0 head.now * 256 + len }
     ensures bytes { All (λ byte. byte < 256) head.now }
 {
     let [a, b, c, d, e, f, g, h, i, j, k, l, m, n] = *head;
@@ -46,7 +46,7 @@ pub fn text_rank(head: &[u8; SHORT], len: u8) -> u128
     TEXTS + u128::from(first) * FIRST_STEP + u128::from(last) * 256 + u128::from(len)
 }
 
-/// A text of at most 14 bytes, seen as its bytes. The bytes after its own are zeros.
+/// A text of at most 14 bytes, padded with zeros. Contracts see its bytes.
 #[derive(Drop, Debug)]
 pub struct ShortText {
     len: u8,
@@ -77,11 +77,11 @@ impl ShortText {
         }
     }
 
-    /// The text lent.
+    /// The text, borrowed.
     pub fn get(&self) -> &str
         ensures { result.now ≡ self.now }
     {
-        // A text is made of a `str` alone.
+        // The bytes come from a `str` only.
         unsafe { str::from_utf8_unchecked(&self.bytes[..self.len as usize]) }
     }
 
@@ -95,19 +95,19 @@ impl ShortText {
         }
     }
 
-    /// The rank of the text as a value: no other text of at most 14 bytes has the same.
-    pub fn rank(&self) -> u128
-        ensures rank { result ≡ value_rank (Text self.now) }
+    /// The normalized key prefix of the text: no other text of at most 14 bytes has the same.
+    pub fn prefix(&self) -> u128
+        ensures prefix { result ≡ normalized_key (Text self.now) }
         ensures bytes { HasBytes (Text self.now) }
-        ensures exact { has_exact_rank (Text self.now) ≡ true }
+        ensures exact { has_exact_prefix (Text self.now) ≡ true }
     {
-        text_rank(&self.bytes, self.len)
+        text_prefix(&self.bytes, self.len)
     }
 
-    /// By the bytes.
+    /// Compares the bytes.
     pub fn compare(&self, other: &ShortText) -> Ordering
         ensures { result ≡ slice_cmp nat_cmp self.now other.now }
     {
-        self.rank().cmp(&other.rank())
+        self.prefix().cmp(&other.prefix())
     }
 }

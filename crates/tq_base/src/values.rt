@@ -1,4 +1,4 @@
-//! The values of a row by itself.
+//! The values of a row on its own.
 
 ghost use Rattle.std.specs.Prelude.{◌≡◌, IfOk, refl};
 ghost use Rattle.std.specs.Cmp.{partial_equiv_from_equiv, eq_by_cmp_equiv, partial_order_from_total};
@@ -10,7 +10,7 @@ use std::alloc::AllocError;
 use std::cmp::Ordering;
 use std::marker::Model;
 
-/// The values of a row, seen as their list.
+/// The values of a row. Contracts see their list.
 #[derive(Drop, Debug)]
 pub struct Values {
     items: Vec<Value>,
@@ -36,21 +36,21 @@ fn copy_values(items: &Vec<Value>) -> Result<Vec<Value>, AllocError>
 }
 
 impl Values {
-    /// The values as handed in.
+    /// The values, moved in.
     pub fn of(items: Vec<Value>) -> Values
         ensures { result ≡ items.items }
     {
         Values { items }
     }
 
-    /// The values lent.
+    /// The values, borrowed.
     pub fn get(&self) -> &[Value]
         ensures { result.now ≡ self.now }
     {
         self.items.as_slice()
     }
 
-    /// Equal values; `AllocError` where a growth was refused.
+    /// Equal values. `AllocError` if an allocation failed.
     pub fn try_copy(&self) -> Result<Values, AllocError>
         ensures { IfOk result (λ v. v ≡ self.now) }
     {
@@ -59,7 +59,7 @@ impl Values {
         })
     }
 
-    /// By the first place at which they differ; a proper prefix is less.
+    /// Compares at the first place at which the values differ; a proper prefix of a list is less.
     pub fn compare(&self, other: &Values) -> Ordering
         ensures { result ≡ values_cmp self.now other.now }
     {

@@ -1,4 +1,4 @@
--- Rows that overlap or meet, of two lists of which no row of the one equals a row of the other.
+-- Overlapping and meeting rows of two lists that have no equal rows in common.
 use Rattle.std.proofs.Common.{◌≡◌, ◌≢◌, ◌∙◌, ◌+◌, Bool, true, false, not, ◌&&◌, ◌||◌, List, [], ◌++◌, ap, refl, sym, arith, get_or}
 use Rattle.std.specs.Prelude.{All, ◌==◌, nat_lt}
 use Rattle.std.specs.List.{list_any}
@@ -15,7 +15,7 @@ use Rattle.tq_check.proofs.Splitting.{all_behind, behind, count_append, count_as
 abbrev pub HaveOthers : List Value → List Fragment → Type 0
 HaveOthers values rows = All (λ (row : Fragment). row.values ≢ values) rows
 
--- no row of the one list equals a row of the other
+-- no row of one list equals a row of the other
 pub record AreApart (xs ys : List Fragment) : Type 0 where
   pub first : All (λ (x : Fragment). HaveOthers x.values ys) xs
   pub second : All (λ (y : Fragment). HaveOthers y.values xs) ys
@@ -31,13 +31,13 @@ others u v differ = by (eq_by_cmp values_cmp u v) refl
     by true is = absurd (differ (sym (same_from_eq u v is)))
     by false is = is
 
--- no row of other values passes a test that asks for these
+-- no row with other values passes a test for these values
 none_passes : (values : List Value) (more : Fragment → Bool) (rows : List Fragment) → HaveOthers values rows → list_any (λ (row : Fragment). eq_by_cmp values_cmp values row.values && more row) rows ≡ false
 none_passes values more rows apart =
     list_any_none (λ (row : Fragment). eq_by_cmp values_cmp values row.values && more row) rows
     (λ k d less. ap (λ b. b && more (get_or rows k d)) (others values (get_or rows k d).values (apart k d less)))
 
--- beside rows of other values
+-- next to rows with other values
 beside : (p : Fragment → Bool) (xs ys : List Fragment) → list_any p ys ≡ false → list_any p (xs ++ ys) ≡ list_any p xs
 beside p xs ys none = list_any-append p xs ys ∙ ap (λ b. list_any p xs || b) none ∙ or_false (list_any p xs)
 

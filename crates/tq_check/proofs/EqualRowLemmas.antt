@@ -1,4 +1,4 @@
--- Rows that overlap or meet an equal one: in any order as many do.
+-- The counts of overlapping and meeting rows do not depend on the order of the rows.
 use Rattle.std.proofs.Common.{◌≡◌, ◌≢◌, ◌∙◌, ℕ, ◌+◌, Bool, true, false, true≢false, cond, not, ◌&&◌, ◌||◌, List, [], ◌∷◌, ap, refl, sym, arith}
 use Rattle.std.specs.Prelude.{IsPermutation, ◌==◌}
 use Rattle.std.specs.List.{list_any}
@@ -10,11 +10,11 @@ use Rattle.tq_base.specs.ValueOrder.{values_cmp, same_from_eq, eq_from_same}
 use Rattle.tq_check.specs.EqualRows.{count_rows, covers, ends_at, is_meeting, is_overlapping, meeting, overlapping, starts_at}
 use Rattle.tq_check.proofs.Permuting.{count_permuted, IsFair}
 
--- whether one row starts with the other, and has its values
+-- whether the row has the start and the values of the other
 abbrev starts_with : Fragment → Fragment → Bool
 starts_with x y = starts_at x.values x.period.start y
 
--- where it does, all that a test asks of the values and the start is the same
+-- if it has, tests of the values and the start give the same result
 same_place : (x y : Fragment) → starts_with x y ≡ true → (x.values ≡ y.values) × (y.period.start ≡ x.period.start)
 same_place x y is = both (eq_by_cmp values_cmp x.values y.values) refl is
   where
@@ -29,11 +29,11 @@ turned x y is =
     let start : (x.period.start == y.period.start) ≡ true = grind (arith, nat_tests, place.1) in
     λ i. values i && start i
 
--- 1 where a test holds
+-- 1 if the test is true
 abbrev one_if : Bool → ℕ
 one_if b = cond b 1 0
 
--- a row that starts with another overlaps it, and whether either overlaps others is the same
+-- a row that starts with an equal one overlaps it, and both overlap the same other rows
 abbrev either_of : (List Fragment → Fragment → Bool) → List Fragment → Fragment → Fragment → Type 0
 either_of test above x y = cond (test above x) 1 0 + cond (test (x ∷ above) y) 1 0 ≡ cond (test above y) 1 0 + cond (test (y ∷ above) x) 1 0
 
@@ -48,7 +48,7 @@ module _ (rows : List Fragment) where
       let place = same_place x y is in
       λ i. not (overlaps_place above x y is i) && list_any (ends_at (place.0 i) (sym place.1 i)) rows
 
-  -- below a row that starts with it, a row overlaps; below another, nothing changes
+  -- a row overlaps below a row that it starts with; below another row, nothing changes
   below_equal : (above : List Fragment) (x y : Fragment) → starts_with y x ≡ true → is_overlapping rows (x ∷ above) y ≡ true
   below_equal above x y is =
       ap (λ b. list_any (covers y.values y.period.start) rows || (b || list_any (starts_at y.values y.period.start) above)) is
@@ -109,14 +109,14 @@ module _ (rows : List Fragment) where
     either = meeting_either;
   }
 
--- as many rows overlap in any order
+-- the same number of rows overlap in any order
 pub overlapping_permuted : (rows order : List Fragment) → IsPermutation rows order → overlapping order ≡ overlapping rows
 overlapping_permuted rows order same =
     let passed : (p : Fragment → Bool) → list_any p order ≡ list_any p rows = λ p. sym (list_any-IsPermutation p rows order same) in
     (λ i. count_rows (λ above row. passed (covers row.values row.period.start) i || list_any (starts_at row.values row.period.start) above) [] order)
     ∙ count_permuted (is_overlapping rows) (overlapping_fair rows) rows order same
 
--- and as many meet
+-- and the same number meet
 pub meeting_permuted : (rows order : List Fragment) → IsPermutation rows order → meeting order ≡ meeting rows
 meeting_permuted rows order same =
     let passed : (p : Fragment → Bool) → list_any p order ≡ list_any p rows = λ p. sym (list_any-IsPermutation p rows order same) in

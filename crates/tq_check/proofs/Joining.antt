@@ -1,4 +1,4 @@
--- Texts that are made piece by piece.
+-- Texts that are built piece by piece.
 use Rattle.std.proofs.Common.{◌≡◌, ◌∙◌, ℕ, List, ◌++◌, ap, append_assoc}
 
 -- a text with some pieces, and then with one more

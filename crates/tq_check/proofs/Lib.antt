@@ -1,7 +1,7 @@
 pub mod ApartLemmas
 pub mod EqualRowLemmas
 pub mod Joining
-pub mod KeyLemmas
+pub mod SortKeyLemmas
 pub mod Permuting
 pub mod RunLemmas
 pub mod Splitting

@@ -1,4 +1,4 @@
--- Counts of items that a test is told the items above of, where the items stand in another order.
+-- Counts by a test that gets the items above an item, and their independence of the order of items.
 use Rattle.std.proofs.Common.{◌≡◌, ◌∙◌, ℕ, zero, suc, ◌+◌, ◌<◌, Bool, cond, List, [], ◌∷◌, ◌||◌, ap, refl, sym, get_or, length, arith}
 use Rattle.std.specs.Prelude.{IsPermutation}
 use Rattle.std.specs.List.{list_any, swap}
@@ -7,17 +7,18 @@ use Rattle.std.proofs.Math.Bool.{or_comm, or_assoc}
 use Rattle.std.proofs.lemmas.List.Sorted.{IsPermutation-keeps}
 use Rattle.tq_check.specs.EqualRows.{count_rows}
 
--- two lists pass each test alike
+-- two lists have an element that passes a test for the same tests
 abbrev pub PassAlike : {X : Type 0} → List X → List X → Type 0
 PassAlike {X} xs ys = (p : X → Bool) → list_any p xs ≡ list_any p ys
 
--- a test that asks of the items above only which tests some of them pass, and of two items counts as many in either order
+-- a test that depends on the items above only by which tests some of them pass, and counts two neighbours alike in
+-- either order
 pub record IsFair {X : Type 0} (test : List X → X → Bool) : Type 0 where
   pub alike : (xs ys : List X) (x : X) → PassAlike xs ys → test xs x ≡ test ys x
   pub either : (above : List X) (x y : X) → cond (test above x) 1 0 + cond (test (x ∷ above) y) 1 0 ≡ cond (test above y) 1 0 + cond (test (y ∷ above) x) 1 0
 
 module _ {X : Type 0} (test : List X → X → Bool) (fair : IsFair test) where
-  -- items above that pass alike count alike
+  -- items above that pass alike give the same count
   count_alike : (xs ys rows : List X) → PassAlike xs ys → count_rows test xs rows ≡ count_rows test ys rows
   unfolding count_rows
   count_alike xs ys [] same = refl
@@ -34,7 +35,7 @@ module _ {X : Type 0} (test : List X → X → Bool) (fair : IsFair test) where
       let two = fair.either above x y in
       omega (arith, rest, two)
 
-  -- an item at the front and one further behind, exchanged
+  -- an item at the front and a later one, exchanged
   exchanged : (above rows : List X) (x d : X) (j : ℕ) → j < length rows → count_rows test above (get_or rows j d ∷ set rows j x) ≡ count_rows test above (x ∷ rows)
   unfolding count_rows
   exchanged above [] x d j less = absurd (omega (arith, less))
@@ -57,6 +58,6 @@ module _ {X : Type 0} (test : List X → X → Bool) (fair : IsFair test) where
   swapped [] i j one other = absurd (omega (arith, one))
   swapped (d ∷ rows) i j one other = both_set [] (d ∷ rows) d i j one other
 
-  -- in any order as many are counted
+  -- the count is the same in any order
   pub count_permuted : (xs ys : List X) → IsPermutation xs ys → count_rows test [] ys ≡ count_rows test [] xs
   count_permuted xs ys = IsPermutation-keeps xs (λ l. count_rows test [] l ≡ count_rows test [] xs) refl (λ l i j one other is. swapped l i j one other ∙ is) ys

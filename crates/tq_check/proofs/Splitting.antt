@@ -1,15 +1,15 @@
--- Counts of items that a test is told the items above of, part by part.
+-- Counts by a test that gets the items above an item, part by part.
 use Rattle.std.proofs.Common.{◌≡◌, ◌∙◌, ◌+◌, Bool, cond, List, [], ◌∷◌, ◌++◌, ap, refl, sym, arith}
 use Rattle.std.specs.Prelude.{All}
 use Rattle.std.proofs.lemmas.List.Elements.{All-cons, All-head, All-tail}
 use Rattle.tq_check.specs.EqualRows.{count_rows}
 
--- what stands above behind some items
+-- the items above, after some more items
 abbrev pub behind : {X : Type 0} → List X → List X → List X
 behind [] above = above
 behind (x ∷ xs) above = behind xs (x ∷ above)
 
--- what holds of items holds of them behind each other
+-- what holds of the items of both lists holds of them put together
 pub all_behind : {X : Type 0} (P : X → Type 0) (xs above : List X) → All P xs → All P above → All P (behind xs above)
 all_behind P [] above xs_are above_are = above_are
 all_behind P (x ∷ xs) above xs_are above_are =
@@ -22,7 +22,7 @@ unfolding count_rows
 count_append test above [] ys = omega arith
 count_append test above (x ∷ xs) ys = let rest = count_append test (x ∷ above) xs ys in omega (arith, rest)
 
--- two tests that are told of different items above and say the same of each item count alike
+-- two tests that get different items above, and agree on each item, give the same count
 pub count_as : {X : Type 0} (test other : List X → X → Bool) (told : List X → List X) → ((x : X) (l : List X) → told (x ∷ l) ≡ x ∷ told l)
     → (above rows : List X) → All (λ row. (l : List X) → test (told l) row ≡ other l row) rows
     → count_rows test (told above) rows ≡ count_rows other above rows

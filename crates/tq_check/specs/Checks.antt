@@ -1,12 +1,12 @@
--- What is told of files. This project's own.
+-- The summary of files. This project's own.
 use Rattle.std.specs.Prelude.{◌≡◌, ℕ, List}
 use Rattle.tq_base.specs.declared.form.Form.{Form}
-use Rattle.tq_check.specs.Telling.{check_of}
+use Rattle.tq_check.specs.Reports.{check_of}
 use Rattle.tq_event.specs.Tables.{AreTables}
 use Rattle.tq_event.specs.declared.file.TableFile.{TableFile}
 use Rattle.tq_event.specs.declared.file.Tables.{Tables}
 
--- the text is what is told of the tables of the files, of at most 2^24 events
+-- the text is the summary of the tables of the files, with at most 2^24 events
 pub record IsCheck (form : Form) (files : List TableFile) (text : List ℕ) : Type 0 where
   pub tables : Tables
   pub are_tables : AreTables form files 16777216 tables

@@ -2,4 +2,4 @@ pub mod Checks
 pub mod EqualRows
 pub mod Numbers
 pub mod Runs
-pub mod Telling
+pub mod Reports

@@ -1,20 +1,20 @@
-// Files that are checked: from their bytes to what is told of their tables.
+// From the bytes of files to the summary of their tables.
 
 ghost use Rattle.std.specs.Prelude.{◌≡◌, ◌≢◌, ◌≤◌, Err, IfErr, IfOk};
 ghost use Rattle.tq_check.specs.Checks.{IsCheck};
 ghost use Rattle.tq_event.specs.Loading.{contents_of, out_of_memory};
 
-use crate::telling::check_text;
+use crate::report::check_text;
 use std::alloc::Global;
 use std::thread::Threads;
 use tq_base::Form;
 use tq_event::{LoadFault, LoadFaultKind, MAX_EVENTS, TableFile};
-use tq_loading::load_tables_among;
+use tq_load::load_tables_parallel;
 use tq_run::Open;
 
-/// What is told of the tables of the files, which 1 to 16 workers load, the calling thread among them. Files write
-/// instants in the form, and so does the text. The first fault of the files is answered; `OutOfMemory` where a growth
-/// was refused.
+/// The summary of the tables of the files, which 1 to 16 workers load, the calling thread among them. `form` says how
+/// the files and the text write instants. Returns the first fault of the files, or `OutOfMemory` if an allocation
+/// failed.
 pub fn check<R: Threads + Sync>(
     rt: &R,
     alloc: Global,
@@ -28,7 +28,7 @@ pub fn check<R: Threads + Sync>(
     ensures fault { IfErr result (λ fault. fault.kind ≢ LoadFaultKind.OutOfMemory → contents_of form files.items MAX_EVENTS ≡ Err fault) }
     ensures out_of_memory { IfErr result (λ fault. fault.kind ≡ LoadFaultKind.OutOfMemory → fault ≡ out_of_memory) }
 {
-    let tables = load_tables_among(rt, alloc, files, MAX_EVENTS, workers, &Open, form)?;
+    let tables = load_tables_parallel(rt, alloc, files, MAX_EVENTS, workers, &Open, form)?;
     let text = check_text(alloc, &tables, form)?;
     Ok(text)
 }

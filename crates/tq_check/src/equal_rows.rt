@@ -1,42 +1,42 @@
-// Rows that overlap or meet an equal one that comes before them.
+// Rows that overlap or meet an earlier row with equal values.
 
 ghost use Rattle.std.specs.Prelude.{◌≡◌, ◌≤◌, IfOk, IsPermutation, length, map};
 ghost use Rattle.std.specs.List.{range_with_len};
-ghost use Rattle.tq_base.specs.KeySides.{state_of};
+ghost use Rattle.tq_base.specs.SortInputs.{state_of};
 ghost use Rattle.tq_base.specs.Keys.{key_row};
 ghost use Rattle.tq_check.specs.EqualRows.{meeting, overlapping};
-ghost use Rattle.tq_check.specs.Runs.{one_behind, one_inside, starting_behind, starting_inside, AreInOrder};
+ghost use Rattle.tq_check.specs.Runs.{adjacent_count, overlap_count, adjacent_starts, overlapping_starts, AreInOrder};
 
 use std::alloc::{AllocError, Global};
-use tq_base::{Key, Relation, Rows, Side, Sides, all_columns};
+use tq_base::{Relation, Rows, Side, SortInput, SortKey, all_columns};
 
-/// How many rows overlap, and how many meet, an equal one that comes before them.
+/// How many rows overlap an earlier equal row, and how many meet an equal row.
 #[derive(Clone, Copy, Debug)]
 pub(crate) struct Tally {
     pub(crate) overlapping: usize,
     pub(crate) meeting: usize,
 }
 
-// 1 where the start is before the greatest end so far.
-fn one_inside(start: u64, reach: u64) -> usize
-    ensures value { result ≡ one_inside start reach }
+// 1 if the start is before the greatest end so far, else 0.
+fn overlap_count(start: u64, reach: u64) -> usize
+    ensures value { result ≡ overlap_count start reach }
     ensures one { result ≤ 1 }
 {
     if start < reach { 1 } else { 0 }
 }
 
-// 1 where the start is just at the greatest end so far, if there is one.
-fn one_behind(start: u64, reach: u64) -> usize
-    ensures value { result ≡ one_behind start reach }
+// 1 if the start equals the greatest end so far, and there is one, else 0.
+fn adjacent_count(start: u64, reach: u64) -> usize
+    ensures value { result ≡ adjacent_count start reach }
     ensures one { result ≤ 1 }
 {
     if start == reach && 0 < reach { 1 } else { 0 }
 }
 
-// How many rows of the keys start before the greatest end of those before them, and how many at it.
-fn tally_run(sides: &Sides<'_>, run: &[Key]) -> Tally
-    ensures overlapping { result.overlapping ≡ starting_inside 0 (map (key_row (state_of sides.now)) run.now) }
-    ensures meeting { result.meeting ≡ starting_behind 0 (map (key_row (state_of sides.now)) run.now) }
+// The counts of one run: rows that start before the greatest end of the rows before them, and rows that start at it.
+fn tally_run(sort_input: &SortInput<'_>, run: &[SortKey]) -> Tally
+    ensures overlapping { result.overlapping ≡ overlapping_starts 0 (map (key_row (state_of sort_input.now)) run.now) }
+    ensures meeting { result.meeting ≡ adjacent_starts 0 (map (key_row (state_of sort_input.now)) run.now) }
     ensures few_overlap { result.overlapping ≤ length run.now }
     ensures few_meet { result.meeting ≤ length run.now }
 {
@@ -45,10 +45,10 @@ fn tally_run(sides: &Sides<'_>, run: &[Key]) -> Tally
     let mut reach = 0;
     'places: for place in 0..run.len() {
         let key = run[place];
-        let period = sides.period(&key);
+        let period = sort_input.period(&key);
         let start = period.start.number();
-        overlapping += one_inside(start, reach);
-        meeting += one_behind(start, reach);
+        overlapping += overlap_count(start, reach);
+        meeting += adjacent_count(start, reach);
         reach = reach.max(period.end.number());
     }
     Tally {
@@ -57,18 +57,18 @@ fn tally_run(sides: &Sides<'_>, run: &[Key]) -> Tally
     }
 }
 
-// What overlaps or meets of the keys' rows, which are gone through run by run of equal ones.
-fn tally_keys(sides: &Sides<'_>, keys: &[Key]) -> Tally
-    requires { AreInOrder (state_of sides.now) keys.now }
-    ensures overlapping { result.overlapping ≡ overlapping (map (key_row (state_of sides.now)) keys.now) }
-    ensures meeting { result.meeting ≡ meeting (map (key_row (state_of sides.now)) keys.now) }
+// The counts of all keys' rows, run by run.
+fn tally_keys(sort_input: &SortInput<'_>, keys: &[SortKey]) -> Tally
+    requires { AreInOrder (state_of sort_input.now) keys.now }
+    ensures overlapping { result.overlapping ≡ overlapping (map (key_row (state_of sort_input.now)) keys.now) }
+    ensures meeting { result.meeting ≡ meeting (map (key_row (state_of sort_input.now)) keys.now) }
 {
     let mut overlapping = 0;
     let mut meeting = 0;
     let mut start = 0;
     'runs: while start < keys.len() {
-        let end = start + sides.run_len(&keys[start..]);
-        let run = tally_run(sides, &keys[start..end]);
+        let end = start + sort_input.run_len(&keys[start..]);
+        let run = tally_run(sort_input, &keys[start..end]);
         overlapping += run.overlapping;
         meeting += run.meeting;
         start = end;
@@ -79,39 +79,39 @@ fn tally_keys(sides: &Sides<'_>, keys: &[Key]) -> Tally
     }
 }
 
-// The keys of the rows, in the order of their values and then of their starts.
-fn sorted_keys(alloc: Global, sides: &Sides<'_>) -> Result<Vec<Key>, AllocError>
-    requires same { sides.now.right_columns.now ≡ sides.now.left_columns.now }
-    requires rows { sides.now.right.now ≡ sides.now.left.now }
-    requires columns { sides.now.left_columns.now ≡ range_with_len 0 sides.now.left.now.width }
-    ensures rows { IfOk result (λ keys. IsPermutation sides.now.left.now.items (map (key_row (state_of sides.now)) keys.items)) }
-    ensures order { IfOk result (λ keys. AreInOrder (state_of sides.now) keys.items) }
+// The keys of the rows, ordered by their values and then by their starts.
+fn sorted_keys(alloc: Global, sort_input: &SortInput<'_>) -> Result<Vec<SortKey>, AllocError>
+    requires same { sort_input.now.right_columns.now ≡ sort_input.now.left_columns.now }
+    requires rows { sort_input.now.right.now ≡ sort_input.now.left.now }
+    requires columns { sort_input.now.left_columns.now ≡ range_with_len 0 sort_input.now.left.now.width }
+    ensures rows { IfOk result (λ keys. IsPermutation sort_input.now.left.now.items (map (key_row (state_of sort_input.now)) keys.items)) }
+    ensures order { IfOk result (λ keys. AreInOrder (state_of sort_input.now) keys.items) }
 {
     let mut keys = Vec::new(alloc);
-    sides.add_keys(Side::Left, None, &mut keys)?;
-    sides.sort(&mut keys)?;
-    sides.left.width();
+    sort_input.add_keys(Side::Left, None, &mut keys)?;
+    sort_input.sort(&mut keys)?;
+    sort_input.left.width();
     Ok(keys)
 }
 
-// How many rows of the relation overlap, and how many meet, an equal one that comes before them.
+// The counts of the rows of the relation.
 fn tally_relation(alloc: Global, rows: &Relation<'_>) -> Result<Tally, AllocError>
     ensures overlapping { IfOk result (λ tally. tally.overlapping ≡ overlapping rows.now.items) }
     ensures meeting { IfOk result (λ tally. tally.meeting ≡ meeting rows.now.items) }
 {
     let columns = all_columns(alloc, rows.width())?;
-    let sides = Sides {
+    let sort_input = SortInput {
         left: &*rows,
         right: &*rows,
         left_columns: &columns,
         right_columns: &columns,
     };
-    let keys = sorted_keys(alloc, &sides)?;
-    Ok(tally_keys(&sides, &keys))
+    let keys = sorted_keys(alloc, &sort_input)?;
+    Ok(tally_keys(&sort_input, &keys))
 }
 
-/// How many rows overlap, and how many meet, an equal one that comes before them: a sort brings equal rows side by
-/// side. No value is copied. `AllocError` where a growth was refused.
+/// The counts of the rows. A sort puts equal rows next to each other; no value is copied. `AllocError` if an allocation
+/// failed.
 pub(crate) fn tally_of(alloc: Global, rows: &Rows) -> Result<Tally, AllocError>
     ensures overlapping { IfOk result (λ tally. tally.overlapping ≡ overlapping rows.now.items) }
     ensures meeting { IfOk result (λ tally. tally.meeting ≡ meeting rows.now.items) }

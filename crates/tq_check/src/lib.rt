@@ -1,15 +1,16 @@
-//! What somebody who audits tables looks for first.
+//! A summary of tables, as text, for a first look at data.
 //!
-//! `check` loads files and tells of each table, as text, its columns, how many rows it has and how many of them have
-//! no end, when the first one starts and when the last change is, and how many rows overlap or meet an equal one that
-//! comes before them. What each number is, is said of the table's rows in `specs/`: `specs/Numbers.antt`, and for
-//! equal rows `specs/EqualRows.antt`.
+//! `check` loads files and describes each table: columns, number of rows, rows without an end, first start, last
+//! change, and how many rows overlap or meet an earlier row with equal values. The contract cites `check_of` in
+//! `specs/Reports.antt`. `specs/Numbers.antt` defines the numbers, and `specs/EqualRows.antt` those of equal rows.
+//!
+//! Open `src/report.rt` first; `src/equal_rows.rt` has the algorithm.
 #![tactic(auto)]
 
 mod checking;
 mod equal_rows;
 mod numbers;
-mod telling;
+mod report;
 
 pub use checking::check;
-pub use telling::check_text;
+pub use report::check_text;

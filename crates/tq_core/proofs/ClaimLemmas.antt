@@ -1,4 +1,4 @@
--- What the claims of a run of pieces are given.
+-- The pieces that the claims of a run get.
 use Rattle.std.proofs.Common.{◌≡◌, ℕ, zero, suc, ◌+◌, ◌≤◌, ◌==◌, Bool, true, false, if◌then◌else◌, List, [], ◌∷◌, ◌++◌, Option, Some, None, length, take, max, map, slice_get, slice_set, nat_lt, refl, sym, ap, subst, ◌∙◌, ◌⊎◌, inl, inr, arith, append_assoc, append-nil, length-append}
 use Rattle.std.specs.Prelude.{IsSomeAnd, MatchOption}
 use Rattle.std.specs.List.{enumerate_from}
@@ -13,8 +13,8 @@ use Rattle.tq_core.specs.declared.step.Step.{Step}
 use Rattle.tq_core.specs.declared.step.Step.TheVariants.{Append, Publish, Enter, Learn, Ask, Claim, Finish}
 use Rattle.tq_core.specs.declared.step.Reply.{Reply}
 use Rattle.tq_core.specs.declared.step.Reply.TheVariants.{Done, Length, Answer, TooNew, Piece, Order, Refused}
-use Rattle.tq_core.specs.Machine.{FinishesFrom, IsRun, IsStep, Machine, PieceRun, claimed, next_piece, with_published, with_run, with_seen}
-use Rattle.tq_core.specs.Runs.{ClaimsInOrder, FinishesWhole, GivesEach, ListsEach, claimant_of, claimants, claimants_given, gives_piece, is_answer, is_claim, opened, piece_of, pieces_from, pieces_given, pieces_of}
+use Rattle.tq_core.specs.Machine.{FinishesFrom, IsRun, IsStep, Machine, PieceRun, claimed, next_piece, with_published, with_run, with_seen_length}
+use Rattle.tq_core.specs.Runs.{ClaimsInOrder, FinishesWhole, GivesEach, ListsEach, claimant_of, claimants, claimants_given, is_piece, is_answer, is_claim, opened, piece_of, pieces_from, pieces_given, pieces_of}
 use Rattle.tq_core.proofs.ListLemmas.{eqb-same, get_set_other, get_set_same}
 use Rattle.tq_core.proofs.StepCases.{by_cases}
 
@@ -49,7 +49,7 @@ past pieces n m (suc k) le le' =
     ∙ ap (λ l. None ∷ l) (past pieces (n + 1) (m + 1) k (omega (arith, le)) (omega (arith, le')))
     ∙ sym (ap (λ b. (if b then Some m else None) ∷ pieces_from pieces (m + 1) k) (let over : nat_lt m pieces ≡ false = grind (arith, nat_tests) in over))
 
--- one more claim gives the next piece, or none
+-- one more claim gets the next piece, or none
 next_given : (worker : ℕ) (run : PieceRun) (rest : List (Option ℕ)) → rest ≡ pieces_from run.pieces (length (claimed worker run).claimants) (length rest)
     → next_piece run ∷ rest ≡ pieces_from run.pieces (length run.claimants) (length (next_piece run ∷ rest))
 next_given worker run rest is = by (nat_lt (length run.claimants) run.pieces) refl is
@@ -64,11 +64,11 @@ next_given worker run rest is = by (nat_lt (length run.claimants) run.pieces) re
         let le : run.pieces ≤ n = grind (arith, nat_tests) in
         ap (λ l. None ∷ l) (is ∙ past run.pieces n (n + 1) (length rest) le (omega (arith, le)))
 
--- and its worker is kept where it gives a piece
-next_workers : (worker : ℕ) (run : PieceRun) → (claimed worker run).claimants ≡ run.claimants ++ (if gives_piece (next_piece run ∷ []) then worker ∷ [] else [])
+-- its worker is recorded if it gets a piece
+next_workers : (worker : ℕ) (run : PieceRun) → (claimed worker run).claimants ≡ run.claimants ++ (if is_piece (next_piece run ∷ []) then worker ∷ [] else [])
 next_workers worker run = by (nat_lt (length run.claimants) run.pieces)
   where
-    by : (b : Bool) → (if b then record run { claimants = run.claimants ++ worker ∷ [] } else run).claimants ≡ run.claimants ++ (if gives_piece ((if b then Some (length run.claimants) else None) ∷ []) then worker ∷ [] else [])
+    by : (b : Bool) → (if b then record run { claimants = run.claimants ++ worker ∷ [] } else run).claimants ≡ run.claimants ++ (if is_piece ((if b then Some (length run.claimants) else None) ∷ []) then worker ∷ [] else [])
     by true = refl
     by false = sym (append-nil run.claimants)
 
@@ -80,12 +80,12 @@ claimed_pieces worker run = by (nat_lt (length run.claimants) run.pieces)
     by false = refl
 
 module _ (Q A : Type 0) (value : Catalogue → List Event → Q → A) (work : ℕ) where
-  -- what a step's claim is given, and its worker where that is a piece
+  -- the piece that a claim of this run gets at the step, and its worker if there is a piece
   abbrev given_by : Step Q → Reply A → List (Option ℕ)
   given_by s r = if is_claim work s then piece_of r else []
 
   abbrev worker_by : Step Q → Reply A → List ℕ
-  worker_by s r = if gives_piece (piece_of r) then claimant_of work s else []
+  worker_by s r = if is_piece (piece_of r) then claimant_of work s else []
 
   -- ---- a run that is open
 
@@ -97,7 +97,7 @@ module _ (Q A : Type 0) (value : Catalogue → List Event → Q → A) (work : �
     pub given : (rest : List (Option ℕ)) → rest ≡ pieces_from run.pieces (length next.claimants) (length rest) → given_by s r ++ rest ≡ pieces_from run.pieces (length run.claimants) (length (given_by s r ++ rest))
     pub closed : run.closed ≡ true → next ≡ run
 
-  -- the step has nothing to do with the run
+  -- a step that does not concern the run
   apart : (run : PieceRun) (s : Step Q) (r : Reply A) (n : Machine) → slice_get n.runs work ≡ Some run → given_by s r ≡ [] → worker_by s r ≡ [] → Progress run s r n
   apart run s r n found given worker = record {
     next = run;
@@ -126,8 +126,8 @@ module _ (Q A : Type 0) (value : Catalogue → List Event → Q → A) (work : �
             next = claimed worker run;
             stands = ap (slice_get (slice_set m.runs w (claimed worker other))) (sym same) ∙ get_set_same m.runs w (claimed worker other) (slice_get_within m.runs w other there) ∙ ap (λ x. Some (claimed worker x)) both;
             pieces = claimed_pieces worker run;
-            workers = next_workers worker run ∙ ap (λ b. run.claimants ++ (if gives_piece (next_piece run ∷ []) then (if b then worker ∷ [] else []) else [])) (sym is)
-                ∙ ap (λ (x : PieceRun). run.claimants ++ (if gives_piece (next_piece x ∷ []) then claimant_of work (let s : Step Q = Claim w worker in s) else [])) (sym both);
+            workers = next_workers worker run ∙ ap (λ b. run.claimants ++ (if is_piece (next_piece run ∷ []) then (if b then worker ∷ [] else []) else [])) (sym is)
+                ∙ ap (λ (x : PieceRun). run.claimants ++ (if is_piece (next_piece x ∷ []) then claimant_of work (let s : Step Q = Claim w worker in s) else [])) (sym both);
             given = λ rest ok. ap (λ b. (if b then next_piece other ∷ [] else []) ++ rest) is ∙ ap (λ x. next_piece x ∷ rest) both ∙ next_given worker run rest ok
                 ∙ sym (ap (λ b. pieces_from run.pieces (length run.claimants) (length ((if b then next_piece other ∷ [] else []) ++ rest))) is ∙ ap (λ x. pieces_from run.pieces (length run.claimants) (length (next_piece x ∷ rest))) both);
             closed = λ shut. absurd (let open_still : run.closed ≡ false = ap (λ (x : PieceRun). x.closed) (sym both) ∙ still in cc);
@@ -136,7 +136,7 @@ module _ (Q A : Type 0) (value : Catalogue → List Event → Q → A) (work : �
           apart run (Claim w worker) (Piece (next_piece other)) after
           (get_set_other m.runs w work (claimed worker other) (λ same. let wrong : true ≡ false = sym (eqb-same w) ∙ ap (λ n. w == n) (sym same) ∙ is in cc) ∙ found)
           (ap (λ b. if b then next_piece other ∷ [] else []) is)
-          (nil_either (gives_piece (next_piece other ∷ [])) (claimant_of work (let s : Step Q = Claim w worker in s)) (ap (λ b. if b then worker ∷ [] else []) is))
+          (nil_either (is_piece (next_piece other ∷ [])) (claimant_of work (let s : Step Q = Claim w worker in s)) (ap (λ b. if b then worker ∷ [] else []) is))
 
   progress_finish : (w : ℕ) (other : PieceRun) (m : Machine) → slice_get m.runs w ≡ Some other → other.closed ≡ false → (run : PieceRun) → slice_get m.runs work ≡ Some run
       → Progress run (Finish w) (Order (enumerate_from 0 other.claimants)) (record m { runs = slice_set m.runs w (record other { closed = true }) })
@@ -167,9 +167,9 @@ module _ (Q A : Type 0) (value : Catalogue → List Event → Q → A) (work : �
     append = λ e m run found. apart run (Append e) Done (record m { pending = m.pending ++ e ∷ [] }) found refl refl;
     no_append = λ e m run found. apart run (Append e) Refused m found refl refl;
     publish = λ m run found. apart run Publish (Length (length (m.published ++ m.pending))) (with_published m) found refl refl;
-    enter = λ reader at seen m there le known run found. apart run (Enter reader at) (Length at) (with_seen reader at m) found refl refl;
+    enter = λ reader at seen m there le known run found. apart run (Enter reader at) (Length at) (with_seen_length reader at m) found refl refl;
     no_enter = λ reader at m run found. apart run (Enter reader at) Refused m found refl refl;
-    learn = λ reader at seen m there known run found. apart run (Learn reader at) (Length (max seen at)) (with_seen reader (max seen at) m) found refl refl;
+    learn = λ reader at seen m there known run found. apart run (Learn reader at) (Length (max seen at)) (with_seen_length reader (max seen at) m) found refl refl;
     no_learn = λ reader at m run found. apart run (Learn reader at) Refused m found refl refl;
     answer = λ reader n query pieces seen m there le run found.
         apart run (Ask reader n query pieces) (Answer (value m.catalogue (take n m.published) query)) (with_run pieces m) (get_append m.runs (record { pieces = pieces; claimants = []; closed = false } ∷ []) work run found) refl refl;
@@ -235,9 +235,9 @@ module _ (Q A : Type 0) (value : Catalogue → List Event → Q → A) (work : �
     append = λ e m none. unopened (Append e) Done (record m { pending = m.pending ++ e ∷ [] }) none refl refl;
     no_append = λ e m none. unopened (Append e) Refused m none refl refl;
     publish = λ m none. unopened Publish (Length (length (m.published ++ m.pending))) (with_published m) none refl refl;
-    enter = λ reader at seen m there le known none. unopened (Enter reader at) (Length at) (with_seen reader at m) none refl refl;
+    enter = λ reader at seen m there le known none. unopened (Enter reader at) (Length at) (with_seen_length reader at m) none refl refl;
     no_enter = λ reader at m none. unopened (Enter reader at) Refused m none refl refl;
-    learn = λ reader at seen m there known none. unopened (Learn reader at) (Length (max seen at)) (with_seen reader (max seen at) m) none refl refl;
+    learn = λ reader at seen m there known none. unopened (Learn reader at) (Length (max seen at)) (with_seen_length reader (max seen at) m) none refl refl;
     no_learn = λ reader at m none. unopened (Learn reader at) Refused m none refl refl;
     answer = λ reader n query pieces seen m there le none. record {
       given = refl;
@@ -253,7 +253,7 @@ module _ (Q A : Type 0) (value : Catalogue → List Event → Q → A) (work : �
         let away = elsewhere w other (claimed worker other) m there none in
         unopened (Claim w worker) (Piece (next_piece other)) (record m { runs = slice_set m.runs w (claimed worker other) }) away.1
         (ap (λ b. if b then next_piece other ∷ [] else []) away.0)
-        (nil_either (gives_piece (next_piece other ∷ [])) (claimant_of work (let s : Step Q = Claim w worker in s)) (ap (λ b. if b then worker ∷ [] else []) away.0));
+        (nil_either (is_piece (next_piece other ∷ [])) (claimant_of work (let s : Step Q = Claim w worker in s)) (ap (λ b. if b then worker ∷ [] else []) away.0));
     no_claim = λ w worker m none. unopened (Claim w worker) Refused m none (nil_either (w == work) none_given refl) refl;
     finish = λ w other m there still full none.
         unopened (Finish w) (Order (enumerate_from 0 other.claimants)) (record m { runs = slice_set m.runs w (record other { closed = true }) }) ((elsewhere w other (record other { closed = true }) m there none).1) refl refl;
@@ -325,7 +325,7 @@ module _ (Q A : Type 0) (value : Catalogue → List Event → Q → A) (work : �
             workers = all.workers ∙ ap (λ l. l ++ claimants_given work steps replies) (sym known);
           })
 
-  -- ---- what a Finish lists
+  -- ---- the list of a Finish
 
   finished : (order : List (ℕ × ℕ)) (before next : Machine) → IsStep value (Finish work) before (Order order) next → (run : PieceRun) × (slice_get next.runs work ≡ Some run) × (run.closed ≡ true) × ListsEach order run
   finished order before next step = by (slice_get before.runs work) refl step

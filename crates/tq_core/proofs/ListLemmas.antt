@@ -1,4 +1,4 @@
--- Numbers that are compared, and lists of which one element was replaced.
+-- Comparisons of numbers, and lists with one element replaced.
 use Rattle.std.proofs.Common.{◌≡◌, ◌≢◌, ℕ, zero, suc, ◌<◌, ◌==◌, true, List, [], ◌∷◌, Some, length, slice_get, slice_set, refl, ap, arith}
 use Rattle.std.proofs.lemmas.Bool.Decides.{nat_tests}
 

@@ -1,4 +1,4 @@
--- What a run publishes, answers and shows.
+-- What a run publishes, answers and shows to readers.
 use Rattle.std.proofs.Common.{◌≡◌, ◌≢◌, ℕ, zero, suc, ◌+◌, ◌<◌, ◌≤◌, ◌==◌, Bool, true, false, if◌then◌else◌, List, [], ◌∷◌, ◌++◌, Option, Some, None, length, take, drop, max, slice_get, slice_set, refl, sym, ap, subst, ◌∙◌, arith, append_assoc, append-nil, length-append, add-one, inl, inr}
 use Rattle.std.specs.Prelude.{All, Contains}
 use Rattle.std.proofs.lemmas.Bool.{eqb-true}
@@ -14,11 +14,11 @@ use Rattle.tq_core.specs.declared.step.Reply.TheVariants.{Answer, TooNew, Refuse
 use Rattle.tq_event.specs.Recorded.{Recorded}
 use Rattle.tq_core.specs.World.{IsWorld, machine_of}
 use Rattle.tq_core.specs.Machine.{AsksFrom, IsRun, IsStep, Machine, PieceRun}
-use Rattle.tq_core.specs.Runs.{AnswersAgree, AnswersOverLast, AsksUpToShown, HasNoPublish, IsAnswer, PublishesUpToLast, done_events, event_of, greatest_shown, is_done, length_of, shows_to}
+use Rattle.tq_core.specs.Runs.{AnswersAgree, AnswersOverLast, AnswersUpToShown, HasNoPublish, IsAnswer, PublishesUpToLast, appended_events, event_of, max_shown_length, is_appended, length_of, shows_to}
 use Rattle.tq_core.proofs.ListLemmas.{eqb-same, get_set_other, get_set_same}
 use Rattle.tq_core.proofs.StepCases.{by_cases}
 
--- no more was seen, and no greater length was left, than is published
+-- no length, and no length that a reader has seen, is greater than the number of published events
 pub record IsSound (m : Machine) : Type 0 where
   pub lengths : All (λ n. n ≤ length m.published) m.lengths
   pub seen : All (λ n. n ≤ length m.published) m.seen
@@ -33,7 +33,7 @@ module _ (Q A : Type 0) (value : Catalogue → List Event → Q → A) where
   run_push (t ∷ steps) before [] between s r after run step = absurd run
   run_push (t ∷ steps) before (x ∷ replies) between s r after run step = (run.0, run.1, run_push steps run.0 replies between s r after run.2 step)
 
-  -- what each step keeps, every run does
+  -- a property that each step preserves is preserved by every run
   kept : (P : Machine → Machine → Type 0) → ((m : Machine) → P m m) → ((a b c : Machine) → P a b → P b c → P a c) → ((s : Step Q) (m : Machine) (r : Reply A) (n : Machine) → IsStep value s m r n → P m n)
       → (steps : List (Step Q)) (before : Machine) (replies : List (Reply A)) (after : Machine) → IsRun value steps before replies after → P before after
   kept P same more each [] before [] after run = subst (λ m. P before m) (sym run) (same before)
@@ -42,7 +42,7 @@ module _ (Q A : Type 0) (value : Catalogue → List Event → Q → A) where
   kept P same more each (s ∷ steps) before (r ∷ replies) after run =
       more before run.0 after (each s before r run.0 run.1) (kept P same more each steps run.0 replies after run.2)
 
-  -- ---- the catalogue stays, and the published list grows at its end
+  -- ---- the catalogue does not change, and the published list grows at its end
 
   record Grows (m n : Machine) : Type 0 where
     pub catalogue : n.catalogue ≡ m.catalogue
@@ -83,9 +83,9 @@ module _ (Q A : Type 0) (value : Catalogue → List Event → Q → A) where
   pub run_catalogue : (steps : List (Step Q)) (before : Machine) (replies : List (Reply A)) (after : Machine) → IsRun value steps before replies after → after.catalogue ≡ before.catalogue
   run_catalogue steps before replies after run = (run_grows steps before replies after run).catalogue
 
-  -- ---- what is published
+  -- ---- published events
 
-  -- a step other than a Publish leaves the published list
+  -- a step other than a Publish does not change the published list
   step_private : (s : Step Q) (m : Machine) (r : Reply A) (n : Machine) → IsStep value s m r n → s ≢ Publish → n.published ≡ m.published
   step_private = by_cases Q A value (λ s m r n. s ≢ Publish → n.published ≡ m.published) (record {
     append = λ e m other. refl;
@@ -112,9 +112,9 @@ module _ (Q A : Type 0) (value : Catalogue → List Event → Q → A) where
       never steps run.0 replies after run.2 (All-tail (λ (x : Step Q). x ≢ Publish) s steps none)
       ∙ step_private s before r run.0 run.1 (none 0 s (omega arith))
 
-  -- the published and the pending list together grow by what an Append adds
+  -- the published and the pending list together grow by the event of an Append
   abbrev added : Step Q → Reply A → List Event
-  added s r = if is_done r then event_of s else []
+  added s r = if is_appended r then event_of s else []
 
   step_adds : (s : Step Q) (m : Machine) (r : Reply A) (n : Machine) → IsStep value s m r n → n.published ++ n.pending ≡ (m.published ++ m.pending) ++ added s r
   step_adds = by_cases Q A value (λ s m r n. n.published ++ n.pending ≡ (m.published ++ m.pending) ++ added s r) (record {
@@ -136,7 +136,7 @@ module _ (Q A : Type 0) (value : Catalogue → List Event → Q → A) where
 
   up_to_last : (place : ℕ) (steps : List (Step Q)) (before : Machine) (replies : List (Reply A)) (after : Machine) → IsRun value steps before replies after
       → slice_get steps place ≡ Some Publish → HasNoPublish (drop (suc place) steps)
-      → after.published ≡ (before.published ++ before.pending) ++ done_events (take place steps) (take place replies)
+      → after.published ≡ (before.published ++ before.pending) ++ appended_events (take place steps) (take place replies)
   up_to_last place [] before replies after run here last = absurd (cc)
   up_to_last place (s ∷ steps) before [] after run here last = absurd run
   up_to_last zero (s ∷ steps) before (r ∷ replies) after run here last =
@@ -145,8 +145,8 @@ module _ (Q A : Type 0) (value : Catalogue → List Event → Q → A) where
       never steps run.0 replies after run.2 last ∙ ap (λ (m : Machine). m.published) published.1 ∙ sym (append-nil (before.published ++ before.pending))
   up_to_last (suc place) (s ∷ steps) before (r ∷ replies) after run here last =
       up_to_last place steps run.0 replies after run.2 here last
-      ∙ ap (λ l. l ++ done_events (take place steps) (take place replies)) (step_adds s before r run.0 run.1)
-      ∙ append_assoc (before.published ++ before.pending) (added s r) (done_events (take place steps) (take place replies))
+      ∙ ap (λ l. l ++ appended_events (take place steps) (take place replies)) (step_adds s before r run.0 run.1)
+      ∙ append_assoc (before.published ++ before.pending) (added s r) (appended_events (take place steps) (take place replies))
 
   pub publishes : (steps : List (Step Q)) (before : Machine) (replies : List (Reply A)) (after : Machine) → IsRun value steps before replies after → PublishesUpToLast steps before replies after
   publishes steps before replies after run = record {
@@ -154,7 +154,7 @@ module _ (Q A : Type 0) (value : Catalogue → List Event → Q → A) where
     last = λ place is. up_to_last place steps before replies after run is.here (subst (λ n. HasNoPublish (drop n steps)) (add-one place) is.last);
   }
 
-  -- ---- what is seen and answered
+  -- ---- seen lengths and answers
 
   abbrev Within : Machine → ℕ → Type 0
   Within m n = n ≤ length m.published
@@ -193,7 +193,7 @@ module _ (Q A : Type 0) (value : Catalogue → List Event → Q → A) where
     no_finish = λ work m sound. sound;
   })
 
-  -- an answer at a step, over what is published then
+  -- an answer at a step, over the events published then
   answered : (reader n : ℕ) (query : Q) (pieces : ℕ) (answer : A) (m next : Machine) → IsStep value (Ask reader n query pieces) m (Answer answer) next → IsSound m
       → (n ≤ length m.published) × (answer ≡ value m.catalogue (take n m.published) query)
   answered reader n query pieces answer m next step sound = by (slice_get m.seen reader) refl step
@@ -231,7 +231,7 @@ module _ (Q A : Type 0) (value : Catalogue → List Event → Q → A) where
   answers_agree steps replies after over first reader pieces second reader' pieces' n query a b at_first at_second =
       (over first reader n pieces query a at_first).1 ∙ sym ((over second reader' n pieces' query b at_second).1)
 
-  -- ---- what a reader was shown
+  -- ---- lengths shown to a reader
 
   abbrev shown_by : ℕ → Step Q → Reply A → ℕ
   shown_by reader s r = if shows_to reader s then length_of r else 0
@@ -246,7 +246,7 @@ module _ (Q A : Type 0) (value : Catalogue → List Event → Q → A) where
   zero_either true = refl
   zero_either false = refl
 
-  -- the reader's length is set to one that is no less
+  -- the length that a reader has seen is set to one that is not less
   raised : (xs : List ℕ) (who reader seen seen' to : ℕ) → slice_get xs reader ≡ Some seen → slice_get xs who ≡ Some seen' → seen' ≤ to
       → slice_get (slice_set xs who to) reader ≡ Some (max seen (if who == reader then to else 0))
   raised xs who reader seen seen' to found found' le = by (who == reader) refl
@@ -280,7 +280,7 @@ module _ (Q A : Type 0) (value : Catalogue → List Event → Q → A) where
     no_finish = λ work m reader seen found. stays m.seen reader seen found;
   })
 
-  -- whether a reader that has seen so much is answered
+  -- whether a reader that has seen this length gets an answer
   asked : (reader n pieces seen : ℕ) (query : Q) (m next : Machine) (reply : Reply A) → IsStep value (Ask reader n query pieces) m reply next → slice_get m.seen reader ≡ Some seen
       → (n ≤ seen → IsAnswer reply) × (seen < n → reply ≡ TooNew seen)
   asked reader n pieces seen query m next reply step found = by (subst (λ o. AsksFrom value o n query pieces m reply next) found step)
@@ -291,7 +291,7 @@ module _ (Q A : Type 0) (value : Catalogue → List Event → Q → A) where
 
   ask_at : (place : ℕ) (steps : List (Step Q)) (before : Machine) (replies : List (Reply A)) (after : Machine) → IsRun value steps before replies after
       → (reader n pieces seen : ℕ) (query : Q) (reply : Reply A) → slice_get steps place ≡ Some (Ask reader n query pieces) → slice_get replies place ≡ Some reply → slice_get before.seen reader ≡ Some seen
-      → (n ≤ greatest_shown reader seen (take place steps) (take place replies) → IsAnswer reply) × (greatest_shown reader seen (take place steps) (take place replies) < n → reply ≡ TooNew (greatest_shown reader seen (take place steps) (take place replies)))
+      → (n ≤ max_shown_length reader seen (take place steps) (take place replies) → IsAnswer reply) × (max_shown_length reader seen (take place steps) (take place replies) < n → reply ≡ TooNew (max_shown_length reader seen (take place steps) (take place replies)))
   ask_at place [] before replies after run reader n pieces seen query reply is_step is_reply found = absurd (cc)
   ask_at place (s ∷ steps) before [] after run reader n pieces seen query reply is_step is_reply found = absurd run
   ask_at zero (s ∷ steps) before (r ∷ replies) after run reader n pieces seen query reply is_step is_reply found =
@@ -301,7 +301,7 @@ module _ (Q A : Type 0) (value : Catalogue → List Event → Q → A) where
   ask_at (suc place) (s ∷ steps) before (r ∷ replies) after run reader n pieces seen query reply is_step is_reply found =
       ask_at place steps run.0 replies after run.2 reader n pieces (max seen (shown_by reader s r)) query reply is_step is_reply (step_shows s before r run.0 run.1 reader seen found)
 
-  pub asks_up_to_shown : (steps : List (Step Q)) (before : Machine) (replies : List (Reply A)) (after : Machine) → IsRun value steps before replies after → AsksUpToShown steps before replies
+  pub asks_up_to_shown : (steps : List (Step Q)) (before : Machine) (replies : List (Reply A)) (after : Machine) → IsRun value steps before replies after → AnswersUpToShown steps before replies
   asks_up_to_shown steps before replies after run place reader n pieces seen query reply at found =
       ask_at place steps before replies after run reader n pieces seen query reply at.is_step at.is_reply found
 

@@ -1,4 +1,4 @@
--- The cases of a step, once for all that is said of every step.
+-- The cases of a step, split once for all properties of steps.
 use Rattle.std.proofs.Common.{◌≡◌, ℕ, ◌<◌, ◌≤◌, true, false, List, [], ◌∷◌, ◌++◌, Option, Some, None, length, take, max, slice_get, slice_set, refl, sym, subst, inl, inr}
 use Rattle.std.specs.Prelude.{Contains}
 use Rattle.std.specs.List.{enumerate_from}
@@ -8,17 +8,17 @@ use Rattle.tq_core.specs.declared.step.Step.{Step}
 use Rattle.tq_core.specs.declared.step.Step.TheVariants.{Append, Publish, Enter, Learn, Ask, Claim, Finish}
 use Rattle.tq_core.specs.declared.step.Reply.{Reply}
 use Rattle.tq_core.specs.declared.step.Reply.TheVariants.{Done, Length, Answer, TooNew, Piece, Order, Refused}
-use Rattle.tq_core.specs.Machine.{AsksFrom, ClaimsFrom, EntersFrom, FinishesFrom, IsStep, LearnsFrom, Machine, PieceRun, claimed, next_piece, with_published, with_run, with_seen}
+use Rattle.tq_core.specs.Machine.{AsksFrom, ClaimsFrom, EntersFrom, FinishesFrom, IsStep, LearnsFrom, Machine, PieceRun, claimed, next_piece, with_published, with_run, with_seen_length}
 
 module _ (Q A : Type 0) (value : Catalogue → List Event → Q → A) where
-  -- what holds of each way in which a step can go
+  -- the property holds in each case of a step
   pub record Cases (P : Step Q → Machine → Reply A → Machine → Type 0) : Type 0 where
     pub append : (e : Event) (m : Machine) → P (Append e) m Done (record m { pending = m.pending ++ e ∷ [] })
     pub no_append : (e : Event) (m : Machine) → P (Append e) m Refused m
     pub publish : (m : Machine) → P Publish m (Length (length (m.published ++ m.pending))) (with_published m)
-    pub enter : (reader at seen : ℕ) (m : Machine) → slice_get m.seen reader ≡ Some seen → seen ≤ at → Contains m.lengths at → P (Enter reader at) m (Length at) (with_seen reader at m)
+    pub enter : (reader at seen : ℕ) (m : Machine) → slice_get m.seen reader ≡ Some seen → seen ≤ at → Contains m.lengths at → P (Enter reader at) m (Length at) (with_seen_length reader at m)
     pub no_enter : (reader at : ℕ) (m : Machine) → P (Enter reader at) m Refused m
-    pub learn : (reader at seen : ℕ) (m : Machine) → slice_get m.seen reader ≡ Some seen → Contains m.lengths at → P (Learn reader at) m (Length (max seen at)) (with_seen reader (max seen at) m)
+    pub learn : (reader at seen : ℕ) (m : Machine) → slice_get m.seen reader ≡ Some seen → Contains m.lengths at → P (Learn reader at) m (Length (max seen at)) (with_seen_length reader (max seen at) m)
     pub no_learn : (reader at : ℕ) (m : Machine) → P (Learn reader at) m Refused m
     pub answer : (reader n : ℕ) (query : Q) (pieces seen : ℕ) (m : Machine) → slice_get m.seen reader ≡ Some seen → n ≤ seen → P (Ask reader n query pieces) m (Answer (value m.catalogue (take n m.published) query)) (with_run pieces m)
     pub too_new : (reader n : ℕ) (query : Q) (pieces seen : ℕ) (m : Machine) → slice_get m.seen reader ≡ Some seen → seen < n → P (Ask reader n query pieces) m (TooNew seen) m

@@ -6,13 +6,13 @@ use Rattle.tq_event.specs.declared.event.Event.{Event}
 use Rattle.tq_core.specs.declared.step.Reply.TheVariants.{Answer, Order, Piece, Refused}
 use Rattle.tq_core.specs.Machine.{Asks, AsksFrom, Claims, ClaimsFrom, Finishes, FinishesFrom, Machine, PieceRun, claimed, next_piece}
 
--- what stands at a place is put there again
+-- replacing an element by itself changes nothing
 set_found : {X : Type 0} → (xs : List X) (i : ℕ) (x : X) → slice_get xs i ≡ Some x → slice_set xs i x ≡ xs
 set_found [] i x is = refl
 set_found (y ∷ xs) zero x is = ap (λ z. z ∷ xs) (let same : x ≡ y = cc in same)
 set_found (y ∷ xs) (suc i) x is = ap (λ l. y ∷ l) (set_found xs i x is)
 
--- a run as it stands
+-- a run replaced by itself
 abbrev put_back : Machine → ℕ → PieceRun → Machine
 put_back m work run = record m { runs = slice_set m.runs work run }
 

@@ -1,4 +1,4 @@
--- A state decides its steps' replies and what comes after them.
+-- A state determines the replies of the steps and the states after them.
 use Rattle.std.proofs.Common.{◌≡◌, ℕ, List, [], ◌∷◌, Option, Some, None, slice_get, refl, sym, ap, subst, ◌∙◌, inl, inr, arith}
 use Rattle.tq_base.specs.declared.catalogue.Catalogue.{Catalogue}
 use Rattle.tq_event.specs.declared.event.Event.{Event}

@@ -1,4 +1,4 @@
--- How many rows start: what the oracle of the tests answers.
+-- The number of rows that start: the answer of the oracle in the tests.
 use Rattle.std.specs.Prelude.{ℕ, Bool, true, false, List, count_by}
 use Rattle.tq_event.specs.declared.event.Event.{Event}
 use Rattle.tq_event.specs.declared.event.Event.TheVariants.{Start, End}

@@ -1,5 +1,4 @@
--- The core machine: what one writer, its readers and the workers of an answer do, step by step, over lists.
--- This project's own.
+-- The core machine: the steps of one writer, its readers and the workers of an answer, over lists. This project's own.
 use Rattle.std.specs.Prelude.{◌≡◌, ℕ, ◌<◌, ◌≤◌, Bool, false, true, List, [], ◌∷◌, ◌++◌, length, take, max, replicate, slice_get, slice_set, Contains, Option, Some, None, if◌then◌else◌, nat_lt, ◌⊎◌}
 use Rattle.std.specs.List.{enumerate_from}
 use Rattle.tq_base.specs.declared.catalogue.Catalogue.{Catalogue}
@@ -10,15 +9,15 @@ use Rattle.tq_core.specs.declared.step.Step.TheVariants.{Append, Publish, Enter,
 use Rattle.tq_core.specs.declared.step.Reply.{Reply}
 use Rattle.tq_core.specs.declared.step.Reply.TheVariants.{Done, Length, Answer, TooNew, Piece, Order, Refused}
 
--- a run of pieces: how many there are, the workers that claimed them (at place i that of piece i), and
--- whether it is closed
+-- the pieces of an answer: their number, the workers that claimed them (the i-th worker claimed piece i), and whether
+-- they are closed
 pub record PieceRun : Type 0 where
   pub pieces : ℕ
   pub claimants : List ℕ
   pub closed : Bool
 
--- the state: the published events; 0 and the lengths that a Publish left; the events that are pending; the
--- length that each reader has seen; the runs of pieces by their numbers
+-- the state: the published events; 0 and the published length after each Publish; the pending events; the length that
+-- each reader has seen; the runs of pieces by their numbers
 pub record Machine : Type 0 where
   pub catalogue : Catalogue
   pub published : List Event
@@ -27,7 +26,7 @@ pub record Machine : Type 0 where
   pub seen : List ℕ
   pub runs : List PieceRun
 
--- nothing has happened yet
+-- the state before any step
 abbrev pub first_machine : Catalogue → ℕ → Machine
 first_machine catalogue readers =
     record { catalogue = catalogue; published = []; lengths = 0 ∷ []; pending = []; seen = replicate readers 0; runs = [] }
@@ -38,18 +37,18 @@ first_machine catalogue readers =
 abbrev pub IsRefused : {A : Type 0} → Machine → Reply A → Machine → Type 0
 IsRefused before reply after = (reply ≡ Refused) × (after ≡ before)
 
--- where the step may be taken, its reply is this one and the next state is this one; else it is refused
+-- if the step is allowed, it has this reply and this next state; else it is refused
 abbrev pub IsTakenIf : {A : Type 0} → Type 0 → Reply A → Machine → Machine → Reply A → Machine → Type 0
 IsTakenIf may answer next before reply after = (may × (reply ≡ answer) × (after ≡ next)) ⊎ ((¬ may) × IsRefused before reply after)
 
--- an event becomes pending where it is admissible after the published and the pending ones, and there is room
+-- an event may become pending if it is admissible after the published and the pending ones, and there is room
 abbrev pub CanAppend : Machine → Event → Type 0
 CanAppend m event = IsAdmissible m.catalogue (m.published ++ m.pending) event × (length (m.published ++ m.pending) < 16777216)
 
 abbrev pub Appends : {A : Type 0} → Event → Machine → Reply A → Machine → Type 0
 Appends event before = IsTakenIf (CanAppend before event) Done (record before { pending = before.pending ++ event ∷ [] }) before
 
--- all pending events are published at once
+-- all pending events are published together
 abbrev pub with_published : Machine → Machine
 with_published m =
     record m { published = m.published ++ m.pending; lengths = m.lengths ++ length (m.published ++ m.pending) ∷ []; pending = [] }
@@ -57,30 +56,30 @@ with_published m =
 abbrev pub Publishes : {A : Type 0} → Machine → Reply A → Machine → Type 0
 Publishes before reply after = (reply ≡ Length (length (before.published ++ before.pending))) × (after ≡ with_published before)
 
--- a reader has seen so much
-abbrev pub with_seen : ℕ → ℕ → Machine → Machine
-with_seen reader length m = record m { seen = slice_set m.seen reader length }
+-- a reader has seen this length
+abbrev pub with_seen_length : ℕ → ℕ → Machine → Machine
+with_seen_length reader length m = record m { seen = slice_set m.seen reader length }
 
--- a reader finds the list as long as it was at the start or after a Publish, and no shorter than what it has seen
+-- a reader finds the list with a length that it had at the start or after a Publish, and not shorter than it has seen
 abbrev pub EntersFrom : {A : Type 0} → Option ℕ → ℕ → ℕ → Machine → Reply A → Machine → Type 0
 EntersFrom None reader at before reply after = IsRefused before reply after
 EntersFrom (Some seen) reader at before reply after =
-    IsTakenIf ((seen ≤ at) × Contains before.lengths at) (Length at) (with_seen reader at before) before reply after
+    IsTakenIf ((seen ≤ at) × Contains before.lengths at) (Length at) (with_seen_length reader at before) before reply after
 
 abbrev pub Enters : {A : Type 0} → ℕ → ℕ → Machine → Reply A → Machine → Type 0
 Enters reader at before = EntersFrom (slice_get before.seen reader) reader at before
 
--- a reader is told of such a length; a lesser one than it has seen tells it nothing
+-- a reader learns of such a length; one that is less than it has seen changes nothing
 abbrev pub LearnsFrom : {A : Type 0} → Option ℕ → ℕ → ℕ → Machine → Reply A → Machine → Type 0
 LearnsFrom None reader at before reply after = IsRefused before reply after
 LearnsFrom (Some seen) reader at before reply after =
-    IsTakenIf (Contains before.lengths at) (Length (max seen at)) (with_seen reader (max seen at) before) before reply after
+    IsTakenIf (Contains before.lengths at) (Length (max seen at)) (with_seen_length reader (max seen at) before) before reply after
 
 abbrev pub Learns : {A : Type 0} → ℕ → ℕ → Machine → Reply A → Machine → Type 0
 Learns reader at before = LearnsFrom (slice_get before.seen reader) reader at before
 
--- a reader asks a query of the first n published events: it is answered where it has seen as many, and a
--- run of so many pieces opens; else it is told how many it has seen
+-- a reader queries the first n published events. If it has seen that many, the query is answered and a run of `pieces`
+-- pieces opens; else the reply is the number that it has seen
 abbrev pub with_run : ℕ → Machine → Machine
 with_run pieces m = record m { runs = m.runs ++ record { pieces = pieces; claimants = []; closed = false } ∷ [] }
 
@@ -109,7 +108,7 @@ ClaimsFrom (Some run) work worker before reply after =
 abbrev pub Claims : {A : Type 0} → ℕ → ℕ → Machine → Reply A → Machine → Type 0
 Claims work worker before = ClaimsFrom (slice_get before.runs work) work worker before
 
--- a run of which every piece is claimed gives each piece with its claimant, in order, and is closed
+-- a run with every piece claimed is closed, and the reply lists each piece with its worker, in order
 abbrev pub FinishesFrom : {A : Type 0} → Option PieceRun → ℕ → Machine → Reply A → Machine → Type 0
 FinishesFrom None work before reply after = IsRefused before reply after
 FinishesFrom (Some run) work before reply after =
@@ -119,7 +118,7 @@ FinishesFrom (Some run) work before reply after =
 abbrev pub Finishes : {A : Type 0} → ℕ → Machine → Reply A → Machine → Type 0
 Finishes work before = FinishesFrom (slice_get before.runs work) work before
 
--- the step, where answers are this function of the catalogue, the events and the query
+-- the effect of the step, if `value` gives the answer from the catalogue, the events and the query
 abbrev pub IsStep : {Q A : Type 0} → (Catalogue → List Event → Q → A) → Step Q → Machine → Reply A → Machine → Type 0
 IsStep value (Append event) = Appends event
 IsStep value Publish = Publishes
@@ -141,7 +140,7 @@ abbrev pub IsRunBefore : {Q A : Type 0} → (Catalogue → List Event → Q → 
 IsRunBefore {Q} {A} value steps before after =
     (count : ℕ) × (replies : List (Reply A)) × (count < length steps) × IsRun value (take count steps) before replies after
 
--- the state before the steps decides their replies and the state after them
+-- the state before the steps determines their replies and the state after them
 abbrev pub RunsAreUnique : {Q A : Type 0} → (Catalogue → List Event → Q → A) → Type 0
 RunsAreUnique {Q} {A} value =
     (steps : List (Step Q)) (before after after' : Machine) (replies replies' : List (Reply A))
@@ -149,11 +148,11 @@ RunsAreUnique {Q} {A} value =
     → (replies ≡ replies') × (after ≡ after')
 
 -- the query of an Ask fits the catalogue
-abbrev pub AsksFittingly : {Q : Type 0} → (Catalogue → Q → Type 0) → Catalogue → Step Q → Type 0
-AsksFittingly fits catalogue (Append event) = Unit {0}
-AsksFittingly fits catalogue Publish = Unit {0}
-AsksFittingly fits catalogue (Enter reader at) = Unit {0}
-AsksFittingly fits catalogue (Learn reader at) = Unit {0}
-AsksFittingly fits catalogue (Ask reader n query pieces) = fits catalogue query
-AsksFittingly fits catalogue (Claim work worker) = Unit {0}
-AsksFittingly fits catalogue (Finish work) = Unit {0}
+abbrev pub HasFittingQuery : {Q : Type 0} → (Catalogue → Q → Type 0) → Catalogue → Step Q → Type 0
+HasFittingQuery fits catalogue (Append event) = Unit {0}
+HasFittingQuery fits catalogue Publish = Unit {0}
+HasFittingQuery fits catalogue (Enter reader at) = Unit {0}
+HasFittingQuery fits catalogue (Learn reader at) = Unit {0}
+HasFittingQuery fits catalogue (Ask reader n query pieces) = fits catalogue query
+HasFittingQuery fits catalogue (Claim work worker) = Unit {0}
+HasFittingQuery fits catalogue (Finish work) = Unit {0}

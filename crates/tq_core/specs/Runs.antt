@@ -1,4 +1,4 @@
--- What is said of the replies of a whole run, in terms of its steps alone. This project's own.
+-- Properties of the replies of a whole run, in terms of its steps. This project's own.
 use Rattle.std.specs.Prelude.{◌≡◌, ◌≢◌, ℕ, zero, suc, ◌+◌, ◌<◌, ◌≤◌, Bool, false, true, List, [], ◌∷◌, ◌++◌, length, max, take, drop, map, All, slice_get, IsSomeAnd, MatchOption, Option, Some, None, if◌then◌else◌, ◌==◌, nat_lt}
 use Rattle.std.specs.Option.{option_map_or}
 use Rattle.std.specs.List.{enumerate_from}
@@ -15,16 +15,16 @@ pub record IsAt {Q A : Type 0} (steps : List (Step Q)) (replies : List (Reply A)
   pub is_step : slice_get steps place ≡ Some step
   pub is_reply : slice_get replies place ≡ Some reply
 
--- ---- what becomes published
+-- ---- published events
 
-abbrev pub is_done : {A : Type 0} → Reply A → Bool
-is_done Done = true
-is_done (Length n) = false
-is_done (Answer a) = false
-is_done (TooNew seen) = false
-is_done (Piece piece) = false
-is_done (Order order) = false
-is_done Refused = false
+abbrev pub is_appended : {A : Type 0} → Reply A → Bool
+is_appended Done = true
+is_appended (Length n) = false
+is_appended (Answer a) = false
+is_appended (TooNew seen) = false
+is_appended (Piece piece) = false
+is_appended (Order order) = false
+is_appended Refused = false
 
 abbrev pub event_of : {Q : Type 0} → Step Q → List Event
 event_of (Append event) = event ∷ []
@@ -35,36 +35,36 @@ event_of (Ask reader n query pieces) = []
 event_of (Claim work worker) = []
 event_of (Finish work) = []
 
--- the events of the Appends that were Done, in order
-abbrev pub done_events : {Q A : Type 0} → List (Step Q) → List (Reply A) → List Event
-done_events [] replies = []
-done_events (s ∷ steps) [] = []
-done_events (s ∷ steps) (r ∷ replies) = (if is_done r then event_of s else []) ++ done_events steps replies
+-- the events of the Appends with the reply Done, in order
+abbrev pub appended_events : {Q A : Type 0} → List (Step Q) → List (Reply A) → List Event
+appended_events [] replies = []
+appended_events (s ∷ steps) [] = []
+appended_events (s ∷ steps) (r ∷ replies) = (if is_appended r then event_of s else []) ++ appended_events steps replies
 
 abbrev pub HasNoPublish : {Q : Type 0} → List (Step Q) → Type 0
 HasNoPublish {Q} steps = All (λ (s : Step Q). s ≢ Publish) steps
 
--- the last Publish of the steps stands at the place
+-- the last Publish of the steps is at the place
 pub record IsLastPublish {Q : Type 0} (steps : List (Step Q)) (place : ℕ) : Type 0 where
   pub here : slice_get steps place ≡ Some Publish
   pub last : HasNoPublish (drop (place + 1) steps)
 
--- the published events of the state after the steps: those before them, and where a Publish came, what was
--- pending before them and what the Appends before the last Publish added
+-- the published events after the steps: those before them; and if there is a Publish, the events pending before them
+-- and those of the Appends before the last Publish
 pub record PublishesUpToLast {Q A : Type 0} (steps : List (Step Q)) (before : Machine) (replies : List (Reply A)) (after : Machine) : Type 0 where
   pub never : HasNoPublish steps → after.published ≡ before.published
   pub last : (place : ℕ) → IsLastPublish steps place
-      → after.published ≡ before.published ++ before.pending ++ done_events (take place steps) (take place replies)
+      → after.published ≡ before.published ++ before.pending ++ appended_events (take place steps) (take place replies)
 
--- ---- what is answered
+-- ---- answers
 
--- each answer is this function of the first n events published in the end
+-- each answer is `value` of the first n events that are published in the end
 abbrev pub AnswersOverLast : {Q A : Type 0} → (Catalogue → List Event → Q → A) → List (Step Q) → List (Reply A) → Machine → Type 0
 AnswersOverLast {Q} {A} value steps replies after =
     (place reader n pieces : ℕ) (query : Q) (answer : A) → IsAt steps replies place (Ask reader n query pieces) (Answer answer)
     → (n ≤ length after.published) × (answer ≡ value after.catalogue (take n after.published) query)
 
--- equal asks have equal answers, wherever they stand
+-- equal queries as of the same n have equal answers, at any places
 abbrev pub AnswersAgree : {Q A : Type 0} → List (Step Q) → List (Reply A) → Type 0
 AnswersAgree {Q} {A} steps replies =
     (first reader pieces second reader' pieces' n : ℕ) (query : Q) (a b : A)
@@ -72,7 +72,7 @@ AnswersAgree {Q} {A} steps replies =
     → IsAt steps replies second (Ask reader' n query pieces') (Answer b)
     → a ≡ b
 
--- whether the step is one by which the reader comes to see more
+-- whether the step may raise the length that the reader has seen
 abbrev pub shows_to : {Q : Type 0} → ℕ → Step Q → Bool
 shows_to reader (Append event) = false
 shows_to reader Publish = false
@@ -82,7 +82,7 @@ shows_to reader (Ask who n query pieces) = false
 shows_to reader (Claim work worker) = false
 shows_to reader (Finish work) = false
 
--- the length replied, or 0
+-- the length in the reply, or 0
 abbrev pub length_of : {A : Type 0} → Reply A → ℕ
 length_of Done = 0
 length_of (Length n) = n
@@ -92,24 +92,24 @@ length_of (Piece piece) = 0
 length_of (Order order) = 0
 length_of Refused = 0
 
--- the greatest of a length and those that the reader's Enters and Learns replied
-abbrev pub greatest_shown : {Q A : Type 0} → ℕ → ℕ → List (Step Q) → List (Reply A) → ℕ
-greatest_shown reader seen [] replies = seen
-greatest_shown reader seen (s ∷ steps) [] = seen
-greatest_shown reader seen (s ∷ steps) (r ∷ replies) = greatest_shown reader (max seen (if shows_to reader s then length_of r else 0)) steps replies
+-- the maximum of a length and the lengths in the replies to the reader's Enters and Learns
+abbrev pub max_shown_length : {Q A : Type 0} → ℕ → ℕ → List (Step Q) → List (Reply A) → ℕ
+max_shown_length reader seen [] replies = seen
+max_shown_length reader seen (s ∷ steps) [] = seen
+max_shown_length reader seen (s ∷ steps) (r ∷ replies) = max_shown_length reader (max seen (if shows_to reader s then length_of r else 0)) steps replies
 
 abbrev pub IsAnswer : {A : Type 0} → Reply A → Type 0
 IsAnswer {A} reply = (answer : A) × (reply ≡ Answer answer)
 
--- a reader's Ask is answered just where n is at most the greatest length that the reader was shown before it
--- or had seen before the steps; else it is told that length
-abbrev pub AsksUpToShown : {Q A : Type 0} → List (Step Q) → Machine → List (Reply A) → Type 0
-AsksUpToShown {Q} {A} steps before replies =
+-- a reader's Ask is answered if and only if n is at most the length that the reader has seen: the maximum of that
+-- before the steps and of those since. Otherwise the reply is that length
+abbrev pub AnswersUpToShown : {Q A : Type 0} → List (Step Q) → Machine → List (Reply A) → Type 0
+AnswersUpToShown {Q} {A} steps before replies =
     (place reader n pieces seen : ℕ) (query : Q) (reply : Reply A) → IsAt steps replies place (Ask reader n query pieces) reply
     → slice_get before.seen reader ≡ Some seen
-    → let shown = greatest_shown reader seen (take place steps) (take place replies) in (n ≤ shown → IsAnswer reply) × (shown < n → reply ≡ TooNew shown)
+    → let shown = max_shown_length reader seen (take place steps) (take place replies) in (n ≤ shown → IsAnswer reply) × (shown < n → reply ≡ TooNew shown)
 
--- ---- what is claimed
+-- ---- claims
 
 abbrev pub is_answer : {A : Type 0} → Reply A → Bool
 is_answer Done = false
@@ -129,7 +129,7 @@ pieces_of (Ask reader n query pieces) = pieces ∷ []
 pieces_of (Claim work worker) = []
 pieces_of (Finish work) = []
 
--- the counts of pieces of the Asks that were answered, in order
+-- the numbers of pieces of the answered Asks, in order
 abbrev pub opened : {Q A : Type 0} → List (Step Q) → List (Reply A) → List ℕ
 opened [] replies = []
 opened (s ∷ steps) [] = []
@@ -155,7 +155,7 @@ claimant_of work (Ask reader n query pieces) = []
 claimant_of work (Claim w worker) = if w == work then worker ∷ [] else []
 claimant_of work (Finish w) = []
 
--- the piece that a claim was given, if it was not refused
+-- the piece given to a claim, unless it was refused
 abbrev pub piece_of : {A : Type 0} → Reply A → List (Option ℕ)
 piece_of Done = []
 piece_of (Length n) = []
@@ -165,50 +165,50 @@ piece_of (Piece piece) = piece ∷ []
 piece_of (Order order) = []
 piece_of Refused = []
 
--- the pieces that the claims of a run were given, in order
+-- the pieces given to the claims of a run, in order
 abbrev pub pieces_given : {Q A : Type 0} → ℕ → List (Step Q) → List (Reply A) → List (Option ℕ)
 pieces_given work [] replies = []
 pieces_given work (s ∷ steps) [] = []
 pieces_given work (s ∷ steps) (r ∷ replies) = (if is_claim work s then piece_of r else []) ++ pieces_given work steps replies
 
 -- whether the reply gives a piece
-abbrev pub gives_piece : List (Option ℕ) → Bool
-gives_piece [] = false
-gives_piece (None ∷ rest) = false
-gives_piece (Some piece ∷ rest) = true
+abbrev pub is_piece : List (Option ℕ) → Bool
+is_piece [] = false
+is_piece (None ∷ rest) = false
+is_piece (Some piece ∷ rest) = true
 
--- the workers of the claims of a run that were given a piece, in order
+-- the workers of the claims of a run that got a piece, in order
 abbrev pub claimants_given : {Q A : Type 0} → ℕ → List (Step Q) → List (Reply A) → List ℕ
 claimants_given work [] replies = []
 claimants_given work (s ∷ steps) [] = []
-claimants_given work (s ∷ steps) (r ∷ replies) = (if gives_piece (piece_of r) then claimant_of work s else []) ++ claimants_given work steps replies
+claimants_given work (s ∷ steps) (r ∷ replies) = (if is_piece (piece_of r) then claimant_of work s else []) ++ claimants_given work steps replies
 
--- what so many claims are given from the next piece on: piece by piece, each once, then none
+-- the pieces given to `claims` claims from the next piece on: each piece once, in order, then none
 abbrev pub pieces_from : ℕ → ℕ → ℕ → List (Option ℕ)
 pieces_from pieces next zero = []
 pieces_from pieces next (suc claims) = (if nat_lt next pieces then Some next else None) ∷ pieces_from pieces (next + 1) claims
 
--- the workers that claimed the run's pieces; none of a run that is not open yet
+-- the workers that claimed the run's pieces; none if the run is not open yet
 abbrev pub claimants : Machine → ℕ → List ℕ
 claimants m work = option_map_or (λ (run : PieceRun). run.claimants) (slice_get m.runs work) []
 
--- the claims of a run, given these pieces by these workers
+-- the claims of a run get the next pieces in order, and their workers are recorded
 pub record GivesEach {Q A : Type 0} (steps : List (Step Q)) (before : Machine) (replies : List (Reply A)) (work : ℕ) (run : PieceRun) : Type 0 where
   pub pieces : pieces_given work steps replies ≡ pieces_from run.pieces (length (claimants before work)) (length (pieces_given work steps replies))
   pub workers : run.claimants ≡ claimants before work ++ claimants_given work steps replies
 
--- each answered Ask opens the next run, with its count of pieces; the claims of a run give its pieces in
--- order, each once, then none; a claim of a run that is not open gives nothing
+-- each answered Ask opens the next run, with its number of pieces; the claims of a run get its pieces in order, each
+-- once, then none; a claim of a run that is not open gets nothing
 pub record ClaimsInOrder {Q A : Type 0} (steps : List (Step Q)) (before : Machine) (replies : List (Reply A)) (after : Machine) : Type 0 where
   pub opens : map (λ (run : PieceRun). run.pieces) after.runs ≡ map (λ (run : PieceRun). run.pieces) before.runs ++ opened steps replies
   pub gives : (work : ℕ) → MatchOption (slice_get after.runs work) (pieces_given work steps replies ≡ []) (GivesEach steps before replies work)
 
--- each piece of the run was claimed, and the list has every piece once with its claimant, in order
+-- each piece of the run is claimed, and the list has every piece once, with its worker, in order
 pub record ListsEach (order : List (ℕ × ℕ)) (run : PieceRun) : Type 0 where
   pub all : length run.claimants ≡ run.pieces
   pub each : order ≡ enumerate_from 0 run.claimants
 
--- a Finish that is taken lists every piece of its run once, with its claimant
+-- a Finish that is not refused lists every piece of its run once, with its worker
 abbrev pub FinishesWhole : {Q A : Type 0} → List (Step Q) → List (Reply A) → Machine → Type 0
 FinishesWhole steps replies after =
     (place work : ℕ) (order : List (ℕ × ℕ)) → IsAt steps replies place (Finish work) (Order order)

@@ -4,7 +4,7 @@ ghost use Rattle.tq_core.specs.Machine.{RunsAreUnique};
 
 use crate::oracle::Oracle;
 
-/// The state before some steps decides their replies and the state after them.
+/// The state before some steps determines their replies and the state after them.
 pub fn runs_are_unique<O: Oracle>(_oracle: &O)
     ensures { RunsAreUnique (O.value _oracle.now) }
 {}

@@ -1,4 +1,4 @@
-// Whoever answers queries.
+// The oracle that answers queries.
 
 ghost use Rattle.std.specs.Prelude.{◌≡◌, ◌≤◌, List, length, take, IfOk};
 ghost use Rattle.tq_base.specs.Catalogues.{IsCatalogue};
@@ -12,10 +12,10 @@ use tq_event::Event;
 
 /// Answers queries over the first events of a history.
 pub trait Oracle {
-    /// What is asked.
+    /// The type of queries.
     type Query;
 
-    /// What is answered.
+    /// The type of answers.
     type Answer;
 
     // Whether the query fits the catalogue.
@@ -24,7 +24,7 @@ pub trait Oracle {
     // The oracle's answer to a query over these events.
     ghost value: { Self → Tables → List AnEvent → Self.Query → Self.Answer };
 
-    /// The answer to the query over the first `n` events. `AllocError` where a growth was refused.
+    /// The answer to the query over the first `n` events. `AllocError` if an allocation failed.
     fn answer(
         &self,
         alloc: Global,

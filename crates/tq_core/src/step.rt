@@ -1,10 +1,9 @@
-// What can happen to a world, and what it replies.
+// The steps of a world and their replies.
 
-use tq_base::Items;
+use tq_base::List;
 use tq_event::Event;
 
-/// One step of the writer, of a reader or of a worker. Readers, runs of pieces and workers are numbered
-/// from 0.
+/// One step of the writer, of a reader or of a worker. Readers, runs of pieces and workers are numbered from 0.
 #[derive(Drop, Debug)]
 pub enum Step<Q> {
     /// The writer adds an event to the pending ones.
@@ -16,12 +15,12 @@ pub enum Step<Q> {
         reader: u32,
         at: u32,
     },
-    /// A reader is told of a length that was published.
+    /// A reader learns of a published length.
     Learn {
         reader: u32,
         length: u32,
     },
-    /// A reader asks a query of the first `n` published events, to be answered in so many pieces.
+    /// A reader queries the first `n` published events; the answer has `pieces` pieces.
     Ask {
         reader: u32,
         n: u32,
@@ -33,7 +32,7 @@ pub enum Step<Q> {
         work: u32,
         worker: u32,
     },
-    /// The pieces of a run are put in order, and the run is closed.
+    /// A run of pieces is closed and its pieces are listed in order.
     Finish {
         work: u32,
     },
@@ -46,14 +45,14 @@ pub enum Reply<A> {
     Done,
     /// The published length, or the length that the reader has now seen.
     Length(u32),
-    /// The answer to an Ask.
+    /// The answer to an `Ask`.
     Answer(A),
-    /// The reader has seen fewer events than it asked about: this many.
+    /// The reader has seen fewer events than it asked for.
     TooNew { seen: u32 },
-    /// The piece that was claimed; `None` where none is left.
+    /// The claimed piece; `None` if none is left.
     Piece(Option<u32>),
     /// Each piece with the worker that claimed it, in order of the pieces.
-    Order(Items<(u32, u32)>),
-    /// The step could not be taken, and nothing changed.
+    Order(List<(u32, u32)>),
+    /// The step is not allowed, and nothing changed.
     Refused,
 }

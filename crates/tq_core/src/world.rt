@@ -1,10 +1,10 @@
-// The world: a history, its readers and the runs of pieces.
+// The world: a history, its readers and the pieces of its answers.
 
 ghost use Rattle.std.specs.Prelude.{◌≡◌, ◌↔◌, ◌<◌, ◌≤◌, ◌∷◌, ◌++◌, [], ℕ, IsTrue, All, Contains, IfOk, OnErr, length, slice_get, take};
 ghost use Rattle.tq_base.specs.Catalogues.{IsCatalogue};
 ghost use Rattle.tq_core.specs.World.{Rise};
-ghost use Rattle.tq_core.specs.Runs.{AnswersAgree, AnswersOverLast, AsksUpToShown, ClaimsInOrder, FinishesWhole, PublishesUpToLast};
-ghost use Rattle.tq_core.specs.Machine.{Appends, Asks, AsksFittingly, Claims, Enters, Finishes, IsRun, IsRunBefore, IsStep, Learns, Publishes, first_machine};
+ghost use Rattle.tq_core.specs.Runs.{AnswersAgree, AnswersOverLast, AnswersUpToShown, ClaimsInOrder, FinishesWhole, PublishesUpToLast};
+ghost use Rattle.tq_core.specs.Machine.{Appends, Asks, HasFittingQuery, Claims, Enters, Finishes, IsRun, IsRunBefore, IsStep, Learns, Publishes, first_machine};
 
 use crate::oracle::Oracle;
 use crate::pieces::Pieces;
@@ -14,10 +14,10 @@ use std::marker::Model;
 use tq_base::Catalogue;
 use tq_event::{Event, History, MAX_EVENTS};
 
-// The most workers of a run of pieces.
+// The maximal number of workers of an answer.
 const MAX_WORKERS: u32 = 16;
 
-/// One writer, its readers, and the runs of pieces of their answers.
+/// One writer, its readers, and the pieces of their answers.
 #[derive(Drop)]
 pub struct World {
     alloc: Global,
@@ -39,7 +39,7 @@ impl Model for World {
     ghost invariant = { λ w. IsWorld w.history w.published w.lengths.items w.seen.items };
 }
 
-// Whether the length is one of these, which rise.
+// Whether the length is one of the lengths, which never decrease.
 fn is_length(lengths: &[u32], at: u32) -> bool
     requires { Rise lengths.now }
     ensures { IsTrue result ↔ Contains lengths.now at }
@@ -48,7 +48,7 @@ fn is_length(lengths: &[u32], at: u32) -> bool
 }
 
 impl World {
-    /// A world in which nothing has happened yet. It keeps the allocator.
+    /// A world without events, with 1 to 8 readers. It keeps the allocator. `AllocError` if an allocation failed.
     pub fn new(alloc: Global, catalogue: Catalogue, readers: u32) -> Result<World, AllocError>
         requires some { 1 ≤ readers }
         requires few { readers ≤ 8 }
@@ -169,13 +169,13 @@ impl World {
         Ok(Reply::Order(run.close(self.alloc)?))
     }
 
-    /// Takes the step where it may be taken, and replies. Out of memory: the world is as before.
+    /// Takes the step if it is allowed, and replies. `AllocError` if an allocation failed; then nothing changes.
     pub fn step<O: Oracle>(
         &mut self,
         oracle: &O,
         step: &Step<O::Query>,
     ) -> Result<Reply<O::Answer>, AllocError>
-        requires { AsksFittingly O.fits self.old.catalogue step.now }
+        requires { HasFittingQuery O.fits self.old.catalogue step.now }
         ensures step { IfOk result (λ reply. IsStep (O.value oracle.now) step.now self.old reply self.new) }
         ensures err { OnErr result (self.new ≡ self.old) }
     {
@@ -195,8 +195,8 @@ impl World {
         }
     }
 
-    /// Takes the steps in order, and gives their replies. Out of memory: the world is as after the steps
-    /// before the one that was refused it, and the replies are given up.
+    /// Takes the steps in order and returns their replies. `AllocError` if an allocation failed: then the world is as
+    /// after the steps before the failed one, and the replies are lost.
     pub fn run<O: Oracle>(
         &mut self,
         oracle: &O,
@@ -204,12 +204,12 @@ impl World {
     ) -> Result<Vec<Reply<O::Answer>>, AllocError>
     where
         O::Answer: Drop,
-        requires { All (AsksFittingly O.fits self.old.catalogue) steps.now }
+        requires { All (HasFittingQuery O.fits self.old.catalogue) steps.now }
         ensures steps { IfOk result (λ replies. IsRun (O.value oracle.now) steps.now self.old replies.items self.new) }
         ensures published { IfOk result (λ replies. PublishesUpToLast steps.now self.old replies.items self.new) }
         ensures answers { IfOk result (λ replies. AnswersOverLast (O.value oracle.now) steps.now replies.items self.new) }
         ensures agree { IfOk result (λ replies. AnswersAgree steps.now replies.items) }
-        ensures asks { IfOk result (λ replies. AsksUpToShown steps.now self.old replies.items) }
+        ensures asks { IfOk result (λ replies. AnswersUpToShown steps.now self.old replies.items) }
         ensures claims { IfOk result (λ replies. ClaimsInOrder steps.now self.old replies.items self.new) }
         ensures finishes { IfOk result (λ replies. FinishesWhole steps.now replies.items self.new) }
         ensures err { OnErr result (IsRunBefore (O.value oracle.now) steps.now self.old self.new) }

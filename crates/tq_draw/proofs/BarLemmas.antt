@@ -1,11 +1,11 @@
--- What the bytes of a bar tell.
+-- The bytes of a bar mean what the law says.
 use Rattle.std.proofs.Common.{◌≡◌, ◌≢◌, ◌∙◌, ℕ, ◌+◌, ◌<◌, ◌≤◌, Bool, true, false, cond, ◌&&◌, inl, inr, get_or, ap, sym, refl, nat_le, nat_lt, arith}
 use Rattle.std.proofs.lemmas.Bool.{cases_lt}
 use Rattle.std.proofs.lemmas.Bool.Decides.{nat_tests}
 use Rattle.std.proofs.lemmas.List.FromFn.{get_or-map-range_with_len, length-map-range_with_len}
 use Rattle.tq_base.specs.declared.period.Period.{Period}
 use Rattle.tq_draw.specs.Bars.{bar_byte, bar_of, is_valid_in}
-use Rattle.tq_draw.specs.Laws.{BarsAreTold, IsValidIn}
+use Rattle.tq_draw.specs.Laws.{BarsMatchRows, IsValidIn}
 use Rattle.tq_draw.specs.Scales.{edge, IsScale}
 use Rattle.tq_draw.specs.declared.scale.Scale.{Scale}
 use Rattle.tq_draw.proofs.EdgeLemmas.{edge_grows}
@@ -42,7 +42,8 @@ begun start instant end is = grind (arith, nat_tests)
 open_yet : (start instant end : ℕ) → (nat_le start instant && nat_lt instant end) ≡ true → instant < end
 open_yet start instant end is = grind (arith, nat_tests)
 
--- where a period begins before a cell ends and ends after it begins, they share an instant: the later one of their first
+-- if a period begins before a cell ends, and ends after it begins, they have the later of their first instants in
+-- common
 shared : (scale : Scale) → IsScale scale → (period : Period) (cell : ℕ) → period.start < edge scale (cell + 1) → edge scale cell < period.end
     → IsValidIn scale period cell
 shared scale is period cell before after =
@@ -66,8 +67,8 @@ filled scale period cell (instant, covers, holds_it) =
     ap shade
     (both period.start (edge scale (cell + 1)) (edge scale cell) period.end (omega (arith, from, covers.1)) (omega (arith, before, covers.0)))
 
-pub bars_are_told : BarsAreTold
-bars_are_told scale period is = record {
+pub bars_match_rows : BarsMatchRows
+bars_match_rows scale period is = record {
   cells = length-map-range_with_len (bar_byte scale period) 0 scale.cells;
   filled = λ cell within. (
     (λ here. valid scale is period cell (sym (byte_at scale period cell within) ∙ here)),

@@ -1,4 +1,4 @@
--- The first characters of some bytes, byte by byte.
+-- The first characters of bytes, byte by byte.
 use Rattle.std.proofs.Common.{◌≡◌, ◌∙◌, ℕ, ◌+◌, ◌-◌, ◌<◌, Bool, true, false, cond, List, [], ◌∷◌, ◌++◌, length, drop, get_or, ap, sym, refl, add-one, append_assoc, arith}
 use Rattle.std.proofs.Math.Seq.{drop-cons}
 use Rattle.std.proofs.lemmas.Bool.Decides.{nat_tests}
@@ -6,7 +6,7 @@ use Rattle.std.proofs.lemmas.List.{append-nil}
 use Rattle.std.specs.Fmt.{is_char_start, take_chars}
 use Rattle.std.specs.Prelude.{◌==◌}
 
--- what the definition makes of a byte, by whether it begins a character
+-- the bytes that the definition takes, by whether a character begins here
 abbrev chosen : ℕ → ℕ → List ℕ → Bool → List ℕ
 chosen n b text test = cond test (cond (n == 0) [] (b ∷ take_chars (n - 1) text)) (b ∷ take_chars n text)
 
@@ -31,7 +31,7 @@ nothing n = refl
 next : (bytes : List ℕ) (i : ℕ) → i < length bytes → drop i bytes ≡ get_or bytes i 0 ∷ drop (i + 1) bytes
 next bytes i within = drop-cons bytes i 0 within ∙ ap (λ n. get_or bytes i 0 ∷ drop n bytes) (sym (add-one i))
 
--- a byte that begins no character goes with the one before it
+-- a byte inside a character is taken if the byte before it was
 pub front_goes_on : (front bytes whole : List ℕ) (left i : ℕ) → i < length bytes → is_char_start (get_or bytes i 0) ≡ false
     → front ++ take_chars left (drop i bytes) ≡ whole → (front ++ get_or bytes i 0 ∷ []) ++ take_chars left (drop (i + 1) bytes) ≡ whole
 front_goes_on front bytes whole left i within inner is =
@@ -39,7 +39,7 @@ front_goes_on front bytes whole left i within inner is =
     ∙ ap (λ l. front ++ l) (sym (ap (take_chars left) (next bytes i within) ∙ goes_on left (get_or bytes i 0) (drop (i + 1) bytes) inner))
     ∙ is
 
--- a byte that begins one is the first of those left
+-- a byte that begins a character is the first of the remaining ones
 pub front_begins : (front bytes whole : List ℕ) (left i : ℕ) → i < length bytes → is_char_start (get_or bytes i 0) ≡ true → 0 < left
     → front ++ take_chars left (drop i bytes) ≡ whole → (front ++ get_or bytes i 0 ∷ []) ++ take_chars (left - 1) (drop (i + 1) bytes) ≡ whole
 front_begins front bytes whole left i within starts some is =
@@ -47,12 +47,12 @@ front_begins front bytes whole left i within starts some is =
     ∙ ap (λ l. front ++ l) (sym (ap (take_chars left) (next bytes i within) ∙ begins left (get_or bytes i 0) (drop (i + 1) bytes) starts some))
     ∙ is
 
--- where none is left, the front is whole
+-- if no more characters are taken, the result is complete
 pub front_ends : (front bytes whole : List ℕ) (i : ℕ) → i < length bytes → is_char_start (get_or bytes i 0) ≡ true
     → front ++ take_chars 0 (drop i bytes) ≡ whole → front ≡ whole
 front_ends front bytes whole i within starts is =
     sym (ap (λ l. front ++ l) (ap (take_chars 0) (next bytes i within) ∙ ends (get_or bytes i 0) (drop (i + 1) bytes) starts) ∙ append-nil front) ∙ is
 
--- and where no byte is
+-- and if no bytes are left
 pub front_whole : (front whole : List ℕ) (left : ℕ) → front ++ take_chars left [] ≡ whole → front ≡ whole
 front_whole front whole left is = sym (ap (λ l. front ++ l) (nothing left) ∙ append-nil front) ∙ is

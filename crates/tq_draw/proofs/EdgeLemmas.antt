@@ -1,4 +1,4 @@
--- Where the cells of a scale begin.
+-- The starts of the cells of a scale.
 use Rattle.std.proofs.Common.{◌≡◌, ◌∙◌, ℕ, zero, suc, ◌+◌, ◌-◌, ◌*◌, ◌/◌, ◌<◌, ◌≤◌, inl, inr, ap, arith, add-one}
 use Rattle.std.proofs.Math.Nat.{div-mul-le_self, le_trans, mul-div_cancel_left, mul-le-mul_right, zero-div, zero-mul}
 use Rattle.std.proofs.lemmas.Bool.{cases_lt}
@@ -7,12 +7,12 @@ use Rattle.tq_draw.specs.Laws.{CellsTile, Covers}
 use Rattle.tq_draw.specs.Scales.{edge, IsScale}
 use Rattle.tq_draw.specs.declared.scale.Scale.{Scale}
 
--- a later share begins no earlier
+-- a later part does not begin earlier
 share_rises : (i j span cells : ℕ) → 0 < cells → i ≤ j → i * span / cells ≤ j * span / cells
 share_rises i j span cells some order =
     le-div (i * span / cells) (j * span) cells some (le_trans (div-mul-le_self (i * span) cells) (mul-le-mul_right span order))
 
--- and no share is empty
+-- and no part is empty
 share_grows : (i span cells : ℕ) → 0 < cells → cells ≤ span → i * span / cells < (i + 1) * span / cells
 share_grows i span cells some enough =
     let share = i * span / cells in
@@ -42,7 +42,7 @@ edge_grows scale is cell =
     let shares = share_grows cell (scale.last - scale.first) scale.cells is.some is.no_more in
     omega (arith, shares)
 
--- an instant before the edge of a cell lies in a cell before it
+-- an instant before the start of a cell is in a cell before it
 find_cell : (scale : Scale) (instant : ℕ) → scale.first ≤ instant → (n : ℕ) → instant < edge scale n
     → (cell : ℕ) × (cell < n) × Covers scale cell instant
 find_cell scale instant from zero before = absurd (omega (arith, edge_first scale))
@@ -52,7 +52,7 @@ find_cell scale instant from (suc n) before =
       | inr here ↦ (n, omega arith, (here, rw add-one before))
     ]
 
--- cells that cover one instant are one
+-- cells that cover the same instant are the same
 same_cell : (scale : Scale) → IsScale scale → (cell other instant : ℕ) → Covers scale cell instant → Covers scale other instant → cell ≤ other
 same_cell scale is cell other instant one two =
     elim (cases_lt other cell) [

@@ -3,26 +3,26 @@ use Rattle.std.proofs.Common.{◌≡◌, ◌≢◌, ℕ, false, rules, ◌+◌, 
 use Rattle.std.specs.Prelude.{◌==◌}
 use Rattle.std.proofs.lemmas.Bool.Decides.{nat_tests}
 use Rattle.std.proofs.lemmas.List.{drop_more}
-use Rattle.tq_shown.specs.Shown.{hidden_len}
-use Rattle.tq_draw.specs.Labels.{hidden_left, shown_behind, shown_byte}
+use Rattle.tq_shown.specs.Printable.{hidden_len}
+use Rattle.tq_draw.specs.Labels.{hidden_left, escaped_after, escaped_byte}
 
--- where no bytes are left, a hidden character may begin
+-- if no bytes are left, a hidden character may begin
 pub left_begins : (hidden : ℕ) (bytes : List ℕ) → hidden ≡ 0 → hidden_len bytes ≡ hidden_left hidden bytes
 left_begins hidden bytes none = subst (λ n. hidden_len bytes ≡ hidden_left n bytes) (sym none) refl
 
--- where some are left, they are
+-- if some are left, they remain
 pub left_stays : (hidden : ℕ) (bytes : List ℕ) → hidden ≢ 0 → hidden ≡ hidden_left hidden bytes
 left_stays hidden bytes some = let apart : (hidden == 0) ≡ false = search (rules, nat_tests, some) in rw apart refl
 
--- one byte more
+-- one more byte
 pub shown_next : (text whole bytes : List ℕ) (place hidden left : ℕ) → place < length bytes → left ≡ hidden_left hidden (drop place bytes)
-    → text ++ shown_behind hidden (drop place bytes) ≡ whole
-    → (text ++ shown_byte left (get_or bytes place 0)) ++ shown_behind (left - 1) (drop (place + 1) bytes) ≡ whole
+    → text ++ escaped_after hidden (drop place bytes) ≡ whole
+    → (text ++ escaped_byte left (get_or bytes place 0)) ++ escaped_after (left - 1) (drop (place + 1) bytes) ≡ whole
 shown_next text whole bytes place hidden left less left_is is =
     let byte = get_or bytes place 0 in
     let rest = drop (place + 1) bytes in
     let more : drop place bytes ≡ byte ∷ rest = drop_more bytes place 0 less in
-    let step : shown_behind hidden (drop place bytes) ≡ shown_byte left byte ++ shown_behind (left - 1) rest =
-    ap (shown_behind hidden) more
-    ∙ ap (λ n. shown_byte n byte ++ shown_behind (n - 1) rest) (ap (hidden_left hidden) (sym more) ∙ sym left_is) in
-    append_assoc text (shown_byte left byte) (shown_behind (left - 1) rest) ∙ ap (λ l. text ++ l) (sym step) ∙ is
+    let step : escaped_after hidden (drop place bytes) ≡ escaped_byte left byte ++ escaped_after (left - 1) rest =
+    ap (escaped_after hidden) more
+    ∙ ap (λ n. escaped_byte n byte ++ escaped_after (n - 1) rest) (ap (hidden_left hidden) (sym more) ∙ sym left_is) in
+    append_assoc text (escaped_byte left byte) (escaped_after (left - 1) rest) ∙ ap (λ l. text ++ l) (sym step) ∙ is

@@ -4,7 +4,7 @@ use Rattle.std.proofs.Math.Nat.{le-max_left, le-max_right, le_trans, min-le_left
 use Rattle.std.specs.List.{fold}
 use Rattle.tq_base.specs.declared.fragment.Fragment.{Fragment}
 use Rattle.tq_base.specs.declared.period.TheConstants.{FOREVER}
-use Rattle.tq_draw.specs.Laws.{ScalesHoldRows}
+use Rattle.tq_draw.specs.Laws.{ScalesCoverRows}
 use Rattle.tq_draw.specs.Scales.{drawn_end}
 
 abbrev lesser : ℕ → Fragment → ℕ
@@ -35,7 +35,7 @@ greatest_at greatest (row ∷ rows) zero d within =
     le_trans (le-max_right greatest (drawn_end row.period)) (greatest_above (greater greatest row) rows)
 greatest_at greatest (row ∷ rows) (suc place) d within = greatest_at (greater greatest row) rows place d (omega arith)
 
-pub scales_hold_rows : ScalesHoldRows
-scales_hold_rows room rows place d within =
+pub scales_cover_rows : ScalesCoverRows
+scales_cover_rows room rows place d within =
     let greatest = greatest_at 0 rows place d within in
     (least_at FOREVER rows place d within, le_trans greatest (le-max_left (fold greater 0 rows) (fold lesser FOREVER rows + 1)))

@@ -1,11 +1,11 @@
--- One step more of a text that is made piece by piece.
+-- One more step of building a text piece by piece.
 use Rattle.std.proofs.Common.{◌≡◌, ◌∙◌, ℕ, ◌+◌, ◌<◌, List, [], ◌∷◌, ◌++◌, ap, sym, map, length, take, get_or, append_assoc, arith}
 use Rattle.std.proofs.lemmas.List.{flat_map_more, take_more}
 use Rattle.std.proofs.lemmas.List.Folds.{flat_map-map}
 use Rattle.std.proofs.lemmas.List.FromFn.{map-range_with_len_more}
 use Rattle.std.specs.List.{flat_map, range_with_len}
 
--- one more number, made of its place
+-- one more number, computed from its place
 pub map_step : (f : ℕ → ℕ) (text : List ℕ) (n : ℕ)
     → (text ++ map f (range_with_len 0 n)) ++ f n ∷ [] ≡ text ++ map f (range_with_len 0 (n + 1))
 map_step f text n =
@@ -15,7 +15,7 @@ map_step f text n =
 abbrev whole : List ℕ → List ℕ
 whole text = text
 
--- one more piece, made of its place
+-- one more piece, computed from its place
 pub flat_map_step : (f : ℕ → List ℕ) (text : List ℕ) (n : ℕ)
     → (text ++ flat_map f (range_with_len 0 n)) ++ f n ≡ text ++ flat_map f (range_with_len 0 (n + 1))
 flat_map_step f text n =
@@ -24,12 +24,12 @@ flat_map_step f text n =
     ∙ ap (λ l. text ++ flat_map whole l) (sym (map-range_with_len_more f 0 n n (omega arith)))
     ∙ ap (λ l. text ++ l) (flat_map-map whole f (range_with_len 0 (n + 1)))
 
--- one more piece, made of the next of some items
+-- one more piece, computed from the next item
 pub items_step : {X : Type 0} (f : X → List ℕ) (text : List ℕ) (xs : List X) (n : ℕ) (d : X) → n < length xs
     → (text ++ flat_map f (take n xs)) ++ f (get_or xs n d) ≡ text ++ flat_map f (take (n + 1) xs)
 items_step f text xs n d within =
     flat_map_more f text (take n xs) (get_or xs n d) ∙ ap (λ l. text ++ flat_map f l) (sym (take_more xs n d within))
 
--- three pieces behind a text are one behind it
+-- three pieces after a text are one piece after it
 pub as_one_piece : (t a b c : List ℕ) → t ++ a ++ b ++ c ≡ t ++ (a ++ b ++ c)
 as_one_piece t a b c = ap (λ l. l ++ c) (append_assoc t a b) ∙ append_assoc t (a ++ b) c

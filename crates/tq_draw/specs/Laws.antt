@@ -1,4 +1,4 @@
--- What the cells of a scale and the bytes of a bar say. This project's own.
+-- What the cells of a scale and the bytes of a bar mean. This project's own.
 use Rattle.std.specs.Prelude.{All, List, ◌≡◌, ◌↔◌, ◌≢◌, ℕ, ◌+◌, ◌<◌, ◌≤◌, IsTrue, length, slice_index}
 use Rattle.tq_base.specs.Periods.{holds}
 use Rattle.tq_base.specs.declared.fragment.Fragment.{Fragment}
@@ -11,7 +11,7 @@ use Rattle.tq_draw.specs.declared.scale.Scale.{Scale}
 abbrev pub Covers : Scale → ℕ → ℕ → Type 0
 Covers scale cell instant = (edge scale cell ≤ instant) × (instant < edge scale (cell + 1))
 
--- the cells begin with the scale, end with it, and none of them is empty
+-- the cells begin and end with the scale, and no cell is empty; each instant of the scale is in exactly one of them
 pub record Tile (scale : Scale) : Type 0 where
   pub first : edge scale 0 ≡ scale.first
   pub last : edge scale scale.cells ≡ scale.last
@@ -19,25 +19,25 @@ pub record Tile (scale : Scale) : Type 0 where
   pub one : (instant : ℕ) → scale.first ≤ instant → instant < scale.last → (cell : ℕ) × (cell < scale.cells) × Covers scale cell instant
   pub no_other : (cell other instant : ℕ) → cell < scale.cells → other < scale.cells → Covers scale cell instant → Covers scale other instant → cell ≡ other
 
--- cells tile their scale: they stand in order, and each instant of it lies in just one
+-- the cells tile their scale: they are in order, and each instant of the scale is in exactly one
 abbrev pub CellsTile : Type 0
 CellsTile = (scale : Scale) → IsScale scale → Tile scale
 
--- some instant of the cell is one of the period
+-- the period holds some instant of the cell
 abbrev pub IsValidIn : Scale → Period → ℕ → Type 0
 IsValidIn scale period cell = (instant : ℕ) × Covers scale cell instant × IsTrue (holds period instant)
 
--- a bar has a byte for each cell, `#` just where the period holds an instant of the cell, and else `.`
+-- a bar has one byte for each cell: `#` exactly if the period holds an instant of the cell, else `.`
 pub record IsBar (scale : Scale) (period : Period) : Type 0 where
   pub cells : length (bar_of scale period) ≡ scale.cells
   pub filled : (cell : ℕ) → cell < scale.cells → (slice_index (bar_of scale period) cell ≡ 35) ↔ IsValidIn scale period cell
   pub empty : (cell : ℕ) → cell < scale.cells → slice_index (bar_of scale period) cell ≢ 35 → slice_index (bar_of scale period) cell ≡ 46
 
--- each bar is one
-abbrev pub BarsAreTold : Type 0
-BarsAreTold = (scale : Scale) (period : Period) → IsScale scale → IsBar scale period
+-- the law holds for each scale and period
+abbrev pub BarsMatchRows : Type 0
+BarsMatchRows = (scale : Scale) (period : Period) → IsScale scale → IsBar scale period
 
--- a scale begins no later than any of its rows, and goes as far as each of them is drawn
-abbrev pub ScalesHoldRows : Type 0
-ScalesHoldRows = (room : ℕ) (rows : List Fragment) → let scale = scale_of room rows in
+-- a scale does not begin after any of its rows, and does not end before any row's drawn end
+abbrev pub ScalesCoverRows : Type 0
+ScalesCoverRows = (room : ℕ) (rows : List Fragment) → let scale = scale_of room rows in
     All (λ (row : Fragment). (scale.first ≤ row.period.start) × (drawn_end row.period ≤ scale.last)) rows

@@ -5,9 +5,9 @@ use Rattle.tq_base.specs.declared.fragment.Fragment.{Fragment}
 use Rattle.tq_base.specs.declared.period.Period.{Period}
 use Rattle.tq_base.specs.declared.period.TheConstants.{FOREVER}
 use Rattle.tq_draw.specs.declared.scale.Scale.{Scale}
-use Rattle.tq_draw.specs.declared.scale.TheConstants.{FEWEST, MOST}
+use Rattle.tq_draw.specs.declared.scale.TheConstants.{MIN_CELLS, MAX_CELLS}
 
--- an instant at least, none behind the last bound, and no more cells than instants
+-- a scale has at least one instant, none after the last bound, and at most as many cells as instants
 pub record IsScale (scale : Scale) : Type 0 where
   pub ordered : scale.first < scale.last
   pub within : scale.last ≤ 1000000000000
@@ -15,30 +15,30 @@ pub record IsScale (scale : Scale) : Type 0 where
   pub no_more : scale.cells ≤ scale.last - scale.first
   pub few : scale.cells ≤ 10000
 
--- where a cell begins, and the one before it ends: equal shares of the scale, rounded down
+-- the start of a cell, which is the end of the cell before it: equal parts of the scale, rounded down
 abbrev pub edge : Scale → ℕ → ℕ
 edge scale cell = scale.first + cell * (scale.last - scale.first) / scale.cells
 
--- the least start of some rows
+-- the least start of the rows
 abbrev pub least_start : List Fragment → ℕ
 least_start rows = fold (λ least (row : Fragment). min least row.period.start) FOREVER rows
 
--- how far a period is drawn: up to its end, or over its first instant where it has none
+-- the end of the drawn part of a period: its end, or the instant after its start if it has no end
 abbrev pub drawn_end : Period → ℕ
 drawn_end period = if period.end == FOREVER then period.start + 1 else period.end
 
--- how far some rows are drawn
+-- the greatest drawn end of the rows
 abbrev pub greatest_end : List Fragment → ℕ
 greatest_end rows = fold (λ greatest (row : Fragment). max greatest (drawn_end row.period)) 0 rows
 
--- what a width leaves beside columns of these widths and two spaces behind each
+-- the part of the width that remains after columns of these widths and two spaces after each
 abbrev pub room_of : ℕ → List ℕ → ℕ
 room_of width widths = fold (λ room column. room - column - 2) width widths
 
--- from the least start as far as rows are drawn, in as many cells as there is room for, 16 at least and 10,000 at most,
--- but no more than instants
+-- the scale from the least start to the greatest drawn end. It has as many cells as there is room for, at least 16 and
+-- at most 10,000, but no more than instants.
 abbrev pub scale_of : ℕ → List Fragment → Scale
 scale_of room rows =
     let first = least_start rows in
     let last = max (greatest_end rows) (first + 1) in
-    record { first = first; last = last; cells = min (max (min (room - 1) MOST) FEWEST) (last - first) }
+    record { first = first; last = last; cells = min (max (min (room - 1) MAX_CELLS) MIN_CELLS) (last - first) }

@@ -1,4 +1,4 @@
-// Bars: where on the scale a row is valid.
+// Bars, which show when a row is valid.
 
 ghost use Rattle.std.specs.Prelude.{◌≡◌, ◌++◌, ◌<◌, OnOk};
 ghost use Rattle.tq_draw.specs.Bars.{arrow_of, bar_byte, bar_of};
@@ -8,7 +8,7 @@ use crate::scale::Scale;
 use std::alloc::AllocError;
 use tq_base::{FOREVER, Period};
 
-// Whether the period and the cell share an instant, as a byte.
+// Whether the period and the cell have an instant in common, as a byte.
 fn bar_byte(scale: &Scale, period: &Period, cell: usize) -> u8
     requires scale { IsScale scale.now }
     requires cell { cell < scale.now.cells }
@@ -22,7 +22,7 @@ fn bar_byte(scale: &Scale, period: &Period, cell: usize) -> u8
     }
 }
 
-/// A byte for each cell of the scale.
+/// One byte for each cell of the scale.
 pub(crate) fn push_bar(text: &mut Vec<u8>, scale: &Scale, period: &Period) -> Result<(), AllocError>
     requires { IsScale scale.now }
     ensures { OnOk result (text.new.items ≡ text.old.items ++ bar_of scale.now period.now) }
@@ -33,7 +33,7 @@ pub(crate) fn push_bar(text: &mut Vec<u8>, scale: &Scale, period: &Period) -> Re
     Ok(())
 }
 
-/// An arrow where the period has no end.
+/// An arrow if the period has no end.
 pub(crate) fn push_arrow(text: &mut Vec<u8>, period: &Period) -> Result<(), AllocError>
     ensures { OnOk result (text.new.items ≡ text.old.items ++ arrow_of period.now) }
 {

@@ -1,14 +1,14 @@
-// Names and values as they are shown.
+// Names and values as a picture shows them.
 
 ghost use Rattle.std.specs.Prelude.{◌≡◌, ◌++◌, ◌<◌, ◌≤◌, IfOk, OnOk, replicate};
 ghost use Rattle.std.specs.Fmt.{is_char_start, take_chars};
-ghost use Rattle.tq_draw.specs.Labels.{chars_in, filled, hex_digit, label_of, parted, shown, shown_byte};
+ghost use Rattle.tq_draw.specs.Labels.{chars_in, filled, hex_digit, label_of, justified, escaped_text, escaped_byte};
 ghost use Rattle.tq_draw.specs.Pictures.{is_written, mark_label};
 ghost use Rattle.tq_table.specs.Text.{value_field};
 
 use itoa::Buffer;
 use std::alloc::{AllocError, Global};
-use tq_base::{Form, Instant, LAST_DAY, Seen, Value, put_instant};
+use tq_base::{Form, Instant, LAST_DAY, Value, ValueRef, put_instant};
 use tq_shown::hidden_len;
 
 /// The most characters of a label.
@@ -25,9 +25,9 @@ fn hex_digit(digit: u8) -> u8
     }
 }
 
-// Writes a byte as it is shown; `hidden` bytes are left of a hidden character, this one counted.
+// Appends a byte as it is shown; `hidden` bytes are left of a hidden character, with this one.
 fn push_byte(text: &mut Vec<u8>, hidden: usize, byte: u8) -> Result<(), AllocError>
-    ensures { OnOk result (text.new.items ≡ text.old.items ++ shown_byte hidden byte) }
+    ensures { OnOk result (text.new.items ≡ text.old.items ++ escaped_byte hidden byte) }
 {
     if hidden > 0 {
         let digits = [b'\\', b'x', hex_digit(byte / 16), hex_digit(byte % 16)];
@@ -40,8 +40,8 @@ fn push_byte(text: &mut Vec<u8>, hidden: usize, byte: u8) -> Result<(), AllocErr
     Ok(())
 }
 
-fn shown(alloc: Global, bytes: &[u8]) -> Result<Vec<u8>, AllocError>
-    ensures { IfOk result (λ text. text.items ≡ shown bytes.now) }
+fn escaped_text(alloc: Global, bytes: &[u8]) -> Result<Vec<u8>, AllocError>
+    ensures { IfOk result (λ text. text.items ≡ escaped_text bytes.now) }
 {
     let mut text = Vec::new(alloc);
     let mut hidden = 0;
@@ -61,14 +61,14 @@ fn begins_char(byte: u8) -> bool
     byte < 0x80 || byte >= 0xC0
 }
 
-/// How many characters begin in the bytes.
+/// The number of characters that begin in the bytes.
 pub(crate) fn chars_in(bytes: &[u8]) -> usize
     ensures { result ≡ chars_in bytes.now }
 {
     bytes.iter().filter(|byte| begins_char(**byte)).count()
 }
 
-// The first so many characters.
+// The first `chars` characters.
 fn front(alloc: Global, bytes: &[u8], chars: usize) -> Result<Vec<u8>, AllocError>
     ensures { IfOk result (λ front. front.items ≡ take_chars chars bytes.now) }
 {
@@ -86,11 +86,11 @@ fn front(alloc: Global, bytes: &[u8], chars: usize) -> Result<Vec<u8>, AllocErro
     Ok(front)
 }
 
-/// What is shown of a text.
+/// The label of a text.
 pub(crate) fn label(alloc: Global, bytes: &[u8]) -> Result<Vec<u8>, AllocError>
     ensures { IfOk result (λ label. label.items ≡ label_of bytes.now) }
 {
-    let text = shown(alloc, bytes)?;
+    let text = escaped_text(alloc, bytes)?;
     if chars_in(&text) <= LABEL {
         return Ok(text);
     }
@@ -99,17 +99,17 @@ pub(crate) fn label(alloc: Global, bytes: &[u8]) -> Result<Vec<u8>, AllocError>
     Ok(label)
 }
 
-/// What is shown of a value.
+/// The label of a value.
 pub(crate) fn value_label(alloc: Global, value: &Value) -> Result<Vec<u8>, AllocError>
     ensures { IfOk result (λ label. label.items ≡ label_of (value_field value.now)) }
 {
-    match value.seen() {
-        Seen::Int(number) => label(alloc, Buffer::new().format(number).as_bytes()),
-        Seen::Text(text) => label(alloc, text.as_bytes()),
+    match value.as_ref() {
+        ValueRef::Int(number) => label(alloc, Buffer::new().format(number).as_bytes()),
+        ValueRef::Text(text) => label(alloc, text.as_bytes()),
     }
 }
 
-// Whether the bound has a date, where bounds are written as dates.
+// Whether the bound can be written in the form: in dates it must have a date.
 fn is_written(bound: u64, form: Form) -> bool
     ensures { result ≡ is_written form bound }
 {
@@ -119,7 +119,7 @@ fn is_written(bound: u64, form: Form) -> bool
     }
 }
 
-/// A bound as answers write it; nothing for one that has no date, where bounds are written as dates.
+/// A bound as answers write it; empty if it cannot be written in the form.
 pub(crate) fn mark_label(alloc: Global, bound: u64, form: Form) -> Result<Vec<u8>, AllocError>
     requires { bound ≤ 1000000000000 }
     ensures { IfOk result (λ label. label.items ≡ mark_label form bound) }
@@ -146,7 +146,7 @@ fn push_times(text: &mut Vec<u8>, byte: u8, times: usize) -> Result<(), AllocErr
     Ok(())
 }
 
-/// The label, and spaces behind it up to the width.
+/// Appends the label, filled with spaces up to the width.
 pub(crate) fn push_filled(text: &mut Vec<u8>, label: &[u8], width: usize) -> Result<(), AllocError>
     ensures { OnOk result (text.new.items ≡ text.old.items ++ filled width label.now) }
 {
@@ -154,14 +154,14 @@ pub(crate) fn push_filled(text: &mut Vec<u8>, label: &[u8], width: usize) -> Res
     push_times(text, b' ', width.saturating_sub(chars_in(label)))
 }
 
-/// Two labels, with spaces between them up to the width, and one at least.
-pub(crate) fn push_parted(
+/// Appends two labels, with spaces between them up to the width, at least one.
+pub(crate) fn push_justified(
     text: &mut Vec<u8>,
     left: &[u8],
     right: &[u8],
     width: usize,
 ) -> Result<(), AllocError>
-    ensures { OnOk result (text.new.items ≡ text.old.items ++ parted width left.now right.now) }
+    ensures { OnOk result (text.new.items ≡ text.old.items ++ justified width left.now right.now) }
 {
     let spaces = width
         .saturating_sub(chars_in(left))

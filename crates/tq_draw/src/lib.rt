@@ -1,10 +1,11 @@
-//! Tables as pictures, to be looked at.
+//! Timelines of tables, as text and as SVG.
 //!
-//! `draw` makes of a table some text: a line for each row, with its values and, beside them, a bar that shows when
-//! the row is valid, over a scale of time that all rows share. The scale is cut into cells, each of one instant at
-//! least, and a cell of a bar is filled just where the row is valid at some instant of the cell. That is said by
-//! `bars_are_told`, and that the cells are the scale, in order and none of them empty, by `cells_tile`. `draw_svg` makes
-//! the same picture in SVG.
+//! `draw` makes one line for each row: its values, and a bar over a scale of time that all rows share. The scale is cut
+//! into cells of one instant or more. A cell of a bar is filled exactly if the row is valid at some instant of the
+//! cell. `draw_svg` makes the same picture as an SVG image. The contracts cite `picture_of` in `specs/Pictures.antt`
+//! and `svg_of` in `specs/Svg.antt`; the laws in `src/laws.rt` say what scales and bars show.
+//!
+//! Open `src/pictures.rt` first.
 #![tactic(auto)]
 
 mod bars;

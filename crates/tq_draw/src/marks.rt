@@ -1,16 +1,16 @@
-// The marks above the bars, and the instants at which they stand.
+// The marks above the bars, and their instants.
 
 ghost use Rattle.std.specs.Prelude.{◌≡◌, ◌++◌, ◌<◌, ◌≤◌, ◌*◌, ◌-◌, OnOk};
 ghost use Rattle.tq_draw.specs.Bars.{marks_on, ruler_byte, ruler_of};
-ghost use Rattle.tq_draw.specs.Pictures.{marks_text, others_text};
+ghost use Rattle.tq_draw.specs.Pictures.{marks_text, all_but_last_text};
 ghost use Rattle.tq_draw.specs.Scales.{IsScale};
 
-use crate::labels::{mark_label, push_filled, push_parted};
+use crate::labels::{mark_label, push_filled, push_justified};
 use crate::scale::Scale;
 use std::alloc::{AllocError, Global};
 use tq_base::Form;
 
-// How many marks stand on so many cells.
+// The number of marks for this number of cells.
 fn marks_on(cells: usize) -> usize
     ensures { result ≡ marks_on cells }
 {
@@ -39,14 +39,14 @@ pub(crate) fn push_ruler(text: &mut Vec<u8>, cells: usize) -> Result<(), AllocEr
 }
 
 // The instants of all marks but the last.
-fn push_others(
+fn push_all_but_last(
     alloc: Global,
     text: &mut Vec<u8>,
     scale: &Scale,
     form: Form,
 ) -> Result<(), AllocError>
     requires { IsScale scale.now }
-    ensures { OnOk result (text.new.items ≡ text.old.items ++ others_text form scale.now) }
+    ensures { OnOk result (text.new.items ≡ text.old.items ++ all_but_last_text form scale.now) }
 {
     'marks: for mark in 0..marks_on(scale.cells) - 1 {
         let label = mark_label(alloc, scale.edge(mark * 16), form)?;
@@ -55,7 +55,7 @@ fn push_others(
     Ok(())
 }
 
-/// The instants at which the marks stand, and the last bound.
+/// The instants of all marks, and the last bound.
 pub(crate) fn push_marks(
     alloc: Global,
     text: &mut Vec<u8>,
@@ -65,9 +65,9 @@ pub(crate) fn push_marks(
     requires { IsScale scale.now }
     ensures { OnOk result (text.new.items ≡ text.old.items ++ marks_text form scale.now) }
 {
-    push_others(alloc, text, scale, form)?;
+    push_all_but_last(alloc, text, scale, form)?;
     let mark = (marks_on(scale.cells) - 1) * 16;
     let begin = mark_label(alloc, scale.edge(mark), form)?;
     let end = mark_label(alloc, scale.last, form)?;
-    push_parted(text, &begin, &end, scale.cells + 1 - mark)
+    push_justified(text, &begin, &end, scale.cells + 1 - mark)
 }

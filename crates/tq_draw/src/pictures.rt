@@ -1,4 +1,4 @@
-// A table as a picture.
+// A table as a picture in text.
 
 ghost use Rattle.std.specs.Prelude.{◌≡◌, ◌++◌, IfOk, OnOk, length};
 ghost use Rattle.tq_draw.specs.Pictures.{head_text, picture_of};
@@ -34,9 +34,9 @@ fn push_head(
     Ok(())
 }
 
-/// The table as a picture of a width, in characters, its bounds in the form: a line for each row, with its values and
-/// a bar over the scale of time that stands above all rows. Where the values leave less than 17 characters of the
-/// width, the picture is wider. `AllocError` where a growth was refused.
+/// Draws the table in a width of this many characters: a line for each row, with its values and a bar, below a scale of
+/// time. `form` says how instants are written. The picture is wider if the values leave fewer than 17 characters.
+/// `AllocError` if an allocation failed.
 pub fn draw(
     alloc: Global,
     table: &Table<'_>,

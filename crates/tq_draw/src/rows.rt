@@ -1,4 +1,4 @@
-// The lines of rows, and of names.
+// The lines of the column names and of the rows.
 
 ghost use Rattle.std.specs.Prelude.{◌≡◌, [], ◌++◌, OnOk, length};
 ghost use Rattle.std.specs.List.{flat_map};
@@ -12,9 +12,9 @@ use crate::labels::{label, push_filled, value_label};
 use crate::scale::Scale;
 use std::alloc::{AllocError, Global};
 use tq_base::{Name, Period, Row};
-use tq_table::Lines;
+use tq_table::ResultRows;
 
-// A label up to the width of its column, and two spaces.
+// Appends a label, filled up to the width of its column, and two spaces.
 fn push_column(text: &mut Vec<u8>, label: &[u8], width: usize) -> Result<(), AllocError>
     ensures { OnOk result (text.new.items ≡ text.old.items ++ column_text width label.now) }
 {
@@ -22,7 +22,7 @@ fn push_column(text: &mut Vec<u8>, label: &[u8], width: usize) -> Result<(), All
     text.extend_from_slice(b"  ")
 }
 
-/// The names of the columns.
+/// Appends the names of the columns.
 pub(crate) fn push_names(
     alloc: Global,
     text: &mut Vec<u8>,
@@ -39,7 +39,7 @@ pub(crate) fn push_names(
     Ok(())
 }
 
-/// Spaces in place of the columns.
+/// Appends spaces as wide as the columns.
 pub(crate) fn push_blanks(text: &mut Vec<u8>, widths: &[usize]) -> Result<(), AllocError>
     ensures { OnOk result (text.new.items ≡ text.old.items ++ columns_text widths.now (λ _. [])) }
 {
@@ -49,7 +49,7 @@ pub(crate) fn push_blanks(text: &mut Vec<u8>, widths: &[usize]) -> Result<(), Al
     Ok(())
 }
 
-/// The values of a row.
+/// Appends the values of a row.
 pub(crate) fn push_values(
     alloc: Global,
     text: &mut Vec<u8>,
@@ -65,7 +65,7 @@ pub(crate) fn push_values(
     Ok(())
 }
 
-// The line of a row.
+// Appends the line of a row.
 fn push_row(
     alloc: Global,
     text: &mut Vec<u8>,
@@ -84,11 +84,11 @@ fn push_row(
     Ok(())
 }
 
-/// A line for each row.
+/// Appends a line for each row.
 pub(crate) fn push_rows(
     alloc: Global,
     text: &mut Vec<u8>,
-    rows: &Lines<'_>,
+    rows: &ResultRows<'_>,
     widths: &[usize],
     scale: &Scale,
 ) -> Result<(), AllocError>

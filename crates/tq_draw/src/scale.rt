@@ -4,15 +4,15 @@ ghost use Rattle.std.specs.Prelude.{◌≡◌, ◌≤◌, ◌<◌, length};
 ghost use Rattle.tq_draw.specs.Scales.{edge, drawn_end, greatest_end, least_start, room_of, scale_of, IsScale};
 
 use tq_base::{FOREVER, Period};
-use tq_table::Lines;
+use tq_table::ResultRows;
 
-/// The fewest cells of a scale of so many instants.
-pub(crate) const FEWEST: usize = 16;
+/// The least number of cells, if the scale has that many instants.
+pub(crate) const MIN_CELLS: usize = 16;
 
 /// The most cells of a scale.
-pub(crate) const MOST: usize = 10_000;
+pub(crate) const MAX_CELLS: usize = 10_000;
 
-/// The instants from the first up to, and not including, the last bound, cut into so many cells.
+/// The instants from `first` up to, and not including, `last`, cut into `cells` cells.
 #[derive(Clone, Copy, Debug)]
 pub struct Scale {
     pub first: u64,
@@ -21,7 +21,7 @@ pub struct Scale {
 }
 
 impl Scale {
-    /// Where the cell begins, and the one before it ends.
+    /// The start of the cell, which is the end of the cell before it.
     pub(crate) fn edge(&self, cell: usize) -> u64
         requires scale { IsScale self.now }
         requires cell { cell ≤ self.now.cells }
@@ -32,8 +32,7 @@ impl Scale {
     }
 }
 
-// The least start of the rows.
-fn least_start(rows: &Lines<'_>) -> u64
+fn least_start(rows: &ResultRows<'_>) -> u64
     ensures value { result ≡ least_start rows.now }
     ensures within { 0 < length rows.now → result < 1000000000000 }
 {
@@ -44,7 +43,7 @@ fn least_start(rows: &Lines<'_>) -> u64
     least
 }
 
-// How far the period is drawn.
+// The end of the drawn part of the period.
 fn drawn_end(period: Period) -> u64
     ensures value { result ≡ drawn_end period }
     ensures within { result ≤ 1000000000000 }
@@ -56,8 +55,8 @@ fn drawn_end(period: Period) -> u64
     }
 }
 
-// How far the rows are drawn.
-fn greatest_end(rows: &Lines<'_>) -> u64
+// The greatest drawn end of the rows.
+fn greatest_end(rows: &ResultRows<'_>) -> u64
     ensures value { result ≡ greatest_end rows.now }
     ensures within { result ≤ 1000000000000 }
 {
@@ -68,7 +67,7 @@ fn greatest_end(rows: &Lines<'_>) -> u64
     greatest
 }
 
-/// What a width leaves beside columns of these widths.
+/// The part of the width that remains after columns of these widths.
 pub(crate) fn room_of(width: usize, widths: &[usize]) -> usize
     ensures { result ≡ room_of width widths.now }
 {
@@ -79,15 +78,15 @@ pub(crate) fn room_of(width: usize, widths: &[usize]) -> usize
     room
 }
 
-/// The scale of the rows, in as many cells as there is room for.
-pub(crate) fn scale_of(room: usize, rows: &Lines<'_>) -> Scale
+/// The scale of the rows, with as many cells as there is room for. Requires at least one row.
+pub(crate) fn scale_of(room: usize, rows: &ResultRows<'_>) -> Scale
     requires { 0 < length rows.now }
     ensures value { result ≡ scale_of room rows.now }
     ensures scale { IsScale result }
 {
     let first = least_start(rows);
     let last = greatest_end(rows).max(first + 1);
-    let wanted = room.saturating_sub(1).min(MOST).max(FEWEST);
+    let wanted = room.saturating_sub(1).min(MAX_CELLS).max(MIN_CELLS);
     Scale {
         first,
         last,

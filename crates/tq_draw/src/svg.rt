@@ -13,9 +13,9 @@ use crate::widths::widths_of;
 use itoa::Buffer;
 use std::alloc::{AllocError, Global};
 use tq_base::{Form, Name, Period, Row};
-use tq_table::{Lines, Table};
+use tq_table::{ResultRows, Table};
 
-// A byte of a text in XML.
+// Appends a byte of text in XML.
 fn push_xml_byte(text: &mut Vec<u8>, byte: u8) -> Result<(), AllocError>
     ensures { OnOk result (text.new.items ≡ text.old.items ++ xml_byte byte) }
 {
@@ -32,7 +32,7 @@ fn push_xml_byte(text: &mut Vec<u8>, byte: u8) -> Result<(), AllocError>
     Ok(())
 }
 
-// The bytes in XML.
+// The bytes as text in XML.
 fn xml(alloc: Global, bytes: &[u8]) -> Result<Vec<u8>, AllocError>
     ensures { IfOk result (λ text. text.items ≡ flat_map xml_byte bytes.now) }
 {
@@ -63,7 +63,7 @@ fn push_three(
     Ok(())
 }
 
-// A line of text, below the one before it.
+// Appends a line of text, below the line before it.
 fn push_line(alloc: Global, text: &mut Vec<u8>, line: &[u8]) -> Result<(), AllocError>
     ensures { OnOk result (text.new.items ≡ text.old.items ++ line_element line.now) }
 {
@@ -72,7 +72,7 @@ fn push_line(alloc: Global, text: &mut Vec<u8>, line: &[u8]) -> Result<(), Alloc
     Ok(())
 }
 
-// The image of so many pixels, up to its lines of text.
+// The image of this size in pixels, up to its lines of text.
 fn opening(alloc: Global, width: u128, height: u128) -> Result<Vec<u8>, AllocError>
     ensures { IfOk result (λ text. text.items ≡ opening width height) }
 {
@@ -86,7 +86,7 @@ fn opening(alloc: Global, width: u128, height: u128) -> Result<Vec<u8>, AllocErr
     Ok(text)
 }
 
-// The stroke or the step for a byte of a bar.
+// The stroke or step for a byte of a bar.
 fn stroke(byte: u8) -> &'static [u8]
     ensures { result.now ≡ stroke byte }
 {
@@ -106,7 +106,7 @@ fn push_bar_strokes(text: &mut Vec<u8>, bar: &[u8]) -> Result<(), AllocError>
     Ok(())
 }
 
-// The strokes of a row's bar, and the step to where the next row's begins.
+// Appends the strokes of a row's bar, and the step to the start of the next row's.
 fn push_strokes(
     alloc: Global,
     text: &mut Vec<u8>,
@@ -125,12 +125,12 @@ fn push_strokes(
     Ok(())
 }
 
-// The bars of all rows.
+// Appends the bars of all rows.
 fn push_bars(
     alloc: Global,
     text: &mut Vec<u8>,
     scale: &Scale,
-    rows: &Lines<'_>,
+    rows: &ResultRows<'_>,
 ) -> Result<(), AllocError>
     requires { IsScale scale.now }
     ensures { OnOk result (text.new.items ≡ text.old.items ++ bars_path scale.now rows.now) }
@@ -141,7 +141,7 @@ fn push_bars(
     Ok(())
 }
 
-// The values of a row.
+// Appends the values of a row.
 fn push_values_line(
     alloc: Global,
     text: &mut Vec<u8>,
@@ -155,11 +155,11 @@ fn push_values_line(
     push_line(alloc, text, &line)
 }
 
-// The values of all rows.
+// Appends the values of all rows.
 fn push_values_lines(
     alloc: Global,
     text: &mut Vec<u8>,
-    rows: &Lines<'_>,
+    rows: &ResultRows<'_>,
     widths: &[usize],
 ) -> Result<(), AllocError>
     ensures { OnOk result (text.new.items ≡ text.old.items ++ values_elements widths.now rows.now) }
@@ -170,7 +170,7 @@ fn push_values_lines(
     Ok(())
 }
 
-// The line with the marks' instants.
+// Appends the line with the instants of the marks.
 fn push_marks_line(
     alloc: Global,
     text: &mut Vec<u8>,
@@ -187,7 +187,7 @@ fn push_marks_line(
     push_line(alloc, text, &line)
 }
 
-// The line with the names and the ruler.
+// Appends the line with the names and the ruler.
 fn push_names_line(
     alloc: Global,
     text: &mut Vec<u8>,
@@ -204,7 +204,7 @@ fn push_names_line(
     push_line(alloc, text, &line)
 }
 
-// How many characters the columns take.
+// The number of characters that the columns take.
 fn columns_len(alloc: Global, widths: &[usize]) -> Result<usize, AllocError>
     ensures { IfOk result (λ len. len ≡ columns_len widths.now) }
 {
@@ -213,7 +213,7 @@ fn columns_len(alloc: Global, widths: &[usize]) -> Result<usize, AllocError>
     Ok(line.len())
 }
 
-// The beginning of the path of all bars, which stand so many characters from the left.
+// Appends the start of the path of all bars, `left` characters from the left.
 fn push_path_start(alloc: Global, text: &mut Vec<u8>, left: usize) -> Result<(), AllocError>
     ensures { OnOk result (text.new.items ≡ text.old.items ++ path_start left) }
 {
@@ -227,7 +227,6 @@ fn push_path_start(alloc: Global, text: &mut Vec<u8>, left: usize) -> Result<(),
     Ok(())
 }
 
-// The image of a table without rows.
 fn empty_image(
     alloc: Global,
     columns: &[Name],
@@ -246,7 +245,6 @@ fn empty_image(
     Ok(text)
 }
 
-// The image of a table with rows, over this scale.
 fn image_over(
     alloc: Global,
     table: &Table<'_>,
@@ -271,8 +269,8 @@ fn image_over(
     Ok(text)
 }
 
-/// The table as a standalone image in SVG, with the names, values, marks and cells of the picture that `draw` makes of
-/// the width, in characters. `AllocError` where a growth was refused.
+/// Draws the table as a standalone SVG image, with the names, values, marks and cells that `draw` shows in a width of
+/// this many characters. `AllocError` if an allocation failed.
 pub fn draw_svg(
     alloc: Global,
     table: &Table<'_>,

@@ -7,7 +7,6 @@ use crate::labels::{chars_in, label, value_label};
 use std::alloc::{AllocError, Global};
 use tq_table::Table;
 
-// The width of a column.
 fn width_of(alloc: Global, table: &Table<'_>, column: usize) -> Result<usize, AllocError>
     requires { column < length table.now.columns }
     ensures { IfOk result (λ width. width ≡ width_of table.now.columns table.now.rows column) }
@@ -20,7 +19,7 @@ fn width_of(alloc: Global, table: &Table<'_>, column: usize) -> Result<usize, Al
     Ok(widest)
 }
 
-/// The width of each column.
+/// The width of each column, in characters.
 pub(crate) fn widths_of(alloc: Global, table: &Table<'_>) -> Result<Vec<usize>, AllocError>
     ensures { IfOk result (λ widths. widths.items ≡ widths_of table.now) }
 {

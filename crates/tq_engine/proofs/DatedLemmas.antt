@@ -10,7 +10,7 @@ use Rattle.tq_event.specs.declared.event.Event.{Event}
 use Rattle.tq_event.specs.History.{time_of}
 use Rattle.tq_event.specs.Laws.{LoadedAreDated}
 use Rattle.tq_eval.specs.Bounds.{given_bounds, BoundsAreGiven, IsBoundedBy}
-use Rattle.tq_plan.specs.Standing.{WindowsAreDated}
+use Rattle.tq_plan.specs.ValidPlans.{WindowsAreDated}
 use Rattle.tq_engine.specs.Answers.{AnswersAreDated}
 
 times_dated : (n : ℕ) (events : List Event) → All (λ e. time_of e ≤ LAST_DAY) events → All IsDated (map time_of (take n events))

@@ -1,4 +1,4 @@
--- A fault of a layer as the answer's.
+-- Faults of files, of a statement and of a plan as faults of the answer.
 use Rattle.std.proofs.Common.{◌≡◌, ◌≢◌, ℕ, List, Option, Some, None, refl, sym, ap, ◌∙◌, subst}
 use Rattle.std.proofs.lemmas.Option.{none-some}
 use Rattle.tq_base.specs.declared.form.Form.{Form}
@@ -9,12 +9,12 @@ use Rattle.tq_sql.specs.declared.fault.SqlFault.{SqlFault}
 use Rattle.tq_sql.specs.declared.fault.SqlFaultKind.{SqlFaultKind}
 use Rattle.tq_sql.specs.declared.fault.SqlFaultKind.TheVariants as sql
 use Rattle.tq_sql.specs.declared.statement.Statement.{Statement}
-use Rattle.tq_sql.specs.Reading.{Makes}
-use Rattle.tq_engine.specs.declared.answering.AnswerFault.{AnswerFault}
-use Rattle.tq_engine.specs.declared.answering.AnswerFault.TheVariants as answer
+use Rattle.tq_sql.specs.Reading.{ParsesTo}
+use Rattle.tq_engine.specs.declared.execution.AnswerFault.{AnswerFault}
+use Rattle.tq_engine.specs.declared.execution.AnswerFault.TheVariants as answer
 use Rattle.tq_engine.specs.Answers.{HasSqlFault, IsFault, IsStatementFault}
 
--- which of the faults is not out of memory
+-- `Some 0` for each fault except out of memory
 abbrev sql_named : SqlFaultKind → Option ℕ
 sql_named sql.BadByte = Some 0
 sql_named sql.UnexpectedToken = Some 0
@@ -45,7 +45,7 @@ sql_fault form files bytes fault given is has = by_name (sql_named fault.kind) r
         subst (IsFault form files bytes) (sym (is.1 other)) (has other)
 
 -- a fault of the statement over the tables of the files
-pub statement_fault : (form : Form) (files : List TableFile) (bytes : List ℕ) (loaded : Loaded) (statement : Statement) (fault : AnswerFault) → IsLoaded form files 16777216 loaded → Makes bytes statement
+pub statement_fault : (form : Form) (files : List TableFile) (bytes : List ℕ) (loaded : Loaded) (statement : Statement) (fault : AnswerFault) → IsLoaded form files 16777216 loaded → ParsesTo bytes statement
     → IsStatementFault form loaded.catalogue statement fault → IsFault form files bytes fault
 statement_fault form files bytes loaded statement (answer.Load fault) is_loaded makes is = absurd is
 statement_fault form files bytes loaded statement (answer.Sql fault) is_loaded makes is = absurd is

@@ -1,4 +1,4 @@
-pub mod AskedLemmas
+pub mod LoadedQueryLemmas
 pub mod DatedLemmas
 pub mod UniqueLemmas
 pub mod FaultLemmas

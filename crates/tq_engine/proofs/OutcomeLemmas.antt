@@ -1,4 +1,4 @@
--- Files and a statement have one outcome, and no second one.
+-- Files and a statement have exactly one outcome.
 use Rattle.std.proofs.Common.{◌≡◌, ◌≢◌, ◌⊎◌, ℕ, List, length, Result, Ok, Err, inl, inr, refl, sym, ap, ◌∙◌, subst}
 use Rattle.tq_base.specs.declared.catalogue.Catalogue.{Catalogue}
 use Rattle.tq_base.specs.declared.form.Form.{Form}
@@ -14,10 +14,10 @@ use Rattle.tq_plan.specs.Plans.{plan_of}
 use Rattle.tq_sql.specs.declared.fault.SqlFault.{SqlFault}
 use Rattle.tq_sql.specs.declared.statement.Statement.{Statement}
 use Rattle.tq_sql.specs.Laws.{FaultsAreRefusals, FaultsAreUnique, StatementsAreUnique, TextsAreDecided}
-use Rattle.tq_sql.specs.Reading.{IsSqlFault, Makes}
+use Rattle.tq_sql.specs.Reading.{IsSqlFault, ParsesTo}
 use Rattle.tq_table.specs.declared.table.Table.{Table}
-use Rattle.tq_engine.specs.declared.answering.AnswerFault.{AnswerFault}
-use Rattle.tq_engine.specs.declared.answering.AnswerFault.TheVariants as answer
+use Rattle.tq_engine.specs.declared.execution.AnswerFault.{AnswerFault}
+use Rattle.tq_engine.specs.declared.execution.AnswerFault.TheVariants as answer
 use Rattle.tq_engine.specs.Answers.{AnswersAreUnique, HasAnswer, HasSqlFault, HasStatementFault, IsFault, IsOutcome, OutcomesAreUnique, OutcomesExist}
 use Rattle.tq_engine.proofs.UniqueLemmas.{same_catalogue, same_statement}
 
@@ -25,7 +25,7 @@ use Rattle.tq_engine.proofs.UniqueLemmas.{same_catalogue, same_statement}
 pub outcomes_exist : LoadedExists → TextsAreDecided → AnswersExist → OutcomesExist
 outcomes_exist loaded_exists decided exists form files bytes = by_contents (contents_of form files 16777216) refl
   where
-    by_plan : (loaded : Loaded) → IsLoaded form files 16777216 loaded → (s : Statement) → Makes bytes s → (p : Result Plan PlanFault) → plan_of form loaded.catalogue s ≡ p
+    by_plan : (loaded : Loaded) → IsLoaded form files 16777216 loaded → (s : Statement) → ParsesTo bytes s → (p : Result Plan PlanFault) → plan_of form loaded.catalogue s ≡ p
         → (outcome : Result Table AnswerFault) × IsOutcome form files bytes outcome
     by_plan loaded is_loaded s makes (Err fault) e =
         (Err (answer.Plan fault), (record { loaded = loaded; is_loaded = is_loaded; statement = s; makes = makes; is_fault = e }, λ same. cc))
@@ -33,7 +33,7 @@ outcomes_exist loaded_exists decided exists form files bytes = by_contents (cont
         let (table, is) = exists loaded.events (length loaded.events) plan in
         (Ok table, record { loaded = loaded; is_loaded = is_loaded; statement = s; makes = makes; is_answer = record { plan = plan; planned = e; is_answer = is } })
 
-    by_text : (loaded : Loaded) → IsLoaded form files 16777216 loaded → ((s : Statement) × Makes bytes s) ⊎ ((f : SqlFault) × IsSqlFault bytes f)
+    by_text : (loaded : Loaded) → IsLoaded form files 16777216 loaded → ((s : Statement) × ParsesTo bytes s) ⊎ ((f : SqlFault) × IsSqlFault bytes f)
         → (outcome : Result Table AnswerFault) × IsOutcome form files bytes outcome
     by_text loaded is_loaded (inl (s, makes)) = by_plan loaded is_loaded s makes (plan_of form loaded.catalogue s) refl
     by_text loaded is_loaded (inr (f, is)) =
@@ -45,12 +45,12 @@ outcomes_exist loaded_exists decided exists form files bytes = by_contents (cont
         let (loaded, is_loaded) = loaded_exists form files 16777216 contents e in
         by_text loaded is_loaded (decided bytes)
 
--- the fault of a result
+-- the fault of an `Err`, else the given one
 abbrev err_or : {A E : Type 0} → E → Result A E → E
 err_or other (Ok value) = other
 err_or other (Err fault) = fault
 
--- which of the faults it is, in the order in which they come
+-- two faults are equal, case by case in the order in which faults come
 module _ (loaded_once : LoadedIsUnique) (refusals : FaultsAreRefusals) (faults_once : FaultsAreUnique) (statements_once : StatementsAreUnique) (answers_once : AnswersAreUnique) (form : Form) (files : List TableFile) (bytes : List ℕ) where
   -- loaded files have no fault
   not_both : (loaded : Loaded) (fault : LoadFault) → IsLoaded form files 16777216 loaded → contents_of form files 16777216 ≡ Err fault → ⊥
@@ -60,7 +60,7 @@ module _ (loaded_once : LoadedIsUnique) (refusals : FaultsAreRefusals) (faults_o
   same_load a b x y = ap (err_or a) (sym x ∙ y)
 
   -- the plans of one statement over one catalogue
-  same_plan : (a b : Loaded) → IsLoaded form files 16777216 a → IsLoaded form files 16777216 b → (s u : Statement) → Makes bytes s → Makes bytes u → plan_of form a.catalogue s ≡ plan_of form b.catalogue u
+  same_plan : (a b : Loaded) → IsLoaded form files 16777216 a → IsLoaded form files 16777216 b → (s u : Statement) → ParsesTo bytes s → ParsesTo bytes u → plan_of form a.catalogue s ≡ plan_of form b.catalogue u
   same_plan a b x y s u m n =
       let once = loaded_once form files 16777216 a b x y in
       let catalogue = same_catalogue a.catalogue b.catalogue once.0 in

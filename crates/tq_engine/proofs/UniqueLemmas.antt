@@ -11,12 +11,12 @@ use Rattle.tq_sql.specs.declared.fault.SqlFault.{SqlFault}
 use Rattle.tq_sql.specs.declared.statement.Statement.{Statement}
 use Rattle.tq_sql.specs.Grammar.{IsStatement}
 use Rattle.tq_sql.specs.Laws.{StatementsAreUnique}
-use Rattle.tq_sql.specs.Reading.{Makes}
+use Rattle.tq_sql.specs.Reading.{ParsesTo}
 use Rattle.tq_sql.specs.Tokens.{Token}
 use Rattle.tq_table.specs.declared.table.Table.{Table}
 use Rattle.tq_engine.specs.Answers.{HasAnswer}
 
--- a catalogue is known by its tables
+-- catalogues with equal tables are equal
 pub same_catalogue : (a b : Catalogue) → a.tables ≡ b.tables → a ≡ b
 same_catalogue a b tables = subst (λ (t : List Schema). (few : length t ≤ 16) → a ≡ record { tables = t; few = few }) tables (λ few. ap (λ w. record { tables = a.tables; few = w }) (le_prop a.few few)) b.few
 
@@ -24,8 +24,8 @@ abbrev tokens_or : List Token → Result (List Token) SqlFault → List Token
 tokens_or other (Ok tokens) = tokens
 tokens_or other (Err fault) = other
 
--- bytes make one statement at most
-pub same_statement : StatementsAreUnique → (bytes : List ℕ) (s u : Statement) → Makes bytes s → Makes bytes u → s ≡ u
+-- bytes are those of at most one statement
+pub same_statement : StatementsAreUnique → (bytes : List ℕ) (s u : Statement) → ParsesTo bytes s → ParsesTo bytes u → s ≡ u
 same_statement once bytes s u x y =
     let tokens : x.0 ≡ y.0 = ap (tokens_or x.0) (sym x.1 ∙ y.1) in
     once y.0 s u (subst (λ ts. IsStatement ts s) tokens x.2) y.2

@@ -1,4 +1,4 @@
--- The answer of a statement over the tables of files, and the first fault where there is none.
+-- The answer of a statement over the tables of files, and the first fault if there is no answer.
 use Rattle.std.specs.Prelude.{◌≡◌, ◌≢◌, ℕ, Bool, List, [], length, All, Result, Err, Ok}
 use Rattle.tq_base.specs.declared.form.Form.{Form}
 use Rattle.tq_base.specs.declared.form.Form.TheVariants.{Dates}
@@ -8,7 +8,7 @@ use Rattle.tq_base.specs.declared.catalogue.Catalogue.{Catalogue}
 use Rattle.tq_event.specs.declared.file.Loaded.{Loaded}
 use Rattle.tq_event.specs.declared.file.TableFile.{TableFile}
 use Rattle.tq_event.specs.declared.file.Tables.{Tables}
-use Rattle.tq_event.specs.Keeping.{AreWantedTables}
+use Rattle.tq_event.specs.Projection.{AreProjectedTables}
 use Rattle.tq_event.specs.Loading.{Contents, IsLoaded, contents_of}
 use Rattle.tq_event.specs.Tables.{lists_of}
 use Rattle.tq_eval.specs.Answers.{IsAnswer, IsTablesAnswer}
@@ -17,45 +17,44 @@ use Rattle.tq_plan.specs.Plans.{plan_of}
 use Rattle.tq_plan.specs.declared.plans.Plan.{Plan}
 use Rattle.tq_sql.specs.declared.fault.SqlFault.{SqlFault}
 use Rattle.tq_sql.specs.declared.statement.Statement.{Statement}
-use Rattle.tq_sql.specs.Reading.{IsSqlFault, Makes}
+use Rattle.tq_sql.specs.Reading.{IsSqlFault, ParsesTo}
 use Rattle.tq_table.specs.declared.table.Table.{Table}
-use Rattle.tq_engine.specs.declared.answering.AnswerFault.{AnswerFault}
-use Rattle.tq_engine.specs.declared.answering.AnswerFault.TheVariants as answer
+use Rattle.tq_engine.specs.declared.execution.AnswerFault.{AnswerFault}
+use Rattle.tq_engine.specs.declared.execution.AnswerFault.TheVariants as answer
 
--- the table is the answer of the statement that the bytes make, over the tables of the files, as of all
--- their events
+-- the table is the answer of the statement with these bytes, over the tables of the files, as of all their events
 pub record HasAnswer (form : Form) (files : List TableFile) (bytes : List ℕ) (table : Table) : Type 0 where
   pub loaded : Loaded
   pub is_loaded : IsLoaded form files 16777216 loaded
   pub statement : Statement
-  pub makes : Makes bytes statement
+  pub makes : ParsesTo bytes statement
   pub is_answer : IsAnswer form loaded.catalogue statement loaded.events (length loaded.events) table
 
--- the tables are those of the files, record by record, with the values of the wanted columns; the statement is the one that the bytes make;
--- and the wanted columns are all columns, or include those that the statement's plan names
-pub record IsAsked (form : Form) (files : List TableFile) (bytes : List ℕ) (tables : Tables) (statement : Statement) : Type 0 where
+-- the tables are those of the files, record by record, with the values of the wanted columns; the statement is the one
+-- with these bytes; the wanted columns are all columns, or include those that the statement's plan names
+pub record IsLoadedQuery (form : Form) (files : List TableFile) (bytes : List ℕ) (tables : Tables) (statement : Statement) : Type 0 where
   pub wanted : List (List Bool)
-  pub of_files : AreWantedTables form files 16777216 wanted tables
-  pub makes : Makes bytes statement
+  pub of_files : AreProjectedTables form files 16777216 wanted tables
+  pub makes : ParsesTo bytes statement
   pub serves : (plan : Plan) → plan_of form tables.catalogue statement ≡ Ok plan → wanted ≢ [] → Serve wanted plan
 
--- the tables and the statement are such, and the plan is that of the statement
+-- the tables and the statement are a loaded query, and the plan is that of the statement
 pub record IsPlanned (form : Form) (files : List TableFile) (bytes : List ℕ) (tables : Tables) (plan : Plan) : Type 0 where
   pub statement : Statement
-  pub asked : IsAsked form files bytes tables statement
+  pub is_query : IsLoadedQuery form files bytes tables statement
   pub planned : plan_of form tables.catalogue statement ≡ Ok plan
 
--- whatever the files hold, and whatever plan the statement has that the bytes make: where lists are told, the columns that it names are
--- wanted by them
-abbrev pub ServesAsked : Form → List TableFile → List ℕ → List (List Bool) → Type 0
-ServesAsked form files bytes wanted = (contents : Contents) (catalogue : Catalogue) (statement : Statement) (plan : Plan) → contents_of form files 16777216 ≡ Ok contents → catalogue.tables ≡ contents.tables
-    → Makes bytes statement → plan_of form catalogue statement ≡ Ok plan → wanted ≢ [] → Serve wanted plan
+-- for all contents of the files, and each plan of the statement with these bytes: if there are lists of wanted columns,
+-- they include the columns that the plan names
+abbrev pub ServesQuery : Form → List TableFile → List ℕ → List (List Bool) → Type 0
+ServesQuery form files bytes wanted = (contents : Contents) (catalogue : Catalogue) (statement : Statement) (plan : Plan) → contents_of form files 16777216 ≡ Ok contents → catalogue.tables ≡ contents.tables
+    → ParsesTo bytes statement → plan_of form catalogue statement ≡ Ok plan → wanted ≢ [] → Serve wanted plan
 
--- files and a statement have one answer at most
+-- files and a statement have at most one answer
 abbrev pub AnswersAreUnique : Type 0
 AnswersAreUnique = (form : Form) (files : List TableFile) (bytes : List ℕ) (a b : Table) → HasAnswer form files bytes a → HasAnswer form files bytes b → a ≡ b
 
--- the files were loaded, and the bytes are no statement
+-- the files are loaded, and the bytes are not a valid statement
 pub record HasSqlFault (form : Form) (files : List TableFile) (bytes : List ℕ) (fault : SqlFault) : Type 0 where
   pub loaded : Loaded
   pub is_loaded : IsLoaded form files 16777216 loaded
@@ -69,15 +68,15 @@ IsStatementFault form catalogue statement (answer.Plan fault) = plan_of form cat
 IsStatementFault form catalogue statement answer.Write = ⊥
 IsStatementFault form catalogue statement answer.OutOfMemory = Unit {0}
 
--- the files were loaded, and the statement that the bytes make has no answer over their tables
+-- the files are loaded, and the statement with these bytes has no answer over their tables
 pub record HasStatementFault (form : Form) (files : List TableFile) (bytes : List ℕ) (fault : AnswerFault) : Type 0 where
   pub loaded : Loaded
   pub is_loaded : IsLoaded form files 16777216 loaded
   pub statement : Statement
-  pub makes : Makes bytes statement
+  pub makes : ParsesTo bytes statement
   pub is_fault : IsStatementFault form loaded.catalogue statement fault
 
--- why there is no answer: the first fault, of the files, the statement, or its plan
+-- why there is no answer: the first fault of the files, of the statement's text or of its plan
 abbrev pub IsFault : Form → List TableFile → List ℕ → AnswerFault → Type 0
 IsFault form files bytes (answer.Load fault) = contents_of form files 16777216 ≡ Err fault
 IsFault form files bytes (answer.Sql fault) = HasSqlFault form files bytes fault
@@ -85,24 +84,24 @@ IsFault form files bytes (answer.Plan fault) = HasStatementFault form files byte
 IsFault form files bytes answer.Write = ⊥
 IsFault form files bytes answer.OutOfMemory = Unit {0}
 
--- the answer over files in dates has only bounds that have dates, and `forever`
+-- if files write instants as dates, each bound of the answer has a date or is `forever`
 abbrev pub AnswersAreDated : Type 0
 AnswersAreDated = (files : List TableFile) (bytes : List ℕ) (table : Table) → HasAnswer Dates files bytes table
     → All (λ (row : Fragment). IsDated row.period.start × IsDated row.period.end) table.rows
 
--- what answers the plan of the statement over the tables that are asked is the answer
-abbrev pub AskedIsAnswered : Type 0
-AskedIsAnswered = (form : Form) (files : List TableFile) (bytes : List ℕ) (tables : Tables) (statement : Statement) (plan : Plan) (table : Table) → IsAsked form files bytes tables statement
+-- the answer of the statement's plan over a loaded query's tables is the answer over the files
+abbrev pub QueryIsAnswered : Type 0
+QueryIsAnswered = (form : Form) (files : List TableFile) (bytes : List ℕ) (tables : Tables) (statement : Statement) (plan : Plan) (table : Table) → IsLoadedQuery form files bytes tables statement
     → plan_of form tables.catalogue statement ≡ Ok plan → IsTablesAnswer (lists_of tables.rows) plan table → HasAnswer form files bytes table
 
--- and a fault of the statement over these tables is the first fault
-abbrev pub AskedIsRefused : Type 0
-AskedIsRefused = (form : Form) (files : List TableFile) (bytes : List ℕ) (tables : Tables) (statement : Statement) (fault : AnswerFault) → IsAsked form files bytes tables statement
+-- a fault of the statement over a loaded query's tables is the first fault of the files and the statement
+abbrev pub QueryIsRefused : Type 0
+QueryIsRefused = (form : Form) (files : List TableFile) (bytes : List ℕ) (tables : Tables) (statement : Statement) (fault : AnswerFault) → IsLoadedQuery form files bytes tables statement
     → IsStatementFault form tables.catalogue statement fault → IsFault form files bytes fault
 
--- ---- just one outcome
+-- ---- exactly one outcome
 
--- what comes of files and a statement where there is memory and the output fails nowhere: the answer, or the first fault
+-- the outcome of files and a statement if no allocation and no write fails: the answer, or the first fault
 abbrev pub IsOutcome : Form → List TableFile → List ℕ → Result Table AnswerFault → Type 0
 IsOutcome form files bytes (Ok table) = HasAnswer form files bytes table
 IsOutcome form files bytes (Err fault) = IsFault form files bytes fault × (fault ≢ answer.OutOfMemory)
@@ -111,6 +110,6 @@ IsOutcome form files bytes (Err fault) = IsFault form files bytes fault × (faul
 abbrev pub OutcomesExist : Type 0
 OutcomesExist = (form : Form) (files : List TableFile) (bytes : List ℕ) → (outcome : Result Table AnswerFault) × IsOutcome form files bytes outcome
 
--- and no second one
+-- files and a statement have at most one outcome
 abbrev pub OutcomesAreUnique : Type 0
 OutcomesAreUnique = (form : Form) (files : List TableFile) (bytes : List ℕ) (a b : Result Table AnswerFault) → IsOutcome form files bytes a → IsOutcome form files bytes b → a ≡ b

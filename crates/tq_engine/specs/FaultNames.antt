@@ -1,4 +1,4 @@
--- The names by which faults are told.
+-- The names of faults that `tq` prints.
 use Rattle.std.specs.Prelude.{ℕ, List, codes}
 use Rattle.tq_event.specs.declared.fault.LoadFaultKind.{LoadFaultKind}
 use Rattle.tq_event.specs.declared.fault.LoadFaultKind.TheVariants as load
@@ -7,7 +7,7 @@ use Rattle.tq_plan.specs.declared.fault.PlanFault.TheVariants as plan
 use Rattle.tq_sql.specs.declared.fault.SqlFaultKind.{SqlFaultKind}
 use Rattle.tq_sql.specs.declared.fault.SqlFaultKind.TheVariants as sql
 
--- The name of what is wrong with a file. (This project's own.)
+-- The name of a fault of a file. (This project's own.)
 abbrev pub load_name : LoadFaultKind → List ℕ
 load_name load.BadHeader = codes "BadHeader"
 load_name load.DuplicateName = codes "DuplicateName"
@@ -21,7 +21,7 @@ load_name load.TooManyColumns = codes "TooManyColumns"
 load_name load.TooManyEvents = codes "TooManyEvents"
 load_name load.OutOfMemory = codes "OutOfMemory"
 
--- The name of what is wrong with a statement's text. (This project's own.)
+-- The name of a fault of a statement's text. (This project's own.)
 abbrev pub sql_name : SqlFaultKind → List ℕ
 sql_name sql.BadByte = codes "BadByte"
 sql_name sql.UnexpectedToken = codes "UnexpectedToken"
@@ -31,7 +31,7 @@ sql_name sql.TooDeep = codes "TooDeep"
 sql_name sql.TooLong = codes "TooLong"
 sql_name sql.OutOfMemory = codes "OutOfMemory"
 
--- The name of what is wrong with a statement's meaning. (This project's own.)
+-- The name of a fault of a plan. (This project's own.)
 abbrev pub plan_name : PlanFault → List ℕ
 plan_name plan.UnknownTable = codes "UnknownTable"
 plan_name plan.UnknownColumn = codes "UnknownColumn"

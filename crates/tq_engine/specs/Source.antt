@@ -1,9 +1,9 @@
--- What a contract sees of a source, and what a call of one does to the bytes of its reader.
+-- The model of a source, and the effect of its calls on the known bytes of its reader.
 use Rattle.std.specs.Prelude.{ℕ, ◌<◌, List, length, Option, refl}
 use Rattle.std.specs.Coded.{Coded, code_by, coded×, coded_ℕ}
 use Rattle.std.specs.Io.KnownBytes.{Consumes}
 
--- A reader, how many reads of it were made, and how many of these failed. (This project's own.)
+-- A reader, the number of its reads and the number of its failed reads. (This project's own.)
 pub record SourceState (R : Type 0) : Type 0 where
   pub reader : R
   pub reads : ℕ
@@ -23,10 +23,10 @@ most_bytes = 1073741824
 abbrev pub most_reads : ℕ
 most_reads = 2147483648
 
--- Known bytes lose some of their first. (This project's own.)
+-- Some known bytes are consumed. (This project's own.)
 abbrev pub ConsumesSome : Option (List ℕ) → Option (List ℕ) → Type 0
 ConsumesSome old new = (taken : List ℕ) × Consumes old new taken
 
--- Known bytes lose more than so many of their first. (This project's own.)
+-- More than `count` known bytes are consumed. (This project's own.)
 abbrev pub ConsumesMore : Option (List ℕ) → Option (List ℕ) → ℕ → Type 0
 ConsumesMore old new count = (taken : List ℕ) × Consumes old new taken × (count < length taken)

@@ -1,4 +1,4 @@
-// The names by which faults are told.
+// The names of faults that `tq` prints.
 
 ghost use Rattle.std.specs.Prelude.{◌≡◌};
 ghost use Rattle.tq_engine.specs.FaultNames.{load_name, plan_name, sql_name};
@@ -7,7 +7,7 @@ use tq_event::LoadFaultKind;
 use tq_plan::PlanFault;
 use tq_sql::SqlFaultKind;
 
-/// The name of what is wrong with a file.
+/// The name of a fault of a file.
 pub fn load_name(fault: LoadFaultKind) -> &'static str
     ensures { result.now ≡ load_name fault }
 {
@@ -26,7 +26,7 @@ pub fn load_name(fault: LoadFaultKind) -> &'static str
     }
 }
 
-/// The name of what is wrong with a statement's text.
+/// The name of a fault of a statement's text.
 pub fn sql_name(fault: SqlFaultKind) -> &'static str
     ensures { result.now ≡ sql_name fault }
 {
@@ -41,7 +41,7 @@ pub fn sql_name(fault: SqlFaultKind) -> &'static str
     }
 }
 
-/// The name of what is wrong with a statement's meaning.
+/// The name of a fault of a plan.
 pub fn plan_name(fault: PlanFault) -> &'static str
     ensures { result.now ≡ plan_name fault }
 {

@@ -1,4 +1,4 @@
-// The bytes of a file, read by read.
+// Reading of a whole file.
 
 ghost use Rattle.std.specs.Prelude.{◌≡◌, ◌≢◌, ◌+◌, ◌≤◌, OnOk, OnErr, IfOk, IfErr, vec_len};
 ghost use Rattle.std.specs.Io.KnownBytes.{Consumes, IsAtEnd};
@@ -15,11 +15,11 @@ pub const FILE_LIMIT: usize = 1_073_741_824;
 // The most reads of one file.
 const READ_LIMIT: u32 = 2_147_483_648;
 
-// The bytes asked for in one read.
+// The size of the buffer of one read, in bytes.
 const CHUNK: usize = 65_536;
 
-/// All bytes that the source still has, in at most 2,147,483,648 reads. `Read` comes where a read
-/// failed, which is the last one; `TooLarge` where more than 1,073,741,824 bytes were read.
+/// Reads all bytes that are left in the source. `Read` if a read failed; no read follows it. `TooLarge` if more than
+/// 1,073,741,824 bytes were read. `OutOfMemory` if an allocation failed.
 pub fn read_file<R: Read>(alloc: Global, source: &mut Source<R>) -> Result<Vec<u8>, FileFault>
     ensures whole { IfOk result (λ v. Consumes (R.remaining source.old.reader) (R.remaining source.new.reader)
         v.items) }
@@ -53,6 +53,6 @@ pub fn read_file<R: Read>(alloc: Global, source: &mut Source<R>) -> Result<Vec<u
             return Err(FileFault::OutOfMemory);
         }
     }
-    // Each read gave a byte, so the limit on bytes is met before that on reads.
+    // Each read returned at least one byte, so the limit on bytes is reached before the limit on reads.
     unreachable!()
 }

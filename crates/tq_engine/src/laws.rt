@@ -1,6 +1,6 @@
 //! Laws of answers.
 
-ghost use Rattle.tq_engine.specs.Answers.{AnswersAreDated, AnswersAreUnique, AskedIsAnswered, AskedIsRefused, OutcomesAreUnique, OutcomesExist};
+ghost use Rattle.tq_engine.specs.Answers.{AnswersAreDated, AnswersAreUnique, QueryIsAnswered, QueryIsRefused, OutcomesAreUnique, OutcomesExist};
 
 use tq_eval::laws::{
     answers_exist, bounds_are_given, held_rows_fit, kept_tables_answer, tables_answer,
@@ -8,7 +8,7 @@ use tq_eval::laws::{
 use tq_event::laws::{
     loaded_are_dated, loaded_exists, loaded_is_history, loaded_is_unique, tables_are_loaded,
 };
-use tq_plan::laws::{queries_stand, windows_are_dated};
+use tq_plan::laws::{queries_are_valid, windows_are_dated};
 use tq_sql::laws::{
     faults_are_refusals, faults_are_unique, statements_are_unique, texts_are_decided,
 };
@@ -22,8 +22,8 @@ pub fn answers_are_unique()
     tq_eval::laws::answers_are_unique();
 }
 
-/// Files and a statement have exactly one outcome, an answer or a first fault, if memory and the output are left aside. So
-/// a refusal, as an answer, is the same for every number of workers.
+/// Files and a statement have exactly one outcome: an answer, or a first fault. Failed allocations and failed writes
+/// are no outcomes. So both the answer and a refusal are the same for every number of workers.
 pub fn outcomes_are_decided()
     ensures exist { OutcomesExist }
     ensures unique { OutcomesAreUnique }
@@ -38,7 +38,8 @@ pub fn outcomes_are_decided()
     answers_are_unique();
 }
 
-/// An answer over files in dates has only bounds that have dates, and `forever`: no number is printed for one.
+/// If files write instants as dates, each bound of the answer has a date or is `forever`. No bound is printed as a
+/// number.
 pub fn answers_are_dated()
     ensures { AnswersAreDated }
 {
@@ -47,16 +48,16 @@ pub fn answers_are_dated()
     windows_are_dated();
 }
 
-/// A plan's answer over the tables that `answer_explained` hands out, in which values of columns that the plan does not name
-/// are left out, is the answer over the files; and a fault of the statement over these tables is the first fault.
-pub fn asked_is_answered()
-    ensures answered { AskedIsAnswered }
-    ensures refused { AskedIsRefused }
+/// The answer of the statement's plan over a loaded query's tables is the answer over the files. Columns that the plan
+/// does not name need no values there. A fault of the statement over these tables is the first fault of the query.
+pub fn query_is_answered()
+    ensures answered { QueryIsAnswered }
+    ensures refused { QueryIsRefused }
 {
     tables_are_loaded();
     loaded_is_history();
     held_rows_fit();
-    queries_stand();
+    queries_are_valid();
     kept_tables_answer();
     tables_answer();
 }

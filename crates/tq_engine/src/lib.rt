@@ -1,25 +1,25 @@
-//! Answers from bytes to bytes: of the bytes of files and of a statement the bytes of the answer, or the
-//! first fault.
+//! The query engine: from the bytes of CSV files and of a statement to the bytes of the answer, or to the first fault.
 //!
-//! The bytes of a file come through a `Source`, which counts its reads and those that failed, and which
-//! `read_file` reads to its end. `answer` loads the tables of all files (`tq_loading`) but for values of columns that
-//! the statement does not name, reads the statement (`tq_sql`), plans it (`tq_plan`) and evaluates its plan
-//! (`tq_eval`); `answer_explained` has the text of that answer sent through a `Sink` (`tq_table`), while somebody
-//! watches, and hands out the tables and the plan. Its contract is the first promise: what `Ok` appends is the text
-//! of an answer, as `HasAnswer` says, and files and a statement have one at most (`laws`). `answer_bytes` does the
-//! same where nobody watches.
+//! `write_observed` loads the tables of all files (`tq_load`), without the values of columns that the statement does
+//! not name. It parses the statement (`tq_sql`), plans it (`tq_plan`), executes the plan and sends the text of the
+//! answer through a `Sink` (`tq_table`). Its contract: after `Ok` the sink has the text of a table that is the answer,
+//! as `HasAnswer` says. Files and a statement have exactly one outcome (`src/laws.rt`). `answer_bytes` does the same
+//! without an observer.
+//!
+//! `read_file` reads a file to its end through a `Source`, which counts reads and failed reads. Open `src/writing.rt`
+//! first, then `specs/Answers.antt`.
 #![tactic(auto)]
 
-mod answering;
-mod explaining;
+mod execution;
 mod fault_names;
 mod file;
 pub mod laws;
-mod named;
+mod required;
 mod source;
+mod writing;
 
-pub use answering::{AnswerFault, answer};
-pub use explaining::{Explained, Watch, answer_bytes, answer_explained};
+pub use execution::{AnswerFault, query_files};
 pub use fault_names::{load_name, plan_name, sql_name};
 pub use file::{FILE_LIMIT, read_file};
 pub use source::{FileFault, Source};
+pub use writing::{ExecutedQuery, Observer, answer_bytes, write_observed};

@@ -1,5 +1,5 @@
-// A reader, how many reads of it were made, and how many of these failed. Nothing else reaches the reader or
-// the counts: a failure is counted just where a read of the reader failed, and each read is made once.
+// A reader, with the number of its reads and of its failed reads. No other code reaches the reader or the counts. A
+// failure is counted exactly when a read failed, and no read is repeated.
 
 ghost use Rattle.std.specs.Prelude.{◌≡◌, ◌<◌, length, take, OnErr, IfOk, IfErr, if◌then◌else◌};
 ghost use Rattle.std.specs.Result.{is_err};
@@ -12,8 +12,7 @@ use std::io::Read;
 use std::marker::Model;
 use thiserror::Error;
 
-/// Why a file was not read: a read failed (1), it has more than 1,073,741,824 bytes (2), or they found
-/// no memory (3).
+/// Why a file was not read: a read failed (1), it has more than 1,073,741,824 bytes (2), or an allocation failed (3).
 #[derive(Clone, Copy, Debug, PartialEq, Eq, Error)]
 pub enum FileFault {
     #[error("the file cannot be read")]
@@ -34,7 +33,7 @@ impl From<AllocError> for FileFault {
     }
 }
 
-/// A reader, with a count of its reads, and of those that failed.
+/// A reader with counts of its reads and of its failed reads.
 #[derive(Drop)]
 pub struct Source<R> {
     reader: R,
@@ -53,7 +52,7 @@ impl<R> Model for Source<R> {
 }
 
 impl<R> Source<R> {
-    /// A source over a reader, with no read yet.
+    /// A source over the reader, with no reads yet.
     pub fn over(reader: R) -> Source<R>
         ensures reader { result.reader ≡ reader }
         ensures reads { result.reads ≡ 0 }
@@ -66,7 +65,7 @@ impl<R> Source<R> {
         }
     }
 
-    /// How many reads failed; the count stays at `u64::MAX`.
+    /// The number of failed reads; it stays at `u64::MAX` once it is there.
     pub fn failed(&self) -> u64
         ensures { result ≡ self.now.failed }
     {
@@ -75,7 +74,7 @@ impl<R> Source<R> {
 }
 
 impl<R: Read> Source<R> {
-    /// One read. It is counted, and so is its failure.
+    /// Reads once into the buffer and counts the read, and its failure. `Read` if the read failed.
     pub fn read_some(&mut self, buffer: &mut [u8]) -> Result<usize, FileFault>
         ensures bound { ReadsAtMost result buffer.new }
         ensures taken { IfOk result (λ n. Consumes (R.remaining self.old.reader) (R.remaining self.new.reader)

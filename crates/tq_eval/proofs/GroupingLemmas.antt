@@ -19,7 +19,7 @@ use Rattle.tq_plan.specs.declared.plans.Output.TheVariants.{Column, Count, Sum}
 use Rattle.tq_plan.specs.declared.plans.QueryPlan.{QueryPlan}
 use Rattle.tq_eval.specs.Answers.{lists_at, times_in, ValidRows}
 use Rattle.tq_eval.specs.Ordinary.{alone_or_together, groups, ordinary, output_value}
-use Rattle.tq_plan.specs.Standing.{is_aggregate, items_stand, may_stand, no_group}
+use Rattle.tq_plan.specs.ValidPlans.{is_aggregate, are_valid_items, is_valid_item, no_group}
 use Rattle.tq_plan.specs.Plans.{is_groupable, tables_of}
 use Rattle.tq_eval.specs.Running.{item_places, number_in, summed_places}
 use Rattle.tq_eval.proofs.BagLemmas.{same_mapped}
@@ -83,16 +83,16 @@ and_right true b is = is
 and_right false b is = cc
 
 -- the items of a group are the values at these places of the row that it makes; some of its sums are taken already
-arranged : (counted : Bool) (group : List ℕ) (rows : List Row) (taken : List Value) (outputs : List Output) → no_group group ≡ false → list_all (may_stand counted group) outputs ≡ true
+arranged : (counted : Bool) (group : List ℕ) (rows : List Row) (taken : List Value) (outputs : List Output) → no_group group ≡ false → list_all (is_valid_item counted group) outputs ≡ true
     → projection (item_places group (length group + 1 + length taken) outputs) (projection group (first_row rows) ++ Int (pos (length rows)) ∷ (taken ++ map (λ place. Int (sum_at place rows)) (summed_places outputs)))
     ≡ map (output_value rows) outputs
 arranged counted group rows taken [] some stand = refl
 arranged counted group rows taken (Column place ∷ outputs) some stand =
     λ i. shown_key group (first_row rows) (Int (pos (length rows)) ∷ (taken ++ map (λ p. Int (sum_at p rows)) (summed_places outputs))) place
-    (groupable counted group place some (and_left (is_groupable counted group place) (list_all (may_stand counted group) outputs) stand)) i
-    ∷ arranged counted group rows taken outputs some (and_right (is_groupable counted group place) (list_all (may_stand counted group) outputs) stand) i
+    (groupable counted group place some (and_left (is_groupable counted group place) (list_all (is_valid_item counted group) outputs) stand)) i
+    ∷ arranged counted group rows taken outputs some (and_right (is_groupable counted group place) (list_all (is_valid_item counted group) outputs) stand) i
 arranged counted group rows taken (Count ∷ outputs) some stand =
-    λ i. at_count i ∷ arranged counted group rows taken outputs some (and_right true (list_all (may_stand counted group) outputs) stand) i
+    λ i. at_count i ∷ arranged counted group rows taken outputs some (and_right true (list_all (is_valid_item counted group) outputs) stand) i
   where
     key : List Value
     key = projection group (first_row rows)
@@ -103,7 +103,7 @@ arranged counted group rows taken (Count ∷ outputs) some stand =
     at_count : value_at (key ++ Int (pos (length rows)) ∷ sums) (length group) ≡ Int (pos (length rows))
     at_count = ap (value_at (key ++ Int (pos (length rows)) ∷ sums)) (let same : length group ≡ length key + 0 = omega (arith, length-projection group (first_row rows)) in same) ∙ after_key key sums (Int (pos (length rows))) 0
 arranged counted group rows taken (Sum place ∷ outputs) some stand =
-    λ i. at_sum i ∷ (shifted ∙ arranged counted group rows (taken ++ sum ∷ []) outputs some (and_right (not (no_group group)) (list_all (may_stand counted group) outputs) stand)) i
+    λ i. at_sum i ∷ (shifted ∙ arranged counted group rows (taken ++ sum ∷ []) outputs some (and_right (not (no_group group)) (list_all (is_valid_item counted group) outputs) stand)) i
   where
     key : List Value
     key = projection group (first_row rows)
@@ -130,7 +130,7 @@ arranged counted group rows taken (Sum place ∷ outputs) some stand =
         ap (λ n. projection (item_places group n outputs) whole) (let next : length group + 1 + length taken + 1 ≡ length group + 1 + length (taken ++ sum ∷ []) = omega (arith, length-append taken (sum ∷ [])) in next)
         ∙ ap (λ l. projection (item_places group (length group + 1 + length (taken ++ sum ∷ [])) outputs) (key ++ Int (pos (length rows)) ∷ l)) (sym (append_assoc taken (sum ∷ []) later))
 
-items_of_group : (query : QueryPlan) (rows : List Row) → no_group query.group ≡ false → items_stand query ≡ true
+items_of_group : (query : QueryPlan) (rows : List Row) → no_group query.group ≡ false → are_valid_items query ≡ true
     → projection (item_places query.group (length query.group + 1) query.outputs) (group_row query.group (summed_places query.outputs) rows) ≡ map (output_value rows) query.outputs
 items_of_group query rows some stand =
     ap (λ n. projection (item_places query.group n query.outputs) (group_row query.group (summed_places query.outputs) rows)) (let same : length query.group + 1 ≡ length query.group + 1 + length no_values = omega arith in same)
@@ -139,7 +139,7 @@ items_of_group query rows some stand =
     no_values : List Value
     no_values = []
 
-groups_arranged : (query : QueryPlan) (lists : List (List Row)) → no_group query.group ≡ false → items_stand query ≡ true
+groups_arranged : (query : QueryPlan) (lists : List (List Row)) → no_group query.group ≡ false → are_valid_items query ≡ true
     → map (projection (item_places query.group (length query.group + 1) query.outputs)) (map (group_row query.group (summed_places query.outputs)) lists) ≡ map (λ group. map (output_value group) query.outputs) lists
 groups_arranged query [] some stand = refl
 groups_arranged query (rows ∷ lists) some stand = λ i. items_of_group query rows some stand i ∷ groups_arranged query lists some stand i
@@ -149,7 +149,7 @@ with_groups [] outputs rows some = absurd (false≢true (sym some))
 with_groups (first ∷ more) outputs rows some = refl
 
 -- the rows of groups, arranged as the items stand, are those of the ordinary query
-pub ordinary_grouped : (query : QueryPlan) (lists : List (List Row)) → no_group query.group ≡ false → items_stand query ≡ true
+pub ordinary_grouped : (query : QueryPlan) (lists : List (List Row)) → no_group query.group ≡ false → are_valid_items query ≡ true
     → map (projection (item_places query.group (length query.group + 1) query.outputs)) (grouped_rows query.group (summed_places query.outputs) (selection query.test (product_of lists))) ≡ ordinary query lists
 ordinary_grouped query lists some stand =
     groups_arranged query (grouped_by query.group (selection query.test (product_of lists))) some stand
@@ -157,14 +157,14 @@ ordinary_grouped query lists some stand =
 
 -- ---- counts without groups
 
-counts : (outputs : List Output) (rows : List Row) → list_all (may_stand true []) outputs ≡ true → projection (item_places [] 1 outputs) (Int (pos (length rows)) ∷ []) ≡ map (output_value rows) outputs
+counts : (outputs : List Output) (rows : List Row) → list_all (is_valid_item true []) outputs ≡ true → projection (item_places [] 1 outputs) (Int (pos (length rows)) ∷ []) ≡ map (output_value rows) outputs
 counts [] rows stand = refl
 counts (Column place ∷ outputs) rows stand = cc
 counts (Count ∷ outputs) rows stand = ap (λ l. Int (pos (length rows)) ∷ l) (counts outputs rows stand)
 counts (Sum place ∷ outputs) rows stand = cc
 
 -- the count, arranged as the items stand, is the row of the ordinary query
-pub ordinary_counted : (query : QueryPlan) (lists : List (List Row)) → no_group query.group ≡ true → list_any is_aggregate query.outputs ≡ true → items_stand query ≡ true
+pub ordinary_counted : (query : QueryPlan) (lists : List (List Row)) → no_group query.group ≡ true → list_any is_aggregate query.outputs ≡ true → are_valid_items query ≡ true
     → map (projection (item_places query.group (length query.group + 1) query.outputs)) (count_rows (selection query.test (product_of lists))) ≡ ordinary query lists
 ordinary_counted query lists none counted stand = by_group query.group refl
   where
@@ -175,7 +175,7 @@ ordinary_counted query lists none counted stand = by_group query.group refl
         → map (projection (item_places query.group (length query.group + 1) query.outputs)) (count_rows rows) ≡ ordinary query lists
     by_group [] is =
         ap (λ g. map (projection (item_places g (length g + 1) query.outputs)) (count_rows rows)) is
-        ∙ ap (λ r. r ∷ []) (counts query.outputs rows (sym (λ i. list_all (may_stand (counted i) (is i)) query.outputs) ∙ stand))
+        ∙ ap (λ r. r ∷ []) (counts query.outputs rows (sym (λ i. list_all (is_valid_item (counted i) (is i)) query.outputs) ∙ stand))
         ∙ ap (λ b. map (λ group. map (output_value group) query.outputs) (alone_or_together b rows)) (sym counted)
         ∙ ap (λ g. map (λ group. map (output_value group) query.outputs) (groups g query.outputs rows)) (sym is)
     by_group (first ∷ more) is = absurd (false≢true (sym (ap no_group is) ∙ none))
@@ -183,7 +183,7 @@ ordinary_counted query lists none counted stand = by_group query.group refl
 -- ---- fragments
 
 -- the items of groups of the rows that pass
-pub grouped_inside : (valid : ValidRows) (query : QueryPlan) (window : Period) (passed out : List Fragment) → no_group query.group ≡ false → items_stand query ≡ true
+pub grouped_inside : (valid : ValidRows) (query : QueryPlan) (window : Period) (passed out : List Fragment) → no_group query.group ≡ false → are_valid_items query ≡ true
     → HasInside window passed (λ t v. occurrences (selection query.test (product_of (lists_at valid t (tables_of query)))) v)
     → HasInside window out (λ t v. occurrences (map (projection (item_places query.group (length query.group + 1) query.outputs)) (grouped_rows query.group (summed_places query.outputs) (at passed t))) v)
     → HasInside window out (λ t v. times_in valid query v t)
@@ -197,7 +197,7 @@ grouped_inside valid query window passed out some stand on_passed on_out t v ins
     ∙ ap (λ l. occurrences l v) (ordinary_grouped query lists some stand)
 
 -- the items of the count of as many rows as pass
-pub counted_inside : (valid : ValidRows) (query : QueryPlan) (window : Period) (counted out : List Fragment) → no_group query.group ≡ true → list_any is_aggregate query.outputs ≡ true → items_stand query ≡ true
+pub counted_inside : (valid : ValidRows) (query : QueryPlan) (window : Period) (counted out : List Fragment) → no_group query.group ≡ true → list_any is_aggregate query.outputs ≡ true → are_valid_items query ≡ true
     → ((t : ℕ) → IsTrue (holds window t) → length (at counted t) ≡ length (selection query.test (product_of (lists_at valid t (tables_of query)))))
     → HasInside window out (λ t v. occurrences (map (projection (item_places query.group (length query.group + 1) query.outputs)) (count_rows (at counted t))) v)
     → HasInside window out (λ t v. times_in valid query v t)

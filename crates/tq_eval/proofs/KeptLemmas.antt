@@ -14,12 +14,12 @@ use Rattle.tq_base.specs.Contents.{Int, Text}
 use Rattle.tq_base.specs.Fragments.{at}
 use Rattle.tq_base.specs.Layers.{IsLayers}
 use Rattle.tq_base.specs.Periods.{holds}
-use Rattle.tq_event.specs.Keeping.{kept_row, kept_value, kept_values, wanted_of}
+use Rattle.tq_event.specs.Projection.{projected_row, projected_value, projected_values, wanted_of}
 use Rattle.tq_event.specs.Recorded.{HasTable}
 use Rattle.tq_event.specs.Tables.{rows_in}
 use Rattle.tq_agg.specs.Grouping.{Row}
 use Rattle.tq_plan.specs.declared.plans.Plan.{Plan}
-use Rattle.tq_plan.specs.Standing.{AreQueriesOver}
+use Rattle.tq_plan.specs.ValidPlans.{AreQueriesOver}
 use Rattle.tq_eval.specs.Fitting.{AreFitting}
 use Rattle.tq_eval.proofs.HeldRows as held
 use Rattle.tq_eval.proofs.NumberLemmas.{zero_fits}
@@ -28,12 +28,12 @@ use Rattle.tq_eval.specs.Named.{AllColumnsTell, KeptRowsFit, KeptTablesAnswer, K
 
 -- ---- nothing is told
 
-all_values : (row : Row) → kept_values [] row ≡ row
-unfolding kept_values
+all_values : (row : Row) → projected_values [] row ≡ row
+unfolding projected_values
 all_values [] = refl
 all_values (v ∷ vs) = refl
 
-all_rows : (rows : List Row) → map (kept_values []) rows ≡ rows
+all_rows : (rows : List Row) → map (projected_values []) rows ≡ rows
 all_rows [] = refl
 all_rows (row ∷ rows) = λ i. all_values row i ∷ all_rows rows i
 
@@ -46,15 +46,15 @@ all_tell valid plan v t = ap (λ (rows : ValidRows). times_at rows plan v t) (al
 
 -- ---- rows that fit
 
-kept_kind : (k : Kind) (w : Bool) (v : Value) → IsOfKind k v → IsOfKind k (kept_value w v)
+kept_kind : (k : Kind) (w : Bool) (v : Value) → IsOfKind k v → IsOfKind k (projected_value w v)
 kept_kind k true v is = is
 kept_kind kind.Int false (Int n) is = zero_fits
 kept_kind kind.Int false (Text t) is = absurd is
 kept_kind kind.Text false (Int n) is = absurd is
 kept_kind kind.Text false (Text t) is = omega arith
 
-kept_fit : (columns : List Column) (wanted : List Bool) (values : Row) → Fit columns values → Fit columns (kept_values wanted values)
-unfolding kept_values
+kept_fit : (columns : List Column) (wanted : List Bool) (values : Row) → Fit columns values → Fit columns (projected_values wanted values)
+unfolding projected_values
 kept_fit [] [] [] fit = fit
 kept_fit [] (w ∷ ws) [] fit = fit
 kept_fit [] wanted (v ∷ vs) fit = absurd fit
@@ -62,35 +62,35 @@ kept_fit (c ∷ cs) wanted [] fit = absurd fit
 kept_fit (c ∷ cs) [] (v ∷ vs) fit = fit
 kept_fit (c ∷ cs) (w ∷ ws) (v ∷ vs) fit = (kept_kind c.kind w v fit.0, kept_fit cs ws vs fit.1)
 
-kept_has : (catalogue : Catalogue) (table : ℕ) (wanted : List Bool) (values : Row) → HasTable catalogue table values → HasTable catalogue table (kept_values wanted values)
+kept_has : (catalogue : Catalogue) (table : ℕ) (wanted : List Bool) (values : Row) → HasTable catalogue table values → HasTable catalogue table (projected_values wanted values)
 kept_has catalogue table wanted values has = by (slice_get catalogue.tables table) has
   where
-    by : (found : Option Schema) → IsSomeAnd found (λ (s : Schema). Fit s.columns values) → IsSomeAnd found (λ (s : Schema). Fit s.columns (kept_values wanted values))
+    by : (found : Option Schema) → IsSomeAnd found (λ (s : Schema). Fit s.columns values) → IsSomeAnd found (λ (s : Schema). Fit s.columns (projected_values wanted values))
     by None is = is
     by (Some s) is = kept_fit s.columns wanted values is
 
 pub rows_fit : KeptRowsFit
 rows_fit wanted catalogue valid fit table t =
     let own = wanted_of wanted table in
-    All-map (HasTable catalogue table) (kept_values own) (valid table t)
-    (All-weaker (HasTable catalogue table) (λ row. HasTable catalogue table (kept_values own row)) (kept_has catalogue table own) (valid table t) (fit table t))
+    All-map (HasTable catalogue table) (projected_values own) (valid table t)
+    (All-weaker (HasTable catalogue table) (λ row. HasTable catalogue table (projected_values own row)) (kept_has catalogue table own) (valid table t) (fit table t))
 
 pub tables_fit : KeptTablesFit
 tables_fit wanted catalogue tables kept are fit table =
     let own = wanted_of wanted table in
     let Fits : Fragment → Type 0 = λ row. HasTable catalogue table row.values in
     subst (All Fits) (sym (are table))
-    (All-map Fits (kept_row own) (rows_in tables table)
-    (All-weaker Fits (λ row. Fits (kept_row own row)) (λ row. kept_has catalogue table own row.values) (rows_in tables table) (fit table)))
+    (All-map Fits (projected_row own) (rows_in tables table)
+    (All-weaker Fits (λ row. Fits (projected_row own row)) (λ row. kept_has catalogue table own row.values) (rows_in tables table) (fit table)))
 
 -- ---- rows that are valid
 
-kept_at : (wanted : List Bool) (rows : List Fragment) (t : ℕ) → at (map (kept_row wanted) rows) t ≡ map (kept_values wanted) (at rows t)
+kept_at : (wanted : List Bool) (rows : List Fragment) (t : ℕ) → at (map (projected_row wanted) rows) t ≡ map (projected_values wanted) (at rows t)
 kept_at wanted [] t = refl
 kept_at wanted (row ∷ rows) t = by (holds row.period t) refl (kept_at wanted rows t)
   where
-    by : (b : Bool) → holds row.period t ≡ b → at (map (kept_row wanted) rows) t ≡ map (kept_values wanted) (at rows t) → at (map (kept_row wanted) (row ∷ rows)) t ≡ map (kept_values wanted) (at (row ∷ rows) t)
-    by true is rest = rw is (ap (λ l. kept_values wanted row.values ∷ l) rest)
+    by : (b : Bool) → holds row.period t ≡ b → at (map (projected_row wanted) rows) t ≡ map (projected_values wanted) (at rows t) → at (map (projected_row wanted) (row ∷ rows)) t ≡ map (projected_values wanted) (at (row ∷ rows) t)
+    by true is rest = rw is (ap (λ l. projected_values wanted row.values ∷ l) rest)
     by false is rest = rw is rest
 
 pub tables_hold : KeptTablesHold

@@ -9,7 +9,7 @@ use Rattle.tq_base.specs.declared.value.Value.{Value}
 use Rattle.tq_base.specs.Contents.{Int}
 use Rattle.tq_base.specs.Fragments.{occurrences}
 use Rattle.tq_base.specs.Periods.{holds}
-use Rattle.tq_event.specs.Keeping.{is_wanted, kept_value, kept_values, wanted_of}
+use Rattle.tq_event.specs.Projection.{is_wanted, projected_value, projected_values, wanted_of}
 use Rattle.tq_base.specs.RowValues.{number_of, value_at}
 use Rattle.tq_ops.specs.Ordinary.{admits, product, product_of, projection, selection}
 use Rattle.tq_agg.specs.Grouping.{Row, each_once, first_row, grouped_by, same_row, sum_at}
@@ -18,7 +18,7 @@ use Rattle.tq_plan.specs.declared.plans.Output.TheVariants.{Column, Count, Sum}
 use Rattle.tq_plan.specs.declared.plans.QueryPlan.{QueryPlan}
 use Rattle.tq_plan.specs.declared.plans.QuerySource.{QuerySource}
 use Rattle.tq_plan.specs.Plans.{tables_in, tables_of}
-use Rattle.tq_plan.specs.Standing.{IsQueryOver, StandFrom, is_aggregate}
+use Rattle.tq_plan.specs.ValidPlans.{IsQueryOver, AreContiguousFrom, is_aggregate}
 use Rattle.tq_eval.specs.Answers.{lists_at, times_in, times_in_right, ValidRows}
 use Rattle.tq_eval.specs.Fitting.{AreFitting}
 use Rattle.tq_eval.specs.Named.{AgreeAt, IsMadeOf, LooksAt, NamedColumnsTell, Serves, Wants, kept_in}
@@ -99,13 +99,13 @@ module _ (places : ℕ → Bool) where
       let next : begin + width ≡ begin + 1 + length vs = omega (arith, wide) in
       (are.0, agree_both (begin + 1) (length vs) vs ws rest others refl are.1 (subst (λ n. AgreeFrom n rest others) next more))
 
-  kept_same : (w : Bool) (v : Value) → w ≡ true → v ≡ kept_value w v
+  kept_same : (w : Bool) (v : Value) → w ≡ true → v ≡ projected_value w v
   kept_same true v is = refl
   kept_same false v is = cc is
 
   -- a row of which the values at these places are kept
-  kept_agrees : (wanted : List Bool) (begin : ℕ) (row : Row) → ((column : ℕ) → column < length row → places (begin + column) ≡ true → is_wanted wanted column ≡ true) → AgreeFrom begin row (kept_values wanted row)
-  unfolding kept_values
+  kept_agrees : (wanted : List Bool) (begin : ℕ) (row : Row) → ((column : ℕ) → column < length row → places (begin + column) ≡ true → is_wanted wanted column ≡ true) → AgreeFrom begin row (projected_values wanted row)
+  unfolding projected_values
   kept_agrees [] begin [] wants = tt
   kept_agrees [] begin (v ∷ vs) wants = agree_self begin (v ∷ vs)
   kept_agrees (w ∷ ws) begin [] wants = tt
@@ -122,7 +122,7 @@ module _ (places : ℕ → Bool) where
   WideFrom begin width row other = (length row ≡ width) × AgreeFrom begin row other
 
   kept_alike : (wanted : List Bool) (begin width : ℕ) (rows : List Row) → ((column : ℕ) → column < width → places (begin + column) ≡ true → is_wanted wanted column ≡ true) → AreWide width rows
-      → AllZip (WideFrom begin width) rows (map (kept_values wanted) rows)
+      → AllZip (WideFrom begin width) rows (map (projected_values wanted) rows)
   kept_alike wanted begin width [] wants wide = tt
   kept_alike wanted begin width (row ∷ rows) wants wide =
       let here : length row ≡ width = first_of (λ (r : Row). length r ≡ width) row rows wide in (
@@ -163,7 +163,7 @@ module _ (places : ℕ → Bool) where
         subst (λ n. AllZip (WideFrom n source.width) (valid source.table t) (kept_in wanted valid source.table t)) stands
         (kept_alike (wanted_of wanted source.table) source.first source.width (valid source.table t) wants wide)
 
-    products_alike : (begin : ℕ) (sources : List QuerySource) → StandFrom begin sources → All Wide sources → All Wanted sources
+    products_alike : (begin : ℕ) (sources : List QuerySource) → AreContiguousFrom begin sources → All Wide sources → All Wanted sources
         → AllZip (AgreeFrom begin) (product_of (lists_at valid t (tables_in sources))) (product_of (lists_at (kept_in wanted valid) t (tables_in sources)))
     products_alike begin [] stand wide wants = (tt, tt)
     products_alike begin (source ∷ []) stand wide wants =

@@ -1,7 +1,7 @@
 -- How the columns that a plan names are found.
 use Rattle.std.proofs.Common.{◌≡◌, ℕ, zero, suc, ◌&&◌, ◌||◌, ◌⊎◌, inl, inr, not, Bool, List, [], ◌∷◌, ◌++◌, length, refl, sym, ap, ◌∙◌}
 use Rattle.tq_base.specs.ValueOrder.{value_cmp}
-use Rattle.tq_event.specs.Keeping.{is_wanted, wanted_of}
+use Rattle.tq_event.specs.Projection.{is_wanted, wanted_of}
 use Rattle.tq_ops.specs.declared.condition.Compare.{Compare}
 use Rattle.tq_ops.specs.declared.condition.Operand.{Operand}
 use Rattle.tq_ops.specs.declared.condition.Test.{Test}

@@ -15,7 +15,7 @@ use Rattle.tq_plan.specs.Plans.{tables_of}
 use Rattle.tq_eval.specs.Answers.{lists_at, times_in, times_in_right, times_within, ValidRows}
 use Rattle.tq_agg.specs.Grouping.{Row}
 use Rattle.tq_eval.specs.Ordinary.{groups, ordinary, output_value}
-use Rattle.tq_plan.specs.Standing.{is_aggregate, no_group}
+use Rattle.tq_plan.specs.ValidPlans.{is_aggregate, no_group}
 use Rattle.tq_eval.specs.Running.{output_place}
 
 -- ---- queries with no group, count or sum

@@ -20,7 +20,7 @@ use Rattle.tq_plan.specs.declared.plans.Output.TheVariants.{Column}
 use Rattle.tq_plan.specs.declared.plans.QueryPlan.{QueryPlan}
 use Rattle.tq_plan.specs.declared.plans.QuerySource.{QuerySource}
 use Rattle.tq_plan.specs.Plans.{tables_in, tables_of}
-use Rattle.tq_plan.specs.Standing.{IsQueryOver, StandFrom, is_aggregate, items_stand, may_stand}
+use Rattle.tq_plan.specs.ValidPlans.{IsQueryOver, AreContiguousFrom, is_aggregate, are_valid_items, is_valid_item}
 use Rattle.tq_eval.specs.Answers.{lists_at, times_by, times_in, times_in_right, ValidRows}
 use Rattle.tq_eval.specs.Fitting.{AreFitting}
 use Rattle.tq_eval.specs.Ordinary.{alone_or_together, groups, ordinary, output_value}
@@ -156,7 +156,7 @@ module _ (share_of : Value → ℕ) (columns : Columns) (number : ℕ) where
                   cc (there, other, is)
 
   -- the groups of the rows that go to the share
-  groups_left : (place : ℕ) (items : List Output) (group : List ℕ) → list_all (may_stand (list_any is_aggregate (Column place ∷ items)) group) (Column place ∷ items) ≡ true → (rows : List Row)
+  groups_left : (place : ℕ) (items : List Output) (group : List ℕ) → list_all (is_valid_item (list_any is_aggregate (Column place ∷ items)) group) (Column place ∷ items) ≡ true → (rows : List Row)
       → groups group (Column place ∷ items) (filter (goes place) rows) ≡ filter (λ one. goes place (first_row one)) (groups group (Column place ∷ items) rows)
   groups_left place items [] stand rows = by (list_any is_aggregate (Column place ∷ items)) refl
     where
@@ -170,11 +170,11 @@ module _ (share_of : Value → ℕ) (columns : Columns) (number : ℕ) where
       by false is = cc (rw is at stand)
 
   -- what a query makes of the rows that go to the share
-  made_left : (query : QueryPlan) (place : ℕ) (items : List Output) → query.outputs ≡ Column place ∷ items → items_stand query ≡ true → (rows : List Row)
+  made_left : (query : QueryPlan) (place : ℕ) (items : List Output) → query.outputs ≡ Column place ∷ items → are_valid_items query ≡ true → (rows : List Row)
       → map (λ group. map (output_value group) query.outputs) (groups query.group query.outputs (filter (goes place) rows)) ≡ filter (goes 0) (map (λ group. map (output_value group) query.outputs) (groups query.group query.outputs rows))
   made_left query place items first stand rows =
       subst (λ outputs. map (λ group. map (output_value group) outputs) (groups query.group outputs (filter (goes place) rows)) ≡ filter (goes 0) (map (λ group. map (output_value group) outputs) (groups query.group outputs rows))) (sym first)
-      (ap (map (λ group. map (output_value group) (Column place ∷ items))) (groups_left place items query.group (subst (λ outputs. list_all (may_stand (list_any is_aggregate outputs) query.group) outputs ≡ true) first stand) rows)
+      (ap (map (λ group. map (output_value group) (Column place ∷ items))) (groups_left place items query.group (subst (λ outputs. list_all (is_valid_item (list_any is_aggregate outputs) query.group) outputs ≡ true) first stand) rows)
       ∙ made_of_left (λ group. map (output_value group) (Column place ∷ items)) (λ one. goes place (first_row one)) (goes 0) (groups query.group (Column place ∷ items) rows) (λ group. refl))
 
   -- ---- rows that pass
@@ -212,7 +212,7 @@ module _ (share_of : Value → ℕ) (columns : Columns) (number : ℕ) where
       first_part : (begin : ℕ) (source : QuerySource) → source.first ≡ begin → take source.width (drop begin row) ≡ part_of source row
       first_part begin source stands = ap (λ p. take source.width (drop p row)) (sym stands)
 
-      same_in : goes place row ≡ true → (begin : ℕ) (sources : List QuerySource) → StandFrom begin sources → All (Wide t) sources → All Has sources
+      same_in : goes place row ≡ true → (begin : ℕ) (sources : List QuerySource) → AreContiguousFrom begin sources → All (Wide t) sources → All Has sources
           → occurrences (product_of (lists_at share t (tables_in sources))) (drop begin row) ≡ occurrences (product_of (lists_at valid t (tables_in sources))) (drop begin row)
       same_in there begin [] stand wide has = refl
       same_in there begin (source ∷ sources) stand wide has =
@@ -228,7 +228,7 @@ module _ (share_of : Value → ℕ) (columns : Columns) (number : ℕ) where
           ∙ (λ i. first i * rest i)
           ∙ sym (counted_first source.width (valid source.table t) (lists_at valid t (tables_in sources)) part own)
 
-      none_in : goes place row ≡ false → (begin : ℕ) (sources : List QuerySource) → StandFrom begin sources → All (Wide t) sources → All Has sources
+      none_in : goes place row ≡ false → (begin : ℕ) (sources : List QuerySource) → AreContiguousFrom begin sources → All (Wide t) sources → All Has sources
           → list_any (λ (source : QuerySource). is_parted (columns source.table)) sources ≡ true → occurrences (product_of (lists_at share t (tables_in sources))) (drop begin row) ≡ 0
       none_in there begin [] stand wide has some = cc some
       none_in there begin (source ∷ sources) stand wide has some =
@@ -259,7 +259,7 @@ module _ (share_of : Value → ℕ) (columns : Columns) (number : ℕ) where
               let none : occurrences (share source.table t) (take source.width part) * 0 ≡ 0 = omega arith in
               counted ∙ ap (λ n. occurrences (share source.table t) (take source.width part) * n) later ∙ none
 
-    module _ (query : QueryPlan) (t place : ℕ) (stand : StandFrom 0 query.sources) (wide : All (Wide t) query.sources)
+    module _ (query : QueryPlan) (t place : ℕ) (stand : AreContiguousFrom 0 query.sources) (wide : All (Wide t) query.sources)
         (has : All (λ (source : QuerySource). HasAt query.test place source (columns source.table)) query.sources)
         (some : list_any (λ (source : QuerySource). is_parted (columns source.table)) query.sources ≡ true) where
       abbrev all : List Row
@@ -287,7 +287,7 @@ module _ (share_of : Value → ℕ) (columns : Columns) (number : ℕ) where
           by false false passes there =
               failed (admits query.test) own v passes ∙ sym (failed (goes place) (selection query.test all) v there)
 
-      ordinary_in : (items : List Output) → query.outputs ≡ Column place ∷ items → items_stand query ≡ true
+      ordinary_in : (items : List Output) → query.outputs ≡ Column place ∷ items → are_valid_items query ≡ true
           → SameCounts (ordinary query (lists_at share t (tables_of query))) (filter (goes 0) (ordinary query (lists_at valid t (tables_of query))))
       ordinary_in items first items_are v =
           let left = filter (goes place) (selection query.test all) in

@@ -16,7 +16,7 @@ use Rattle.tq_plan.specs.declared.plans.Plan.{Plan}
 use Rattle.tq_plan.specs.declared.plans.QueryPlan.{QueryPlan}
 use Rattle.tq_eval.specs.Answers.{lists_at, right_tables, tables_read, times_at, times_in, times_in_right, AnswersAgree, ValidRows}
 use Rattle.tq_eval.specs.Ordinary.{ordinary}
-use Rattle.tq_plan.specs.Standing.{is_aggregate, items_stand, no_group, IsPlan, PlansStand}
+use Rattle.tq_plan.specs.ValidPlans.{is_aggregate, are_valid_items, no_group, IsPlan, PlansAreValid}
 use Rattle.tq_eval.specs.Running.{item_places, output_place, summed_places}
 use Rattle.tq_eval.specs.Sources.{SameCounts}
 use Rattle.tq_eval.proofs.BagLemmas.{is_it, same_filtered, same_lengths, same_mapped, same_products, same_sums}
@@ -64,7 +64,7 @@ same_passing : (query : QueryPlan) (xs ys : List (List Row)) → AreAlike xs ys 
 same_passing query xs ys alike = same_filtered (admits query.test) (product_of xs) (product_of ys) (same_product_of xs ys alike)
 
 -- a query makes as often of rows that pass as often
-pub ordinary_same : (query : QueryPlan) (xs ys : List (List Row)) → items_stand query ≡ true → SameCounts (selection query.test (product_of xs)) (selection query.test (product_of ys)) → SameCounts (ordinary query xs) (ordinary query ys)
+pub ordinary_same : (query : QueryPlan) (xs ys : List (List Row)) → are_valid_items query ≡ true → SameCounts (selection query.test (product_of xs)) (selection query.test (product_of ys)) → SameCounts (ordinary query xs) (ordinary query ys)
 ordinary_same query xs ys stand same v = by_group (no_group query.group) refl
   where
     one : List Row
@@ -94,7 +94,7 @@ ordinary_same query xs ys stand same v = by_group (no_group query.group) refl
         (same_groups query.group (summed_places query.outputs) one other same) v
         ∙ ap (λ l. occurrences l v) (ordinary_grouped query ys some stand)
 
-same_ordinary : (query : QueryPlan) (xs ys : List (List Row)) → items_stand query ≡ true → AreAlike xs ys → SameCounts (ordinary query xs) (ordinary query ys)
+same_ordinary : (query : QueryPlan) (xs ys : List (List Row)) → are_valid_items query ≡ true → AreAlike xs ys → SameCounts (ordinary query xs) (ordinary query ys)
 same_ordinary query xs ys stand alike = ordinary_same query xs ys stand (same_passing query xs ys alike)
 
 -- ---- plans
@@ -107,15 +107,15 @@ module _ (valid other : ValidRows) where
   lists_alike [] t all = tt
   lists_alike (table ∷ numbers) t all = (all 0 table (omega arith) t, lists_alike numbers t (All-tail Agree table numbers all))
 
-  times_same : (query : QueryPlan) (v : Row) (t : ℕ) → items_stand query ≡ true → All Agree (tables_of query) → times_in valid query v t ≡ times_in other query v t
+  times_same : (query : QueryPlan) (v : Row) (t : ℕ) → are_valid_items query ≡ true → All Agree (tables_of query) → times_in valid query v t ≡ times_in other query v t
   times_same query v t stand all = same_ordinary query (lists_at valid t (tables_of query)) (lists_at other t (tables_of query)) stand (lists_alike (tables_of query) t all) v
 
-  right_same : (right : Option QueryPlan) (v : Row) (t : ℕ) → ((query : QueryPlan) → right ≡ Some query → items_stand query ≡ true) → All Agree (right_tables right)
+  right_same : (right : Option QueryPlan) (v : Row) (t : ℕ) → ((query : QueryPlan) → right ≡ Some query → are_valid_items query ≡ true) → All Agree (right_tables right)
       → times_in_right valid right v t ≡ times_in_right other right v t
   right_same None v t stand all = refl
   right_same (Some query) v t stand all = times_same query v t (stand query refl) all
 
-  plan_same : PlansStand → (plan : Plan) (v : Row) (t : ℕ) → IsPlan plan → All Agree (tables_read plan) → times_at valid plan v t ≡ times_at other plan v t
+  plan_same : PlansAreValid → (plan : Plan) (v : Row) (t : ℕ) → IsPlan plan → All Agree (tables_read plan) → times_at valid plan v t ≡ times_at other plan v t
   plan_same stand plan v t is all =
       let parts = All-parts Agree (tables_of plan.left) (right_tables plan.right) all in
       λ i. if holds plan.window t then times_same plan.left v t ((stand plan is).0) parts.0 i - right_same plan.right v t ((stand plan is).1) parts.1 i else 0
@@ -127,7 +127,7 @@ module _ (valid other : ValidRows) where
           (All-cons P x xs (all 0 x (omega arith)) rest.0, rest.1)
 
 -- an answer over what is valid is one over whatever is valid as often
-pub answers_agree : PlansStand → AnswersAgree
+pub answers_agree : PlansAreValid → AnswersAgree
 answers_agree stand valid other plan table is all x = record {
   columns = x.columns;
   layers = record {

@@ -19,7 +19,7 @@ use Rattle.tq_plan.specs.declared.plans.QueryPlan.{QueryPlan}
 use Rattle.tq_agg.specs.Grouping.{Row}
 use Rattle.tq_eval.specs.Ordinary.{ordinary}
 use Rattle.tq_plan.specs.Plans.{plan_of, tables_of}
-use Rattle.tq_plan.specs.Standing.{IsPlan}
+use Rattle.tq_plan.specs.ValidPlans.{IsPlan}
 
 -- which rows are valid in each table, by its number, at each instant
 abbrev pub ValidRows : Type 0

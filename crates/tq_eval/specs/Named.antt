@@ -2,7 +2,7 @@
 use Rattle.std.specs.Prelude.{◌≡◌, ◌≢◌, ℕ, ◌+◌, ◌<◌, Bool, true, All, List, [], Some, map}
 use Rattle.tq_base.specs.declared.catalogue.Catalogue.{Catalogue}
 use Rattle.tq_base.specs.declared.fragment.Fragment.{Fragment}
-use Rattle.tq_event.specs.Keeping.{is_wanted, kept_row, kept_values, wanted_of}
+use Rattle.tq_event.specs.Projection.{is_wanted, projected_row, projected_values, wanted_of}
 use Rattle.tq_event.specs.Tables.{rows_in}
 use Rattle.tq_base.specs.RowValues.{value_at}
 use Rattle.tq_ops.specs.Ordinary.{admits}
@@ -12,7 +12,7 @@ use Rattle.tq_plan.specs.declared.plans.Output.TheVariants.{Column, Count, Sum}
 use Rattle.tq_plan.specs.declared.plans.Plan.{Plan}
 use Rattle.tq_plan.specs.declared.plans.QueryPlan.{QueryPlan}
 use Rattle.tq_plan.specs.declared.plans.QuerySource.{QuerySource}
-use Rattle.tq_plan.specs.Standing.{AreQueriesOver}
+use Rattle.tq_plan.specs.ValidPlans.{AreQueriesOver}
 use Rattle.tq_table.specs.declared.table.Table.{Table}
 use Rattle.tq_eval.specs.Answers.{in_tables, times_at, IsTablesAnswer, ValidRows}
 use Rattle.tq_eval.specs.Fitting.{AreAllFitting, AreFitting}
@@ -55,11 +55,11 @@ Serve wanted plan = Serves wanted plan.left × ((query : QueryPlan) → plan.rig
 
 -- what is valid
 abbrev pub kept_in : List (List Bool) → ValidRows → ValidRows
-kept_in wanted valid = λ table t. map (kept_values (wanted_of wanted table)) (valid table t)
+kept_in wanted valid = λ table t. map (projected_values (wanted_of wanted table)) (valid table t)
 
 -- tables of rows
 abbrev pub AreKeptLists : List (List Bool) → List (List Fragment) → List (List Fragment) → Type 0
-AreKeptLists wanted tables kept = (table : ℕ) → rows_in kept table ≡ map (kept_row (wanted_of wanted table)) (rows_in tables table)
+AreKeptLists wanted tables kept = (table : ℕ) → rows_in kept table ≡ map (projected_row (wanted_of wanted table)) (rows_in tables table)
 
 -- ---- laws
 

@@ -1,5 +1,5 @@
 -- How the columns that a plan names are found. This project's own.
-use Rattle.tq_event.specs.Keeping.{is_wanted}
+use Rattle.tq_event.specs.Projection.{is_wanted}
 use Rattle.std.specs.Prelude.{◌≡◌, ℕ, ◌+◌, ◌==◌, ◌&&◌, ◌||◌, Bool, true, false, List, Option, Some, None}
 use Rattle.std.specs.List.{list_any}
 use Rattle.tq_ops.specs.Conditions.{operand_value, passes}

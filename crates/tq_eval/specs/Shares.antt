@@ -14,7 +14,7 @@ use Rattle.tq_plan.specs.declared.plans.Plan.{Plan}
 use Rattle.tq_plan.specs.declared.plans.QueryPlan.{QueryPlan}
 use Rattle.tq_plan.specs.declared.plans.QuerySource.{QuerySource}
 use Rattle.tq_plan.specs.Plans.{tables_of}
-use Rattle.tq_plan.specs.Standing.{AreQueriesOver, IsQueryOver}
+use Rattle.tq_plan.specs.ValidPlans.{AreQueriesOver, IsQueryOver}
 use Rattle.tq_eval.specs.Answers.{lists_at, times_at, ValidRows}
 use Rattle.tq_eval.specs.Fitting.{AreFitting}
 use Rattle.tq_eval.specs.Sources.{part_of}

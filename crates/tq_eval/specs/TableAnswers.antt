@@ -5,7 +5,7 @@ use Rattle.tq_event.specs.declared.event.Event.{Event}
 use Rattle.tq_event.specs.Tables.{HoldsRows}
 use Rattle.tq_table.specs.declared.table.Table.{Table}
 use Rattle.tq_plan.specs.declared.plans.Plan.{Plan}
-use Rattle.tq_plan.specs.Standing.{IsPlan}
+use Rattle.tq_plan.specs.ValidPlans.{IsPlan}
 use Rattle.tq_eval.specs.Answers.{tables_read, IsPlanAnswer, IsTablesAnswer}
 
 -- where the tables that a plan reads hold what a history holds, both give it the same answer

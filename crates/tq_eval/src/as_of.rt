@@ -2,9 +2,9 @@
 
 ghost use Rattle.std.specs.Prelude.{◌≤◌, IfOk, length};
 ghost use Rattle.tq_eval.specs.Answers.{as_of, IsPlanAnswer};
-ghost use Rattle.tq_plan.specs.Standing.{IsPlanOver};
+ghost use Rattle.tq_plan.specs.ValidPlans.{IsPlanOver};
 
-use crate::answering::{answer_over, detached};
+use crate::answering::{answer_over, to_owned};
 use crate::snapshot::Snapshot;
 use std::alloc::{AllocError, Global};
 use tq_base::{KeyRange, Period, Relation};
@@ -50,5 +50,5 @@ pub fn answer<'b>(alloc: Global, db: &Db, n: u32, plan: &Plan) -> Result<Table<'
 {
     let _count = db.count();
     let table = answer_over(alloc, &AsOf { db, n }, plan)?;
-    detached(alloc, table)
+    to_owned(alloc, table)
 }

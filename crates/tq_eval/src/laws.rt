@@ -10,7 +10,7 @@ ghost use Rattle.tq_eval.specs.TableAnswers.{TablesAnswer};
 
 use tq_base::laws::{layers_are_runs, layers_are_unique, layers_exist};
 use tq_event::laws::prefixes_agree;
-use tq_plan::laws::plans_stand;
+use tq_plan::laws::plans_are_valid;
 
 /// A statement has one answer at most over a catalogue, a history and a count of its events.
 pub fn answers_are_unique()
@@ -38,7 +38,7 @@ pub fn bounds_are_given()
 pub fn answers_agree()
     ensures { AnswersAgree }
 {
-    plans_stand();
+    plans_are_valid();
 }
 
 /// Events that come later change no answer as of the events before them.

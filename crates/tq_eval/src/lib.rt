@@ -14,7 +14,7 @@ mod named;
 mod snapshot;
 mod sources;
 
-pub use answering::{answer_over, answer_tables, detached, rows_within};
+pub use answering::{answer_over, answer_tables, rows_within, to_owned};
 pub use as_of::{AsOf, answer};
 pub use gathering::{counted_column, group_columns, groups_of, rows_of_counts, rows_to_group};
 pub use named::named_columns;

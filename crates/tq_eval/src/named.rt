@@ -1,6 +1,6 @@
 // The columns of tables that a plan names.
 
-ghost use Rattle.tq_event.specs.Keeping.{is_wanted, wanted_lists};
+ghost use Rattle.tq_event.specs.Projection.{is_wanted, wanted_lists};
 ghost use Rattle.std.specs.Prelude.{◌≡◌, ◌^◌, ◌<◌, ◌≤◌, All, IfOk, true};
 ghost use Rattle.std.specs.List.{list_any};
 ghost use Rattle.tq_eval.specs.Named.{IsMadeOf, LooksAt, Serve};

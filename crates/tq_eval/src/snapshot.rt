@@ -63,7 +63,7 @@ impl<'a> Snapshot<'a> for TablesOfRows<'a> {
     ) -> Result<Relation<'a>, AllocError> {
         match self.tables.get(table as usize) {
             Some(rows) => Relation::of(alloc, rows),
-            None => Relation::made(alloc, Rows::new(alloc, 0)),
+            None => Relation::owned(alloc, Rows::new(alloc, 0)),
         }
     }
 }

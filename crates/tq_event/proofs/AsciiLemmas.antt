@@ -1,4 +1,4 @@
--- Bytes that are seen to be ASCII one after another.
+-- Checking bytes for ASCII one after another.
 use Rattle.std.proofs.Common.{◌≡◌, ◌+◌, ◌<◌, ◌≤◌, ◌&&◌, ℕ, Bool, true, false, List, get_or, length, nat_lt, refl, subst, arith}
 use Rattle.std.proofs.lemmas.List.{get_or_past}
 use Rattle.std.proofs.lemmas.Bool.Decides.{nat_tests}
@@ -16,7 +16,7 @@ ascii_more true bytes place before both i lt = by (nat_lt i place) refl
     by true e = before refl i (grind (arith, nat_tests))
     by false e = subst (λ k. get_or bytes k 0 < 128) (let same : place ≡ i = grind (arith, nat_tests) in same) here
 
--- all of them: past the end there are zeros
+-- all of them; past the end there are zeros
 pub ascii_all : (bytes : List ℕ) (place : ℕ) → length bytes ≤ place → ((i : ℕ) → i < place → get_or bytes i 0 < 128) → (i : ℕ) → get_or bytes i 0 < 128
 ascii_all bytes place past before i = by (nat_lt i place) refl
   where

@@ -25,7 +25,7 @@ use Rattle.tq_base.specs.declared.form.Form.{Form}
 use Rattle.tq_event.specs.Entries.{Entry}
 use Rattle.tq_event.specs.declared.fault.LoadFaultKind.TheVariants.{BadHeader, DuplicateName, FieldCount, NotUtf8, TextTooLong, TooManyColumns, TooManyTables}
 use Rattle.tq_event.specs.declared.file.TableFile.{TableFile}
-use Rattle.tq_event.specs.Loading.{Contents, at_record, kind_of, make_column, column_of, columns_after, columns_of, contents_after, contents_of, csv_records, entries_after, entry_of, first_header, has_column, has_table, header_of, is_marked_twice, is_period_header, is_text, next_columns, next_contents, next_name, number_value, period_fields, period_of, table_contents, table_name, value_fields, value_of, values_after}
+use Rattle.tq_event.specs.Loading.{Contents, at_record, kind_of, make_column, column_of, columns_after, columns_of, contents_after, contents_of, csv_records, entries_after, entry_of, first_header, has_column, has_table, header_of, has_two_boms, is_period_header, is_text, next_columns, next_contents, next_name, number_value, period_fields, period_of, table_contents, table_name, value_fields, value_of, values_after}
 use Rattle.tq_event.specs.Laws.{HasFoldedNames, IsFoldedName}
 use Rattle.tq_event.proofs.LoadedLemmas.{all_entries, at_record_passed, entry_is_of, passed}
 
@@ -49,7 +49,7 @@ no_column (c ∷ columns) name e =
     let parts = or_parts (bytes_eq c.name name) (has_column columns name) e in
     All-cons (λ n. n ≢ name) c.name (column_names columns) (differs c.name name parts.0) (no_column columns name parts.1)
 
--- columns whose names differ, the first of numbers
+-- columns with different names, the first an integer column
 record AreColumns (columns : List Column) : Type 0 where
   pub names : AllPairs (λ a b. a ≢ b) (column_names columns)
   pub key : IfSome (slice_get columns 0) (λ c. c.kind ≡ kind.Int)
@@ -127,7 +127,7 @@ header_columns fields out e = by (nat_lt (length fields) 3) refl (is_period_head
         record { are = read.0; some = omega (arith, read.1, len, wide); few = omega (arith, read.1, few) }
 
 file_columns : (bytes : List ℕ) (out : List Column) → columns_of bytes ≡ Ok out → AreTableColumns out
-file_columns bytes out e = by (is_marked_twice bytes) e
+file_columns bytes out e = by (has_two_boms bytes) e
   where
     first : (records : List (List (List ℕ))) → first_header records ≡ Ok out → AreTableColumns out
     first [] e = cc
@@ -244,7 +244,7 @@ value_fits kind.Text field v e = by (is_utf8 field) (nat_lt 1000 (length field))
         let le : length field ≤ 1000 = grind (arith, nat_tests) in
         subst (IsOfKind kind.Text) same le
 
--- the values after some that are there fit the columns
+-- the values after these fit the columns
 record FitAfter (values : List Value) (columns : List Column) (out : List Value) : Type 0 where
   pub rest : List Value
   pub is : out ≡ values ++ rest
@@ -282,7 +282,7 @@ entry_fits form table columns fields e is = by (length fields == length columns 
 
 -- ---- rows
 
--- the row's table is there, and takes its values
+-- the catalogue has the row's table, and its columns accept the values
 abbrev pub Stored : List Schema → Entry → Type 0
 Stored tables e = IsSomeAnd (slice_get tables e.table) (λ (s : Schema). Fit s.columns e.values)
 
@@ -327,7 +327,7 @@ file_loaded form limit before after file is good =
         record {
           tables = pushed_table before.tables s good.tables new (record { some = are.some; few = are.few; names = are.are.names; key = are.are.key }) (new.folded, are.are.folded);
           stored = all_entries form limit (length before.tables) columns (Stored (before.tables ++ s ∷ []))
-              (λ fields x told. stored_last before.tables s x (entry_is_of form (length before.tables) columns fields x told).1 (entry_fits form (length before.tables) columns fields x told))
+              (λ fields x parsed. stored_last before.tables s x (entry_is_of form (length before.tables) columns fields x parsed).1 (entry_fits form (length before.tables) columns fields x parsed))
               2 before.entries (drop 1 (csv_records file.bytes)) entries e
               (All-weaker (Stored before.tables) (Stored (before.tables ++ s ∷ [])) (λ x is. stored_more before.tables (s ∷ []) x is) before.entries good.stored);
         }

@@ -11,18 +11,18 @@ use Rattle.tq_base.specs.declared.form.Form.{Form}
 use Rattle.tq_event.specs.declared.fault.LoadFaultKind.{LoadFaultKind}
 use Rattle.tq_event.specs.Loading.{entry_of, period_fields, period_of, value_fields, value_of, values_after}
 
--- the `csv` crate's word for a field, and the standard library's
+-- a field in terms of the `csv` crate and of the standard library
 pub field-slice : (fields : List (List ℕ)) (i : ℕ) → field_at fields i ≡ slice_get fields i
 unfolding field_at
 field-slice [] i = refl
 field-slice (f ∷ fields) zero = refl
 field-slice (f ∷ fields) (suc i) = field-slice fields i
 
--- a field stands before those after it
+-- a field comes before those after it
 pub fields_from : (fields : List (List ℕ)) (place : ℕ) (field : List ℕ) → slice_get fields place ≡ Some field → place < length fields → drop place fields ≡ field ∷ drop (place + 1) fields
 fields_from fields place field is within = drop_more fields place [] within ∙ ap (λ f. f ∷ drop (place + 1) fields) (get_or_from_slice_get fields place field [] is)
 
--- a field of the values stands before those after it
+-- a value field comes before those after it
 pub value_field_at : (fields : List (List ℕ)) (place : ℕ) (field : List ℕ) → slice_get fields place ≡ Some field → place < length fields - 2
     → drop place (value_fields fields) ≡ field ∷ drop (place + 1) (value_fields fields)
 value_field_at fields place field is within =
@@ -30,7 +30,7 @@ value_field_at fields place field is within =
     drop_more (value_fields fields) place [] short
     ∙ ap (λ f. f ∷ drop (place + 1) (value_fields fields)) (get_or-take (length fields - 2) fields place [] within ∙ get_or_from_slice_get fields place field [] is)
 
--- the values of the first fields need no more of them than there are columns
+-- the values need no more fields than there are columns
 first_values : (values : List Value) (columns : List Column) (n : ℕ) (fields : List (List ℕ)) → length columns ≤ n → values_after values columns (take n fields) ≡ values_after values columns fields
 first_values values [] n fields enough = refl
 first_values values (c ∷ columns) zero fields enough = absurd (omega (arith, enough))
@@ -54,7 +54,7 @@ module _ (form : Form) (table : ℕ) (columns : List Column) (fields : List (Lis
 
   pub entry_told : (values : List Value) (period : Result (ℕ × ℕ) LoadFaultKind) → values_after [] columns fields ≡ Ok values → period_of form (period_fields fields) ≡ period
       → entry_of form table columns fields ≡ and_then period (λ p. Ok (record { table = table; values = values; from = p.0; to = p.1 }))
-  entry_told values period told until = rw (as_many, before_period, told, until) refl
+  entry_told values period parsed until = rw (as_many, before_period, parsed, until) refl
 
 -- the last two fields
 pub period_fields_are : (fields : List (List ℕ)) (a b : List ℕ) → 2 ≤ length fields → slice_get fields (length fields - 2) ≡ Some a → slice_get fields (length fields - 1) ≡ Some b

@@ -1,4 +1,4 @@
--- Lists of bytes, one behind the other: one more of them, and a place in one of them.
+-- Lists of bytes, one after the other: adding a list, and a place in one of them.
 use Rattle.std.proofs.Common.{◌≡◌, ◌++◌, ◌∷◌, [], ◌+◌, ◌-◌, ◌<◌, ◌≤◌, ℕ, List, take, drop, length, get_or, ap, sym, ◌∙◌, arith}
 use Rattle.std.specs.Global.{Vec}
 use Rattle.std.proofs.Math.Seq.{drop-append-add}
@@ -6,7 +6,7 @@ use Rattle.std.proofs.lemmas.List.{append-nil, drop-append-le, drop_more, take_m
 use Rattle.std.proofs.lemmas.List.Concat.{flat_map-append, flat_map-cons}
 use Rattle.tq_event.specs.FileBytes.{bytes_in}
 
--- the bytes of a list and those of the lists behind it
+-- the bytes of a list and those of the lists after it
 bytes_cons : (piece : Vec ℕ) (pieces : List (Vec ℕ)) → bytes_in (piece ∷ pieces) ≡ piece.items ++ bytes_in pieces
 bytes_cons piece pieces = flat_map-cons (λ (p : Vec ℕ). p.items) piece pieces
 
@@ -25,11 +25,11 @@ pub bytes_rest : (pieces : List (Vec ℕ)) (i : ℕ) (piece : Vec ℕ) → i < l
 bytes_rest pieces i piece lt is =
     ap bytes_in (drop_more pieces i piece lt ∙ ap (λ p. p ∷ drop (i + 1) pieces) (sym is)) ∙ bytes_cons piece (drop (i + 1) pieces)
 
--- what stands behind a place of the first list
+-- the bytes from a place in the first list on
 pub rest_here : (piece : Vec ℕ) (more : List ℕ) (rest : ℕ) → rest ≤ length piece.items → drop rest (piece.items ++ more) ≡ drop rest piece.items ++ more
 rest_here piece more rest within = drop-append-le rest piece.items more within
 
--- behind a place that is not in the first list
+-- the bytes from a place after the first list on
 pub rest_behind : (piece : Vec ℕ) (more : List ℕ) (rest : ℕ) → length piece.items ≤ rest → drop rest (piece.items ++ more) ≡ drop (rest - length piece.items) more
 rest_behind piece more rest past =
     ap (λ n. drop n (piece.items ++ more)) (let n : rest ≡ length piece.items + (rest - length piece.items) = omega (arith, past) in n)

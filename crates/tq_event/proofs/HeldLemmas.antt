@@ -1,4 +1,4 @@
--- Tables of files hold at each instant what is valid by the events of the entries.
+-- The tables of files hold at each instant what is valid by the events of the entries.
 use Rattle.std.proofs.Common.{◌≡◌, ℕ, suc, zero, ◌+◌, ◌-◌, ◌<◌, ◌==◌, ◌&&◌, ◌||◌, ◌⊎◌, not, Bool, true, false, cond, if◌then◌else◌, List, [], ◌∷◌, Option, Some, None, length, map, filter, take, drop, get_or, slice_get, sum_by, count_by, nat_le, nat_lt, refl, sym, ap, subst, ◌∙◌, arith, inl, inr}
 use Rattle.std.specs.Prelude.{All, IsSomeAnd, IsSorted, IsPermutation}
 use Rattle.std.specs.List.{AllZip, list_any}
@@ -22,13 +22,13 @@ use Rattle.tq_base.specs.ValueOrder.{values_cmp}
 use Rattle.tq_event.specs.Entries.{Entry}
 use Rattle.tq_event.specs.declared.event.Event.{Event}
 use Rattle.tq_event.specs.declared.event.Event.TheVariants.{Start, End}
-use Rattle.tq_event.specs.declared.mark.Mark.{Mark}
+use Rattle.tq_event.specs.declared.endpoint.Endpoint.{Endpoint}
 use Rattle.tq_event.specs.History.{Row, end_of, rows_from, rows_of, time_of, valid_at}
-use Rattle.tq_event.specs.Loading.{AreEventsOf, IsEventAt, event_at, mark_cmp, marks_from, marks_of_entry, row_number, starts_entry, starts_in, table_at}
-use Rattle.tq_event.specs.Tables.{AreRowsOf, HoldsRows, rows_in, told_by}
+use Rattle.tq_event.specs.Loading.{AreEventsOf, IsEventAt, event_at, endpoint_cmp, endpoints_from, endpoints_of_entry, row_number, starts_entry, starts_in, table_at}
+use Rattle.tq_event.specs.Tables.{AreRowsOf, HoldsRows, rows_in, row_entry}
 use Rattle.tq_event.proofs.CatalogueLemmas.{Stored}
 use Rattle.tq_event.proofs.HistoryLemmas.{at_place, counted, end_is, ends_entry, eqb-same, passes_over, same_entry, start_is, starts_row, table_is}
-use Rattle.tq_event.proofs.MarkLemmas.{IsMarkFrom, mark_total, marks_stand, not_before_start, row_number_at, start_before_end}
+use Rattle.tq_event.proofs.EndpointLemmas.{IsMarkFrom, mark_total, marks_stand, not_before_start, row_number_at, start_before_end}
 use Rattle.tq_event.proofs.SortLemmas.{has_sorted}
 
 abbrev tally : Bool → ℕ
@@ -36,7 +36,7 @@ tally b = cond b 1 0
 
 -- ---- counts as sums
 
--- how often a list's chosen elements pass
+-- how many chosen elements of a list pass the test
 kept : {X Y : Type 0} (f : X → Y) (p : X → Bool) (q : Y → Bool) (xs : List X) → count_by q (map f (filter p xs)) ≡ sum_by (λ x. cond (p x) (tally (q (f x))) 0) xs
 kept f p q [] = refl
 kept f p q (x ∷ xs) = by (p x) refl (kept f p q xs)
@@ -81,7 +81,7 @@ some_pass p (x ∷ xs) some = by (p x) refl (λ more. some_pass p xs more)
 -- ---- what is valid at an instant
 
 module _ (t : ℕ) (v : List Value) where
-  -- whether values that are valid from one instant until another are those, at that instant
+  -- whether values that are valid from one instant until another are the given values, at the given instant
   abbrev pub valid : List Value → ℕ → ℕ → ℕ
   valid values from to = cond (nat_le from t && nat_lt t to) (tally (eq_by_cmp values_cmp values v)) 0
 
@@ -97,10 +97,10 @@ module _ (t : ℕ) (v : List Value) where
   rows_valid : (rows : List Row) → occurrences (map (λ (row : Row). row.values) (filter (λ (row : Row). nat_le row.from t && nat_lt t row.to) rows)) v ≡ sum_by valid_row rows
   rows_valid rows = kept (λ (row : Row). row.values) (λ (row : Row). nat_le row.from t && nat_lt t row.to) (λ u. eq_by_cmp values_cmp u v) rows
 
-  fragments_valid : (table : ℕ) (rows : List Fragment) → occurrences (at rows t) v ≡ sum_by valid_entry (map (told_by table) rows)
+  fragments_valid : (table : ℕ) (rows : List Fragment) → occurrences (at rows t) v ≡ sum_by valid_entry (map (row_entry table) rows)
   fragments_valid table rows =
       kept (λ (f : Fragment). f.values) (λ (f : Fragment). holds f.period t) (λ u. eq_by_cmp values_cmp u v) rows
-      ∙ sym (mapped (told_by table) valid_entry rows)
+      ∙ sym (mapped (row_entry table) valid_entry rows)
 
   pub table_valid : (entries : List Entry) (tables : List (List Fragment)) (table : ℕ) → AreRowsOf entries tables
       → occurrences (at (rows_in tables table) t) v ≡ sum_by (valid_in table) entries
@@ -108,18 +108,18 @@ module _ (t : ℕ) (v : List Value) where
       fragments_valid table (rows_in tables table) ∙ ap (sum_by valid_entry) (are table)
       ∙ chosen (λ (e : Entry). e.table == table) valid_entry entries
 
-  -- what a mark that starts an entry of the table adds
-  abbrev pub valid_mark : List Entry → ℕ → Mark → ℕ
+  -- what an endpoint that starts an entry of the table adds to the count
+  abbrev pub valid_mark : List Entry → ℕ → Endpoint → ℕ
   valid_mark entries table m = cond m.starts (option_map_or (valid_in table) (slice_get entries m.entry) 0) 0
 
   own_mark : (entries : List Entry) (table n : ℕ) (e : Entry) → slice_get entries n ≡ Some e → (b : Bool)
       → sum_by (valid_mark entries table) (record { at = e.from; starts = true; entry = n } ∷ (if b then [] else record { at = e.to; starts = false; entry = n } ∷ [])) ≡ valid_in table e
   own_mark entries table n e stands b = by b
     where
-      first : Mark
+      first : Endpoint
       first = record { at = e.from; starts = true; entry = n }
 
-      last : Mark
+      last : Endpoint
       last = record { at = e.to; starts = false; entry = n }
 
       here : valid_mark entries table first ≡ valid_in table e
@@ -130,7 +130,7 @@ module _ (t : ℕ) (v : List Value) where
       by false = omega (arith, here, sum_by-cons (valid_mark entries table) first (last ∷ []), sum_by-cons (valid_mark entries table) last [])
 
   marks_valid : (all : List Entry) (table n : ℕ) (entries : List Entry) → ((i : ℕ) (e : Entry) → slice_get entries i ≡ Some e → slice_get all (n + i) ≡ Some e)
-      → sum_by (valid_mark all table) (marks_from n entries) ≡ sum_by (valid_in table) entries
+      → sum_by (valid_mark all table) (endpoints_from n entries) ≡ sum_by (valid_in table) entries
   marks_valid all table n [] same = refl
   marks_valid all table n (e ∷ entries) same =
       let at_n : n + 0 ≡ n = omega arith in
@@ -139,14 +139,14 @@ module _ (t : ℕ) (v : List Value) where
         arith,
         rest,
         own_mark all table n e (subst (λ k. slice_get all k ≡ Some e) at_n (same 0 e refl)) (e.to == FOREVER),
-        sum_by-append (valid_mark all table) (marks_of_entry n e) (marks_from (n + 1) entries),
+        sum_by-append (valid_mark all table) (endpoints_of_entry n e) (endpoints_from (n + 1) entries),
         sum_by-cons (valid_in table) e entries,
       )
 
-  pub all_marks_valid : (entries : List Entry) (marks : List Mark) (table : ℕ) → IsPermutation (marks_from 0 entries) marks
+  pub all_marks_valid : (entries : List Entry) (marks : List Endpoint) (table : ℕ) → IsPermutation (endpoints_from 0 entries) marks
       → sum_by (valid_mark entries table) marks ≡ sum_by (valid_in table) entries
   all_marks_valid entries marks table all =
-      sum_by-IsPermutation (valid_mark entries table) (marks_from 0 entries) marks all
+      sum_by-IsPermutation (valid_mark entries table) (endpoints_from 0 entries) marks all
       ∙ marks_valid entries table 0 entries (λ i e is. let place : i ≡ 0 + i = omega arith in subst (λ k. slice_get entries k ≡ Some e) place is)
 
 -- ---- when a row ends
@@ -167,48 +167,48 @@ ends_by t r a (End u s at ∷ es) all how = by ((u == t) && (s == r)) refl (ends
     by true e rest how = All-head (λ x. closes t r x ≡ true → time_of x ≡ a) (End u s at) es all e
     by false e rest how = rest how
 
--- an entry with a bound has an end among the marks
+-- an entry with a bound has an end among the endpoints
 own_end : (n : ℕ) (e : Entry) (b : Bool) → b ≡ false → 0 < sum_by (counted n) (record { at = e.from; starts = true; entry = n } ∷ (if b then [] else record { at = e.to; starts = false; entry = n } ∷ []))
 own_end n e true bounded = cc (bounded)
 own_end n e false bounded =
-    let last : Mark = record { at = e.to; starts = false; entry = n } in
+    let last : Endpoint = record { at = e.to; starts = false; entry = n } in
     let one : counted n last ≡ 1 = rw (eqb-same n) refl in
     omega (arith, one, sum_by-cons (counted n) (record { at = e.from; starts = true; entry = n }) (last ∷ []), sum_by-cons (counted n) last [])
 
-some_end : (n i : ℕ) (entries : List Entry) (x : Entry) → slice_get entries i ≡ Some x → (x.to == FOREVER) ≡ false → 0 < sum_by (counted (n + i)) (marks_from n entries)
+some_end : (n i : ℕ) (entries : List Entry) (x : Entry) → slice_get entries i ≡ Some x → (x.to == FOREVER) ≡ false → 0 < sum_by (counted (n + i)) (endpoints_from n entries)
 some_end n i [] x stands ends = cc (stands)
 some_end n zero (e ∷ entries) x stands ends =
     let same : e ≡ x = cc (stands) in
     let at_n : n + 0 ≡ n = omega arith in
     let own = own_end n e (e.to == FOREVER) (ap (λ (z : Entry). z.to == FOREVER) same ∙ ends) in
-    subst (λ k. 0 < sum_by (counted k) (marks_from n (e ∷ entries))) (sym at_n)
-    (omega (arith, own, sum_by-append (counted n) (marks_of_entry n e) (marks_from (n + 1) entries)))
+    subst (λ k. 0 < sum_by (counted k) (endpoints_from n (e ∷ entries))) (sym at_n)
+    (omega (arith, own, sum_by-append (counted n) (endpoints_of_entry n e) (endpoints_from (n + 1) entries)))
 some_end n (suc i) (e ∷ entries) x stands ends =
     let place : n + 1 + i ≡ n + suc i = omega arith in
-    let rest = subst (λ k. 0 < sum_by (counted k) (marks_from (n + 1) entries)) place (some_end (n + 1) i entries x stands ends) in
-    omega (arith, rest, sum_by-append (counted (n + suc i)) (marks_of_entry n e) (marks_from (n + 1) entries))
+    let rest = subst (λ k. 0 < sum_by (counted k) (endpoints_from (n + 1) entries)) place (some_end (n + 1) i entries x stands ends) in
+    omega (arith, rest, sum_by-append (counted (n + suc i)) (endpoints_of_entry n e) (endpoints_from (n + 1) entries))
 
-module _ (catalogue : Catalogue) (entries : List Entry) (marks : List Mark) (events : List Event) (all : IsPermutation (marks_from 0 entries) marks) (sorted : IsSorted mark_cmp marks) (periods : All (λ e. e.from < e.to) entries) (stored : All (Stored catalogue.tables) entries)
+module _ (catalogue : Catalogue) (entries : List Entry) (marks : List Endpoint) (events : List Event) (all : IsPermutation (endpoints_from 0 entries) marks) (sorted : IsSorted endpoint_cmp marks) (periods : All (λ e. e.from < e.to) entries) (stored : All (Stored catalogue.tables) entries)
     (as_many : length events ≡ length marks) (zip : AllZip (IsEventAt entries marks) marks events) where
-  -- the entry that a mark names, and its times
+  -- the entry of an endpoint, and its times
   same_read : (a b : ℕ) (e f : Entry) → a ≡ b → slice_get entries a ≡ Some e → slice_get entries b ≡ Some f → e ≡ f
   same_read a b e f i g h = cc (i, g, h)
 
-  time_from : (k : ℕ) (d : Mark) (x : Entry) → k < length marks → slice_get entries (get_or marks k d).entry ≡ Some x → (get_or marks k d).starts ≡ true → (get_or marks k d).at ≡ x.from
+  time_from : (k : ℕ) (d : Endpoint) (x : Entry) → k < length marks → slice_get entries (get_or marks k d).entry ≡ Some x → (get_or marks k d).starts ≡ true → (get_or marks k d).at ≡ x.from
   time_from k d x here stands starts =
       let is = marks_stand entries marks all k d here in
       is.at_start starts ∙ ap (λ (e : Entry). e.from) (same_read is.place (get_or marks k d).entry is.entry x (omega (arith, is.numbered)) is.stands stands)
 
-  time_to : (k : ℕ) (d : Mark) (x : Entry) → k < length marks → slice_get entries (get_or marks k d).entry ≡ Some x → (get_or marks k d).starts ≡ false → (get_or marks k d).at ≡ x.to
+  time_to : (k : ℕ) (d : Endpoint) (x : Entry) → k < length marks → slice_get entries (get_or marks k d).entry ≡ Some x → (get_or marks k d).starts ≡ false → (get_or marks k d).at ≡ x.to
   time_to k d x here stands ends =
       let is = marks_stand entries marks all k d here in
       is.at_end ends ∙ ap (λ (e : Entry). e.to) (same_read is.place (get_or marks k d).entry is.entry x (omega (arith, is.numbered)) is.stands stands)
 
-  -- what ends an entry's row ends it when the entry ends
+  -- the event that ends an entry's row happens when the entry ends
   closed_in_time : (j : ℕ) (x : Entry) → slice_get entries j ≡ Some x → All (λ e. closes x.table (row_number entries marks j) e ≡ true → time_of e ≡ x.to) events
   closed_in_time j x stands i b below = by (get_or events i b) (get_or marks i d).starts refl (at_place entries marks marks events i d b zip below)
     where
-      d : Mark
+      d : Endpoint
       d = record { at = 0; starts = true; entry = 0 }
 
       by : (e : Event) (s : Bool) → (get_or marks i d).starts ≡ s → IsEventAt entries marks (get_or marks i d) e → closes x.table (row_number entries marks j) e ≡ true → time_of e ≡ x.to
@@ -229,13 +229,13 @@ module _ (catalogue : Catalogue) (entries : List Entry) (marks : List Mark) (eve
           ap time_of is.is ∙ time_to i d x within (ap (slice_get entries) same ∙ stands) ends
 
   -- an entry with a bound is ended after its start
-  closed_later : (k j : ℕ) (d : Mark) (x : Entry) → slice_get entries j ≡ Some x → k < length marks → starts_entry j (get_or marks k d) ≡ true → (x.to == FOREVER) ≡ false
+  closed_later : (k j : ℕ) (d : Endpoint) (x : Entry) → slice_get entries j ≡ Some x → k < length marks → starts_entry j (get_or marks k d) ≡ true → (x.to == FOREVER) ≡ false
       → list_any (closes x.table (row_number entries marks j)) (drop (k + 1) events) ≡ true
   closed_later k j d x stands here is bounded =
       let within_j = slice_get_within entries j x stands in
       let place_j : 0 + j ≡ j = omega arith in
-      let some_first = subst (λ n. 0 < sum_by (counted n) (marks_from 0 entries)) place_j (some_end 0 j entries x stands bounded) in
-      let some : 0 < sum_by (counted j) marks = omega (arith, sum_by-IsPermutation (counted j) (marks_from 0 entries) marks all, some_first) in
+      let some_first = subst (λ n. 0 < sum_by (counted n) (endpoints_from 0 entries)) place_j (some_end 0 j entries x stands bounded) in
+      let some : 0 < sum_by (counted j) marks = omega (arith, sum_by-IsPermutation (counted j) (endpoints_from 0 entries) marks all, some_first) in
       let (p, y, below, is_y, ends_y) = Any-from_list_any (ends_entry j) marks (some_pass (ends_entry j) marks some) in
       let at_p : ends_entry j (get_or marks p d) ≡ true = rw (get_or_default marks p d y below ∙ is_y) ends_y in
       let parts = and_parts (not (get_or marks p d).starts) ((get_or marks p d).entry == j) at_p in
@@ -275,7 +275,7 @@ module _ (catalogue : Catalogue) (entries : List Entry) (marks : List Mark) (eve
       never b e f = cc (e, f)
 
   -- an entry's row ends when the entry does
-  row_ends : (k j : ℕ) (d : Mark) (x : Entry) → slice_get entries j ≡ Some x → k < length marks → starts_entry j (get_or marks k d) ≡ true
+  row_ends : (k j : ℕ) (d : Endpoint) (x : Entry) → slice_get entries j ≡ Some x → k < length marks → starts_entry j (get_or marks k d) ≡ true
       → end_of x.table (row_number entries marks j) (drop (k + 1) events) ≡ x.to
   row_ends k j d x stands here is =
       ends_by x.table (row_number entries marks j) x.to (drop (k + 1) events)
@@ -286,7 +286,7 @@ module _ (catalogue : Catalogue) (entries : List Entry) (marks : List Mark) (eve
       by true e = inr (eqb-true x.to FOREVER e)
       by false e = inl (closed_later k j d x stands here is e)
 
-  -- the rows of the events that are left are those of the marks that are left
+  -- the rows of the remaining events are those of the remaining endpoints
   module _ (t : ℕ) (v : List Value) (table : ℕ) where
     abbrev gone : ℕ → ℕ
     gone k = count_by (starts_in entries table) (take k marks)
@@ -297,15 +297,15 @@ module _ (catalogue : Catalogue) (entries : List Entry) (marks : List Mark) (eve
     abbrev marks_left : ℕ → ℕ
     marks_left k = sum_by (valid_mark t v entries table) (drop k marks)
 
-    gone_more : (k : ℕ) (d : Mark) → k < length marks → gone (k + 1) ≡ gone k + tally (starts_in entries table (get_or marks k d))
+    gone_more : (k : ℕ) (d : Endpoint) → k < length marks → gone (k + 1) ≡ gone k + tally (starts_in entries table (get_or marks k d))
     gone_more k d here =
         ap (count_by (starts_in entries table)) (take_more marks k d here) ∙ sum_by_push (λ m. tally (starts_in entries table m)) (take k marks) (get_or marks k d)
 
-    marks_sum : (k : ℕ) (d : Mark) → k < length marks → marks_left k ≡ valid_mark t v entries table (get_or marks k d) + marks_left (k + 1)
+    marks_sum : (k : ℕ) (d : Endpoint) → k < length marks → marks_left k ≡ valid_mark t v entries table (get_or marks k d) + marks_left (k + 1)
     marks_sum k d here = ap (sum_by (valid_mark t v entries table)) (drop_more marks k d here) ∙ sum_by-cons (valid_mark t v entries table) (get_or marks k d) (drop (k + 1) marks)
 
-    -- a mark that starts a row of the table adds what its row adds
-    row_adds : (k : ℕ) (d : Mark) (e : Event) → k < length marks → starts_in entries table (get_or marks k d) ≡ true → IsEventAt entries marks (get_or marks k d) (get_or events k e)
+    -- an endpoint that starts a row of the table adds what its row adds
+    row_adds : (k : ℕ) (d : Endpoint) (e : Event) → k < length marks → starts_in entries table (get_or marks k d) ≡ true → IsEventAt entries marks (get_or marks k d) (get_or events k e)
         → rows_left k ≡ valid_mark t v entries table (get_or marks k d) + rows_left (k + 1)
     row_adds k d e here starts is_event =
         let m = get_or marks k d in
@@ -336,8 +336,8 @@ module _ (catalogue : Catalogue) (entries : List Entry) (marks : List Mark) (eve
         ap (sum_by (valid_row t v)) rows ∙ sum_by-cons (valid_row t v) first (rows_from table (gone k + 1) left)
         ∙ ap (λ n. n + sum_by (valid_row t v) (rows_from table (gone k + 1) left)) (row_is ∙ sym mark_is) ∙ ap (λ n. valid_mark t v entries table m + n) later
 
-    -- another mark adds nothing
-    none_adds : (k : ℕ) (d : Mark) (e : Event) → k < length marks → starts_in entries table (get_or marks k d) ≡ false → IsEventAt entries marks (get_or marks k d) (get_or events k e)
+    -- other endpoints add nothing
+    none_adds : (k : ℕ) (d : Endpoint) (e : Event) → k < length marks → starts_in entries table (get_or marks k d) ≡ false → IsEventAt entries marks (get_or marks k d) (get_or events k e)
         → rows_left k ≡ valid_mark t v entries table (get_or marks k d) + rows_left (k + 1)
     none_adds k d e here other is_event =
         let m = get_or marks k d in
@@ -364,19 +364,19 @@ module _ (catalogue : Catalogue) (entries : List Entry) (marks : List Mark) (eve
         let over : drop k events ≡ [] = drop_all k events (omega (arith, whole, as_many)) in
         ap (λ es. sum_by (valid_row t v) (rows_from table (gone k) es)) over ∙ sym (ap (sum_by (valid_mark t v entries table)) none)
     all_left (suc left) k whole =
-        let d : Mark = record { at = 0; starts = true; entry = 0 } in
+        let d : Endpoint = record { at = 0; starts = true; entry = 0 } in
         let e : Event = End 0 0 0 in
         let here : k < length marks = omega (arith, whole) in
         let rest = all_left left (k + 1) (omega (arith, whole)) in
         let is_event = at_place entries marks marks events k d e zip (omega (arith, here, as_many)) in
         omega (arith, rest, marks_sum k d here, step d e here (starts_in entries table (get_or marks k d)) refl is_event)
       where
-        step : (d : Mark) (e : Event) → k < length marks → (b : Bool) → starts_in entries table (get_or marks k d) ≡ b → IsEventAt entries marks (get_or marks k d) (get_or events k e)
+        step : (d : Endpoint) (e : Event) → k < length marks → (b : Bool) → starts_in entries table (get_or marks k d) ≡ b → IsEventAt entries marks (get_or marks k d) (get_or events k e)
             → rows_left k ≡ valid_mark t v entries table (get_or marks k d) + rows_left (k + 1)
         step d e here true i is_event = row_adds k d e here i is_event
         step d e here false i is_event = none_adds k d e here i is_event
 
-    -- so often is a row valid by all events
+    -- how often a row is valid by all events
     pub events_valid : occurrences (valid_at events (length events) table t) v ≡ sum_by (valid_in t v table) entries
     events_valid =
         rows_valid t v (rows_of events (length events) table)
@@ -386,11 +386,11 @@ module _ (catalogue : Catalogue) (entries : List Entry) (marks : List Mark) (eve
 
 -- ---- the events of entries
 
--- the event of a mark
-abbrev event_of : List Entry → List Mark → Mark → Event
+-- the event of an endpoint
+abbrev event_of : List Entry → List Endpoint → Endpoint → Event
 event_of entries marks m = option_map_or (event_at entries marks m) (slice_get entries m.entry) (End 0 0 0)
 
-event_is : (entries : List Entry) (marks : List Mark) (m : Mark) → IsMarkFrom 0 entries m → IsEventAt entries marks m (event_of entries marks m)
+event_is : (entries : List Entry) (marks : List Endpoint) (m : Endpoint) → IsMarkFrom 0 entries m → IsEventAt entries marks m (event_of entries marks m)
 event_is entries marks m is =
     let place : is.place ≡ m.entry = omega (arith, is.numbered) in
     by (slice_get entries m.entry) (ap (slice_get entries) (sym place) ∙ is.stands)
@@ -399,7 +399,7 @@ event_is entries marks m is =
     by None e = cc (e)
     by (Some x) e = refl
 
-have_events : (entries : List Entry) (marks ms : List Mark) → All (IsMarkFrom 0 entries) ms → AllZip (IsEventAt entries marks) ms (map (event_of entries marks) ms)
+have_events : (entries : List Entry) (marks ms : List Endpoint) → All (IsMarkFrom 0 entries) ms → AllZip (IsEventAt entries marks) ms (map (event_of entries marks) ms)
 have_events entries marks [] are = tt
 have_events entries marks (m ∷ ms) are =
     (event_is entries marks m (All-head (IsMarkFrom 0 entries) m ms are), have_events entries marks ms (All-tail (IsMarkFrom 0 entries) m ms are))
@@ -411,7 +411,7 @@ pub record HaveSome (entries : List Entry) : Type 0 where
 
 pub entries_have_some : (entries : List Entry) → HaveSome entries
 entries_have_some entries =
-    let s = has_sorted mark_cmp mark_total (marks_from 0 entries) in
+    let s = has_sorted endpoint_cmp mark_total (endpoints_from 0 entries) in
     record {
       events = map (event_of entries s.order) s.order;
       are = record {

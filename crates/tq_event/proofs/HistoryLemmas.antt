@@ -21,11 +21,11 @@ use Rattle.tq_base.specs.Catalogues.{Fit}
 use Rattle.tq_event.specs.Entries.{Entry}
 use Rattle.tq_event.specs.declared.event.Event.{Event}
 use Rattle.tq_event.specs.declared.event.Event.TheVariants.{Start, End}
-use Rattle.tq_event.specs.declared.mark.Mark.{Mark}
+use Rattle.tq_event.specs.declared.endpoint.Endpoint.{Endpoint}
 use Rattle.tq_event.specs.History.{CanHappen, IsHistory, IsNotBefore, IsOpenBefore, Row, end_of, rows_from, rows_of, time_of}
-use Rattle.tq_event.specs.Loading.{AreEventsOf, IsEventAt, event_at, mark_cmp, marks_from, marks_of_entry, row_number, starts_entry, starts_in, table_at}
+use Rattle.tq_event.specs.Loading.{AreEventsOf, IsEventAt, event_at, endpoint_cmp, endpoints_from, endpoints_of_entry, row_number, starts_entry, starts_in, table_at}
 use Rattle.tq_event.proofs.CatalogueLemmas.{Stored}
-use Rattle.tq_event.proofs.MarkLemmas.{mark_total, marks_stand, row_number_at, start_before_end, starts_listed}
+use Rattle.tq_event.proofs.EndpointLemmas.{mark_total, marks_stand, row_number_at, start_before_end, starts_listed}
 
 abbrev tally : Bool → ℕ
 tally b = cond b 1 0
@@ -54,7 +54,7 @@ module _ {X : Type 0} (p : X → Bool) where
       let one : tally (p (get_or xs i d)) ≡ 1 = rw is refl in
       omega (arith, ap passes (take_more xs i d here), sum_by_push (λ x. tally (p x)) (take i xs) (get_or xs i d), one)
 
-  -- where one passes and a later one does, more pass before the later one
+  -- if an element passes and a later one does, more pass before the later one
   pub fewer_before : (xs : List X) (i k : ℕ) (d : X) → i < k → i < length xs → p (get_or xs i d) ≡ true → passes (take i xs) < passes (take k xs)
   fewer_before xs i k d less here is = omega (arith, take_one_more xs i d here is, take_le xs (i + 1) k (omega arith))
 
@@ -64,10 +64,10 @@ module _ {X : Type 0} (p : X → Bool) where
 
 -- ---- each entry ends at most once
 
-abbrev pub ends_entry : ℕ → Mark → Bool
+abbrev pub ends_entry : ℕ → Endpoint → Bool
 ends_entry j m = not m.starts && (m.entry == j)
 
-abbrev pub counted : ℕ → Mark → ℕ
+abbrev pub counted : ℕ → Endpoint → ℕ
 counted j m = tally (ends_entry j m)
 
 ends_own : (n j : ℕ) (e : Entry) (b : Bool) → sum_by (counted j) (record { at = e.from; starts = true; entry = n } ∷ (if b then [] else record { at = e.to; starts = false; entry = n } ∷ [])) ≤ tally (n == j)
@@ -75,62 +75,62 @@ ends_own n j e true = omega (arith, sum_by-cons (counted j) (record { at = e.fro
 ends_own n j e false =
     omega (arith, sum_by-cons (counted j) (record { at = e.from; starts = true; entry = n }) (record { at = e.to; starts = false; entry = n } ∷ []), sum_by-cons (counted j) (record { at = e.to; starts = false; entry = n }) [])
 
-pub no_end : (n j : ℕ) (entries : List Entry) → j < n → sum_by (counted j) (marks_from n entries) ≡ 0
+pub no_end : (n j : ℕ) (entries : List Entry) → j < n → sum_by (counted j) (endpoints_from n entries) ≡ 0
 no_end n j [] below = refl
 no_end n j (e ∷ entries) below =
     let other : tally (n == j) ≡ 0 = grind (arith, nat_tests) in
-    omega (arith, sum_by-append (counted j) (marks_of_entry n e) (marks_from (n + 1) entries), ends_own n j e (e.to == FOREVER), other, no_end (n + 1) j entries (omega arith))
+    omega (arith, sum_by-append (counted j) (endpoints_of_entry n e) (endpoints_from (n + 1) entries), ends_own n j e (e.to == FOREVER), other, no_end (n + 1) j entries (omega arith))
 
-few_ends : (n j : ℕ) (entries : List Entry) → sum_by (counted j) (marks_from n entries) ≤ 1
+few_ends : (n j : ℕ) (entries : List Entry) → sum_by (counted j) (endpoints_from n entries) ≤ 1
 few_ends n j [] = omega arith
 few_ends n j (e ∷ entries) = elim (cases_lt j (n + 1)) [
   | inl below ↦
       let one : tally (n == j) ≤ 1 = grind (arith, nat_tests) in
-      omega (arith, sum_by-append (counted j) (marks_of_entry n e) (marks_from (n + 1) entries), ends_own n j e (e.to == FOREVER), one, no_end (n + 1) j entries below)
+      omega (arith, sum_by-append (counted j) (endpoints_of_entry n e) (endpoints_from (n + 1) entries), ends_own n j e (e.to == FOREVER), one, no_end (n + 1) j entries below)
   | inr above ↦
       let other : tally (n == j) ≡ 0 = grind (arith, nat_tests) in
-      omega (arith, sum_by-append (counted j) (marks_of_entry n e) (marks_from (n + 1) entries), ends_own n j e (e.to == FOREVER), other, few_ends (n + 1) j entries)
+      omega (arith, sum_by-append (counted j) (endpoints_of_entry n e) (endpoints_from (n + 1) entries), ends_own n j e (e.to == FOREVER), other, few_ends (n + 1) j entries)
 ]
 
--- ---- what the event of a mark is
+-- ---- the event of an endpoint
 
-module _ (entries : List Entry) (marks : List Mark) where
-  pub record IsStart (m : Mark) (e : Event) : Type 0 where
+module _ (entries : List Entry) (marks : List Endpoint) where
+  pub record IsStart (m : Endpoint) (e : Event) : Type 0 where
     pub entry : Entry
     pub stands : slice_get entries m.entry ≡ Some entry
     pub is : e ≡ Start entry.table entry.values m.at
 
-  pub record IsEnd (m : Mark) (e : Event) : Type 0 where
+  pub record IsEnd (m : Endpoint) (e : Event) : Type 0 where
     pub entry : Entry
     pub stands : slice_get entries m.entry ≡ Some entry
     pub is : e ≡ End entry.table (row_number entries marks m.entry) m.at
 
-  pub start_is : (m : Mark) (e : Event) → IsEventAt entries marks m e → m.starts ≡ true → IsStart m e
+  pub start_is : (m : Endpoint) (e : Event) → IsEventAt entries marks m e → m.starts ≡ true → IsStart m e
   start_is m e at starts = by (slice_get entries m.entry) refl at
     where
       by : (o : Option Entry) → slice_get entries m.entry ≡ o → IsSomeAnd o (λ x. e ≡ event_at entries marks m x) → IsStart m e
       by None i at = absurd at
       by (Some x) i at = record { entry = x; stands = i; is = at ∙ ap (λ b. if b then Start x.table x.values m.at else End x.table (row_number entries marks m.entry) m.at) starts }
 
-  pub end_is : (m : Mark) (e : Event) → IsEventAt entries marks m e → m.starts ≡ false → IsEnd m e
+  pub end_is : (m : Endpoint) (e : Event) → IsEventAt entries marks m e → m.starts ≡ false → IsEnd m e
   end_is m e at ends = by (slice_get entries m.entry) refl at
     where
       by : (o : Option Entry) → slice_get entries m.entry ≡ o → IsSomeAnd o (λ x. e ≡ event_at entries marks m x) → IsEnd m e
       by None i at = absurd at
       by (Some x) i at = record { entry = x; stands = i; is = at ∙ ap (λ b. if b then Start x.table x.values m.at else End x.table (row_number entries marks m.entry) m.at) ends }
 
-  pub table_is : (m : Mark) (x : Entry) → slice_get entries m.entry ≡ Some x → table_at entries m.entry ≡ x.table
+  pub table_is : (m : Endpoint) (x : Entry) → slice_get entries m.entry ≡ Some x → table_at entries m.entry ≡ x.table
   table_is m x i = rw i refl
 
-  time_is : (m : Mark) (e : Event) → IsEventAt entries marks m e → time_of e ≡ m.at
+  time_is : (m : Endpoint) (e : Event) → IsEventAt entries marks m e → time_of e ≡ m.at
   time_is m e at = by m.starts refl
     where
       by : (b : Bool) → m.starts ≡ b → time_of e ≡ m.at
       by true i = ap time_of ((start_is m e at i).is)
       by false i = ap time_of ((end_is m e at i).is)
 
-  -- an event that does not start a row of the table leaves the rows that follow as they are
-  pub passes_over : (t : ℕ) (m : Mark) (e : Event) → IsEventAt entries marks m e → starts_in entries t m ≡ false → (next : ℕ) (es : List Event) → rows_from t next (e ∷ es) ≡ rows_from t next es
+  -- an event that does not start a row of the table leaves the following rows unchanged
+  pub passes_over : (t : ℕ) (m : Endpoint) (e : Event) → IsEventAt entries marks m e → starts_in entries t m ≡ false → (next : ℕ) (es : List Event) → rows_from t next (e ∷ es) ≡ rows_from t next es
   passes_over t m e at none next es = by m.starts refl
     where
       by : (b : Bool) → m.starts ≡ b → rows_from t next (e ∷ es) ≡ rows_from t next es
@@ -166,8 +166,8 @@ module _ (entries : List Entry) (marks : List Mark) where
       → rows_from t next (e ∷ es) ≡ record { number = next; values = x.values; from = at; to = end_of t next es } ∷ rows_from t (next + 1) es
   starts_row t next x at e es is own = rw (is, own, eqb-same t) refl
 
-  -- the row that a mark starts stands there, open where no event ends it
-  row_there : (t r : ℕ) (ms : List Mark) (es : List Event) (p next : ℕ) (d : Mark) → AllZip (IsEventAt entries marks) ms es → p < length ms
+  -- the row that an endpoint starts is among the rows, open if no event ends it
+  row_there : (t r : ℕ) (ms : List Endpoint) (es : List Event) (p next : ℕ) (d : Endpoint) → AllZip (IsEventAt entries marks) ms es → p < length ms
       → starts_in entries t (get_or ms p d) ≡ true → r ≡ next + sum_by (λ m. tally (starts_in entries t m)) (take p ms) → All (λ e. ends_row t r e ≡ false) es
       → IsThere t next es r (get_or ms p d).at
   row_there t r [] es p next d zip here starts number none = absurd (omega arith)
@@ -219,13 +219,13 @@ module _ (entries : List Entry) (marks : List Mark) where
             from_is = later.from_is;
           }
 
-  -- what is known of a list's parts
-  record IsSplit (ms : List Mark) (before : List Event) (event : Event) (d : Mark) : Type 0 where
+  -- facts about the parts of a list
+  record IsSplit (ms : List Endpoint) (before : List Event) (event : Event) (d : Endpoint) : Type 0 where
     pub front : AllZip (IsEventAt entries marks) (take (length before) ms) before
     pub here : IsEventAt entries marks (get_or ms (length before) d) event
     pub within : length before < length ms
 
-  split_at : (ms : List Mark) (before : List Event) (event : Event) (after : List Event) (d : Mark) → AllZip (IsEventAt entries marks) ms (before ++ event ∷ after) → IsSplit ms before event d
+  split_at : (ms : List Endpoint) (before : List Event) (event : Event) (after : List Event) (d : Endpoint) → AllZip (IsEventAt entries marks) ms (before ++ event ∷ after) → IsSplit ms before event d
   split_at [] [] event after d zip = absurd zip
   split_at [] (b ∷ before) event after d zip = absurd zip
   split_at (m ∷ ms) [] event after d zip = record { front = tt; here = zip.0; within = omega arith }
@@ -233,7 +233,7 @@ module _ (entries : List Entry) (marks : List Mark) where
       let rest = split_at ms before event after d zip.1 in
       record { front = (zip.0, rest.front); here = rest.here; within = omega (arith, rest.within) }
 
-  pub at_place : (ms : List Mark) (es : List Event) (i : ℕ) (d : Mark) (x : Event) → AllZip (IsEventAt entries marks) ms es → i < length es → IsEventAt entries marks (get_or ms i d) (get_or es i x)
+  pub at_place : (ms : List Endpoint) (es : List Event) (i : ℕ) (d : Endpoint) (x : Event) → AllZip (IsEventAt entries marks) ms es → i < length es → IsEventAt entries marks (get_or ms i d) (get_or es i x)
   at_place [] [] i d x zip here = absurd (omega arith)
   at_place [] (e ∷ es) i d x zip here = absurd zip
   at_place (m ∷ ms) [] i d x zip here = absurd zip
@@ -242,26 +242,26 @@ module _ (entries : List Entry) (marks : List Mark) where
 
 -- ---- each event is admissible
 
-module _ (catalogue : Catalogue) (entries : List Entry) (marks : List Mark) (all : IsPermutation (marks_from 0 entries) marks) (sorted : IsSorted mark_cmp marks) (periods : All (λ e. e.from < e.to) entries) (stored : All (Stored catalogue.tables) entries) where
-  stored_at : (m : Mark) (x : Entry) → slice_get entries m.entry ≡ Some x → Stored catalogue.tables x
+module _ (catalogue : Catalogue) (entries : List Entry) (marks : List Endpoint) (all : IsPermutation (endpoints_from 0 entries) marks) (sorted : IsSorted endpoint_cmp marks) (periods : All (λ e. e.from < e.to) entries) (stored : All (Stored catalogue.tables) entries) where
+  stored_at : (m : Endpoint) (x : Entry) → slice_get entries m.entry ≡ Some x → Stored catalogue.tables x
   stored_at m x i = subst (Stored catalogue.tables) (get_or_from_slice_get entries m.entry x x i) (stored m.entry x (slice_get_within entries m.entry x i))
 
-  in_time : (i k : ℕ) (d : Mark) → i ≤ k → k < length marks → (get_or marks i d).at ≤ (get_or marks k d).at
+  in_time : (i k : ℕ) (d : Endpoint) → i ≤ k → k < length marks → (get_or marks i d).at ≤ (get_or marks k d).at
   in_time i k d le here = elim (cases_lt (get_or marks k d).at (get_or marks i d).at) [
     | inr up ↦ up
     | inl less ↦
         let a = get_or marks k d in
         let b = get_or marks i d in
-        let far = sorted_far (λ x y. is_lt (mark_cmp x y)) (ranks_by mark_total (λ x. x)) marks sorted i k d le here in
-        let yes : is_lt (mark_cmp a b) ≡ true = ap (λ r. is_lt (ordering_then (ordering_then r (bool_cmp a.starts b.starts)) (nat_cmp a.entry b.entry))) (sym (nat_cmp_is a.at b.at Less less)) in
-        absurd (never (is_lt (mark_cmp a b)) far yes)
+        let far = sorted_far (λ x y. is_lt (endpoint_cmp x y)) (ranks_by mark_total (λ x. x)) marks sorted i k d le here in
+        let yes : is_lt (endpoint_cmp a b) ≡ true = ap (λ r. is_lt (ordering_then (ordering_then r (bool_cmp a.starts b.starts)) (nat_cmp a.entry b.entry))) (sym (nat_cmp_is a.at b.at Less less)) in
+        absurd (never (is_lt (endpoint_cmp a b)) far yes)
   ]
     where
       never : (b : Bool) → b ≡ false → b ≡ true → ⊥
       never b e f = cc (e, f)
 
-  -- two entries of a table whose rows have the same number are the same
-  pub same_entry : (i j : ℕ) (d : Mark) → i < length entries → j < length entries → table_at entries i ≡ table_at entries j → row_number entries marks i ≡ row_number entries marks j → i ≡ j
+  -- two entries of a table with the same row number are the same
+  pub same_entry : (i j : ℕ) (d : Endpoint) → i < length entries → j < length entries → table_at entries i ≡ table_at entries j → row_number entries marks i ≡ row_number entries marks j → i ≡ j
   same_entry i j d below_i below_j tables rows =
       let (p, x, here_p, is_p, starts_p) = Any-from_list_any (starts_entry i) marks (starts_listed entries marks all i below_i) in
       let (q, y, here_q, is_q, starts_q) = Any-from_list_any (starts_entry j) marks (starts_listed entries marks all j below_j) in
@@ -285,7 +285,7 @@ module _ (catalogue : Catalogue) (entries : List Entry) (marks : List Mark) (all
         ]
       ]
 
-  module _ (before : List Event) (event : Event) (d : Mark) (s : IsSplit entries marks marks before event d) where
+  module _ (before : List Event) (event : Event) (d : Endpoint) (s : IsSplit entries marks marks before event d) where
     not_before : IsNotBefore before (time_of event)
     not_before = by before refl
       where
@@ -301,16 +301,16 @@ module _ (catalogue : Catalogue) (entries : List Entry) (marks : List Mark) (all
             let up = in_time n (length before) d (omega (arith, len)) s.within in
             let now = time_is entries marks (get_or marks (length before) d) event s.here in
             subst (λ o. IfSome o (λ x. time_of x ≤ time_of event)) (sym (slice_get-get_or (e ∷ es) n e (omega arith)))
-            (omega (arith, time, ap (λ (m : Mark). m.at) place, up, now))
+            (omega (arith, time, ap (λ (m : Endpoint). m.at) place, up, now))
 
     ends_once : (i : ℕ) → i < length before → (get_or marks i d).starts ≡ false → (get_or marks i d).entry ≡ (get_or marks (length before) d).entry → (get_or marks (length before) d).starts ≡ false → ⊥
     ends_once i less first same second =
         let j = (get_or marks (length before) d).entry in
         let one : ends_entry j (get_or marks i d) ≡ true = rw (first, same, eqb-same j) refl in
         let two : ends_entry j (get_or marks (length before) d) ≡ true = rw (second, eqb-same j) refl in
-        omega (arith, two_pass (ends_entry j) marks i (length before) d less s.within one two, sum_by-IsPermutation (counted j) (marks_from 0 entries) marks all, few_ends 0 j entries)
+        omega (arith, two_pass (ends_entry j) marks i (length before) d less s.within one two, sum_by-IsPermutation (counted j) (endpoints_from 0 entries) marks all, few_ends 0 j entries)
 
-    -- no event before ends the row that ends now
+    -- no earlier event ends the row that ends now
     unended : (x : Entry) → slice_get entries (get_or marks (length before) d).entry ≡ Some x → (get_or marks (length before) d).starts ≡ false
         → All (λ e. ends_row entries marks x.table (row_number entries marks (get_or marks (length before) d).entry) e ≡ false) before
     unended x stands ends i b below =
@@ -365,12 +365,12 @@ module _ (catalogue : Catalogue) (entries : List Entry) (marks : List Mark) (all
         let to_is : m.at ≡ x.to = end.at_end ends ∙ ap (λ (e : Entry). e.to) (same_read end.place j end.entry x (omega (arith, end.numbered)) end.stands stands) in
         let period : x.from < x.to = rw (get_or_from_slice_get entries j x x stands) at (periods j x within_j) in
         let rows : rows_of before (length before) t ≡ rows_from t 0 before = ap (rows_from t 0) (take-length before) in
-        (there.row, subst (λ rs. Contains rs there.row) (sym rows) there.there, there.number_is, there.to_is, omega (arith, there.from_is, ap (λ (z : Mark). z.at) place, from_is, to_is, period))
+        (there.row, subst (λ rs. Contains rs there.row) (sym rows) there.there, there.number_is, there.to_is, omega (arith, there.from_is, ap (λ (z : Endpoint). z.at) place, from_is, to_is, period))
       where
         same_read : (a b : ℕ) (e f : Entry) → a ≡ b → slice_get entries a ≡ Some e → slice_get entries b ≡ Some f → e ≡ f
         same_read a b e f i g h = cc (i, g, h)
 
-        take_less : (ms : List Mark) (a b : ℕ) → a ≤ b → take a (take b ms) ≡ take a ms
+        take_less : (ms : List Endpoint) (a b : ℕ) → a ≤ b → take a (take b ms) ≡ take a ms
         take_less [] zero zero le = refl
         take_less [] zero (suc b) le = refl
         take_less [] (suc a) zero le = refl
@@ -400,6 +400,6 @@ module _ (catalogue : Catalogue) (entries : List Entry) (marks : List Mark) (all
 pub is_history : (catalogue : Catalogue) (entries : List Entry) (events : List Event) → AreEventsOf entries events → All (λ e. e.from < e.to) entries → All (Stored catalogue.tables) entries → IsHistory catalogue events
 is_history catalogue entries events are periods stored before event after is =
     let zip = subst (AllZip (IsEventAt entries are.marks) are.marks) is are.events_are.each in
-    let d : Mark = record { at = 0; starts = true; entry = 0 } in
+    let d : Endpoint = record { at = 0; starts = true; entry = 0 } in
     let s = split_at entries are.marks are.marks before event after d zip in
     (not_before catalogue entries are.marks are.all are.ordered periods stored before event d s, can_happen catalogue entries are.marks are.all are.ordered periods stored before event d s)

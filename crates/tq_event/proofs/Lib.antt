@@ -7,12 +7,12 @@ pub mod FileBytesLemmas
 pub mod HistoryLemmas
 pub mod LoadLemmas
 pub mod LoadedLemmas
-pub mod MarkLemmas
-pub mod PlacingLemmas
+pub mod EndpointLemmas
+pub mod RowIdLemmas
 pub mod RecordLemmas
 pub mod RecordedLemmas
 pub mod SortLemmas
 pub mod HeldLemmas
-pub mod KeptLemmas
+pub mod ProjectionLemmas
 pub mod TableLemmas
 pub mod UniqueLemmas

@@ -9,20 +9,20 @@ use Rattle.tq_event.specs.Entries.{Entry}
 use Rattle.tq_event.specs.declared.fault.LoadFault.{LoadFault}
 use Rattle.tq_event.specs.declared.fault.LoadFaultKind.{LoadFaultKind}
 use Rattle.tq_event.specs.declared.fault.LoadFaultKind.TheVariants.{BadHeader, OutOfMemory, TooManyEvents}
-use Rattle.tq_event.specs.Loading.{columns_of, csv_records, entries_after, entry_of, event_count, header_of, is_marked_twice, next_entries, out_of_memory, table_contents}
+use Rattle.tq_event.specs.Loading.{columns_of, csv_records, entries_after, entry_of, event_count, header_of, has_two_boms, next_entries, out_of_memory, table_contents}
 
 abbrev pub named : ℕ → ℕ → LoadFaultKind → LoadFault
 named table number kind = record { kind = kind; table = table; number = number }
 
--- a fault that is not out of memory is named by its kind, which is not that either
+-- a fault other than `OutOfMemory` comes from a kind other than `OutOfMemory`
 pub known_kind : (kind : LoadFaultKind) (fault : LoadFault) → (kind ≡ OutOfMemory → fault ≡ out_of_memory) → fault.kind ≢ OutOfMemory → kind ≢ OutOfMemory
-known_kind kind fault told known same = known (ap (λ (f : LoadFault). f.kind) (told same))
+known_kind kind fault parsed known same = known (ap (λ (f : LoadFault). f.kind) (parsed same))
 
--- the columns are those of the first record, and there are none without a record
-pub columns_first : (bytes : List ℕ) (fields : List (List ℕ)) (more : List (List (List ℕ))) → is_marked_twice bytes ≡ false → csv_records bytes ≡ fields ∷ more → columns_of bytes ≡ header_of fields
+-- the columns are those of the first record; without a record there are none
+pub columns_first : (bytes : List ℕ) (fields : List (List ℕ)) (more : List (List (List ℕ))) → has_two_boms bytes ≡ false → csv_records bytes ≡ fields ∷ more → columns_of bytes ≡ header_of fields
 columns_first bytes fields more marked split = rw (marked, split) refl
 
-pub columns_none : (bytes : List ℕ) → is_marked_twice bytes ≡ false → csv_records bytes ≡ [] → columns_of bytes ≡ Err BadHeader
+pub columns_none : (bytes : List ℕ) → has_two_boms bytes ≡ false → csv_records bytes ≡ [] → columns_of bytes ≡ Err BadHeader
 columns_none bytes marked split = rw (marked, split) refl
 
 module _ (form : Form) (limit table : ℕ) (before : List Entry) (bytes : List ℕ) where
@@ -49,7 +49,7 @@ module _ (form : Form) (limit table : ℕ) (columns : List Column) (number : ℕ
       → entries_after form limit table columns number entries left ≡ entries_after form limit table columns (number + 1) new more
   add_ok entry new e f = rw (split, e) (rw f refl)
 
--- an entry whose events stay within the limit, or pass it
+-- the events of an entry stay within the limit, or exceed it
 module _ (limit : ℕ) (entries : List Entry) (entry : Entry) (n : ℕ) (count : sum_by event_count entries + event_count entry ≡ n) where
   pub next_ok : n ≤ limit → next_entries limit entries entry ≡ Ok (entries ++ entry ∷ [])
   next_ok within = let few : nat_lt limit n ≡ false = grind (arith, nat_tests) in rw (count, few) refl
@@ -57,11 +57,11 @@ module _ (limit : ℕ) (entries : List Entry) (entry : Entry) (n : ℕ) (count :
   pub next_many : limit < n → next_entries limit entries entry ≡ Err TooManyEvents
   next_many past = let many : nat_lt limit n ≡ true = grind (arith, nat_tests) in rw (count, many) refl
 
--- the entries of a table come after as many events as were counted
-pub told_count : (before told : List Entry) (old now : ℕ) → sum_by event_count before ≡ old → now ≡ old + sum_by event_count told → sum_by event_count (before ++ told) ≡ now
-told_count before told old now first all = sum_by-append event_count before told ∙ omega (arith, first, all)
+-- the entries of a table come after the events counted so far
+pub told_count : (before parsed : List Entry) (old now : ℕ) → sum_by event_count before ≡ old → now ≡ old + sum_by event_count parsed → sum_by event_count (before ++ parsed) ≡ now
+told_count before parsed old now first all = sum_by-append event_count before parsed ∙ omega (arith, first, all)
 
--- an entry makes an event at least
+-- an entry makes at least one event
 pub makes_events : (entry : Entry) → 1 ≤ event_count entry
 makes_events entry = by (entry.to == FOREVER)
   where

@@ -1,4 +1,4 @@
--- What is known of entries that were loaded.
+-- Facts about loaded entries.
 use Rattle.std.proofs.Common.{◌≡◌, ℕ, ◌+◌, ◌*◌, ◌<◌, ◌≤◌, ◌==◌, Bool, true, false, not, if◌then◌else◌, List, [], ◌∷◌, ◌++◌, Option, Some, None, Result, Ok, Err, length, drop, nat_lt, sum_by, refl, sym, ap, subst, arith, length-append}
 use Rattle.std.specs.Prelude.{All}
 use Rattle.std.proofs.lemmas.Bool.Decides.{nat_tests}
@@ -16,7 +16,7 @@ use Rattle.tq_event.specs.declared.fault.LoadFaultKind.TheVariants.{FieldCount, 
 use Rattle.tq_event.specs.declared.file.TableFile.{TableFile}
 use Rattle.tq_event.specs.Loading.{Contents, at_record, columns_of, contents_after, contents_of, csv_records, entries_after, entry_of, event_count, make_period, next_contents, next_entries, next_name, period_fields, period_of, table_contents, value_fields, values_after}
 
--- a check that was passed
+-- a check that succeeded
 pub record Passed {A B E : Type 0} (r : Result A E) (next : A → Result B E) (b : B) : Type 0 where
   pub value : A
   pub was : r ≡ Ok value
@@ -48,7 +48,7 @@ period_of_orders form [] p e = cc
 period_of_orders form (a ∷ []) p e = cc
 period_of_orders form (a ∷ b ∷ rest) p e = period_orders (instant_of form a) (bound_of form b) p e
 
--- an entry's period is one, and its table is the one read
+-- an entry has a valid period, and its table is the one that was read
 pub entry_is_of : (form : Form) (table : ℕ) (columns : List Column) (fields : List (List ℕ)) (e : Entry) → entry_of form table columns fields ≡ Ok e → (e.from < e.to) × (e.table ≡ table)
 entry_is_of form table columns fields e is = by (not (length fields == length columns + 2)) is
   where
@@ -65,7 +65,7 @@ entry_is_of form table columns fields e is = by (not (length fields == length co
     by true i = cc
     by false i = let v = passed (values_after [] columns (value_fields fields)) _ e i in made v.value v.then_is
 
--- what holds of each entry that a record tells holds of all that are read, which stay within the limit
+-- what holds of the entry of each record holds of all entries that were read, and these stay within the limit
 module _ (form : Form) (limit table : ℕ) (columns : List Column) (P : Entry → Type 0) (tells : (fields : List (List ℕ)) (e : Entry) → entry_of form table columns fields ≡ Ok e → P e) where
   pub all_entries : (number : ℕ) (before : List Entry) (records : List (List (List ℕ))) (after : List Entry)
       → entries_after form limit table columns number before records ≡ Ok after → All P before → All P after
@@ -82,7 +82,7 @@ module _ (form : Form) (limit table : ℕ) (columns : List Column) (P : Entry �
       pushed : (e : Entry) (more : List Entry) → next_entries limit before e ≡ Ok more → P e → All P more
       pushed e more i p = by e more (nat_lt limit (sum_by event_count before + event_count e)) i p
 
--- each entry has a period, and is of one of the tables
+-- each entry has a valid period, and belongs to one of the tables
 abbrev pub Placeable : ℕ → Entry → Type 0
 Placeable tables e = (e.from < e.to) × (e.table < tables)
 
@@ -93,7 +93,7 @@ table_placeable form limit table before bytes read is good =
     let b = passed (entries_after form limit table a.value 2 before (drop 1 (csv_records bytes))) _ read a.then_is in
     let same : b.value ≡ read.1 = cc (b.then_is) in
     subst (All (Placeable (table + 1))) same
-    (all_entries form limit table a.value (Placeable (table + 1)) (λ fields e told. let of = entry_is_of form table a.value fields e told in (of.0, omega (arith, of.1)))
+    (all_entries form limit table a.value (Placeable (table + 1)) (λ fields e parsed. let of = entry_is_of form table a.value fields e parsed in (of.0, omega (arith, of.1)))
     2 before (drop 1 (csv_records bytes)) b.value b.was
     (All-weaker (Placeable table) (Placeable (table + 1)) (λ e p. (p.0, omega (arith, p.1))) before good))
 
@@ -120,7 +120,7 @@ pub contents_placeable : (form : Form) (limit : ℕ) (files : List TableFile) (c
 contents_placeable form limit files contents is =
     files_placeable form limit (record { tables = []; entries = [] }) contents files is (All-nil (Placeable 0))
 
--- so many entries make as many events at least, and twice as many at most
+-- n entries make at least n and at most 2n events
 pub entries_within : (entries : List Entry) → (length entries ≤ sum_by event_count entries) × (sum_by event_count entries ≤ 2 * length entries)
 entries_within [] = (omega arith, omega arith)
 entries_within (e ∷ entries) =

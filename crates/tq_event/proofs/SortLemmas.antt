@@ -8,7 +8,7 @@ use Rattle.std.specs.Cmp.{IsTotalOrder}
 use Rattle.std.proofs.lemmas.List.Sorted.{IsPermutation-refl, IsPermutation-sym, IsPermutation-trans, IsPermutation-cons, IsPermutation-middle}
 
 module _ {X : Type 0} (R : X → X → Ordering) (o : IsTotalOrder R) where
-  -- a new element in front of the first that is not below it
+  -- a new element is inserted before the first one that is not less
   abbrev put : X → List X → List X
   put x [] = x ∷ []
   put x (y ∷ ys) = cond (is_lt (R y x)) (y ∷ put x ys) (x ∷ y ∷ ys)

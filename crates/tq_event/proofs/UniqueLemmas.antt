@@ -1,4 +1,4 @@
--- Files hold one list of events.
+-- Files determine one list of events.
 use Rattle.std.proofs.Common.{◌≡◌, ◌≢◌, ℕ, ◌+◌, ◌≤◌, ◌==◌, Bool, true, false, cond, if◌then◌else◌, List, [], ◌∷◌, ◌++◌, Option, Some, None, Result, Ok, Err, length, drop, get_or, slice_get, nat_lt, sum_by, refl, sym, ap, subst, ◌∙◌, arith, length-append}
 use Rattle.std.specs.Prelude.{All, IsSorted, IsSomeAnd}
 use Rattle.std.specs.List.{AllZip}
@@ -18,10 +18,10 @@ use Rattle.tq_event.specs.declared.event.Event.{Event}
 use Rattle.tq_event.specs.declared.fault.LoadFaultKind.TheVariants.{TooManyEvents}
 use Rattle.tq_event.specs.declared.file.TableFile.{TableFile}
 use Rattle.tq_event.specs.declared.file.Loaded.{Loaded}
-use Rattle.tq_event.specs.declared.mark.Mark.{Mark}
-use Rattle.tq_event.specs.Loading.{AreEventsOf, Contents, HaveEvents, IsEventAt, IsLoaded, at_record, columns_of, contents_after, contents_of, csv_records, entries_after, entry_of, event_at, event_count, mark_cmp, marks_from, marks_of_entry, next_contents, next_entries, next_name, table_contents}
+use Rattle.tq_event.specs.declared.endpoint.Endpoint.{Endpoint}
+use Rattle.tq_event.specs.Loading.{AreEventsOf, Contents, HaveEvents, IsEventAt, IsLoaded, at_record, columns_of, contents_after, contents_of, csv_records, entries_after, entry_of, event_at, event_count, endpoint_cmp, endpoints_from, endpoints_of_entry, next_contents, next_entries, next_name, table_contents}
 use Rattle.tq_event.proofs.LoadedLemmas.{at_record_passed, passed}
-use Rattle.tq_event.proofs.MarkLemmas.{mark_total}
+use Rattle.tq_event.proofs.EndpointLemmas.{mark_total}
 use Rattle.tq_event.proofs.SortLemmas.{sorted_tail}
 
 abbrev tally : Bool → ℕ
@@ -41,7 +41,7 @@ module _ {X : Type 0} (R : X → X → Ordering) (o : IsTotalOrder R) (same : (x
   own : (x : X) → tally (eq_by_cmp R x x) ≡ 1
   own x = rw ((eq_by_cmp_equiv o).refl x) refl
 
-  -- the first of the one is not below the first of the other
+  -- the first element of one list is not less than that of the other
   not_below : (x y : X) (xs ys : List X) → sum_by (counted x) (x ∷ xs) ≡ sum_by (counted x) (y ∷ ys) → IsSorted R (y ∷ ys) → R x y ≢ Less
   not_below x y xs ys alike sorted less =
       absurd (omega (
@@ -76,7 +76,7 @@ module _ {X : Type 0} (R : X → X → Ordering) (o : IsTotalOrder R) (same : (x
       split Less e = absurd (not_below x y xs ys (alike x) ys_sorted e)
       split Greater e = absurd (not_below y x ys xs (sym (alike y)) xs_sorted (o.antisymm y x ∙ ap ordering_reverse e))
 
--- marks that tie are equal
+-- endpoints that compare as equal are equal
 then_ties : (r s : Ordering) → ordering_then r s ≡ Equal → (r ≡ Equal) × (s ≡ Equal)
 then_ties Less s e = cc
 then_ties Equal s e = (refl, e)
@@ -88,7 +88,7 @@ bool_ties true false e = cc
 bool_ties false true e = cc
 bool_ties false false e = refl
 
-mark_same : (a b : Mark) → mark_cmp a b ≡ Equal → a ≡ b
+mark_same : (a b : Endpoint) → endpoint_cmp a b ≡ Equal → a ≡ b
 mark_same a b e =
     let outer = then_ties (ordering_then (nat_cmp a.at b.at) (bool_cmp a.starts b.starts)) (nat_cmp a.entry b.entry) e in
     let inner = then_ties (nat_cmp a.at b.at) (bool_cmp a.starts b.starts) outer.0 in
@@ -97,12 +97,12 @@ mark_same a b e =
     let entry = ranked a.entry b.entry Equal (sym outer.1) in
     λ i. record { at = at i; starts = starts i; entry = entry i }
 
--- marks have one list of events
+-- endpoints determine one list of events
 event_same : (o : Option Entry) (f : Entry → Event) (x y : Event) → IsSomeAnd o (λ e. x ≡ f e) → IsSomeAnd o (λ e. y ≡ f e) → x ≡ y
 event_same (Some e) f x y p q = p ∙ sym q
 event_same None f x y p q = absurd p
 
-events_same : (entries : List Entry) (marks ms : List Mark) (xs ys : List Event) → AllZip (IsEventAt entries marks) ms xs → AllZip (IsEventAt entries marks) ms ys → xs ≡ ys
+events_same : (entries : List Entry) (marks ms : List Endpoint) (xs ys : List Event) → AllZip (IsEventAt entries marks) ms xs → AllZip (IsEventAt entries marks) ms ys → xs ≡ ys
 events_same entries marks [] [] [] p q = refl
 events_same entries marks [] [] (y ∷ ys) p q = absurd q
 events_same entries marks [] (x ∷ xs) ys p q = absurd p
@@ -115,9 +115,9 @@ events_same entries marks (m ∷ ms) (x ∷ xs) (y ∷ ys) p q =
 
 marks_same : (entries : List Entry) (xs ys : List Event) (a : AreEventsOf entries xs) (b : AreEventsOf entries ys) → a.marks ≡ b.marks
 marks_same entries xs ys a b =
-    sorted_same mark_cmp mark_total mark_same a.marks b.marks
-    (λ m. sum_by-IsPermutation (λ (x : Mark). tally (eq_by_cmp mark_cmp x m)) (marks_from 0 entries) a.marks a.all
-    ∙ sym (sum_by-IsPermutation (λ (x : Mark). tally (eq_by_cmp mark_cmp x m)) (marks_from 0 entries) b.marks b.all))
+    sorted_same endpoint_cmp mark_total mark_same a.marks b.marks
+    (λ m. sum_by-IsPermutation (λ (x : Endpoint). tally (eq_by_cmp endpoint_cmp x m)) (endpoints_from 0 entries) a.marks a.all
+    ∙ sym (sum_by-IsPermutation (λ (x : Endpoint). tally (eq_by_cmp endpoint_cmp x m)) (endpoints_from 0 entries) b.marks b.all))
     a.ordered b.ordered
 
 pub entries_have_one : (entries : List Entry) (xs ys : List Event) → AreEventsOf entries xs → AreEventsOf entries ys → xs ≡ ys
@@ -173,12 +173,12 @@ files_within form limit before after (file ∷ files) is le =
     let a = passed (next_contents form limit before file) _ after is in
     files_within form limit a.value after files a.then_is (file_within form limit before a.value file a.was le)
 
-marks_counted : (n : ℕ) (entries : List Entry) → length (marks_from n entries) ≡ sum_by event_count entries
+marks_counted : (n : ℕ) (entries : List Entry) → length (endpoints_from n entries) ≡ sum_by event_count entries
 marks_counted n [] = refl
 marks_counted n (e ∷ entries) =
-    omega (arith, length-append (marks_of_entry n e) (marks_from (n + 1) entries), own (e.to == FOREVER), marks_counted (n + 1) entries, sum_by-cons event_count e entries)
+    omega (arith, length-append (endpoints_of_entry n e) (endpoints_from (n + 1) entries), own (e.to == FOREVER), marks_counted (n + 1) entries, sum_by-cons event_count e entries)
   where
-    own : (b : Bool) → let marks : List Mark = record { at = e.from; starts = true; entry = n } ∷ (if b then [] else record { at = e.to; starts = false; entry = n } ∷ []) in length marks ≡ (if b then 1 else 2)
+    own : (b : Bool) → let marks : List Endpoint = record { at = e.from; starts = true; entry = n } ∷ (if b then [] else record { at = e.to; starts = false; entry = n } ∷ []) in length marks ≡ (if b then 1 else 2)
     own true = refl
     own false = refl
 
@@ -186,4 +186,4 @@ pub loaded_within : (form : Form) (files : List TableFile) (limit : ℕ) (loaded
 loaded_within form files limit loaded is =
     let le = files_within form limit (record { tables = []; entries = [] }) is.contents files is.is_contents (omega arith) in
     let ev = is.events in
-    omega (arith, ev.events_are.as_many, length_permutation (marks_from 0 is.contents.entries) ev.marks ev.all, marks_counted 0 is.contents.entries, le)
+    omega (arith, ev.events_are.as_many, length_permutation (endpoints_from 0 is.contents.entries) ev.marks ev.all, marks_counted 0 is.contents.entries, le)

@@ -1,4 +1,4 @@
--- The bytes of several lists, one behind the other. This project's own.
+-- The bytes of several lists, one after the other. This project's own.
 use Rattle.std.specs.Prelude.{ℕ, List, [], Option, None, Some}
 use Rattle.std.specs.Global.{Vec}
 use Rattle.std.specs.List.{flat_map}
@@ -7,7 +7,7 @@ use Rattle.std.specs.List.{flat_map}
 abbrev pub bytes_in : List (Vec ℕ) → List ℕ
 bytes_in pieces = flat_map (λ (piece : Vec ℕ). piece.items) pieces
 
--- the same, where there are lists
-abbrev pub bytes_behind : Option (Vec (Vec ℕ)) → List ℕ
-bytes_behind None = []
-bytes_behind (Some pieces) = bytes_in pieces.items
+-- the same, or no bytes if there are no lists
+abbrev pub optional_bytes_in : Option (Vec (Vec ℕ)) → List ℕ
+optional_bytes_in None = []
+optional_bytes_in (Some pieces) = bytes_in pieces.items

@@ -1,5 +1,5 @@
--- Histories: the rows of a table as of the first n events, and what is valid at an instant. After
--- Snodgrass's valid-time tables; that a history is a list of events is this project's own.
+-- Histories: the rows of a table as of the first n events, and which values are valid at an instant. After Snodgrass's
+-- valid-time tables; that a history is a list of events is this project's own.
 use Rattle.std.specs.Prelude.{◌≡◌, ℕ, ◌+◌, ◌-◌, ◌<◌, ◌≤◌, List, [], ◌∷◌, ◌++◌, length, take, map, filter, if◌then◌else◌, ◌==◌, ◌&&◌, nat_le, nat_lt, Contains, slice_get, IfSome, IsSomeAnd}
 use Rattle.tq_base.specs.declared.value.Value.{Value}
 use Rattle.tq_base.specs.declared.period.TheConstants.{FOREVER}
@@ -9,20 +9,20 @@ use Rattle.tq_base.specs.Catalogues.{Fit}
 use Rattle.tq_event.specs.declared.event.Event.{Event}
 use Rattle.tq_event.specs.declared.event.Event.TheVariants.{Start, End}
 
--- a row: its number in its table, its values, and from when until when it is valid
+-- a row: its number in its table, its values, and the period from `from` to `to`
 pub record Row : Type 0 where
   pub number : ℕ
   pub values : List Value
   pub from : ℕ
   pub to : ℕ
 
--- when the row ends by these events, or forever
+-- the end of the row by these events; `FOREVER` if none of them ends it
 abbrev pub end_of : ℕ → ℕ → List Event → ℕ
 end_of table row [] = FOREVER
 end_of table row (Start t v at ∷ events) = end_of table row events
 end_of table row (End t r at ∷ events) = if t == table && r == row then at else end_of table row events
 
--- the rows of a table that these events start, numbered from the given one, as these events end them
+-- the rows of a table that these events start, numbered from `next` on, with the ends that these events give them
 abbrev pub rows_from : ℕ → ℕ → List Event → List Row
 rows_from table next [] = []
 rows_from table next (Start t v at ∷ events) =
@@ -31,7 +31,7 @@ rows_from table next (Start t v at ∷ events) =
     else rows_from table next events
 rows_from table next (End t r at ∷ events) = rows_from table next events
 
--- the rows of a table as of the first n events: each end that comes later is not yet known
+-- the rows of a table as of the first n events: ends that come later are not known yet
 abbrev pub rows_of : List Event → ℕ → ℕ → List Row
 rows_of history n table = rows_from table 0 (take n history)
 
@@ -46,29 +46,29 @@ abbrev pub time_of : Event → ℕ
 time_of (Start t v at) = at
 time_of (End t r at) = at
 
--- the time is not below that of the last event
+-- the time is not before that of the last event
 abbrev pub IsNotBefore : List Event → ℕ → Type 0
 IsNotBefore history at = IfSome (slice_get history (length history - 1)) (λ last. time_of last ≤ at)
 
--- the row is open, and started before the instant
+-- the row is open and started before the instant
 abbrev pub IsOpenBefore : List Event → ℕ → ℕ → ℕ → Type 0
 IsOpenBefore history table number at =
     (row : Row) × Contains (rows_of history (length history) table) row × (row.number ≡ number) × (row.to ≡ FOREVER) × (row.from < at)
 
--- what an event asks of the tables and rows before it: that its table takes the values, or that its row can end
+-- an event requires of the tables and rows before it that its table accepts the values, or that its row can end
 abbrev pub CanHappen : Catalogue → List Event → Event → Type 0
 CanHappen catalogue history (Start t v at) = IsSomeAnd (slice_get catalogue.tables t) (λ (s : Schema). Fit s.columns v)
 CanHappen catalogue history (End t r at) = (t < length catalogue.tables) × IsOpenBefore history t r at
 
--- the event may follow the history
+-- the event may come next in the history
 abbrev pub IsAdmissible : Catalogue → List Event → Event → Type 0
 IsAdmissible catalogue history event = IsNotBefore history (time_of event) × CanHappen catalogue history event
 
--- each event is admissible after those before it
+-- each event is admissible after the events before it
 abbrev pub IsHistory : Catalogue → List Event → Type 0
 IsHistory catalogue events =
     (before : List Event) (event : Event) (after : List Event) → events ≡ before ++ event ∷ after → IsAdmissible catalogue before event
 
--- what is valid as of the first n events stays as it is while a history grows
+-- the values that are valid as of the first n events stay the same while a history grows
 abbrev pub PrefixLaw : Type 0
 PrefixLaw = (history more : List Event) (n table t : ℕ) → n ≤ length history → valid_at (history ++ more) n table t ≡ valid_at history n table t

@@ -1,4 +1,4 @@
--- What is known of files that were loaded. This project's own.
+-- What is known of loaded files. This project's own.
 use Rattle.std.specs.Prelude.{◌≡◌, ℕ, ◌≤◌, List, Some, length, All, Ok}
 use Rattle.tq_base.specs.declared.catalogue.Column.{Column}
 use Rattle.tq_base.specs.declared.catalogue.Schema.{Schema}
@@ -12,16 +12,16 @@ use Rattle.tq_event.specs.declared.file.Loaded.{Loaded}
 use Rattle.tq_event.specs.History.{IsHistory, time_of}
 use Rattle.tq_event.specs.Loading.{Contents, IsLoaded, contents_of}
 
--- files hold one list of tables and one list of events
+-- files determine the list of tables and the list of events
 abbrev pub LoadedIsUnique : Type 0
 LoadedIsUnique = (form : Form) (files : List TableFile) (limit : ℕ) (a b : Loaded) → IsLoaded form files limit a → IsLoaded form files limit b
     → (a.catalogue.tables ≡ b.catalogue.tables) × (a.events ≡ b.events)
 
--- files whose contents have no fault were loaded as some history
+-- files without a fault have a history
 abbrev pub LoadedExists : Type 0
 LoadedExists = (form : Form) (files : List TableFile) (limit : ℕ) (contents : Contents) → contents_of form files limit ≡ Ok contents → (loaded : Loaded) × IsLoaded form files limit loaded
 
--- the events stay within the limit
+-- there are at most `limit` events
 abbrev pub LoadedIsWithin : Type 0
 LoadedIsWithin = (form : Form) (files : List TableFile) (limit : ℕ) (loaded : Loaded) → IsLoaded form files limit loaded → length loaded.events ≤ limit
 
@@ -29,7 +29,7 @@ LoadedIsWithin = (form : Form) (files : List TableFile) (limit : ℕ) (loaded : 
 abbrev pub LoadedIsCatalogue : Type 0
 LoadedIsCatalogue = (form : Form) (files : List TableFile) (limit : ℕ) (loaded : Loaded) → IsLoaded form files limit loaded → IsCatalogue loaded.catalogue
 
--- some bytes write the name, which is folded
+-- the name is folded, and some bytes write it
 abbrev pub IsFoldedName : List ℕ → Type 0
 IsFoldedName name = (bytes : List ℕ) × (folded_name bytes ≡ Some name)
 
@@ -45,6 +45,6 @@ LoadedNamesAreFolded = (form : Form) (files : List TableFile) (limit : ℕ) (loa
 abbrev pub LoadedIsHistory : Type 0
 LoadedIsHistory = (form : Form) (files : List TableFile) (limit : ℕ) (loaded : Loaded) → IsLoaded form files limit loaded → IsHistory loaded.catalogue loaded.events
 
--- files whose times are written in dates hold events whose times have dates
+-- files in the form of dates hold events at times that have dates
 abbrev pub LoadedAreDated : Type 0
 LoadedAreDated = (files : List TableFile) (limit : ℕ) (loaded : Loaded) → IsLoaded Dates files limit loaded → All (λ event. time_of event ≤ LAST_DAY) loaded.events

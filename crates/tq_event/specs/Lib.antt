@@ -1,10 +1,10 @@
 pub mod Entries
 pub mod FileBytes
 pub mod History
-pub mod Keeping
+pub mod Projection
 pub mod Laws
 pub mod Loading
-pub mod OneRecord
+pub mod SingleRecord
 pub mod Opening
 pub mod Reading
 pub mod Recorded

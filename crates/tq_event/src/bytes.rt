@@ -6,8 +6,8 @@ ghost use Rattle.tq_event.specs.FileBytes.{bytes_in};
 use std::alloc::{AllocError, Global};
 use std::marker::Model;
 
-/// The bytes of a file, in one list or in several, one behind the other, as several threads read them; seen as all of
-/// them.
+/// The bytes of a file, in one list or in several lists that several threads have read. Contracts see all bytes in
+/// order.
 #[derive(Drop, Debug)]
 pub struct FileBytes {
     front: Vec<u8>,
@@ -17,16 +17,16 @@ pub struct FileBytes {
 
 impl Model for FileBytes {
     ghost use Rattle.std.specs.Prelude.{◌≡◌, ◌++◌, ℕ, List, length};
-    ghost use Rattle.tq_event.specs.FileBytes.{bytes_behind};
+    ghost use Rattle.tq_event.specs.FileBytes.{optional_bytes_in};
 
     ghost Value = { List ℕ };
 
-    ghost view = { λ b. b.front.items ++ bytes_behind b.more };
+    ghost view = { λ b. b.front.items ++ optional_bytes_in b.more };
 
-    ghost invariant = { λ b. b.len ≡ length (b.front.items ++ bytes_behind b.more) };
+    ghost invariant = { λ b. b.len ≡ length (b.front.items ++ optional_bytes_in b.more) };
 }
 
-// How many bytes these are and those of the lists; `None` where their number has more bits than a place.
+// The number of bytes in all; `None` if it does not fit into a `usize`.
 fn total(front: usize, pieces: &[Vec<u8>]) -> Option<usize>
     ensures { IfSome result (λ len. len ≡ front + length (bytes_in pieces.now)) }
 {
@@ -37,7 +37,7 @@ fn total(front: usize, pieces: &[Vec<u8>]) -> Option<usize>
     Some(len)
 }
 
-// Those from the place on that stand in one list with it.
+// The bytes from the place on, up to the end of the list that has the place.
 fn piece_in(pieces: &[Vec<u8>], start: usize) -> &[u8]
     ensures { (more : List ℕ) × (drop start (bytes_in pieces.entry.now) ≡ result.now ++ more) }
 {
@@ -51,7 +51,7 @@ fn piece_in(pieces: &[Vec<u8>], start: usize) -> &[u8]
     &[]
 }
 
-// Copies of the bytes of the lists go to the end of another one.
+// Appends copies of the bytes of the lists.
 fn add_pieces(pieces: &[Vec<u8>], bytes: &mut Vec<u8>) -> Result<(), AllocError>
     ensures { OnOk result (bytes.new.items ≡ bytes.old.items ++ bytes_in pieces.now) }
 {
@@ -74,7 +74,7 @@ impl FileBytes {
         }
     }
 
-    /// The bytes of a list and then those of others; `None` where their number has more bits than a place.
+    /// The bytes of `front`, then those of `pieces`; `None` if their number does not fit into a `usize`.
     pub fn of_pieces(front: Vec<u8>, pieces: Vec<Vec<u8>>) -> Option<FileBytes>
         ensures { IfSome result (λ bytes. bytes ≡ front.items ++ bytes_in pieces.items) }
     {
@@ -86,14 +86,14 @@ impl FileBytes {
         })
     }
 
-    /// How many bytes there are.
+    /// The number of bytes.
     pub fn len(&self) -> usize
         ensures { result ≡ length self.now }
     {
         self.len
     }
 
-    /// All bytes, lent, where they stand in one list.
+    /// All bytes, borrowed, if they are in one list.
     pub fn whole(&self) -> Option<&[u8]>
         ensures { IfSome result (λ bytes. bytes.now ≡ self.entry.now) }
     {
@@ -103,7 +103,7 @@ impl FileBytes {
         }
     }
 
-    /// The bytes from the place on, as many of them as stand in one list with it.
+    /// The bytes from the place on, up to the end of the list that has the place.
     pub fn piece_from(&self, start: usize) -> &[u8]
         ensures { (more : List ℕ) × (drop start self.entry.now ≡ result.now ++ more) }
     {
@@ -117,7 +117,7 @@ impl FileBytes {
         }
     }
 
-    /// A copy of all bytes in one list.
+    /// A copy of all bytes in one list. `AllocError` if an allocation failed.
     pub fn to_vec(&self, alloc: Global) -> Result<Vec<u8>, AllocError>
         ensures { IfOk result (λ bytes. bytes.items ≡ self.now) }
     {

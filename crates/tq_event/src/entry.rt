@@ -1,14 +1,14 @@
-// A row as a record of a file tells it.
+// A row as a record of a file holds it.
 
 ghost use Rattle.std.specs.Prelude.{◌≡◌, ◌<◌, ◌≤◌, ◌++◌, IfOk, OnOk, length, map, slice_index_or};
 ghost use Rattle.tq_base.specs.declared.fragment.Fragment.{Fragment};
 ghost use Rattle.tq_event.specs.Entries.{entry_in};
-ghost use Rattle.tq_event.specs.Tables.{entries_from, told_by};
+ghost use Rattle.tq_event.specs.Tables.{entries_from, row_entry};
 
 use std::alloc::{AllocError, Global};
 use tq_base::{Bound, Instant, Rows, Values};
 
-/// What stands beside the values of an entry: its table's number, and from when until when it is valid.
+/// The table's number and the period of an entry.
 #[derive(Clone, Copy, Debug)]
 pub struct Validity {
     pub table: u32,
@@ -16,10 +16,9 @@ pub struct Validity {
     pub to: Bound,
 }
 
-/// A row as a record of a file tells it: its values, and what stands beside them.
+/// A row as a record of a file holds it: its values, with its table's number and its period.
 pub type Entry = (Values, Validity);
 
-// A copy of the values of the row.
 fn copied(alloc: Global, rows: &Rows, row: usize) -> Result<Values, AllocError>
     requires { row < length rows.now.items }
     ensures { (d : Fragment) → IfOk result (λ copy. copy ≡ (slice_index_or rows.now.items row d).values) }
@@ -29,14 +28,14 @@ fn copied(alloc: Global, rows: &Rows, row: usize) -> Result<Values, AllocError>
     Ok(Values::of(copies))
 }
 
-// Copies of the rows of a table go to the end of the list.
+// Appends copies of the rows of a table.
 fn add_entries(
     alloc: Global,
     table: u32,
     rows: &Rows,
     entries: &mut Vec<Entry>,
 ) -> Result<(), AllocError>
-    ensures { OnOk result (map entry_in entries.new.items ≡ map entry_in entries.old.items ++ map (told_by table) rows.now.items) }
+    ensures { OnOk result (map entry_in entries.new.items ≡ map entry_in entries.old.items ++ map (row_entry table) rows.now.items) }
 {
     'rows: for (number, period) in rows.periods().iter().enumerate() {
         let values = copied(alloc, rows, number)?;
@@ -46,7 +45,7 @@ fn add_entries(
     Ok(())
 }
 
-/// The rows of tables as the records of their files told them, in the order of tables and records.
+/// The rows of tables as entries, in the order of tables and records.
 pub fn entries_of(alloc: Global, tables: &[Rows]) -> Result<Vec<Entry>, AllocError>
     requires { length tables.now ≤ 16 }
     ensures { IfOk result (λ entries. map entry_in entries.items ≡ entries_from 0 tables.now) }

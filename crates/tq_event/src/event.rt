@@ -1,4 +1,4 @@
-// An event starts or ends a row.
+// Events that start or end a row.
 
 ghost use Rattle.std.specs.Prelude.{◌≡◌, IfOk};
 ghost use Rattle.tq_event.specs.History.{time_of};
@@ -7,8 +7,8 @@ ghost use Rattle.tq_event.specs.Recorded.{table_of};
 use std::alloc::AllocError;
 use tq_base::{Instant, Values};
 
-/// What happens to a table at an instant: a row of these values starts, or the row of this number
-/// ends. Tables are numbered from 0, and so are the rows of each table, in the order of their starts.
+/// An event: a row with these values starts, or the row with this number ends. Tables are numbered from 0, and so are
+/// the rows of each table, in the order of their starts.
 #[derive(Drop, Debug)]
 pub enum Event {
     Start {
@@ -24,7 +24,7 @@ pub enum Event {
 }
 
 impl Event {
-    /// When the row starts or ends.
+    /// The time at which the row starts or ends.
     pub fn at(&self) -> Instant
         ensures { result ≡ time_of self.now }
     {
@@ -44,7 +44,7 @@ impl Event {
         }
     }
 
-    /// An equal event; `AllocError` where a growth was refused.
+    /// An equal event. `AllocError` if an allocation failed.
     pub fn try_copy(&self) -> Result<Event, AllocError>
         ensures { IfOk result (λ event. event ≡ self.now) }
     {

@@ -1,26 +1,26 @@
-// What goes into a load and what comes out.
+// The input and the results of a load.
 
 use crate::bytes::FileBytes;
 use crate::event::Event;
-use tq_base::{Catalogue, Items, Rows};
+use tq_base::{Catalogue, List, Rows};
 
 /// A table's name and the bytes of its file.
 #[derive(Drop, Debug)]
 pub struct TableFile {
-    pub name: Items<u8>,
+    pub name: List<u8>,
     pub bytes: FileBytes,
 }
 
-/// The tables, and the events that the records of their files make, in order.
+/// The tables, and the events of the records of their files, in order.
 #[derive(Drop, Debug)]
 pub struct Loaded {
     pub catalogue: Catalogue,
-    pub events: Items<Event>,
+    pub events: List<Event>,
 }
 
-/// The tables of some files, and for each of them its rows, in the order of their records.
+/// The tables of some files, and the rows of each, in the order of their records.
 #[derive(Drop, Debug)]
 pub struct Tables {
     pub catalogue: Catalogue,
-    pub rows: Items<Rows>,
+    pub rows: List<Rows>,
 }

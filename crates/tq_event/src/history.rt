@@ -1,4 +1,4 @@
-// A history that grows, and takes an event only where it is admissible.
+// A history that grows by admissible events.
 
 ghost use Rattle.std.specs.Prelude.{◌≡◌, ◌↔◌, ◌<◌, ◌∷◌, ◌++◌, [], IsTrue, IfOk, OnOk, OnErr, if◌then◌else◌, length, replicate};
 ghost use Rattle.tq_base.specs.declared.period.TheConstants.{FOREVER};
@@ -11,7 +11,7 @@ use std::alloc::{AllocError, Global};
 use std::marker::Model;
 use tq_base::{Catalogue, Instant, Values};
 
-/// A catalogue and the events of a history over it, in order.
+/// A catalogue, and the events of a history over it, in order.
 #[derive(Drop, Debug)]
 pub struct History {
     catalogue: Catalogue,
@@ -29,7 +29,7 @@ impl Model for History {
     ghost invariant = { λ h. IsRecorded h.catalogue h.events.items h.starts.items };
 }
 
-/// Whether the last event, if any, is no later than the instant.
+/// Whether the last event is not later than the instant; true if there are no events.
 pub fn is_not_before(events: &[Event], at: Instant) -> bool
     ensures { IsTrue result ↔ IsNotBefore events.now at }
 {
@@ -39,7 +39,7 @@ pub fn is_not_before(events: &[Event], at: Instant) -> bool
     }
 }
 
-/// Whether the catalogue has the table, and the values fit its columns.
+/// Whether the catalogue has the table and its columns accept the values.
 pub fn can_start(catalogue: &Catalogue, table: u32, values: &Values) -> bool
     ensures { IsTrue result ↔ HasTable catalogue.now table values.now }
 {
@@ -49,7 +49,7 @@ pub fn can_start(catalogue: &Catalogue, table: u32, values: &Values) -> bool
     }
 }
 
-// Whether the row is open, and started before the instant.
+// Whether the row is open and started before the instant.
 fn can_end(starts: &[Starts], table: u32, row: u32, at: Instant) -> bool
     ensures { IsTrue result ↔ CanEnd starts.now table row at }
 {
@@ -76,7 +76,7 @@ fn is_admissible(catalogue: &Catalogue, events: &[Event], starts: &[Starts], eve
     }
 }
 
-// The rows of the event's table after the event. Out of memory: the rows are as before.
+// Changes the open rows of the event's table. If an allocation failed, they have not changed.
 fn note_rows(rows: &mut Starts, event: &Event) -> Result<(), AllocError>
     ensures ok { OnOk result (rows.new ≡ after_event event.now rows.old) }
     ensures err { OnErr result (rows.new ≡ rows.old) }
@@ -90,7 +90,7 @@ fn note_rows(rows: &mut Starts, event: &Event) -> Result<(), AllocError>
     }
 }
 
-// The rows of each table after the event. Out of memory: the rows are as before.
+// Changes the open rows after the event. If an allocation failed, they have not changed.
 fn note(starts: &mut Vec<Starts>, event: &Event) -> Result<(), AllocError>
     requires { table_of event.now < length starts.old.items }
     ensures ok { OnOk result (starts.new.items ≡ noted event.now starts.old.items) }
@@ -100,7 +100,7 @@ fn note(starts: &mut Vec<Starts>, event: &Event) -> Result<(), AllocError>
     note_rows(rows, event)
 }
 
-// No row of any table.
+// For each table, no row.
 fn no_starts(alloc: Global, tables: usize) -> Result<Vec<Starts>, AllocError>
     ensures { IfOk result (λ starts. starts.items ≡ replicate tables []) }
 {
@@ -112,7 +112,7 @@ fn no_starts(alloc: Global, tables: usize) -> Result<Vec<Starts>, AllocError>
 }
 
 impl History {
-    /// A history of no events.
+    /// A history without events. `AllocError` if an allocation failed.
     pub fn new(alloc: Global, catalogue: Catalogue) -> Result<History, AllocError>
         ensures { IfOk result (λ h. h ≡ record { catalogue = catalogue; events = [] }) }
     {
@@ -124,14 +124,14 @@ impl History {
         })
     }
 
-    /// The catalogue, lent.
+    /// The catalogue, borrowed.
     pub fn catalogue(&self) -> &Catalogue
         ensures { result.now ≡ self.now.catalogue }
     {
         &self.catalogue
     }
 
-    /// The events, lent.
+    /// The events, borrowed.
     pub fn events(&self) -> &[Event]
         ensures events { result.now ≡ self.now.events }
         ensures history { IsHistory self.now.catalogue self.now.events }
@@ -139,8 +139,8 @@ impl History {
         self.events.as_slice()
     }
 
-    /// Adds a copy of the event where it is admissible, and tells whether it is.
-    /// Out of memory: the history is as before.
+    /// Adds a copy of the event if it is admissible, and returns whether it is. `AllocError` if an allocation failed:
+    /// then the history has not changed.
     pub fn append(&mut self, event: &Event) -> Result<bool, AllocError>
         ensures admissible { IfOk result (λ taken. IsTrue taken ↔ IsAdmissible self.old.catalogue self.old.events event.now) }
         ensures events { IfOk result (λ taken. self.new ≡ record self.old { events = self.old.events ++ (if taken then event.now ∷ [] else []) }) }

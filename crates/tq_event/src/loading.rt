@@ -3,32 +3,32 @@
 ghost use Rattle.std.specs.Prelude.{◌≡◌, ◌≢◌, ◌+◌, ◌<◌, ◌≤◌, ◌++◌, ◌∷◌, ◌==◌, [], Err, IfErr, IfOk, List, OnOk, Ok, if◌then◌else◌, length, map, sum_by};
 ghost use Rattle.tq_base.specs.RowLists.{RowList};
 ghost use Rattle.tq_event.specs.Entries.{Entry};
-ghost use Rattle.tq_event.specs.Keeping.{AreKeptFiles, AreWantedTables, IsKeptAfter, IsKeptTable, kept_from, wanted_lists, wanted_of};
+ghost use Rattle.tq_event.specs.Projection.{AreProjectedFiles, AreProjectedTables, IsProjectedAfter, IsProjectedTable, projected_from, wanted_lists, wanted_of};
 ghost use Rattle.tq_event.specs.Loading.{IsLoaded, contents_of, event_count, has_table, next_contents, next_name, out_of_memory, table_contents};
-ghost use Rattle.tq_event.specs.Tables.{AreRead, AreTables, entries_from, told_by};
+ghost use Rattle.tq_event.specs.Tables.{AreRead, AreTables, entries_from, row_entry};
 
 use crate::bytes::FileBytes;
 use crate::entry::entries_of;
 use crate::fault::{LoadFault, LoadFaultKind};
 use crate::file::{Loaded, TableFile, Tables};
 use crate::header::read_header;
-use crate::keeping::wanted_columns;
 use crate::order::order_events;
+use crate::projection::wanted_columns;
 use crate::reading::read_entry;
-use crate::records::{is_marked_twice, next_record, record_reader};
+use crate::records::{has_two_boms, next_record, record_reader};
 use csv::ByteRecord;
 use std::alloc::{AllocError, Global};
 use tq_base::{
-    Bound, Catalogue, Column, FOREVER, Form, Items, Name, Period, Rows, Schema, Value, fold_name,
+    Bound, Catalogue, Column, FOREVER, Form, List, Name, Period, Rows, Schema, Value, fold_name,
 };
 
-/// The most events that a load may be asked for.
+/// The greatest limit on events.
 pub const MAX_EVENTS: u32 = 16_777_216;
 
 /// The most tables.
 pub const MAX_TABLES: usize = 16;
 
-// The fault of a record of a table. Out of memory names neither.
+// The fault of a record of a table. `OutOfMemory` has neither record nor table.
 fn fault_at(table: u32, number: u32, kind: LoadFaultKind) -> LoadFault
     ensures named { kind ≢ LoadFaultKind.OutOfMemory → result ≡ record { kind = kind; table = table; number = number } }
     ensures out_of_memory { kind ≡ LoadFaultKind.OutOfMemory → result ≡ out_of_memory }
@@ -44,15 +44,14 @@ fn fault_at(table: u32, number: u32, kind: LoadFaultKind) -> LoadFault
     }
 }
 
-// How many events a row makes that is valid until then.
+// The number of events of a row that is valid until the bound.
 fn event_count(to: Bound) -> u32
     ensures { result ≡ (if to == FOREVER then 1 else 2) }
 {
     if to.number() == FOREVER { 1 } else { 2 }
 }
 
-// Adds a row, whose values are moved out of their list, to those of a table, where no more than so many
-// events are made.
+// Adds a row to those of a table and moves its values out of their list, if the limit on events allows it.
 fn add_row(
     limit: u32,
     events: &mut u32,
@@ -79,8 +78,8 @@ fn add_row(
     Ok(())
 }
 
-// The columns that a table's bytes name, and the rows of its records, whose events are added to those
-// before; only wanted values are kept. Not inlined, so that the reader's buffers leave the stack with it.
+// Reads a table: its columns, and the rows of its records with only the wanted values kept. Adds their events to the
+// count. Not inlined, so that the reader's buffers leave the stack.
 #[inline(never)]
 fn read_table(
     alloc: Global,
@@ -93,14 +92,14 @@ fn read_table(
 ) -> Result<(Vec<Column>, Rows), LoadFault>
     requires limit { limit ≤ MAX_EVENTS }
     requires within { events.old ≤ limit }
-    ensures ok { IfOk result (λ read. IsKeptTable form limit table wanted.now bytes.now events.old events.new read.0.items read.1.items) }
+    ensures ok { IfOk result (λ read. IsProjectedTable form limit table wanted.now bytes.now events.old events.new read.0.items read.1.items) }
     ensures width { IfOk result (λ read. read.1.width ≡ length read.0.items) }
     ensures within { OnOk result (events.new ≤ limit) }
     ensures fault { (before : List Entry) → sum_by event_count before ≡ events.old → IfErr result (λ fault. fault.kind ≢ LoadFaultKind.OutOfMemory
         → table_contents form limit table before bytes.now ≡ Err fault) }
     ensures out_of_memory { IfErr result (λ fault. fault.kind ≡ LoadFaultKind.OutOfMemory → fault ≡ out_of_memory) }
 {
-    if is_marked_twice(bytes) {
+    if has_two_boms(bytes) {
         return Err(fault_at(table, 1, LoadFaultKind::BadHeader));
     }
     let mut reader = record_reader(alloc, bytes);
@@ -113,7 +112,7 @@ fn read_table(
         Err(kind) => return Err(fault_at(table, 1, kind)),
     };
     let mut values = Vec::new(alloc);
-    let mut rows = Rows::keeping(alloc, &columns, wanted)?;
+    let mut rows = Rows::with_columns(alloc, &columns, wanted)?;
     'records: for number in 2..u32::MAX {
         if !next_record(&mut reader, &mut record)? {
             return Ok((columns, rows));
@@ -126,11 +125,11 @@ fn read_table(
             return Err(fault_at(table, number, kind));
         }
     }
-    // Each record made an event, and the limit on events is met before the numbers end.
+    // Each record makes an event, so the limit on events is reached before the numbers end.
     unreachable!()
 }
 
-// What `read_table` reads, out of bytes that may stand in several lists; then they are put into one.
+// The same as `read_table`, for bytes that may be in several lists; these are first copied into one.
 fn read_bytes(
     alloc: Global,
     limit: u32,
@@ -142,7 +141,7 @@ fn read_bytes(
 ) -> Result<(Vec<Column>, Rows), LoadFault>
     requires limit { limit ≤ MAX_EVENTS }
     requires within { events.old ≤ limit }
-    ensures ok { IfOk result (λ read. IsKeptTable form limit table wanted.now bytes.now events.old events.new read.0.items read.1.items) }
+    ensures ok { IfOk result (λ read. IsProjectedTable form limit table wanted.now bytes.now events.old events.new read.0.items read.1.items) }
     ensures width { IfOk result (λ read. read.1.width ≡ length read.0.items) }
     ensures within { OnOk result (events.new ≤ limit) }
     ensures fault { (before : List Entry) → sum_by event_count before ≡ events.old → IfErr result (λ fault. fault.kind ≢ LoadFaultKind.OutOfMemory
@@ -162,7 +161,7 @@ fn has_table(tables: &[Schema], name: &[u8]) -> bool
     tables.iter().any(|table| table.name.bytes() == name)
 }
 
-/// The name of the table after these.
+/// The name of the table after these. Errors are `TooManyTables`, `BadHeader`, `DuplicateName` and `OutOfMemory`.
 pub fn read_name(alloc: Global, tables: &[Schema], name: &[u8]) -> Result<Name, LoadFaultKind>
     ensures ok { IfOk result (λ read. next_name tables.now name.now ≡ Ok read) }
     ensures few { OnOk result (length tables.now < 16) }
@@ -180,7 +179,7 @@ pub fn read_name(alloc: Global, tables: &[Schema], name: &[u8]) -> Result<Name, 
     Ok(name)
 }
 
-// Adds the table of a file, and its rows, to those before. Only wanted values are kept.
+// Adds the table of a file and its rows, with only the wanted values kept.
 fn load_file(
     alloc: Global,
     limit: u32,
@@ -196,13 +195,13 @@ fn load_file(
     requires read { AreRead tables.old.items rows.old.items }
     requires counted { events.old ≡ sum_by event_count (entries_from 0 rows.old.items) }
     requires within { events.old ≤ limit }
-    ensures ok { (whole : List RowList) → rows.old.items ≡ kept_from (wanted_lists wanted.now) 0 whole
-        → OnOk result (IsKeptAfter form limit (wanted_lists wanted.now) tables.old.items whole file.now tables.new.items rows.new.items) }
+    ensures ok { (whole : List RowList) → rows.old.items ≡ projected_from (wanted_lists wanted.now) 0 whole
+        → OnOk result (IsProjectedAfter form limit (wanted_lists wanted.now) tables.old.items whole file.now tables.new.items rows.new.items) }
     ensures few { OnOk result (length tables.new.items ≤ 16) }
     ensures read { OnOk result (AreRead tables.new.items rows.new.items) }
     ensures counted { OnOk result (events.new ≡ sum_by event_count (entries_from 0 rows.new.items)) }
     ensures within { OnOk result (events.new ≤ limit) }
-    ensures fault { (whole : List RowList) → rows.old.items ≡ kept_from (wanted_lists wanted.now) 0 whole → IfErr result (λ fault. fault.kind ≢ LoadFaultKind.OutOfMemory
+    ensures fault { (whole : List RowList) → rows.old.items ≡ projected_from (wanted_lists wanted.now) 0 whole → IfErr result (λ fault. fault.kind ≢ LoadFaultKind.OutOfMemory
         → next_contents form limit (record { tables = tables.old.items; entries = entries_from 0 whole }) file.now ≡ Err fault) }
     ensures out_of_memory { IfErr result (λ fault. fault.kind ≡ LoadFaultKind.OutOfMemory → fault ≡ out_of_memory) }
 {
@@ -213,7 +212,7 @@ fn load_file(
     };
     let wanted = wanted_columns(wanted, number);
     let (columns, read) = read_bytes(alloc, limit, number, wanted, events, &file.bytes, form)?;
-    let columns = Items::of(columns);
+    let columns = List::of(columns);
     tables
         .push(Schema { name, columns })
         .map_err(AllocError::from)?;
@@ -221,7 +220,7 @@ fn load_file(
     Ok(())
 }
 
-// The tables of files, and the rows of their records, of which only wanted values are kept. A file's bytes are let go once
+// The tables of files and the rows of their records, with only the wanted values kept. A file's bytes are dropped once
 // its rows are read.
 fn read_files(
     alloc: Global,
@@ -231,7 +230,7 @@ fn read_files(
     form: Form,
 ) -> Result<(Vec<Schema>, Vec<Rows>), LoadFault>
     requires { limit ≤ MAX_EVENTS }
-    ensures ok { IfOk result (λ read. AreKeptFiles form files.items limit (wanted_lists wanted.now) read.0.items read.1.items) }
+    ensures ok { IfOk result (λ read. AreProjectedFiles form files.items limit (wanted_lists wanted.now) read.0.items read.1.items) }
     ensures few { IfOk result (λ read. length read.0.items ≤ 16) }
     ensures read { IfOk result (λ read. AreRead read.0.items read.1.items) }
     ensures within { IfOk result (λ read. sum_by event_count (entries_from 0 read.1.items) ≤ limit) }
@@ -256,7 +255,7 @@ fn read_files(
     Ok((tables, rows))
 }
 
-// The tables of files, and the rows of their records, of which all values are kept.
+// The tables of files and the rows of their records, with all values.
 fn read_whole_files(
     alloc: Global,
     files: Vec<TableFile>,
@@ -275,10 +274,10 @@ fn read_whole_files(
     read_files(alloc, files, &[], limit, form)
 }
 
-/// Loads files into a catalogue and one list of at most `limit` events: for each data record a start
-/// and, unless `to` is `forever`, an end, ordered by time, ends before starts, table, record. Times are
-/// written in the form. The first fault is answered, in the order of tables, records and checks;
-/// `OutOfMemory` where a growth was refused.
+/// Loads files into a catalogue and one list of at most `limit` events. Each data record makes a start and, unless `to`
+/// is `forever`, an end. Events are ordered by time, ends before starts, then by table and record. `form` says how
+/// times are written. Returns the first fault in the order of tables, records and checks, or `OutOfMemory` if an
+/// allocation failed.
 pub fn load(
     alloc: Global,
     files: Vec<TableFile>,
@@ -295,14 +294,13 @@ pub fn load(
     let events = order_events(alloc, tables.len(), entries)?;
     Ok(Loaded {
         catalogue: Catalogue {
-            tables: Items::of(tables),
+            tables: List::of(tables),
         },
-        events: Items::of(events),
+        events: List::of(events),
     })
 }
 
-/// Loads files into their tables, each with the rows that its records tell, in their order. The files
-/// are refused just as `load` refuses them.
+/// Loads files into tables, each with the rows of its records in their order. Returns the same faults as `load`.
 pub fn load_tables(
     alloc: Global,
     files: Vec<TableFile>,
@@ -317,17 +315,17 @@ pub fn load_tables(
     let (schemas, rows) = read_whole_files(alloc, files, limit, form)?;
     Ok(Tables {
         catalogue: Catalogue {
-            tables: Items::of(schemas),
+            tables: List::of(schemas),
         },
-        rows: Items::of(rows),
+        rows: List::of(rows),
     })
 }
 
-/// Loads files into their tables as `load_tables` does, and keeps of their rows only values that are wanted. The lists
-/// stand for the tables in their order, and each tells of a table's columns, from the first on, which are wanted; columns
-/// and tables behind the end of a list are. Each field is read and refused all the same: of a column that is not wanted
-/// the number 0 or the empty text stands in each row, for which no memory is taken. Periods are always kept.
-pub fn load_wanted(
+/// Loads files as `load_tables` does, with only the wanted values kept. `wanted` has for each table, and for each of
+/// its columns, whether it is wanted; tables and columns after the end of a list are wanted. Every field is checked. A
+/// column that is not wanted has the number 0 or the empty text in each row and takes no memory. Periods are always
+/// kept.
+pub fn load_projected(
     alloc: Global,
     files: Vec<TableFile>,
     wanted: &[Vec<bool>],
@@ -335,7 +333,7 @@ pub fn load_wanted(
     form: Form,
 ) -> Result<Tables, LoadFault>
     requires { limit ≤ MAX_EVENTS }
-    ensures tables { IfOk result (AreWantedTables form files.items limit (wanted_lists wanted.now)) }
+    ensures tables { IfOk result (AreProjectedTables form files.items limit (wanted_lists wanted.now)) }
     ensures read { IfOk result (λ tables. AreRead tables.catalogue.tables tables.rows) }
     ensures fault { IfErr result (λ fault. fault.kind ≢ LoadFaultKind.OutOfMemory → contents_of form files.items limit ≡ Err fault) }
     ensures out_of_memory { IfErr result (λ fault. fault.kind ≡ LoadFaultKind.OutOfMemory → fault ≡ out_of_memory) }
@@ -343,8 +341,8 @@ pub fn load_wanted(
     let (schemas, rows) = read_files(alloc, files, wanted, limit, form)?;
     Ok(Tables {
         catalogue: Catalogue {
-            tables: Items::of(schemas),
+            tables: List::of(schemas),
         },
-        rows: Items::of(rows),
+        rows: List::of(rows),
     })
 }

@@ -1,4 +1,4 @@
-// The rows of a table, as far as an end asks about them.
+// The open rows of a table, which decide whether a row can end.
 
 ghost use Rattle.std.specs.Prelude.{◌≡◌, ◌↔◌, ◌<◌, ◌∷◌, ◌++◌, [], IsTrue, IsSomeAnd, OnOk, OnErr, slice_get, slice_set};
 
@@ -6,7 +6,7 @@ use std::alloc::{AllocError, Global};
 use std::marker::Model;
 use tq_base::Instant;
 
-/// From when each row of a table holds, unless it has ended.
+/// For each row of a table the time of its start, unless the row has ended.
 #[derive(Drop, Debug)]
 pub struct Starts {
     rows: Vec<Option<Instant>>,
@@ -21,7 +21,6 @@ impl Model for Starts {
 }
 
 impl Starts {
-    /// No row.
     pub fn new(alloc: Global) -> Starts
         ensures { result ≡ [] }
     {
@@ -30,7 +29,7 @@ impl Starts {
         }
     }
 
-    /// A row starts. Out of memory: the rows are as before.
+    /// Starts a row. If an allocation failed, nothing has changed.
     pub fn start(&mut self, at: Instant) -> Result<(), AllocError>
         ensures ok { OnOk result (self.new ≡ self.old ++ Some at ∷ []) }
         ensures err { OnErr result (self.new ≡ self.old) }
@@ -39,7 +38,7 @@ impl Starts {
         Ok(())
     }
 
-    /// The row has ended.
+    /// Ends the row.
     pub fn end(&mut self, row: usize)
         ensures { self.new ≡ slice_set self.old row None }
     {
@@ -48,7 +47,7 @@ impl Starts {
         }
     }
 
-    /// Whether the row is open, and started before the instant.
+    /// Whether the row is open and started before the instant.
     pub fn is_open_before(&self, row: usize, at: Instant) -> bool
         ensures { IsTrue result ↔ IsSomeAnd (slice_get self.now row) (λ start. IsSomeAnd start (λ from. from < at)) }
     {

@@ -12,20 +12,20 @@ use Rattle.std.proofs.lemmas.List.Quantifiers.{all_pairs_push}
 use Rattle.std.proofs.lemmas.List.Sorted.{Contains-permutation, IsPermutation-map, IsPermutation-sym}
 use Rattle.tq_base.specs.RowValues.{value_at}
 use Rattle.tq_base.specs.declared.fragment.Fragment.{Fragment}
-use Rattle.tq_base.specs.declared.sides.Key.{Key}
-use Rattle.tq_base.specs.declared.sides.Mark.TheVariants.{Unknown}
-use Rattle.tq_base.specs.declared.sides.Side.{Side}
-use Rattle.tq_base.specs.declared.sides.Side.TheVariants.{Left, Right}
+use Rattle.tq_base.specs.declared.sort_input.SortKey.{SortKey}
+use Rattle.tq_base.specs.declared.sort_input.RunStart.TheVariants.{Unknown}
+use Rattle.tq_base.specs.declared.sort_input.Side.{Side}
+use Rattle.tq_base.specs.declared.sort_input.Side.TheVariants.{Left, Right}
 use Rattle.tq_base.specs.declared.value.Value.{Value}
-use Rattle.tq_base.specs.KeyLaws.{alike, told}
-use Rattle.tq_base.specs.Keys.{columns_on, held, held_on, key_row, key_values, value_key_cmp, Held, IsKey, Rises, SidesState}
+use Rattle.tq_base.specs.SortKeyLaws.{alike, told}
+use Rattle.tq_base.specs.Keys.{columns_on, held, held_on, key_row, key_values, value_key_cmp, Held, IsSortKey, Rises, SortInputState}
 use Rattle.tq_base.specs.ValueOrder.{values_cmp, values_same, values_total}
 use Rattle.tq_ops.specs.Ordinary.{projection}
 use Rattle.tq_figures.specs.Groups.{begins, AreEach, CountsEach, CountsGroups}
 
 -- a key, where there is none
-abbrev pub no_key : Key
-no_key = record { rank = 0; start = 0; row = 0; side = Left; mark = Unknown }
+abbrev pub no_key : SortKey
+no_key = record { prefix = 0; start = 0; row = 0; side = Left; run_start = Unknown }
 
 abbrev pub Row : Type 0
 Row = List Value
@@ -134,7 +134,7 @@ tied Less is = cc
 tied Equal is = refl
 tied Greater is = cc
 
-module _ (s : SidesState) (keys : List Key) (are : All (IsKey s) keys) (rise : Rises s keys) (place count : ℕ) (d : Key) (short : place < length keys) where
+module _ (s : SortInputState) (keys : List SortKey) (are : All (IsSortKey s) keys) (rise : Rises s keys) (place count : ℕ) (d : SortKey) (short : place < length keys) where
   abbrev pub value : ℕ → Row
   value i = key_values s (get_or keys i d)
 
@@ -202,7 +202,7 @@ order_counted lists others count same =
 
 module _ (rows : List Fragment) (columns : List ℕ) where
   -- the rows on both sides
-  abbrev pub groups_state : SidesState
+  abbrev pub groups_state : SortInputState
   groups_state = record { left = rows; right = rows; left_columns = columns; right_columns = columns }
 
   abbrev pub of_row : Fragment → Row
@@ -211,7 +211,7 @@ module _ (rows : List Fragment) (columns : List ℕ) where
   abbrev pub of_held : Held → Row
   of_held h = of_row h.row
 
-  of_columns : (k : Key) → of_row (key_row groups_state k) ≡ key_values groups_state k
+  of_columns : (k : SortKey) → of_row (key_row groups_state k) ≡ key_values groups_state k
   of_columns k = ap (λ places. map (value_at (key_row groups_state k).values) places) (sym (same k.side))
     where
       same : (side : Side) → columns_on groups_state side ≡ columns
@@ -222,12 +222,12 @@ module _ (rows : List Fragment) (columns : List ℕ) where
   of_rows [] = refl
   of_rows (f ∷ others) = ap (λ l. of_row f ∷ l) (of_rows others)
 
-  of_keys : (keys : List Key) → map of_held (map (held groups_state) keys) ≡ map (key_values groups_state) keys
+  of_keys : (keys : List SortKey) → map of_held (map (held groups_state) keys) ≡ map (key_values groups_state) keys
   of_keys [] = refl
   of_keys (k ∷ keys) = ap (λ v. v ∷ map of_held (map (held groups_state) keys)) (of_columns k) ∙ ap (λ l. key_values groups_state k ∷ l) (of_keys keys)
 
   -- the values of the sorted keys are those of the rows, in an order
-  pub values_same_rows : (none keys sorted : List Key) → none ≡ [] → map (held groups_state) keys ≡ map (held groups_state) none ++ held_on Left rows
+  pub values_same_rows : (none keys sorted : List SortKey) → none ≡ [] → map (held groups_state) keys ≡ map (held groups_state) none ++ held_on Left rows
       → IsPermutation (map (held groups_state) keys) (map (held groups_state) sorted) → IsPermutation (map of_row rows) (map (key_values groups_state) sorted)
   values_same_rows none keys sorted is_none are same =
       let all : map of_held (map (held groups_state) keys) ≡ map of_row rows =

@@ -1,9 +1,9 @@
 -- Groups: the lists of values that rows have in some columns, each once. After SQL's GROUP BY.
 use Rattle.std.specs.Prelude.{◌≡◌, ◌≢◌, ℕ, ◌-◌, Bool, true, nat_lt, if◌then◌else◌, List, [], ◌∷◌, length, Option, Some, None, slice_index_or, All, AllPairs, Contains}
 use Rattle.std.specs.Ordering.{is_ne}
-use Rattle.tq_base.specs.declared.sides.Key.{Key}
+use Rattle.tq_base.specs.declared.sort_input.SortKey.{SortKey}
 use Rattle.tq_base.specs.declared.value.Value.{Value}
-use Rattle.tq_base.specs.Keys.{value_key_cmp, SidesState}
+use Rattle.tq_base.specs.Keys.{value_key_cmp, SortInputState}
 
 -- each list of values that is one, once, and no other
 pub record AreEach (IsOne : List Value → Type 0) (each : List (List Value)) : Type 0 where
@@ -23,5 +23,5 @@ CountsGroups IsOne (column ∷ columns) None = ⊥
 CountsGroups IsOne (column ∷ columns) (Some count) = CountsEach IsOne count
 
 -- whether the key at the place has other values than the one before it, if there is one
-abbrev pub begins : SidesState → List Key → ℕ → Key → Bool
+abbrev pub begins : SortInputState → List SortKey → ℕ → SortKey → Bool
 begins s keys place d = if nat_lt 0 place then is_ne (value_key_cmp s (slice_index_or keys (place - 1) d) (slice_index_or keys place d)) else true

@@ -4,7 +4,7 @@ ghost use Rattle.std.specs.Prelude.{IfOk};
 ghost use Rattle.tq_event.specs.Tables.{lists_of};
 ghost use Rattle.tq_eval.specs.Fitting.{AreAllFitting};
 ghost use Rattle.tq_figures.specs.Explaining.{IsTold};
-ghost use Rattle.tq_plan.specs.Standing.{IsPlanOver};
+ghost use Rattle.tq_plan.specs.ValidPlans.{IsPlanOver};
 
 use crate::figures::figures_of;
 use crate::telling::{RunFigures, figures_text};

@@ -9,16 +9,16 @@ ghost use Rattle.tq_eval.specs.Answers.{IsTablesAnswer};
 ghost use Rattle.tq_eval.specs.Fitting.{AreAllFitting};
 ghost use Rattle.tq_figures.specs.Figures.{AreFigures, AreSourceFigures, IsQueryFigures, IsRightFigures, IsSourceFigures, is_in_range, is_kept};
 ghost use Rattle.tq_plan.specs.declared.plans.QueryPlan.{QueryPlan as AnyQueryPlan};
-ghost use Rattle.tq_plan.specs.Standing.{IsPlanOver, IsQueryOver};
+ghost use Rattle.tq_plan.specs.ValidPlans.{IsPlanOver, IsQueryOver};
 ghost use Rattle.tq_table.specs.declared.table.Table.{Table as AnyTable};
 ghost use Rattle.std.specs.Option.{option_copied};
 
 use crate::groups::groups_of;
 use crate::steps::{StepFigures, query_steps};
 use std::alloc::{AllocError, Global};
-use tq_base::{Catalogue, Items, KeyRange, Period, Rows, Seen};
+use tq_base::{Catalogue, KeyRange, List, Period, Rows, ValueRef};
 use tq_eval::{Snapshot, TablesOfRows, answer_tables, passing_rows};
-use tq_plan::laws::queries_stand;
+use tq_plan::laws::queries_are_valid;
 use tq_plan::{Plan, QueryPlan, QuerySource};
 
 /// Of a source: its table's number, how many rows the table has, which of their keys the query can need, and how many of
@@ -34,8 +34,8 @@ pub(crate) struct SourceFigures {
 /// Of a query: its sources, the steps by which the evaluator joins them, and how many groups there are, if it has any.
 #[derive(Drop, Debug)]
 pub(crate) struct QueryFigures {
-    pub(crate) sources: Items<SourceFigures>,
-    pub(crate) steps: Items<StepFigures>,
+    pub(crate) sources: List<SourceFigures>,
+    pub(crate) steps: List<StepFigures>,
     pub(crate) groups: Option<usize>,
 }
 
@@ -54,9 +54,9 @@ fn key_of(rows: &Rows, row: usize) -> i128
     ensures { (d : Fragment) → result ≡ key_of (slice_index_or rows.now.items row d).values }
 {
     match rows.value(row, 0) {
-        Some(value) => match value.seen() {
-            Seen::Int(number) => number,
-            Seen::Text(_) => 0,
+        Some(value) => match value.as_ref() {
+            ValueRef::Int(number) => number,
+            ValueRef::Text(_) => 0,
         },
         None => 0,
     }
@@ -147,7 +147,7 @@ fn sources_figures(
     tables: &[Rows],
     query: &QueryPlan,
     window: &Period,
-) -> Result<Items<SourceFigures>, AllocError>
+) -> Result<List<SourceFigures>, AllocError>
     ensures { IfOk result (λ figures. AreSourceFigures window.now query.now (lists_of tables.now) query.now.sources figures) }
 {
     let sources = query.sources.get();
@@ -155,7 +155,7 @@ fn sources_figures(
     'sources: for source in sources {
         figures.push(source_figures(tables, query, source, window))?;
     }
-    Ok(Items::of(figures))
+    Ok(List::of(figures))
 }
 
 // The figures of the query.
@@ -175,7 +175,7 @@ fn query_figures(
     let groups = groups_of(alloc, &rows, query.group.get())?;
     Ok(QueryFigures {
         sources,
-        steps: Items::of(steps),
+        steps: List::of(steps),
         groups,
     })
 }
@@ -223,7 +223,7 @@ pub(crate) fn figures_of(
     requires plan { IsPlanOver catalogue.now plan.now }
     ensures { IfOk result (AreFigures (lists_of tables.now) plan.now) }
 {
-    queries_stand();
+    queries_are_valid();
     let rows = count_answer(alloc, catalogue, tables, plan)?;
     let snapshot = TablesOfRows { catalogue, tables };
     let left = query_figures(alloc, &snapshot, &plan.left, &plan.window)?;

@@ -1,15 +1,15 @@
--- The child of the parent that holds the key just beside a node is the node's sibling.
+-- The child of the parent that holds the key next to a node's range is the node's sibling.
 use Rattle.std.proofs.Common.{◌≡◌, ℕ, ◌+◌, ◌-◌, ◌<◌, ◌≤◌, ◌⊎◌, inl, inr, List, Bool, true, false, ap, refl, sym, ◌∙◌, subst, arith, nat_lt, slice_get, Some}
 use Rattle.std.proofs.lemmas.Bool.Decides.{nat_tests}
 use Rattle.tq_mvbt.specs.NodeState.{NodeState}
 use Rattle.tq_mvbt.specs.Points.{now, IsChild}
 use Rattle.tq_mvbt.specs.Shape.{IsNode, IsPlaced, IsBranch, IsSomeForest}
-use Rattle.tq_mvbt.specs.Loose.{IsUnder, AreBeside, IsStanding}
+use Rattle.tq_mvbt.specs.Unsettled.{IsWithinParent, AreAdjacent, IsCurrentNode}
 use Rattle.tq_mvbt.proofs.Lists.{all_at}
 use Rattle.tq_mvbt.proofs.Ending.{unique}
 use Rattle.tq_mvbt.proofs.Descent.{step_down}
 
--- two nodes of a level that stand share no key
+-- two current nodes of a level have no key in common
 apart : (nodes : List NodeState) (some : IsSomeForest nodes) (i j : ℕ) (n m : NodeState) (k : ℕ) → slice_get nodes i ≡ Some n → slice_get nodes j ≡ Some m → n.level ≡ m.level → n.died ≡ now → m.died ≡ now → n.low ≤ k → k < n.high → m.low ≤ k → k < m.high → n ≡ m
 apart nodes some i j n m k e f l d d' a b a' b' =
     let one = all_at (IsNode some.version some.lives nodes) nodes i n some.forest.each e in
@@ -22,9 +22,9 @@ apart nodes some i j n m k e f l d d' a b a' b' =
     let g : slice_get nodes j ≡ Some n = subst (λ x. slice_get nodes x ≡ Some n) at e in
     cc
 
--- the node and the child beside it
+-- the node and its adjacent sibling
 pub beside : (nodes : List NodeState) (some : IsSomeForest nodes) (level i q j x : ℕ) (n parent : NodeState) → slice_get nodes i ≡ Some n → slice_get nodes q ≡ Some parent → n.level ≡ level → n.died ≡ now → parent.level ≡ level + 1 → parent.died ≡ now
-    → parent.low ≤ x → x < parent.high → ((x ≡ n.high) ⊎ (x + 1 ≡ n.low)) → IsChild parent.entries x j → AreBeside nodes i j × IsUnder nodes j q × IsStanding level nodes j × (x ≡ n.high → (m : NodeState) → slice_get nodes j ≡ Some m → m.low ≡ n.high)
+    → parent.low ≤ x → x < parent.high → ((x ≡ n.high) ⊎ (x + 1 ≡ n.low)) → IsChild parent.entries x j → AreAdjacent nodes i j × IsWithinParent nodes j q × IsCurrentNode level nodes j × (x ≡ n.high → (m : NodeState) → slice_get nodes j ≡ Some m → m.low ≡ n.high)
 beside nodes some level i q j x n parent e f l d pl pd a b side child =
     let found = step_down nodes (level + 1) x q j parent some (omega arith) (record { node = parent; stands = f; at_level = pl; died = pd; low = a; high = b }) f child in
     let m = found.node in

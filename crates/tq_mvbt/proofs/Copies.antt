@@ -1,4 +1,4 @@
--- What is copied into a node that begins: each step keeps that the entries tell all keys of their range.
+-- What is copied into a new node: each step keeps that the entries list all keys of their range.
 use Rattle.std.proofs.Common.{◌≡◌, ℕ, ◌+◌, ◌-◌, ◌<◌, ◌≤◌, List, [], ◌∷◌, ◌++◌, Bool, true, false, cond, ◌&&◌, length, ap, refl, sym, ◌∙◌, subst, arith, count_by, filter, take, drop, nat_eq}
 use Rattle.std.specs.Prelude.{All, IsPermutation}
 use Rattle.std.proofs.lemmas.Bool.Decides.{nat_tests}
@@ -16,7 +16,7 @@ use Rattle.tq_mvbt.specs.Copies.{IsInside, IsCopy}
 use Rattle.tq_mvbt.proofs.Lists.{all_both}
 use Rattle.tq_mvbt.proofs.Losses.{IsMarked, covers-filter_live, covers-elsewhere}
 
--- ---- a node begins with what was copied
+-- ---- a new node has what was copied
 
 holds_fresh : (ls : List Link) (level low high version k v : ℕ) (items : List Entry) → holds k v (fresh level low high version items ls) ≡ true → (within low high k ≡ true) × (version ≤ v) × (v < now)
 holds_fresh ls level low high version k v items h = split (within low high k) (within version now v) refl refl h
@@ -43,7 +43,7 @@ begun {ls} version lives nodes level low high items small copy =
       lists = λ k v h. let p = holds_fresh ls level low high version k v items h in copy.lists k v p.0 p.1 p.2;
     }
 
--- ---- the live entries of a node that stands
+-- ---- the live entries of a current node
 
 live_inside : (version : ℕ) (n : NodeState) (e : Entry) → IsPlaced version n e → is_live e ≡ true → IsInside version n.low n.high e
 live_inside version n e p l = record { above = p.low; wide = p.wide; below = p.high; born = p.born; dead = grind (arith, nat_tests) }
@@ -65,7 +65,7 @@ copied version lives nodes n node d =
           ∙ node.lists k v (holds_standing version k v n node.born d w h s);
     }
 
--- ---- two ranges side by side are joined
+-- ---- two adjacent ranges are joined
 
 count-append : {X : Type 0} (p : X → Bool) (xs ys : List X) → count_by p (xs ++ ys) ≡ count_by p xs + count_by p ys
 count-append p xs ys = sum_by-append (λ x. tally (p x)) xs ys
@@ -118,7 +118,7 @@ joined version lives nodes level low middle high xs ys a b =
         let there = y (grind (arith, nat_tests)) s h in
         omega (arith, there, none)
 
--- the order doesn't matter
+-- the order does not matter
 pub reordered : (version : ℕ) (lives : ℕ → ℕ → Bool) (nodes : List NodeState) (level low high : ℕ) (xs ys : List Entry) → IsPermutation xs ys → IsCopy version lives nodes level low high xs → IsCopy version lives nodes level low high ys
 reordered version lives nodes level low high xs ys p a =
     record {
@@ -158,7 +158,7 @@ at_most_one lives level k v = split (nat_eq level 0) (lives k v)
     split true false = omega arith
     split false b = omega arith
 
--- both parts tell all keys of theirs
+-- both parts list all keys of theirs
 pub record AreParts (version : ℕ) (lives : ℕ → ℕ → Bool) (nodes : List NodeState) (level low middle high : ℕ) (lower upper : List Entry) : Type 0 where
   pub lower_copy : IsCopy version lives nodes level low middle lower
   pub upper_copy : IsCopy version lives nodes level middle high upper

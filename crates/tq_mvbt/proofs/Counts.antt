@@ -1,4 +1,4 @@
--- How many entries of a node live: after an edit, at a version, and for a part of the keys.
+-- The number of live entries of a node: after an edit, at a version, and for a part of the keys.
 use Rattle.std.proofs.Common.{◌≡◌, ℕ, zero, suc, ◌+◌, ◌<◌, ◌≤◌, ◌⊎◌, inl, inr, List, [], ◌∷◌, Bool, true, false, cond, ◌&&◌, length, map, ap, refl, arith, count_by, nat_eq, slice_get, Some}
 use Rattle.std.specs.Prelude.{All}
 use Rattle.std.proofs.lemmas.Bool.Decides.{nat_tests}
@@ -10,7 +10,7 @@ use Rattle.tq_mvbt.specs.Points.{now, within, is_live, with_end}
 use Rattle.tq_mvbt.specs.Shape.{tally, live_at, IsPlaced, IsNode}
 use Rattle.tq_mvbt.proofs.Lists.{count_alike}
 
--- a test that holds wherever another one does counts no less
+-- a test that holds wherever another one does counts at least as many
 pub count_grows : {X : Type 0} (p q : X → Bool) (xs : List X) → All (λ x. p x ≡ true → q x ≡ true) xs → count_by p xs ≤ count_by q xs
 count_grows p q [] a = omega arith
 count_grows p q (x ∷ xs) a =
@@ -24,7 +24,7 @@ count_grows p q (x ∷ xs) a =
     at_most false true f = omega arith
     at_most false false f = omega arith
 
--- a test that holds only where one of two does counts no more than both
+-- a test that holds only if one of two does counts at most as many as both
 pub count_either : {X : Type 0} (p q r : X → Bool) (xs : List X) → All (λ x. p x ≡ true → (q x ≡ true) ⊎ (r x ≡ true)) xs → count_by p xs ≤ count_by q xs + count_by r xs
 count_either p q r [] a = omega arith
 count_either p q r (x ∷ xs) a =
@@ -40,7 +40,7 @@ count_either p q r (x ∷ xs) a =
     at_most true c d f = one_of c d (f refl)
     at_most false c d f = omega arith
 
--- where the test holds at one place at most, it counts one at most
+-- if the test holds for at most one position, it counts at most one
 pub count_one : {X : Type 0} (p : X → Bool) (xs : List X) (i : ℕ) → ((j : ℕ) (x : X) → slice_get xs j ≡ Some x → p x ≡ true → j ≡ i) → count_by p xs ≤ 1
 count_one p [] i f = omega arith
 count_one p (x ∷ xs) zero f =
@@ -73,7 +73,7 @@ count_one p (x ∷ xs) (suc i) f =
     off true g = absurd (g refl)
     off false g = refl
 
--- an element that passes, where one counts
+-- an element that passes, if one is counted
 pub record Passes {X : Type 0} (p : X → Bool) (xs : List X) : Type 0 where
   pub place : ℕ
   pub element : X
@@ -97,7 +97,7 @@ some_passes p (x ∷ xs) h = split (p x) refl (sum_by-cons (λ y. tally (p y)) x
 abbrev pub is_ended : ℕ → ℕ → Entry → Bool
 is_ended low high e = is_live e && within low high e.low
 
--- live entries that the edit leaves, and those that it ends
+-- the live entries that the edit keeps, and those that it ends
 pub live-edited : (low high version : ℕ) (es : List Entry) → version < now → count_by is_live (map (with_end low high version) es) + count_by (is_ended low high) es ≡ count_by is_live es
 live-edited low high version [] small = refl
 live-edited low high version (e ∷ es) small =
@@ -109,7 +109,7 @@ live-edited low high version (e ∷ es) small =
     split true false s = rw s refl
     split false w s = rw s refl
 
--- before the version of an edit as many live as did
+-- at versions before the edit the number of live entries stays the same
 pub lived-edited : (v low high version : ℕ) (es : List Entry) → v < version → version < now → count_by (λ e. within e.born e.dead v) (map (with_end low high version) es) ≡ count_by (λ e. within e.born e.dead v) es
 lived-edited v low high version [] h small = refl
 lived-edited v low high version (e ∷ es) h small =
@@ -131,7 +131,7 @@ all_live (e ∷ es) a =
 
 -- ---- at a version
 
--- from the version of the last change on, those live that live now
+-- from the version of the last change on, exactly the entries live that live now
 pub live_at-now : (version v : ℕ) (lives : ℕ → ℕ → Bool) (nodes : List NodeState) (n : NodeState) → IsNode version lives nodes n → version ≤ v → v < now → live_at v n ≡ count_by is_live n.entries
 live_at-now version v lives nodes n node h small =
     count_alike (λ e. within e.born e.dead v) is_live n.entries (All-weaker (IsPlaced version n) (λ e. within e.born e.dead v ≡ is_live e) alike n.entries node.placed)

@@ -1,4 +1,4 @@
--- The way down: an index node that stands has one live entry for each of its keys, and the entry's child stands.
+-- The descent: a current index node has exactly one live entry for each of its keys, and the entry's child is current.
 use Rattle.std.proofs.Common.{◌≡◌, ℕ, ◌-◌, ◌<◌, ◌≤◌, List, Bool, true, false, ◌&&◌, ap, refl, ◌∙◌, subst, arith, count_by, nat_lt, nat_eq, slice_get, Some}
 use Rattle.std.proofs.lemmas.Bool.Decides.{nat_tests}
 use Rattle.std.proofs.lemmas.List.Elements.{All-weaker}
@@ -8,7 +8,7 @@ use Rattle.tq_mvbt.specs.Points.{now, within, covers, holds, leads, IsChild}
 use Rattle.tq_mvbt.specs.Shape.{listed, IsPlaced, IsBranch, IsNode, IsSomeForest, IsFound}
 use Rattle.tq_mvbt.proofs.Lists.{all_at, count_alike}
 
--- an entry leads to a key just where it holds the key at the last version
+-- an entry leads to a key exactly if it holds the key at the last version
 leads_covers : (version k : ℕ) (n : NodeState) (e : Entry) → version < now → IsPlaced version n e → leads k e ≡ covers k version e
 leads_covers version k n e small p =
     let a = p.born in let b = p.ends in let c = p.ended in
@@ -23,13 +23,13 @@ leads_covers version k n e small p =
 holds_now : (version k : ℕ) (n : NodeState) → version < now → n.born ≤ version → n.died ≡ now → n.low ≤ k → k < n.high → holds k version n ≡ true
 holds_now version k n small b d l h = grind (arith, nat_tests)
 
--- so a node that stands has one that leads to the key, if it is no leaf
+-- so a current node that is not a leaf has one that leads to the key
 pub one_leads : (version k : ℕ) (lives : ℕ → ℕ → Bool) (nodes : List NodeState) (n : NodeState) → version < now → IsNode version lives nodes n → n.died ≡ now → n.low ≤ k → k < n.high → count_by (leads k) n.entries ≡ listed lives n.level k version
 one_leads version k lives nodes n small node d l h =
     count_alike (leads k) (covers k version) n.entries (All-weaker (IsPlaced version n) (λ e. leads k e ≡ covers k version e) (λ e. leads_covers version k n e small) n.entries node.placed)
     ∙ node.lists k version (holds_now version k n small node.born d l h)
 
--- a child of a node that stands stands, where its entry lives
+-- a child of a current node is current if its entry lives
 pub child_stands : (child entry died : ℕ) → died ≡ now → entry ≡ now → child ≤ now → ((v : ℕ) → v < died → nat_lt v child ≡ nat_lt v entry) → child ≡ now
 child_stands child entry died d e c alike = split (nat_lt child now) refl
   where

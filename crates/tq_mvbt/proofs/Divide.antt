@@ -1,4 +1,4 @@
--- Entries in the order of their low keys, divided in the middle.
+-- Entries in the order of their low keys, split in the middle.
 use Rattle.std.proofs.Common.{◌≡◌, ℕ, ◌+◌, ◌/◌, ◌<◌, ◌≤◌, List, length, take, drop, get_or, refl, arith, length-take, length-drop}
 use Rattle.std.specs.Prelude.{All, IsPermutation}
 use Rattle.std.specs.List.Sorted.{IsNonDecreasingBy}

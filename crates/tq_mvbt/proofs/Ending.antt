@@ -1,4 +1,4 @@
--- Nodes of one level end at a version: what is known of them, and which points are lost.
+-- Nodes of one level end at a version: their properties, and which points are lost.
 use Rattle.std.proofs.Common.{◌≡◌, ◌≢◌, ℕ, ◌+◌, ◌-◌, ◌<◌, ◌≤◌, ◌⊎◌, inl, inr, List, Bool, true, false, ◌&&◌, ◌||◌, length, get_or, set, ap, refl, sym, ◌∙◌, subst, arith, count_by, nat_lt, nat_eq, slice_get, Some, take, drop, length-set}
 use Rattle.std.specs.Prelude.{All}
 use Rattle.std.proofs.lemmas.Bool.Decides.{nat_tests}
@@ -11,7 +11,7 @@ use Rattle.tq_mvbt.specs.Steps.{retired}
 use Rattle.tq_mvbt.proofs.Places.{at_set_same, at_set_other, two_pass}
 use Rattle.tq_mvbt.proofs.Losses.{node_ends}
 
--- a point lies in one node of a level
+-- a point lies in exactly one node of a level
 pub unique : (height : ℕ → ℕ) (nodes : List NodeState) (i j : ℕ) (m n : NodeState) (k v : ℕ) → Tiles height nodes → k < top → v < now → slice_get nodes i ≡ Some m → slice_get nodes j ≡ Some n → m.level ≡ n.level → holds k v m ≡ true → holds k v n ≡ true → i ≡ j
 unique height nodes i j m n k v tiles kt vt e f l a b = split (nat_eq i j) refl
   where
@@ -27,7 +27,7 @@ unique height nodes i j m n k v tiles kt vt e f l a b = split (nat_eq i j) refl
         let second : at_point n.level k v n ≡ true = (let same : nat_eq n.level n.level ≡ true = grind (arith, nat_tests) in rw (same, b) refl) in
         absurd (omega (arith, two_pass (at_point n.level k v) nodes i j m n differ e f first second, tiles n.level k v kt vt, at_most (nat_lt n.level (height v))))
 
--- a node of the level that stands, lies in the range and was there before
+-- a current node of the level that lies in the range and is from before the version
 pub record IsEnded (version level low high : ℕ) (n : NodeState) : Type 0 where
   pub at_level : n.level ≡ level
   pub died : n.died ≡ now
@@ -42,7 +42,7 @@ pub record HasGone (version : ℕ) (mid : List NodeState) (i : ℕ) (n : NodeSta
   pub old : All (λ e. e.born < version) (take (length n.entries - last) n.entries)
   pub young : All (λ e. version ≤ e.born) (drop (length n.entries - last) n.entries)
 
--- just the nodes of the level over the range's keys ended
+-- exactly the nodes of the level over the range's keys ended
 pub record IsEnding (version level low high : ℕ) (old mid : List NodeState) (ended : ℕ → Bool) : Type 0 where
   pub long : length mid ≡ length old
   pub inside : (i : ℕ) (n : NodeState) → slice_get old i ≡ Some n → ended i ≡ true → IsEnded version level low high n
@@ -90,7 +90,7 @@ ends_one height version level last nodes i n tiles small born e l d b t old youn
     is_one : (j : ℕ) (m : NodeState) → slice_get nodes j ≡ Some m → i ≡ j → n ≡ m
     is_one j m f at = let g : slice_get nodes j ≡ Some n = subst (λ x. slice_get nodes x ≡ Some n) at e in cc
 
--- two nodes side by side end
+-- two adjacent nodes end
 module _ (height : ℕ → ℕ) (version level low high last : ℕ) (nodes : List NodeState) (i j : ℕ) (n m : NodeState)
     (tiles : Tiles height nodes) (small : version < now)
     (born : (x : ℕ) (c : NodeState) → slice_get nodes x ≡ Some c → c.born ≤ version)

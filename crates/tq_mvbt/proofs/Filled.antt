@@ -1,4 +1,4 @@
--- How many entries a node has: what begins has enough of them, and what ends had.
+-- The number of entries of a node: a new node has enough of them, and a node that ends had.
 use Rattle.std.proofs.Common.{◌≡◌, ℕ, ◌+◌, ◌-◌, ◌<◌, ◌≤◌, List, [], ◌∷◌, ◌++◌, true, false, length, ap, refl, arith, count_by, take, drop, length-take}
 use Rattle.std.specs.Prelude.{All}
 use Rattle.std.proofs.lemmas.Bool.Decides.{nat_tests}
@@ -12,7 +12,7 @@ use Rattle.tq_mvbt.specs.Points.{now, within}
 use Rattle.tq_mvbt.specs.Shape.{top, tally, IsFilled}
 use Rattle.tq_mvbt.specs.Steps.{fresh, retired, IsDivided}
 use Rattle.tq_mvbt.specs.Copies.{IsInside}
-use Rattle.tq_mvbt.specs.Loose.{IsFilledBefore}
+use Rattle.tq_mvbt.specs.Unsettled.{IsFilledBefore}
 
 -- what was copied lives from the version on
 copied_live : (version low high v : ℕ) (items : List Entry) → All (IsInside version low high) items → version ≤ v → v < now → count_by (λ e. within e.born e.dead v) items ≡ length items
@@ -24,7 +24,7 @@ copied_live version low high v (e ∷ items) a h s =
     let one : tally (within e.born e.dead v) ≡ 1 = (let t : within e.born e.dead v ≡ true = grind (arith, nat_tests) in ap tally t) in
     omega (arith, one, sum_by-cons (λ f. tally (within f.born f.dead v)) e items, copied_live version low high v items (All-tail (IsInside version low high) e items a) h s)
 
--- a node that begins with 5 to 32 entries
+-- a new node with 5 to 32 entries
 pub filled_begins : {ls : List Link} → (level low high version : ℕ) (items : List Entry) → All (IsInside version low high) items → 5 ≤ length items → length items ≤ 32 → IsFilled (fresh level low high version items ls)
 filled_begins level low high version items inside many few =
     record {
@@ -51,7 +51,7 @@ parts_filled level low middle high version items lower upper a b cut many few =
     let u = cut.upper_len in
     (filled_begins level low middle version lower a (omega arith) (omega arith), filled_begins level middle high version upper b (omega arith) (omega arith))
 
--- before the version at which entries end or begin, as many live
+-- before the version at which entries end or begin, equally many live
 pub not_yet : (version v : ℕ) (xs : List Entry) → All (λ e. version ≤ e.born) xs → v < version → count_by (λ e. within e.born e.dead v) xs ≡ 0
 not_yet version v [] a h = refl
 not_yet version v (e ∷ xs) a h =

@@ -1,4 +1,4 @@
--- Each node stays in its place: what a step leaves of it.
+-- Each node keeps its number: what a step leaves unchanged.
 use Rattle.std.proofs.Common.{◌≡◌, ◌≢◌, ℕ, ◌<◌, ◌≤◌, ◌⊎◌, inl, inr, List, ◌++◌, Bool, true, false, set, refl, sym, ◌∙◌, subst, arith, nat_eq, slice_get, Some}
 use Rattle.std.proofs.lemmas.Bool.Decides.{nat_tests}
 use Rattle.std.proofs.lemmas.Option.{slice_get_within}
@@ -8,7 +8,7 @@ use Rattle.tq_mvbt.specs.NodeState.{NodeState}
 use Rattle.tq_mvbt.specs.Points.{now}
 use Rattle.tq_mvbt.specs.Shape.{IsFound}
 use Rattle.tq_mvbt.specs.Steps.{edited, retired, Changes}
-use Rattle.tq_mvbt.specs.Loose.{IsGrown, Grows}
+use Rattle.tq_mvbt.specs.Unsettled.{IsGrown, Grows}
 use Rattle.tq_mvbt.proofs.Places.{at_set_same, at_set_other, at_left}
 
 -- one node changes
@@ -66,7 +66,7 @@ grows_both version level a b c small f g i n e =
     join m o (inr p) (inl q) = inr (p.0, q ∙ p.1)
     join m o (inr p) (inr q) = let a = p.1 in let b = q.0 in absurd (omega arith)
 
--- a node that was found on the level is found there still
+-- a node that was found on the level is still found there
 pub found_grows : (version level key number : ℕ) (old new : List NodeState) → Grows version level old new → IsFound old level key number → IsFound new level key number
 found_grows version level key number old new grows found =
     let g = grows number found.node found.stands in

@@ -8,11 +8,11 @@ use Rattle.tq_mvbt.specs.declared.root.Root.{Root}
 use Rattle.tq_mvbt.specs.NodeState.{NodeState}
 use Rattle.tq_mvbt.specs.Points.{now, within, covers, holds}
 use Rattle.tq_mvbt.specs.Shape.{top, tally, listed, live_at, IsRow, IsBranch, IsPlaced, IsNode, IsForest, IsFilled}
-use Rattle.tq_mvbt.specs.TreeState.{among, IsRootAt}
+use Rattle.tq_mvbt.specs.TreeState.{count_keys, IsRootAt}
 use Rattle.tq_mvbt.proofs.Lists.{all_at, all_both}
 use Rattle.tq_mvbt.proofs.Places.{two_pass, all_from_places}
 use Rattle.tq_mvbt.proofs.Counts.{count_one}
-use Rattle.tq_mvbt.proofs.Among.{among-suc, among-grows, among-part, shared-most, shared-least}
+use Rattle.tq_mvbt.proofs.Among.{count_keys-suc, count_keys-grows, count_keys-part, shared-most, shared-least}
 
 -- the keys that live
 abbrev living : (ℕ → ℕ → Bool) → ℕ → ℕ → Bool
@@ -36,15 +36,15 @@ module _ (version : ℕ) (lives : ℕ → ℕ → Bool) (height : ℕ → ℕ) (
     each : (i : ℕ) (n : NodeState) → slice_get nodes i ≡ Some n → IsNode version lives nodes n
     each i n e = all_at (IsNode version lives nodes) nodes i n forest.each e
 
-    -- the keys of a node's live entries are so many keys of the node
+    -- if each live entry has at least n live keys, the node has at least n for each of them
     below : (n : NodeState) (least : ℕ) → IsNode version lives nodes n → within n.born n.died v ≡ true
-        → All (λ e. within e.born e.dead v ≡ true → least ≤ among (living lives v) e.low (e.high - e.low)) n.entries
-        → live_at v n * least ≤ among (living lives v) n.low (n.high - n.low)
+        → All (λ e. within e.born e.dead v ≡ true → least ≤ count_keys (living lives v) e.low (e.high - e.low)) n.entries
+        → live_at v n * least ≤ count_keys (living lives v) n.low (n.high - n.low)
     below n least node alive all =
         let most = shared-most (living lives v) (λ e k. covers k v e) n.low (n.high - n.low) n.entries (λ k a b. let h = node.wide in one k (omega arith) (omega arith)) in
         let some = shared-least (living lives v) (λ e k. covers k v e) (λ e. within e.born e.dead v) n.low (n.high - n.low) least n.entries
-        (all_both (IsPlaced version n) (λ e. within e.born e.dead v ≡ true → least ≤ among (living lives v) e.low (e.high - e.low))
-        (λ e. within e.born e.dead v ≡ true → least ≤ among (λ k. lives k v && covers k v e) n.low (n.high - n.low)) into n.entries node.placed all) in
+        (all_both (IsPlaced version n) (λ e. within e.born e.dead v ≡ true → least ≤ count_keys (living lives v) e.low (e.high - e.low))
+        (λ e. within e.born e.dead v ≡ true → least ≤ count_keys (λ k. lives k v && covers k v e) n.low (n.high - n.low)) into n.entries node.placed all) in
         omega (arith, most, some)
       where
         one : (k : ℕ) → n.low ≤ k → k < n.high → count_by (λ e. covers k v e) n.entries ≤ 1
@@ -52,14 +52,14 @@ module _ (version : ℕ) (lives : ℕ → ℕ → Bool) (height : ℕ → ℕ) (
             let h : holds k v n ≡ true = (let i : within n.low n.high k ≡ true = grind (arith, nat_tests) in rw (i, alive) refl) in
             omega (arith, node.lists k v h, listed_most lives n.level k v)
 
-        into : (e : Entry) → IsPlaced version n e → (within e.born e.dead v ≡ true → least ≤ among (living lives v) e.low (e.high - e.low)) → within e.born e.dead v ≡ true → least ≤ among (λ k. lives k v && covers k v e) n.low (n.high - n.low)
+        into : (e : Entry) → IsPlaced version n e → (within e.born e.dead v ≡ true → least ≤ count_keys (living lives v) e.low (e.high - e.low)) → within e.born e.dead v ≡ true → least ≤ count_keys (λ k. lives k v && covers k v e) n.low (n.high - n.low)
         into e p f t =
             let a = p.low in
             let b = p.wide in
             let c = p.high in
             let x = f t in
-            let y = among-grows (living lives v) (λ k. lives k v && covers k v e) e.low (e.high - e.low) (λ k l h. same k t l (omega arith)) in
-            let z = among-part (λ k. lives k v && covers k v e) n.low (n.high - n.low) e.low (e.high - e.low) a (omega arith) in
+            let y = count_keys-grows (living lives v) (λ k. lives k v && covers k v e) e.low (e.high - e.low) (λ k l h. same k t l (omega arith)) in
+            let z = count_keys-part (λ k. lives k v && covers k v e) n.low (n.high - n.low) e.low (e.high - e.low) a (omega arith) in
             omega (arith, x, y, z)
           where
             keeps : (b : Bool) → tally b ≤ tally (b && true)
@@ -72,13 +72,13 @@ module _ (version : ℕ) (lives : ℕ → ℕ → Bool) (height : ℕ → ℕ) (
                 rw (i, t) (keeps (lives k v))
 
     -- the key of a leaf's live entry
-    leaf_key : (n : NodeState) → v < n.died → (e : Entry) → IsPlaced version n e → IsRow lives n e → within e.born e.dead v ≡ true → 1 ≤ among (living lives v) e.low (e.high - e.low)
+    leaf_key : (n : NodeState) → v < n.died → (e : Entry) → IsPlaced version n e → IsRow lives n e → within e.born e.dead v ≡ true → 1 ≤ count_keys (living lives v) e.low (e.high - e.low)
     leaf_key n alive e p r t =
         let k = r.one_key in
         let one : e.high - e.low ≡ suc zero = omega arith in
         let lives_now : tally (lives e.low v) ≡ 1 = ap tally (r.life v alive ∙ t) in
         let at : tally (lives (e.low + zero) v) ≡ tally (lives e.low v) = ap (λ x. tally (lives x v)) (let z : e.low + zero ≡ e.low = omega arith in z) in
-        rw one (omega (arith, lives_now, at, among-suc (living lives v) e.low zero))
+        rw one (omega (arith, lives_now, at, count_keys-suc (living lives v) e.low zero))
 
     -- the child of a live entry is alive
     child_alive : (n : NodeState) → v < n.died → (e : Entry) → (b : IsBranch nodes n e) → within e.born e.dead v ≡ true → within b.child.born b.child.died v ≡ true
@@ -87,13 +87,13 @@ module _ (version : ℕ) (lives : ℕ → ℕ → Bool) (height : ℕ → ℕ) (
         let l = b.life v alive in
         grind (arith, nat_tests, t, l, s)
 
-    -- a node that has not all keys
-    pub many_keys : (level i : ℕ) (n : NodeState) → slice_get nodes i ≡ Some n → n.level ≡ level → within n.born n.died v ≡ true → (0 < n.low) ⊎ (n.high < top) → 5 ^ (level + 1) ≤ among (living lives v) n.low (n.high - n.low)
+    -- a node that does not have all keys
+    pub many_keys : (level i : ℕ) (n : NodeState) → slice_get nodes i ≡ Some n → n.level ≡ level → within n.born n.died v ≡ true → (0 < n.low) ⊎ (n.high < top) → 5 ^ (level + 1) ≤ count_keys (living lives v) n.low (n.high - n.low)
     many_keys zero i n e l alive part =
         let node = each i n e in
         let five = enough i n e alive part in
         let d : v < n.died = grind (arith, nat_tests) in
-        let all = below n 1 node alive (all_both (IsPlaced version n) (IsRow lives n) (λ f. within f.born f.dead v ≡ true → 1 ≤ among (living lives v) f.low (f.high - f.low)) (λ f p r. leaf_key n d f p r) n.entries node.placed (node.rows l)) in
+        let all = below n 1 node alive (all_both (IsPlaced version n) (IsRow lives n) (λ f. within f.born f.dead v ≡ true → 1 ≤ count_keys (living lives v) f.low (f.high - f.low)) (λ f p r. leaf_key n d f p r) n.entries node.placed (node.rows l)) in
         let pow : 5 ^ (zero + 1) ≡ 5 = refl in
         rw pow (omega (arith, all, five))
       where
@@ -104,7 +104,7 @@ module _ (version : ℕ) (lives : ℕ → ℕ → Bool) (height : ℕ → ℕ) (
         let node = each i n e in
         let five = enough i n e alive part in
         let d : v < n.died = grind (arith, nat_tests) in
-        let all = below n (5 ^ (level + 1)) node alive (all_both (IsPlaced version n) (IsBranch nodes n) (λ f. within f.born f.dead v ≡ true → 5 ^ (level + 1) ≤ among (living lives v) f.low (f.high - f.low))
+        let all = below n (5 ^ (level + 1)) node alive (all_both (IsPlaced version n) (IsBranch nodes n) (λ f. within f.born f.dead v ≡ true → 5 ^ (level + 1) ≤ count_keys (living lives v) f.low (f.high - f.low))
         (λ f p b t. child_keys n part f p b (many_keys level f.child b.child b.stands (let x = b.level in omega arith) (child_alive n d f b t))) n.entries node.placed (node.branches (omega arith))) in
         let pow : 5 ^ (suc level + 1) ≡ 5 * 5 ^ (level + 1) = power level in
         rw pow (times (live_at v n) (5 ^ (level + 1)) five all)
@@ -119,7 +119,7 @@ module _ (version : ℕ) (lives : ℕ → ℕ → Bool) (height : ℕ → ℕ) (
         times : (a b : ℕ) {c : ℕ} → 5 ≤ a → a * b ≤ c → 5 * b ≤ c
         times a b h g = grind arith
 
-        child_keys : (n : NodeState) → (0 < n.low) ⊎ (n.high < top) → (f : Entry) → IsPlaced version n f → (b : IsBranch nodes n f) → ((0 < b.child.low) ⊎ (b.child.high < top) → 5 ^ (level + 1) ≤ among (living lives v) b.child.low (b.child.high - b.child.low)) → 5 ^ (level + 1) ≤ among (living lives v) f.low (f.high - f.low)
+        child_keys : (n : NodeState) → (0 < n.low) ⊎ (n.high < top) → (f : Entry) → IsPlaced version n f → (b : IsBranch nodes n f) → ((0 < b.child.low) ⊎ (b.child.high < top) → 5 ^ (level + 1) ≤ count_keys (living lives v) b.child.low (b.child.high - b.child.low)) → 5 ^ (level + 1) ≤ count_keys (living lives v) f.low (f.high - f.low)
         child_keys n (inl h) f p b g =
             let x = b.low in let y = b.high in let a = p.low in
             rw (sym x, sym y) (g (inl (omega arith)))
@@ -127,7 +127,7 @@ module _ (version : ℕ) (lives : ℕ → ℕ → Bool) (height : ℕ → ℕ) (
             let x = b.low in let y = b.high in let a = p.high in
             rw (sym x, sym y) (g (inr (omega arith)))
 
-    -- a live entry of an index node has not all of its keys, since another one lives
+    -- a live entry of an index node does not have all of its keys, since another one lives
     pub narrower_at : (i : ℕ) (n : NodeState) → slice_get nodes i ≡ Some n → within n.born n.died v ≡ true → 0 < n.level → (j : ℕ) (f : Entry) → slice_get n.entries j ≡ Some f → within f.born f.dead v ≡ true → (n.low < f.low) ⊎ (f.high < n.high)
     narrower_at i n e alive index j f g t = split (nat_lt n.low f.low) (nat_lt f.high n.high) refl refl
       where
@@ -155,14 +155,14 @@ module _ (version : ℕ) (lives : ℕ → ℕ → Bool) (height : ℕ → ℕ) (
             absurd (omega (arith, two, count_one (λ x. within x.born x.dead v) n.entries j (λ m x k w. alone z1 z2 m x k w (nat_eq m j) refl)))
 
     -- a root above leaves
-    pub root_keys : v < now → (level i : ℕ) (n : NodeState) → slice_get nodes i ≡ Some n → n.level ≡ suc level → within n.born n.died v ≡ true → n.low ≡ 0 → n.high ≡ top → 2 * 5 ^ (level + 1) ≤ among (living lives v) 0 top
+    pub root_keys : v < now → (level i : ℕ) (n : NodeState) → slice_get nodes i ≡ Some n → n.level ≡ suc level → within n.born n.died v ≡ true → n.low ≡ 0 → n.high ≡ top → 2 * 5 ^ (level + 1) ≤ count_keys (living lives v) 0 top
     root_keys small level i n e l alive low high =
         let node = each i n e in
         let two = ((all_at IsFilled nodes i n filled e).enough v alive).index (omega arith) in
         let d : v < n.died = grind (arith, nat_tests) in
         let all = below n (5 ^ (level + 1)) node alive (all_parts node two d) in
         let span : n.high - n.low ≡ top = omega arith in
-        let same : among (living lives v) n.low (n.high - n.low) ≡ among (living lives v) 0 top = rw (span, low) refl in
+        let same : count_keys (living lives v) n.low (n.high - n.low) ≡ count_keys (living lives v) 0 top = rw (span, low) refl in
         times (live_at v n) (5 ^ (level + 1)) two (omega (arith, all, same))
       where
         times : (a b : ℕ) {c : ℕ} → 2 ≤ a → a * b ≤ c → 2 * b ≤ c
@@ -175,22 +175,22 @@ module _ (version : ℕ) (lives : ℕ → ℕ → Bool) (height : ℕ → ℕ) (
             part (inl h) = inl (omega arith)
             part (inr h) = inr (omega arith)
 
-        all_parts : IsNode version lives nodes n → 2 ≤ live_at v n → v < n.died → All (λ f. within f.born f.dead v ≡ true → 5 ^ (level + 1) ≤ among (living lives v) f.low (f.high - f.low)) n.entries
+        all_parts : IsNode version lives nodes n → 2 ≤ live_at v n → v < n.died → All (λ f. within f.born f.dead v ≡ true → 5 ^ (level + 1) ≤ count_keys (living lives v) f.low (f.high - f.low)) n.entries
         all_parts node two d =
-            all_from_places (λ f. within f.born f.dead v ≡ true → 5 ^ (level + 1) ≤ among (living lives v) f.low (f.high - f.low)) n.entries (λ j f g t.
+            all_from_places (λ f. within f.born f.dead v ≡ true → 5 ^ (level + 1) ≤ count_keys (living lives v) f.low (f.high - f.low)) n.entries (λ j f g t.
             let b = all_at (IsBranch nodes n) n.entries j f (node.branches (omega arith)) g in
             let x = b.low in
             let y = b.high in
             let keys = many_keys level f.child b.child b.stands (let z = b.level in omega arith) (child_alive n d f b t) (narrow f b (part_of j f g t)) in
-            let keys' : 5 ^ (level + 1) ≤ among (living lives v) f.low (b.child.high - f.low) = subst (λ z. 5 ^ (level + 1) ≤ among (living lives v) z (b.child.high - z)) x keys in
-            subst (λ z. 5 ^ (level + 1) ≤ among (living lives v) f.low (z - f.low)) y keys')
+            let keys' : 5 ^ (level + 1) ≤ count_keys (living lives v) f.low (b.child.high - f.low) = subst (λ z. 5 ^ (level + 1) ≤ count_keys (living lives v) z (b.child.high - z)) x keys in
+            subst (λ z. 5 ^ (level + 1) ≤ count_keys (living lives v) f.low (z - f.low)) y keys')
           where
             narrow : (f : Entry) → (b : IsBranch nodes n f) → (0 < f.low) ⊎ (f.high < top) → (0 < b.child.low) ⊎ (b.child.high < top)
             narrow f b (inl h) = inl (let x = b.low in omega arith)
             narrow f b (inr h) = inr (let y = b.high in omega arith)
 
     -- so a tree of at most 16,777,216 live keys has at most 10 levels
-    pub levels_most : v < now → (r : Root) → IsRootAt nodes v r → among (λ k. lives k v) 0 top ≤ 16777216 → r.levels ≤ 10
+    pub levels_most : v < now → (r : Root) → IsRootAt nodes v r → count_keys (λ k. lives k v) 0 top ≤ 16777216 → r.levels ≤ 10
     levels_most small r at few = split at.node.level refl
       where
         grows : (a b : ℕ) → a ≤ b → 5 ^ a ≤ 5 ^ b

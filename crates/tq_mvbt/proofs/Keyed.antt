@@ -47,7 +47,7 @@ module _ (before version key : ℕ) (alive : Bool) (lives : ℕ → ℕ → Bool
     p_within : p < length old
     p_within = slice_get_within old p leaf stands
 
-    -- elsewhere the lives are as before
+    -- other keys keep their lives
     other_key : (k v : ℕ) → k ≢ key → lives' k v ≡ lives k v
     other_key k v differ = let s : nat_eq k key ≡ false = grind (arith, nat_tests) in rw s refl
 
@@ -270,7 +270,7 @@ module _ (before version key : ℕ) (alive : Bool) (lives : ℕ → ℕ → Bool
         split true true true false s t = refl
         split true true true true s t = let x = r.one_key in absurd (differ (grind (arith, nat_tests)))
 
-    -- at the key none of the old entries is left
+    -- at the key no old entry remains
     beside_key : (v : ℕ) → version ≤ v → (e : Entry) → IsPlaced before leaf e → IsRow lives leaf e → (covers key v e && is_beside key (key + 1) e) ≡ false
     beside_key v h e q r = split (within e.low e.high key) (within e.born e.dead v) refl refl
       where
@@ -375,7 +375,7 @@ module _ (before version key : ℕ) (alive : Bool) (lives : ℕ → ℕ → Bool
     pub keyed : IsForest version lives' height keyed_nodes
     keyed = record { each = all_from_places (IsNode version lives' keyed_nodes) keyed_nodes keyed_each; tiles = keyed_tiles }
 
--- the same of a call that edits the leaf
+-- the same for a call that edits the leaf
 pub keyed_by : (before version key : ℕ) (alive : Bool) (lives : ℕ → ℕ → Bool) (height : ℕ → ℕ) (s t : Contents NodeState) (p : ℕ) (added : List Entry) → before < version → version < now → key < top → IsForest before lives height s.nodes → IsFound s.nodes 0 key p → Changes s t p (edited key (key + 1) version added) → All (IsNewRow version key) added → length added ≡ tally alive → (alive ≡ true → (v : ℕ) → lives key v ≡ false) → IsForest version (with_life lives key version alive) height t.nodes
 keyed_by before version key alive lives height s t p added later small in_keys forest found change rows many never =
     let a = found.stands in

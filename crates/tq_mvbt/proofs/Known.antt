@@ -1,4 +1,4 @@
--- The lives that the leaves tell are those that a tree keeps.
+-- The lives in the leaves are those of the tree.
 use Rattle.std.proofs.Common.{◌≡◌, ℕ, ◌+◌, ◌<◌, List, [], ◌∷◌, Bool, true, false, cond, ◌&&◌, ◌||◌, ap, refl, sym, ◌∙◌, arith, count_by, nat_lt, nat_eq}
 use Rattle.std.specs.Prelude.{All}
 use Rattle.std.proofs.lemmas.Bool.Decides.{nat_tests}
@@ -10,7 +10,7 @@ use Rattle.tq_mvbt.specs.Shape.{top, tally, at_point, IsRow, IsPlaced, IsNode, I
 use Rattle.tq_mvbt.specs.TreeState.{lives_of}
 use Rattle.tq_mvbt.proofs.Lists.{all_both}
 
--- what a leaf tells of a point that it holds
+-- what a leaf lists for a point that it holds
 abbrev Tells : ℕ → ℕ → Bool → NodeState → Type 0
 Tells k v b n = at_point 0 k v n ≡ true → count_by (covers k v) n.entries ≡ tally b
 
@@ -55,7 +55,7 @@ known version lives height nodes k v forest kt vt high =
         split true false x y t = cc
         split false b x y t = cc
 
--- a tree keeps lives that are told alike
+-- a tree of some lives is a tree of equal lives
 pub alike : (version : ℕ) (lives lives' : ℕ → ℕ → Bool) (height : ℕ → ℕ) (nodes : List NodeState) → ((k v : ℕ) → k < top → v < now → lives' k v ≡ lives k v) → IsForest version lives height nodes → IsForest version lives' height nodes
 alike version lives lives' height nodes same forest =
     record { each = All-weaker (IsNode version lives nodes) (IsNode version lives' nodes) one nodes forest.each; tiles = forest.tiles }

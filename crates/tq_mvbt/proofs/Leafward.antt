@@ -39,7 +39,7 @@ leaf_more i nodes n found e l is =
     let one : one_region (0 + i) n ≡ region_for i n ∷ [] = ap (λ b. cond b (region_for (0 + i) n ∷ []) []) leaf ∙ ap (λ x. region_for x n ∷ []) at in
     rw (up, is) (sym (more ∙ ap (λ rs. regions_from 0 (take i nodes) ++ rs) one))
 
--- one more node, no leaf
+-- one more node, not a leaf
 pub index_more : (i : ℕ) (nodes : List NodeState) (n : NodeState) (found : List Region) → slice_get nodes i ≡ Some n → (n.level ≡ 0 → ⊥) → found ≡ regions_from 0 (take i nodes) → found ≡ regions_from 0 (take (i + 1) nodes)
 index_more i nodes n found e l is =
     let more = regions_from-more 0 i nodes n e in

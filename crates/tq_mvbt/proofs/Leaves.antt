@@ -1,4 +1,4 @@
--- A leaf's entries are edited at one key; and a node that was put right leaves its parent as it was.
+-- A leaf's entries are edited at one key; and a node that was replaced leaves its parent from before the version.
 use Rattle.std.proofs.Common.{◌≡◌, ◌≢◌, ℕ, ◌+◌, ◌-◌, ◌<◌, ◌≤◌, List, [], ◌∷◌, ◌++◌, Bool, true, false, cond, length, map, ap, refl, sym, ◌∙◌, subst, arith, count_by, set, nat_eq, slice_get, Some}
 use Rattle.std.specs.Prelude.{All}
 use Rattle.std.proofs.lemmas.Bool.Decides.{nat_tests}
@@ -12,7 +12,7 @@ use Rattle.tq_mvbt.specs.NodeState.{NodeState}
 use Rattle.tq_mvbt.specs.Points.{now, is_live, leads, with_end}
 use Rattle.tq_mvbt.specs.Shape.{top, tally, IsPlaced, IsNode, IsForest, IsFilled, IsFound, listed, with_life}
 use Rattle.tq_mvbt.specs.Steps.{edited, with_entry, Changes}
-use Rattle.tq_mvbt.specs.Loose.{IsFromBefore, IsForestBy, IsSettling, IsReady, IsPartOf}
+use Rattle.tq_mvbt.specs.Unsettled.{IsFromBefore, IsForestBy, IsSettling, IsReady, IsPartOf}
 use Rattle.tq_mvbt.proofs.Lists.{all_at}
 use Rattle.tq_mvbt.proofs.Descent.{one_leads}
 use Rattle.tq_mvbt.proofs.Counts.{is_ended, count_grows}
@@ -63,7 +63,7 @@ leaf_settles version key alive s t p added small ready found change new few =
     (λ i m e d. full i m e)
     (λ i m e l d. older_node ready.before version ready.lives nodes m later (each i m e) (full i m e)))
 
--- an edit that ends no entry leaves them
+-- an edit that ends no entry keeps them
 kept_all : (low high version : ℕ) (es : List Entry) → count_by (is_ended low high) es ≡ 0 → map (with_end low high version) es ≡ es
 kept_all low high version [] none = refl
 kept_all low high version (e ∷ es) none =
@@ -74,7 +74,7 @@ kept_all low high version (e ∷ es) none =
     split true rest off = absurd (omega arith)
     split false rest off = ap (λ xs. e ∷ xs) rest
 
--- where a key is put in that never lived, no entry of its leaf ends
+-- if a key is inserted that never lived, no entry of its leaf ends
 pub adds_edited : (version key : ℕ) (alive : Bool) (s t : Contents NodeState) (p : ℕ) (e : Entry) → version < now → alive ≡ true → IsReady version key alive s.nodes → IsFound s.nodes 0 key p → Changes s t p (with_entry e) → Changes s t p (edited key (key + 1) version (e ∷ []))
 adds_edited version key alive s t p e small on ready found change =
     let nodes = s.nodes in
@@ -106,14 +106,14 @@ apart nodes p q n m e f l = λ (same : q ≡ p).
     let levels : n.level ≡ m.level = ap (λ (x : NodeState). x.level) both in
     omega arith
 
--- the node that was found above, as it stood before
+-- the node that was found above, before the update
 above_filled : (version level last key : ℕ) (nodes : List NodeState) (p q : ℕ) → IsSettling version level last nodes p → (found : IsFound nodes (level + 1) key q) → IsFilled found.node
 above_filled version level last key nodes p q settling found =
     let l = settling.loose.at_level in
     let m = found.at_level in
     settling.others q found.node found.stands (apart nodes p q settling.loose.node found.node settling.loose.stands found.stands (omega arith))
 
--- the node below is put right, and the one above it is as before
+-- the node below is settled, and the one above it is unchanged
 pub settles_above : (version level last key : ℕ) (nodes : List NodeState) (p q : ℕ) → version < now → IsForestBy version nodes → (settling : IsSettling version level last nodes p) → length settling.loose.node.entries ≤ 32 → 5 ≤ count_by is_live settling.loose.node.entries → IsFound nodes (level + 1) key q → IsSettling version (level + 1) 0 nodes q
 settles_above version level last key nodes p q small by settling fits enough found =
     let n = settling.loose.node in
@@ -143,7 +143,7 @@ settles_above version level last key nodes p q small by settling fits enough fou
         subst (λ (y : NodeState). IsFilled y) same right
     other i x e false s right = settling.others i x e (grind (arith, nat_tests))
 
--- the node below has some keys of the one above, and not all
+-- the node below has some of the keys of the one above, and not all
 pub part_above : (version level last key : ℕ) (nodes : List NodeState) (p q : ℕ) → version < now → key < top → IsForestBy version nodes → (settling : IsSettling version level last nodes p) → IsFound nodes level key p → IsFound nodes (level + 1) key q → IsPartOf nodes level p q
 part_above version level last key nodes p q small kt by settling low_found found =
     let m = found.node in

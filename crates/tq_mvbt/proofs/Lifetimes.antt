@@ -1,4 +1,4 @@
--- One key's life begins or ends: the lives of a tree afterwards.
+-- One key's life begins or ends: the lives of the tree afterwards.
 use Rattle.std.proofs.Common.{◌≡◌, ◌≢◌, ℕ, ◌+◌, ◌<◌, ◌≤◌, ◌⊎◌, inl, inr, Bool, true, false, cond, ◌&&◌, ◌||◌, List, [], ◌∷◌, ap, refl, sym, ◌∙◌, subst, arith, count_by, nat_lt, nat_le, nat_eq, min}
 use Rattle.std.specs.Prelude.{All}
 use Rattle.std.proofs.lemmas.Bool.Decides.{nat_tests}
@@ -6,10 +6,10 @@ use Rattle.std.proofs.lemmas.List.Elements.{All-head, All-tail}
 use Rattle.tq_mvbt.specs.NodeState.{NodeState}
 use Rattle.tq_mvbt.specs.Points.{now, within, covers, holds}
 use Rattle.tq_mvbt.specs.Shape.{top, tally, with_life, IsNode}
-use Rattle.tq_mvbt.specs.TreeState.{among, lives_of, IsLife, AreLives}
-use Rattle.tq_mvbt.proofs.Among.{among-alike, among-one_more}
+use Rattle.tq_mvbt.specs.TreeState.{count_keys, lives_of, IsLife, AreLives}
+use Rattle.tq_mvbt.proofs.Among.{count_keys-alike, count_keys-one_more}
 
--- beyond the keys and the versions nothing lives
+-- outside the keys and the versions nothing lives
 pub lives_beyond : (version : ℕ) (lives : ℕ → ℕ → Bool) (all nodes : List NodeState) (k v : ℕ) → All (IsNode version lives all) nodes → (top ≤ k) ⊎ (now ≤ v) → lives_of nodes k v ≡ false
 lives_beyond version lives all [] k v each far = refl
 lives_beyond version lives all (n ∷ nodes) k v each far =
@@ -27,7 +27,7 @@ lives_beyond version lives all (n ∷ nodes) k v each far =
     outside node (inr h) true s = let a = node.ends in grind (arith, nat_tests)
     outside node far false s = refl
 
--- at another key, and before the version, nothing changes
+-- at other keys, and before the version, nothing changes
 pub other_life : (lives : ℕ → ℕ → Bool) (key version k v : ℕ) (alive : Bool) → k ≢ key → with_life lives key version alive k v ≡ lives k v
 other_life lives key version k v alive differ = let s : nat_eq k key ≡ false = grind (arith, nat_tests) in rw s refl
 
@@ -130,36 +130,36 @@ module _ (before version key : ℕ) (alive : Bool) (old new : ℕ → ℕ → Bo
             let at : k ≡ key = grind (arith, nat_tests) in
             subst (λ x. IsLife version (new x)) (sym at) (over (omega arith) t)
 
-    few_lives : (v : ℕ) → v < now → among (λ k. new k v) 0 top ≤ v
+    few_lives : (v : ℕ) → v < now → count_keys (λ k. new k v) 0 top ≤ v
     few_lives v h = split (nat_lt v version) refl
       where
         most : (b : Bool) → tally b ≤ 1
         most true = omega arith
         most false = omega arith
 
-        split : (b : Bool) → nat_lt v version ≡ b → among (λ k. new k v) 0 top ≤ v
+        split : (b : Bool) → nat_lt v version ≡ b → count_keys (λ k. new k v) 0 top ≤ v
         split true s =
             let u : v < version = grind (arith, nat_tests) in
-            let same = among-alike (λ k. new k v) (λ k. old k v) 0 top (λ k a b. changes k v (omega arith) h ∙ earlier_life old key version k v alive u) in
+            let same = count_keys-alike (λ k. new k v) (λ k. old k v) 0 top (λ k a b. changes k v (omega arith) h ∙ earlier_life old key version k v alive u) in
             omega (arith, same, was.few v h)
         split false s =
             let u : version ≤ v = grind (arith, nat_tests) in
             let bn : before < now = omega arith in
-            let same = among-alike (λ k. old k v) (λ k. old k before) 0 top (λ k a b. lasting before (old k) v (was.each k (omega arith)) (omega arith) bn h) in
-            let swap = among-alike (λ k. new k v) (λ k. with_life old key version alive k v) 0 top (λ k a b. changes k v (omega arith) h) in
-            let more = among-one_more (λ k. with_life old key version alive k v) (λ k. old k v) key 0 top (λ k differ. let e : tally (with_life old key version alive k v) ≡ tally (old k v) = ap tally (other_life old key version k v alive differ) in omega arith) in
+            let same = count_keys-alike (λ k. old k v) (λ k. old k before) 0 top (λ k a b. lasting before (old k) v (was.each k (omega arith)) (omega arith) bn h) in
+            let swap = count_keys-alike (λ k. new k v) (λ k. with_life old key version alive k v) 0 top (λ k a b. changes k v (omega arith) h) in
+            let more = count_keys-one_more (λ k. with_life old key version alive k v) (λ k. old k v) key 0 top (λ k differ. let e : tally (with_life old key version alive k v) ≡ tally (old k v) = ap tally (other_life old key version k v alive differ) in omega arith) in
             omega (arith, same, swap, more, most (nat_lt key (0 + top)), was.few before bn)
 
     pub lives_change : AreLives version new
     lives_change = record { each = each_life; few = few_lives }
 
 -- at no version do more keys live than there were versions up to the last change
-pub few_keys : (before v : ℕ) (lives : ℕ → ℕ → Bool) → AreLives before lives → before < now → v < now → among (λ k. lives k v) 0 top ≤ before
+pub few_keys : (before v : ℕ) (lives : ℕ → ℕ → Bool) → AreLives before lives → before < now → v < now → count_keys (λ k. lives k v) 0 top ≤ before
 few_keys before v lives are small h = split (nat_lt v before) refl
   where
-    split : (b : Bool) → nat_lt v before ≡ b → among (λ k. lives k v) 0 top ≤ before
+    split : (b : Bool) → nat_lt v before ≡ b → count_keys (λ k. lives k v) 0 top ≤ before
     split true s = let u : v < before = grind (arith, nat_tests) in omega (arith, are.few v h)
     split false s =
         let u : before ≤ v = grind (arith, nat_tests) in
-        let same = among-alike (λ k. lives k v) (λ k. lives k before) 0 top (λ k a b. lasting before (lives k) v (are.each k (omega arith)) u small h) in
+        let same = count_keys-alike (λ k. lives k v) (λ k. lives k before) 0 top (λ k a b. lasting before (lives k) v (are.each k (omega arith)) u small h) in
         omega (arith, same, are.few before small)

@@ -1,4 +1,4 @@
--- Links while an update goes up: each step keeps that a leaf links just the leaves whose life ended where its own began.
+-- Links during an update: each step keeps that a leaf links exactly the leaves whose life ended when its own began.
 use Rattle.std.proofs.Common.{◌≡◌, ◌≢◌, ℕ, zero, suc, ◌+◌, ◌-◌, ◌<◌, ◌≤◌, ◌⊎◌, inl, inr, List, [], ◌∷◌, ◌++◌, Bool, true, false, cond, length, set, ap, refl, sym, ◌∙◌, subst, arith, count_by, nat_eq, nat_lt, slice_get, Some, append_assoc}
 use Rattle.std.specs.Prelude.{All}
 use Rattle.std.proofs.lemmas.Bool.Decides.{nat_tests}
@@ -14,13 +14,13 @@ use Rattle.tq_mvbt.specs.Shape.{tally, IsNode}
 use Rattle.tq_mvbt.specs.TreeState.{IsTree, lives_of}
 use Rattle.tq_mvbt.specs.declared.root.Root.{Root}
 use Rattle.tq_mvbt.specs.Steps.{retired, edited, fresh, Changes, PutsNodes}
-use Rattle.tq_mvbt.specs.Links.{link_to, links_to, IsLinkTo, LinkJust, AreLinked, AreLinking, NoneBegun, AreUntouched, SomeLinking, KeepsLinks, UpdatesLinks}
+use Rattle.tq_mvbt.specs.Links.{link_to, links_to, IsLinkTo, LinkJust, AreLinked, AreLinking, NoLeafBegun, AreUntouched, SomeLinking, KeepsLinks, UpdatesLinks}
 use Rattle.tq_mvbt.proofs.Lists.{all_at}
 use Rattle.tq_mvbt.proofs.Places.{at_set_same, at_set_other, at_left, at_append}
 
 -- ---- leaves that ended at a version
 
--- the leaf under the number ended at the version, with the range
+-- the leaf with the number ended at the version, and has the range
 pub record HasEnded (nodes : List NodeState) (version i low high : ℕ) : Type 0 where
   pub leaf : NodeState
   pub stands : slice_get nodes i ≡ Some leaf
@@ -29,7 +29,7 @@ pub record HasEnded (nodes : List NodeState) (version i low high : ℕ) : Type 0
   pub low_is : leaf.low ≡ low
   pub high_is : leaf.high ≡ high
 
--- the leaves that ended at the version are the same ones
+-- the same leaves ended at the version
 pub record SameEnded (version : ℕ) (old new : List NodeState) : Type 0 where
   pub onward : (i : ℕ) (n : NodeState) → slice_get old i ≡ Some n → n.level ≡ 0 → n.died ≡ version → HasEnded new version i n.low n.high
   pub back : (i : ℕ) (n : NodeState) → slice_get new i ≡ Some n → n.level ≡ 0 → n.died ≡ version → HasEnded old version i n.low n.high
@@ -46,7 +46,7 @@ just_moves version old new links same just =
         let h = same.onward l.node.0 t.leaf t.stands t.at_level t.died in
         record { leaf = h.leaf; stands = h.stands; at_level = h.at_level; died = h.died; low = h.low_is ∙ t.low; high = h.high_is ∙ t.high }
 
--- a node after a step on it, as its links see it
+-- a node after a step on it, as far as its links are concerned
 pub record IsAlike (n m : NodeState) : Type 0 where
   pub level : m.level ≡ n.level
   pub low : m.low ≡ n.low
@@ -54,7 +54,7 @@ pub record IsAlike (n m : NodeState) : Type 0 where
   pub born : m.born ≡ n.born
   pub links : m.links ≡ n.links
 
--- the node that stands under the number after a step on another one or on it
+-- the node with the number, after a step on another node or on it
 pub record WasAt (nodes : List NodeState) (p i : ℕ) (n m x : NodeState) : Type 0 where
   pub cases : ((p ≡ i) × (x ≡ m)) ⊎ (slice_get nodes i ≡ Some x)
 
@@ -150,8 +150,8 @@ linking_set version links nodes p n m e alike died l =
     index i x z (inr h) = l.index i x h z
     index i x z (inl (at, s)) = let q = level_of x s in links_of x s ∙ l.index p n e (omega arith)
 
--- no leaf begins where one node changes
-none_set : (version : ℕ) (nodes : List NodeState) (p : ℕ) (n m : NodeState) → slice_get nodes p ≡ Some n → IsAlike n m → NoneBegun version nodes → NoneBegun version (set nodes p m)
+-- no leaf begins if one node changes
+none_set : (version : ℕ) (nodes : List NodeState) (p : ℕ) (n m : NodeState) → slice_get nodes p ≡ Some n → IsAlike n m → NoLeafBegun version nodes → NoLeafBegun version (set nodes p m)
 none_set version nodes p n m e alike none i x h z = split (was_at nodes p i n m x e h).cases
   where
     split : ((p ≡ i) × (x ≡ m)) ⊎ (slice_get nodes i ≡ Some x) → x.born < version
@@ -187,10 +187,10 @@ linking_index_retired version level last links s t p n e at h change l =
     let same : change.node ≡ n = cc in
     rw (change.nodes, same) (linking_set version links s.nodes p n (retired version last n) e (record { level = refl; low = refl; high = refl; born = refl; links = refl }) (λ z. absurd (omega arith)) l)
 
--- a leaf ends, before any begins
+-- a leaf ends before any begins
 module _ (version last : ℕ) (links : List Link) (s t : Contents NodeState) (p : ℕ) (n : NodeState)
     (small : version < now) (e : slice_get s.nodes p ≡ Some n) (leaf : n.level ≡ 0) (died : n.died ≡ now)
-    (change : Changes s t p (retired version last)) (l : AreLinking version links s.nodes) (none : NoneBegun version s.nodes)
+    (change : Changes s t p (retired version last)) (l : AreLinking version links s.nodes) (none : NoLeafBegun version s.nodes)
   where
     m : NodeState
     m = retired version last n
@@ -204,7 +204,7 @@ module _ (version last : ℕ) (links : List Link) (s t : Contents NodeState) (p 
     here : t.nodes ≡ mid
     here = (let f = change.stands in let same : change.node ≡ n = cc in change.nodes ∙ rw same)
 
-    none_mid : NoneBegun version mid
+    none_mid : NoLeafBegun version mid
     none_mid = none_set version s.nodes p n (retired version last n) e alike none
 
     same_before : (v : ℕ) → v < version → SameEnded v s.nodes mid
@@ -289,7 +289,7 @@ module _ (version last : ℕ) (links : List Link) (s t : Contents NodeState) (p 
           index = λ i x h z. index_just i x z (was_at s.nodes p i n (retired version last n) x e h).cases;
         })
 
-    pub none_retired : NoneBegun version t.nodes
+    pub none_retired : NoLeafBegun version t.nodes
     none_retired = rw here none_mid
 
 -- ---- nodes begin
@@ -354,9 +354,9 @@ untouched_from before version nodes later born died linked =
 pub some_linking : (version : ℕ) (nodes : List NodeState) → AreUntouched version nodes → SomeLinking version nodes
 some_linking version nodes u = record { links = []; linking = u.linking }
 
--- ---- what the calls did, put together
+-- ---- the calls together
 
--- what was put in
+-- the added nodes
 pub record MadeWith (level version : ℕ) (links : List Link) (old new : List NodeState) : Type 0 where
   pub made : List NodeState
   pub nodes : new ≡ old ++ made
@@ -387,21 +387,21 @@ made_with level low high version links s t items added puts = split (nat_lt (len
           begun = All-cons (IsBegun version links) n (m ∷ []) (record { born = refl; died = refl; linked = refl }) (All-cons (IsBegun version links) m [] (record { born = refl; died = refl; linked = refl }) (All-nil (IsBegun version links)));
         }
 
--- leaves are put in
+-- leaves are added
 pub leaves_made : (version : ℕ) (links : List Link) (old new : List NodeState) → version < now → MadeWith 0 version links old new → AreLinking version links old → AreLinking version links new
 leaves_made version links old new small made l =
     linking_appended version links old new made.made small made.nodes
     (λ i n e z. all_at (IsBegun version links) made.made i n made.begun e)
     (λ i n e z. let k = all_at (λ (m : NodeState). m.level ≡ 0) made.made i n made.at_level e in absurd (omega arith)) l
 
--- index nodes without links are put in
+-- index nodes without links are added
 pub index_made : (level version : ℕ) (links : List Link) (old new : List NodeState) → version < now → 0 < level → MadeWith level version [] old new → AreLinking version links old → AreLinking version links new
 index_made level version links old new small h made l =
     linking_appended version links old new made.made small made.nodes
     (λ i n e z. let k = all_at (λ (m : NodeState). m.level ≡ level) made.made i n made.at_level e in absurd (omega arith))
     (λ i n e z. (all_at (IsBegun version []) made.made i n made.begun e).linked) l
 
--- one node ends and others begin in its place
+-- one node ends and others replace it
 pub renew_links : (level version last : ℕ) (zeroth first second : Contents NodeState) (p : ℕ) (n : NodeState) (links : List Link)
     → version < now → slice_get zeroth.nodes p ≡ Some n → n.level ≡ level → n.died ≡ now → Changes zeroth first p (retired version last) → links ≡ links_to p n
     → MadeWith level version links first.nodes second.nodes → KeepsLinks level version zeroth.nodes second.nodes
@@ -417,7 +417,7 @@ renew_links level version last zeroth first second p n links small e at died gon
           record { links = some.links; linking = index_made level version some.links first.nodes second.nodes small h made' (linking_index_retired version level last some.links zeroth first p n e at h gone some.linking) };
     }
 
--- two nodes end and others begin in their place
+-- two nodes end and others replace them
 pub merge_links : (level version last last' : ℕ) (zeroth half first second : Contents NodeState) (p q : ℕ) (n m : NodeState) (links : List Link)
     → version < now → slice_get zeroth.nodes p ≡ Some n → n.level ≡ level → n.died ≡ now → Changes zeroth half p (retired version last)
     → slice_get half.nodes q ≡ Some m → m.level ≡ level → m.died ≡ now → Changes half first q (retired version last') → links ≡ links_to p n ++ links_to q m
@@ -438,7 +438,7 @@ merge_links level version last last' zeroth half first second p q n m links smal
           record { links = some.links; linking = index_made level version some.links first.nodes second.nodes small h made' (linking_index_retired version level last' some.links half first q m e' at' h gone' one) };
     }
 
--- links stay where a node's entries are edited
+-- links stay the same if a node's entries are edited
 pub keeps_edited : (level version low high at : ℕ) (old : List NodeState) (s t : Contents NodeState) (p : ℕ) (added : List Entry) → Changes s t p (edited low high at added) → KeepsLinks level version old s.nodes → KeepsLinks level version old t.nodes
 keeps_edited level version low high at old s t p added change keeps =
     record {
@@ -446,7 +446,7 @@ keeps_edited level version low high at old s t p added change keeps =
       index = λ h u. let some = keeps.index h u in record { links = some.links; linking = linking_edited version low high at some.links s t p added change some.linking };
     }
 
--- an index node without links is put in
+-- an index node without links is added
 pub keeps_topped : (level version : ℕ) (old s t : List NodeState) (r : NodeState) → version < now → r.links ≡ [] → 0 < r.level → t ≡ s ++ r ∷ [] → KeepsLinks level version old s → KeepsLinks level version old t
 keeps_topped level version old s t r small none high is keeps =
     record {
@@ -478,7 +478,7 @@ keeps_same level version old new is = rw is (record { leaves = λ z u. some_link
 
 -- ---- the whole update
 
--- an update that comes one level higher
+-- an update reaches the next level
 pub updates_up : (lower level version : ℕ) (old mid new : List NodeState) → 0 < level → UpdatesLinks lower version old mid → KeepsLinks lower version mid new → UpdatesLinks level version old new
 updates_up lower level version old mid new above updates keeps = record { leaves = λ z. absurd (omega arith); index = λ h u. split u (nat_eq lower 0) refl }
   where
@@ -486,7 +486,7 @@ updates_up lower level version old mid new above updates keeps = record { leaves
     split u true s = let z : lower ≡ 0 = grind (arith, nat_tests) in keeps.leaves z (updates.leaves z u)
     split u false s = let h : 0 < lower = grind (arith, nat_tests) in keeps.index h (updates.index h u)
 
--- an update that has come up to the root
+-- an update has reached the root
 pub links_after : (level version : ℕ) (old mid new : List NodeState) → AreUntouched version old → UpdatesLinks level version old mid → KeepsLinks level version mid new → AreLinked new
 links_after level version old mid new u updates keeps = split (nat_eq level 0) refl
   where
@@ -494,7 +494,7 @@ links_after level version old mid new u updates keeps = split (nat_eq level 0) r
     split true s = let z : level ≡ 0 = grind (arith, nat_tests) in let some = keeps.leaves z (updates.leaves z u) in linked_from version some.links new some.linking
     split false s = let h : 0 < level = grind (arith, nat_tests) in let some = keeps.index h (updates.index h u) in linked_from version some.links new some.linking
 
--- nothing was done to a tree's leaves yet
+-- an update has not yet changed the leaves of a tree
 pub tree_untouched : (before version : ℕ) (nodes : List NodeState) (roots : List Root) → before < version → version < now → IsTree before nodes roots → AreUntouched version nodes
 tree_untouched before version nodes roots later small tree =
     untouched_from before version nodes later

@@ -12,16 +12,16 @@ map-set f [] i d h = absurd (omega arith)
 map-set f (x ∷ xs) zero d h = refl
 map-set f (x ∷ xs) (suc i) d h = ap (λ l. f x ∷ l) (map-set f xs i d (omega arith))
 
--- what holds of each element holds of the one at a place
+-- what holds for each element holds for the one at a position
 pub all_at : {X : Type 0} (P : X → Type 0) (xs : List X) (i : ℕ) (x : X) → All P xs → slice_get xs i ≡ Some x → P x
 all_at P xs i x a s = subst P (get_or_from_slice_get xs i x x s) (All-get_or P xs i x (slice_get_within xs i x s) a)
 
--- two facts of each element give a third
+-- two facts about each element give a third
 pub all_both : {X : Type 0} (P Q R : X → Type 0) → ((x : X) → P x → Q x → R x) → (xs : List X) → All P xs → All Q xs → All R xs
 all_both P Q R f [] a b = All-nil R
 all_both P Q R f (x ∷ xs) a b = All-cons R x xs (f x (All-head P x xs a) (All-head Q x xs b)) (all_both P Q R f xs (All-tail P x xs a) (All-tail Q x xs b))
 
--- tests that agree at each element count alike
+-- equal tests count equally many
 pub count_alike : {X : Type 0} (p q : X → Bool) (xs : List X) → All (λ x. p x ≡ q x) xs → count_by p xs ≡ count_by q xs
 count_alike p q [] a = refl
 count_alike p q (x ∷ xs) a =

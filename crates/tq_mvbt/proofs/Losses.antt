@@ -1,4 +1,4 @@
--- The laws of a change: what ends and what begins over the same keys hold the same points.
+-- What ends and what begins over the same keys hold the same points.
 use Rattle.std.proofs.Common.{◌≡◌, ℕ, ◌+◌, ◌<◌, ◌≤◌, List, [], ◌∷◌, map, Bool, true, false, cond, not, ◌&&◌, ap, refl, arith, count_by, filter, nat_eq}
 use Rattle.std.specs.Prelude.{All}
 use Rattle.std.proofs.lemmas.Bool.Decides.{nat_tests}
@@ -24,7 +24,7 @@ range_cut low middle high k a b = grind (arith, nat_tests)
 abbrev ended : ℕ → NodeState → NodeState
 ended version n = record n { died = version }
 
--- the points that a node loses where it ends at a version
+-- the points that a node loses if it ends at a version
 pub node_ends : (level k v version : ℕ) (n : NodeState) → n.died ≡ now → n.born ≤ version → v < now → tally (at_point level k v n) ≡ tally (at_point level k v (ended version n)) + tally (nat_eq n.level level && (within n.low n.high k && within version now v))
 node_ends level k v version n d b h = split (nat_eq n.level level) (within n.low n.high k)
   where
@@ -43,7 +43,7 @@ node_begins level k v version n d b = rw (d, b) refl
 
 -- ---- the entries of a node
 
--- no live mark is above the version
+-- an entry that ended did not end after the version
 abbrev pub IsMarked : ℕ → Entry → Type 0
 IsMarked version e = (e.dead ≤ now) × (e.dead < now → e.dead ≤ version)
 
@@ -54,7 +54,7 @@ count-cons p x xs = sum_by-cons (λ y. tally (p y)) x xs
 ended_covers : (k v version : ℕ) (e : Entry) → IsMarked version e → is_live e ≡ false → version ≤ v → covers k v e ≡ false
 ended_covers k v version e m d h = grind (arith, nat_tests)
 
--- from the version on, the points that entries hold are those that the live ones hold
+-- from the version on, entries hold exactly the points that the live ones hold
 pub covers-filter_live : (k v version : ℕ) (es : List Entry) → All (IsMarked version) es → version ≤ v → count_by (covers k v) (filter is_live es) ≡ count_by (covers k v) es
 covers-filter_live k v version [] m h = refl
 covers-filter_live k v version (e ∷ es) m h = split (is_live e) refl (covers-filter_live k v version es (All-tail (IsMarked version) e es m) h)
@@ -65,14 +65,14 @@ covers-filter_live k v version (e ∷ es) m h = split (is_live e) refl (covers-f
         let none : tally (covers k v e) ≡ 0 = ap tally (ended_covers k v version e (All-head (IsMarked version) e es m) d h) in
         omega (arith, rest, none, count-cons (covers k v) e es)
 
--- entries that lie elsewhere hold no point of the key
+-- entries with other ranges hold no point of the key
 pub covers-elsewhere : (k v : ℕ) (es : List Entry) → All (λ e. within e.low e.high k ≡ false) es → count_by (covers k v) es ≡ 0
 covers-elsewhere k v [] a = refl
 covers-elsewhere k v (e ∷ es) a =
     let none : tally (covers k v e) ≡ 0 = rw (All-head (λ f. within f.low f.high k ≡ false) e es a) refl in
     omega (arith, none, count-cons (covers k v) e es, covers-elsewhere k v es (All-tail (λ f. within f.low f.high k ≡ false) e es a))
 
--- before the version at which they end, entries hold the points that they held
+-- before the version at which they end, entries hold the same points
 ends_later : (k v low high version : ℕ) (e : Entry) → v < version → version < now → covers k v (with_end low high version e) ≡ covers k v e
 ends_later k v low high version e h f = split (is_live e && within low high e.low) refl
   where
@@ -99,7 +99,7 @@ ends_now k v low high version e h = split (is_live e && within low high e.low) (
     split true true d = grind (arith, nat_tests)
     split true false d = grind (arith, nat_tests)
 
--- from that version on, those hold theirs that the edit leaves
+-- from that version on, the remaining entries hold their points
 pub covers-ended_after : (k v low high version : ℕ) (es : List Entry) → version ≤ v → count_by (covers k v) (map (with_end low high version) es) ≡ count_by (λ e. covers k v e && is_beside low high e) es
 covers-ended_after k v low high version [] h = refl
 covers-ended_after k v low high version (e ∷ es) h =

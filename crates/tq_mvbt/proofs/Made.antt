@@ -1,4 +1,4 @@
--- One node begins with what was copied, or two.
+-- One new node, or two, with what was copied.
 use Rattle.std.proofs.Common.{◌≡◌, ℕ, zero, ◌+◌, ◌<◌, ◌≤◌, List, [], ◌∷◌, ◌++◌, Bool, true, false, ◌&&◌, length, ap, refl, ◌∙◌, arith, nat_lt, nat_eq, append_assoc, length-append}
 use Rattle.std.specs.Prelude.{All}
 use Rattle.std.proofs.lemmas.Bool.Decides.{nat_tests}
@@ -84,7 +84,7 @@ made_two {ls} version lives level low middle high old base next lower upper smal
     (made_one version lives level low middle old base lower small a)
     (made_one version lives level middle high old next upper small b)
 
--- what is put in
+-- what is added
 pub record IsPut (version : ℕ) (lives : ℕ → ℕ → Bool) (level low high : ℕ) (old : List NodeState) (first second : Contents NodeState) (items added : List Entry) : Type 0 where
   pub made : List NodeState
   pub nodes : second.nodes ≡ first.nodes ++ made

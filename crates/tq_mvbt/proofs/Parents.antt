@@ -1,34 +1,34 @@
--- A node and its parent: which entries of the parent lead to it, and that it has not all keys of the parent.
+-- A node and its parent: the parent's entries for it, and that it does not have all keys of the parent.
 use Rattle.std.proofs.Common.{◌≡◌, ◌≢◌, ℕ, ◌+◌, ◌<◌, ◌≤◌, ◌⊎◌, inl, inr, List, Bool, true, false, ap, refl, sym, ◌∙◌, subst, arith, count_by, nat_lt, nat_eq, slice_get, Some, length}
 use Rattle.std.proofs.lemmas.Bool.Decides.{nat_tests}
 use Rattle.tq_mvbt.specs.declared.entry.Entry.{Entry}
 use Rattle.tq_mvbt.specs.NodeState.{NodeState}
 use Rattle.tq_mvbt.specs.Points.{now, within, holds, is_live, leads}
-use Rattle.tq_mvbt.specs.Shape.{tally, IsEnough, IsFilled, IsPlaced, IsBranch, IsNode, IsForest, live_at}
-use Rattle.tq_mvbt.specs.Loose.{IsFilledBefore, IsPart}
+use Rattle.tq_mvbt.specs.Shape.{tally, HasEnoughLive, IsFilled, IsPlaced, IsBranch, IsNode, IsForest, live_at}
+use Rattle.tq_mvbt.specs.Unsettled.{IsFilledBefore, IsPart}
 use Rattle.tq_mvbt.proofs.Lists.{all_at, all_both}
 use Rattle.tq_mvbt.proofs.Places.{two_pass}
 use Rattle.tq_mvbt.proofs.Ending.{unique}
 use Rattle.tq_mvbt.proofs.Descent.{one_leads, child_stands}
 use Rattle.tq_mvbt.proofs.Counts.{is_ended, count_grows, count_either, count_one, some_passes, live_at-now}
 
--- the live entries of a node that stands are as many as live at the last version
+-- a current node has as many live entries as live at the last version
 stands_at : (version : ℕ) (lives : ℕ → ℕ → Bool) (nodes : List NodeState) (n : NodeState) → version < now → IsNode version lives nodes n → n.died ≡ now → within n.born n.died version ≡ true
 stands_at version lives nodes n small node died = let b = node.born in grind (arith, nat_tests)
 
-pub enough_now : (version : ℕ) (lives : ℕ → ℕ → Bool) (nodes : List NodeState) (n : NodeState) → version < now → IsNode version lives nodes n → n.died ≡ now → IsFilled n → IsEnough n (count_by is_live n.entries)
+pub enough_now : (version : ℕ) (lives : ℕ → ℕ → Bool) (nodes : List NodeState) (n : NodeState) → version < now → IsNode version lives nodes n → n.died ≡ now → IsFilled n → HasEnoughLive n (count_by is_live n.entries)
 enough_now version lives nodes n small node died filled =
-    subst (λ x. IsEnough n x) (live_at-now version version lives nodes n node (omega arith) small) (filled.enough version (stands_at version lives nodes n small node died))
+    subst (λ x. HasEnoughLive n x) (live_at-now version version lives nodes n node (omega arith) small) (filled.enough version (stands_at version lives nodes n small node died))
 
-pub filled_now : (version : ℕ) (lives : ℕ → ℕ → Bool) (nodes : List NodeState) (n : NodeState) → version < now → IsNode version lives nodes n → n.died ≡ now → IsFilledBefore version n → length n.entries ≤ 32 → IsEnough n (count_by is_live n.entries) → IsFilled n
+pub filled_now : (version : ℕ) (lives : ℕ → ℕ → Bool) (nodes : List NodeState) (n : NodeState) → version < now → IsNode version lives nodes n → n.died ≡ now → IsFilledBefore version n → length n.entries ≤ 32 → HasEnoughLive n (count_by is_live n.entries) → IsFilled n
 filled_now version lives nodes n small node died before fits enough =
     record { fits = fits; enough = λ v h. split (nat_lt v version) v refl h }
   where
-    split : (b : Bool) (v : ℕ) → nat_lt v version ≡ b → within n.born n.died v ≡ true → IsEnough n (live_at v n)
+    split : (b : Bool) (v : ℕ) → nat_lt v version ≡ b → within n.born n.died v ≡ true → HasEnoughLive n (live_at v n)
     split true v s h = before.enough v (grind (arith, nat_tests)) h
     split false v s h =
         let u : v < now = grind (arith, nat_tests) in
-        subst (λ x. IsEnough n x) (sym (live_at-now version v lives nodes n node (grind (arith, nat_tests)) u)) enough
+        subst (λ x. HasEnoughLive n x) (sym (live_at-now version v lives nodes n node (grind (arith, nat_tests)) u)) enough
 
 -- a live entry of the parent for the node
 pub record IsEntryTo (version : ℕ) (parent n : NodeState) : Type 0 where
@@ -56,7 +56,7 @@ module _ (version level : ℕ) (lives : ℕ → ℕ → Bool) (height : ℕ → 
     one_at : (k : ℕ) → parent.low ≤ k → k < parent.high → count_by (leads k) parent.entries ≡ 1
     one_at k a b = one_leads version k lives nodes parent small node died a b ∙ (let z : nat_eq parent.level 0 ≡ false = grind (arith, nat_tests) in rw z refl)
 
-    -- a live entry whose low key a node of the level holds leads to that node's keys
+    -- a live entry whose low key is one of a node of the level leads to that node's keys
     leads_low : (p : ℕ) (n : NodeState) → slice_get nodes p ≡ Some n → n.level ≡ level → n.died ≡ now → (e : Entry) → IsPlaced version parent e → IsBranch nodes parent e → e.dead ≡ now → n.low ≤ e.low → e.low < n.high → (e.low ≡ n.low) × (e.high ≡ n.high)
     leads_low p n e l d f placed b live a1 a2 =
         let its = each f.child b.child b.stands in
@@ -84,7 +84,7 @@ module _ (version level : ℕ) (lives : ℕ → ℕ → Bool) (height : ℕ → 
         let x2 = placed.wide in
         grind (arith, nat_tests)
 
-    -- the edit of one child's range ends one entry at most
+    -- the edit of one child's range ends at most one entry
     pub ends_one_entry : (p : ℕ) (n : NodeState) → slice_get nodes p ≡ Some n → n.level ≡ level → n.died ≡ now → parent.low ≤ n.low → n.high ≤ parent.high → count_by (is_ended n.low n.high) parent.entries ≤ 1
     ends_one_entry p n e l d a b =
         let w = (each p n e).wide in
@@ -93,7 +93,7 @@ module _ (version level : ℕ) (lives : ℕ → ℕ → Bool) (height : ℕ → 
         (λ f placed branch t. lead_of p n e l d f placed branch (grind (arith, nat_tests, t)) (grind (arith, nat_tests, t)) (grind (arith, nat_tests, t))) parent.entries node.placed (node.branches (omega arith))) in
         omega (arith, grows, one_at n.low a (omega arith))
 
-    -- the edit of two children's range ends two at most
+    -- the edit of two children's range ends at most two
     pub ends_two_entries : (p s low high : ℕ) (n m : NodeState) → slice_get nodes p ≡ Some n → n.level ≡ level → n.died ≡ now → slice_get nodes s ≡ Some m → m.level ≡ level → m.died ≡ now
         → parent.low ≤ n.low → n.high ≤ parent.high → parent.low ≤ m.low → m.high ≤ parent.high
         → ((k : ℕ) → tally (within low high k) ≡ tally (within n.low n.high k) + tally (within m.low m.high k)) → count_by (is_ended low high) parent.entries ≤ 2
@@ -113,7 +113,7 @@ module _ (version level : ℕ) (lives : ℕ → ℕ → Bool) (height : ℕ → 
             let x2 : tally (within m.low m.high g.low) ≡ 0 = ap tally j in
             absurd (omega (arith, x1, x2, t))
 
-    -- where two entries live, an entry has not all keys
+    -- if two entries live, none has all keys
     narrower : (e : Entry) (i : ℕ) → slice_get parent.entries i ≡ Some e → e.dead ≡ now → 2 ≤ count_by is_live parent.entries → e.low ≡ parent.low → e.high ≡ parent.high → ⊥
     narrower e i at live two low high =
         let one = count_one is_live parent.entries i (λ j f g t. alone j f g t (nat_eq j i) refl) in

@@ -1,4 +1,4 @@
--- One node gives way to one or two: what the calls did, put together.
+-- One node is replaced by one or two: the calls together.
 use Rattle.std.proofs.Common.{◌≡◌, ◌≢◌, ℕ, ◌+◌, ◌-◌, ◌<◌, ◌≤◌, List, [], ◌∷◌, ◌++◌, length, set, ap, refl, sym, ◌∙◌, subst, arith, filter, slice_get, Some, nat_eq, Bool, ◌||◌, ◌⊎◌, inl, inr, min, max, true, false, count_by, append_assoc, nat_lt, IfSome}
 use Rattle.std.specs.Prelude.{All}
 use Rattle.std.proofs.lemmas.List.{take_all}
@@ -10,7 +10,7 @@ use Rattle.tq_mvbt.specs.Points.{now, is_live, within}
 use Rattle.tq_mvbt.specs.Shape.{tally, IsNode, IsForest}
 use Rattle.tq_mvbt.specs.Steps.{retired, edited, fresh, Changes, PutsNodes, HasRoom}
 use Rattle.tq_mvbt.specs.Copies.{IsCopy}
-use Rattle.tq_mvbt.specs.Loose.{IsFromBefore, IsLoose, IsUnder, AreBeside, IsThin}
+use Rattle.tq_mvbt.specs.Unsettled.{IsFromBefore, IsUnsettled, IsWithinParent, AreAdjacent, HasFewLive}
 use Rattle.std.proofs.lemmas.List.Sorted.{IsPermutation-append_comm}
 use Rattle.std.proofs.lemmas.List.Sums.{count_by-le-length, length-filter}
 use Rattle.std.proofs.lemmas.Bool.Decides.{nat_tests}
@@ -28,7 +28,7 @@ all_old version n fb = subst (λ xs. All (λ e. e.born < version) xs) (take_all 
 -- the parent's entries are edited last
 pub closed : (version : ℕ) (lives : ℕ → ℕ → Bool) (height : ℕ → ℕ) (level low high : ℕ) (old mid : List NodeState) (ended : ℕ → Bool) (first second third : Contents NodeState) (items added : List Entry) (q : ℕ)
     → version < now → IsForest version lives height old → IsEnding version level low high old mid ended → first.nodes ≡ mid → IsPut version lives level low high old first second items added
-    → (above : IsLoose version (level + 1) 0 old q) → above.node.low ≤ low → high ≤ above.node.high → slice_get mid q ≡ Some above.node
+    → (above : IsUnsettled version (level + 1) 0 old q) → above.node.low ≤ low → high ≤ above.node.high → slice_get mid q ≡ Some above.node
     → Changes second third q (edited low high version added) → IsForest version lives height third.nodes
 closed version lives height level low high old mid ended first second third items added q small forest ending here puts above lower upper there change =
     let parent = above.node in
@@ -42,15 +42,15 @@ closed version lives height level low high old mid ended first second third item
     let third_is : third.nodes ≡ set (mid ++ puts.made) q (edited low high version added parent) = change.nodes ∙ rw (second_is, node_is) in
     rw third_is all
 
--- what is copied of one node
+-- what is copied from one node
 pub renewed_copy : (version : ℕ) (lives : ℕ → ℕ → Bool) (height : ℕ → ℕ) (level last low high : ℕ) (nodes : List NodeState) (items : List Entry) (p : ℕ)
-    → IsForest version lives height nodes → (loose : IsLoose version level last nodes p) → items ≡ filter is_live loose.node.entries → low ≡ loose.node.low → high ≡ loose.node.high → IsCopy version lives nodes level low high items
+    → IsForest version lives height nodes → (loose : IsUnsettled version level last nodes p) → items ≡ filter is_live loose.node.entries → low ≡ loose.node.low → high ≡ loose.node.high → IsCopy version lives nodes level low high items
 renewed_copy version lives height level last low high nodes items p forest loose items_are low_is high_is =
     let node = all_at (IsNode version lives nodes) nodes p loose.node forest.each loose.stands in
     rw (items_are, low_is, high_is, ← loose.at_level) (copied version lives nodes loose.node node loose.died)
 
 pub renewed : {ls : List Link} → (version : ℕ) (lives : ℕ → ℕ → Bool) (height : ℕ → ℕ) (level last low high : ℕ) (zeroth first second third : Contents NodeState) (items added : List Entry) (p q : ℕ)
-    → version < now → (loose : IsLoose version level last zeroth.nodes p) → IsLoose version (level + 1) 0 zeroth.nodes q → IsUnder zeroth.nodes p q
+    → version < now → (loose : IsUnsettled version level last zeroth.nodes p) → IsUnsettled version (level + 1) 0 zeroth.nodes q → IsWithinParent zeroth.nodes p q
     → Changes zeroth first p (retired version last) → items ≡ filter is_live loose.node.entries → low ≡ loose.node.low → high ≡ loose.node.high
     → PutsNodes first second level low high version items added ls → Changes second third q (edited low high version added)
     → IsForest version lives height zeroth.nodes → IsForest version lives height third.nodes
@@ -80,7 +80,7 @@ renewed version lives height level last low high zeroth first second third items
     let upper : high ≤ above.node.high = rw high_is (subst (λ (x : NodeState). x.high ≤ above.node.high) child_is (subst (λ (x : NodeState). under.child.high ≤ x.high) parent_is under.high)) in
     closed version lives height level low high old mid (λ x. nat_eq p x) first second third items added q small forest ending here (put version lives level low high old first second items added small copy puts) above lower upper there change
 
--- a node under another number is as before
+-- a node with another number is unchanged
 pub unchanged : (s t : Contents NodeState) (p q : ℕ) (f : NodeState → NodeState) (m : NodeState) → Changes s t p f → p ≢ q → slice_get s.nodes q ≡ Some m → slice_get t.nodes q ≡ Some m
 unchanged s t p q f m change differ e = rw (change.nodes) (at_set_other s.nodes p q (f change.node) differ ∙ e)
 
@@ -103,8 +103,8 @@ beside_differ nodes p q n m e f a b touch = λ (same : p ≡ q).
     split (inl t) l h = omega arith
     split (inr t) l h = omega arith
 
--- the ranges of the two nodes touch
-pub touch_of : (nodes : List NodeState) (p s : ℕ) (n m : NodeState) → AreBeside nodes p s → slice_get nodes p ≡ Some n → slice_get nodes s ≡ Some m → (n.high ≡ m.low) ⊎ (m.high ≡ n.low)
+-- the ranges of the two nodes are adjacent
+pub touch_of : (nodes : List NodeState) (p s : ℕ) (n m : NodeState) → AreAdjacent nodes p s → slice_get nodes p ≡ Some n → slice_get nodes s ≡ Some m → (n.high ≡ m.low) ⊎ (m.high ≡ n.low)
 touch_of nodes p s n m touching e f =
     let t1 = touching.one_stands in
     let t2 = touching.other_stands in
@@ -112,7 +112,7 @@ touch_of nodes p s n m touching e f =
     let other_is : touching.other ≡ m = cc in
     subst (λ (x : NodeState). (n.high ≡ x.low) ⊎ (x.high ≡ n.low)) other_is (subst (λ (x : NodeState). (x.high ≡ touching.other.low) ⊎ (touching.other.high ≡ x.low)) one_is touching.touch)
 
--- both nodes' keys are those of the range
+-- the keys of both nodes are those of the range
 pub sides_of : (low high : ℕ) (n m : NodeState) → n.low < n.high → m.low < m.high → low ≡ min n.low m.low → high ≡ max n.high m.high → (n.high ≡ m.low) ⊎ (m.high ≡ n.low) → (k : ℕ) → tally (within low high k) ≡ tally (within n.low n.high k) + tally (within m.low m.high k)
 sides_of low high n m a b l h (inl t) k =
     let l' : low ≡ n.low = omega arith in
@@ -145,9 +145,9 @@ copy_of_both version lives nodes level low high n m l h (inr t) a b =
     (IsPermutation-append_comm (filter is_live m.entries) (filter is_live n.entries))
     (joined version lives nodes level m.low m.high n.high (filter is_live m.entries) (filter is_live n.entries) b a'))
 
--- what is copied of both
+-- what is copied from both
 pub merged_copy : (version : ℕ) (lives : ℕ → ℕ → Bool) (height : ℕ → ℕ) (level last low high : ℕ) (nodes : List NodeState) (items : List Entry) (p s : ℕ)
-    → IsForest version lives height nodes → (loose : IsLoose version level last nodes p) → (beside : IsLoose version level 0 nodes s) → AreBeside nodes p s
+    → IsForest version lives height nodes → (loose : IsUnsettled version level last nodes p) → (beside : IsUnsettled version level 0 nodes s) → AreAdjacent nodes p s
     → items ≡ filter is_live loose.node.entries ++ filter is_live beside.node.entries → low ≡ min loose.node.low beside.node.low → high ≡ max loose.node.high beside.node.high → IsCopy version lives nodes level low high items
 merged_copy version lives height level last low high nodes items p s forest loose beside touching items_are low_is high_is =
     let n = loose.node in
@@ -161,7 +161,7 @@ merged_copy version lives height level last low high nodes items p s forest loos
     rw items_are (copy_of_both version lives nodes level low high n m low_is high_is (touch_of nodes p s n m touching e f) copy_n copy_m)
 
 pub merged : {ls : List Link} → (version : ℕ) (lives : ℕ → ℕ → Bool) (height : ℕ → ℕ) (level last low high : ℕ) (zeroth half first second third : Contents NodeState) (items added : List Entry) (p s q : ℕ)
-    → version < now → (loose : IsLoose version level last zeroth.nodes p) → (beside : IsLoose version level 0 zeroth.nodes s) → IsLoose version (level + 1) 0 zeroth.nodes q → IsUnder zeroth.nodes p q → IsUnder zeroth.nodes s q → AreBeside zeroth.nodes p s
+    → version < now → (loose : IsUnsettled version level last zeroth.nodes p) → (beside : IsUnsettled version level 0 zeroth.nodes s) → IsUnsettled version (level + 1) 0 zeroth.nodes q → IsWithinParent zeroth.nodes p q → IsWithinParent zeroth.nodes s q → AreAdjacent zeroth.nodes p s
     → Changes zeroth half p (retired version last) → Changes half first s (retired version 0) → items ≡ filter is_live loose.node.entries ++ filter is_live beside.node.entries → low ≡ min loose.node.low beside.node.low → high ≡ max loose.node.high beside.node.high
     → PutsNodes first second level low high version items added ls → Changes second third q (edited low high version added)
     → IsForest version lives height zeroth.nodes → IsForest version lives height third.nodes
@@ -211,11 +211,11 @@ merged version lives height level last low high zeroth half first second third i
     let upper' : m.high ≤ above.node.high = subst (λ (x : NodeState). x.high ≤ above.node.high) its_child_is (subst (λ (x : NodeState). its_under.child.high ≤ x.high) its_parent_is its_under.high) in
     closed version lives height level low high old mid (λ x. nat_eq p x || nat_eq s x) first second third items added q small forest ending here (put version lives level low high old first second items added small copy puts) above (omega arith) (omega arith) there change
 
-pub siblings_differ : (nodes : List NodeState) (p s : ℕ) → AreBeside nodes p s → p ≢ s
+pub siblings_differ : (nodes : List NodeState) (p s : ℕ) → AreAdjacent nodes p s → p ≢ s
 siblings_differ nodes p s b = beside_differ nodes p s b.one b.other b.one_stands b.other_stands b.one_wide b.other_wide b.touch
 
 -- there is room for what is copied
-pub room_for_both : (version level last : ℕ) (s t : Contents NodeState) (p i : ℕ) (items : List Entry) → (loose : IsLoose version level last s.nodes p) → IsThin s.nodes p → (beside : IsLoose version level 0 s.nodes i) → AreBeside s.nodes p i → Changes s t p (retired version last) → items ≡ [] ++ filter is_live loose.node.entries → IfSome (slice_get t.nodes i) (λ n. length items + count_by is_live n.entries ≤ 40)
+pub room_for_both : (version level last : ℕ) (s t : Contents NodeState) (p i : ℕ) (items : List Entry) → (loose : IsUnsettled version level last s.nodes p) → HasFewLive s.nodes p → (beside : IsUnsettled version level 0 s.nodes i) → AreAdjacent s.nodes p i → Changes s t p (retired version last) → items ≡ [] ++ filter is_live loose.node.entries → IfSome (slice_get t.nodes i) (λ n. length items + count_by is_live n.entries ≤ 40)
 room_for_both version level last s t p i items loose thin beside touching gone are =
     let there = unchanged s t p i (retired version last) beside.node gone (siblings_differ s.nodes p i touching) beside.stands in
     let a = thin.stands in
@@ -226,7 +226,7 @@ room_for_both version level last s t p i items loose thin beside touching gone a
     rw (there, are) (omega (arith, length-filter is_live loose.node.entries, few, many, count_by-le-length is_live beside.node.entries))
 
 -- the parent has room for the entries
-pub room_above : (version level last : ℕ) (s t u : Contents NodeState) (made : List NodeState) (v : Contents NodeState) (p i q k : ℕ) → (loose : IsLoose version level last s.nodes p) → (beside : IsLoose version level 0 s.nodes i) → (above : IsLoose version (level + 1) 0 s.nodes q) → Changes s t p (retired version last) → Changes t u i (retired version 0) → v.nodes ≡ u.nodes ++ made → k ≤ 2 → HasRoom v.nodes q k
+pub room_above : (version level last : ℕ) (s t u : Contents NodeState) (made : List NodeState) (v : Contents NodeState) (p i q k : ℕ) → (loose : IsUnsettled version level last s.nodes p) → (beside : IsUnsettled version level 0 s.nodes i) → (above : IsUnsettled version (level + 1) 0 s.nodes q) → Changes s t p (retired version last) → Changes t u i (retired version 0) → v.nodes ≡ u.nodes ++ made → k ≤ 2 → HasRoom v.nodes q k
 room_above version level last s t u made v p i q k loose beside above gone its_gone more few =
     let parent = above.node in
     let pq = levels_differ s.nodes p q level loose.node parent loose.stands above.stands loose.at_level above.at_level in
@@ -236,7 +236,7 @@ room_above version level last s t u made v p i q k loose beside above gone its_g
     let room = above.from_before.few in
     record { node = parent; stands = rw more (at_left u.nodes made q parent two); room = omega arith }
 
--- what was put in stands at the end
+-- the added nodes are at the end
 pub appended : {ls : List Link} → (s t : Contents NodeState) (level low high version : ℕ) (items added : List Entry) → PutsNodes s t level low high version items added ls → (made : List NodeState) × (t.nodes ≡ s.nodes ++ made)
 appended {ls} s t level low high version items added puts = split (nat_lt (length items) 25) refl
   where

@@ -18,7 +18,7 @@ use Rattle.tq_mvbt.proofs.Descent.{child_stands}
 use Rattle.tq_mvbt.proofs.Copies.{ended_node}
 use Rattle.tq_mvbt.proofs.Ending.{unique, IsEnding}
 
--- the entry is for a node among those that begin
+-- the entry is for one of the new nodes
 pub record IsEntryFor (version level base : ℕ) (made : List NodeState) (e : Entry) : Type 0 where
   pub place : ℕ
   pub child : NodeState
@@ -56,7 +56,7 @@ node_moves version lives old new n node f =
       lists = node.lists;
     }
 
--- a child that stays or ends
+-- a child that remains or ends
 pub record IsLater (version : ℕ) (new : List NodeState) (i : ℕ) (c : NodeState) (gone : Bool) : Type 0 where
   pub child : NodeState
   pub stands : slice_get new i ≡ Some child
@@ -66,7 +66,7 @@ pub record IsLater (version : ℕ) (new : List NodeState) (i : ℕ) (c : NodeSta
   pub born : child.born ≡ c.born
   pub died : child.died ≡ cond gone version c.died
 
--- an entry for a child that stays, or at a node that ended by then
+-- an entry for a child that remains, or of a node that had ended by then
 pub branch_stays : (version : ℕ) (old new : List NodeState) (n : NodeState) (e : Entry) (b : IsBranch old n e) → (gone : Bool) → IsLater version new e.child b.child gone → (gone ≡ true → b.child.died ≡ now) → version < now → (gone ≡ true → n.died ≤ version) → IsBranch new n e
 branch_stays version old new n e b false later d small ends =
     record {
@@ -128,7 +128,7 @@ module _ (version : ℕ) (lives : ℕ → ℕ → Bool) (height : ℕ → ℕ) (
     q_within : q < length (mid ++ made)
     q_within = omega (arith, slice_get_within old q parent stands, ending.long, length-append mid made)
 
-    -- where an old node is now
+    -- the new state of an old node
     later_kept : (i : ℕ) (c : NodeState) → slice_get old i ≡ Some c → q ≢ i → ended i ≡ false → IsLater version result_nodes i c false
     later_kept i c e n s =
         record { child = c; stands = at_set_other (mid ++ made) q i changed n ∙ at_left mid made i c (ending.kept i c e s); level = refl; low = refl; high = refl; born = refl; died = refl }
@@ -163,7 +163,7 @@ module _ (version : ℕ) (lives : ℕ → ℕ → Bool) (height : ℕ → ℕ) (
         branch_stays version old result_nodes n e b (ended e.child) (later e.child b.child b.stands)
         (λ s. (ending.inside e.child b.child b.stands s).died) small f
 
-    -- a node other than the parent that stands has no child that ended
+    -- a current node other than the parent has no child that ended
     no_child : (i : ℕ) (n : NodeState) → slice_get old i ≡ Some n → q ≢ i → (e : Entry) → IsPlaced version n e → (b : IsBranch old n e) → ended e.child ≡ true → n.died ≤ version
     no_child i n at differ e p b s =
         let node = each_old i n at in
@@ -225,7 +225,7 @@ module _ (version : ℕ) (lives : ℕ → ℕ → Bool) (height : ℕ → ℕ) (
     parent_node : IsNode version lives old parent
     parent_node = each_old q parent stands
 
-    -- a live entry of the parent lies in the range just where its child ended
+    -- a live entry of the parent lies in the range exactly if its child ended
     side : (e : Entry) → IsPlaced version parent e → (b : IsBranch old parent e) → e.dead ≡ now → (x : ℕ) → e.low ≤ x → x < e.high → within low high x ≡ ended e.child
     side e p b d x a1 a2 = split (within low high x) (ended e.child) refl refl
       where
@@ -296,7 +296,7 @@ module _ (version : ℕ) (lives : ℕ → ℕ → Bool) (height : ℕ → ℕ) (
         let a = i.above in let b = i.wide in let c = i.below in let d = i.born in let f = i.dead in
         record { low = omega arith; wide = b; high = omega arith; begins = omega arith; meets = omega arith; lived = omega arith; born = d; ends = omega arith; ended = λ h. absurd (omega arith) }
 
-    -- from the version on, an entry that holds a point stays just where the point is outside the range
+    -- from the version on, an entry that holds a point remains exactly if the point is outside the range
     beside : (k v : ℕ) → version ≤ v → (e : Entry) → IsPlaced version parent e → IsBranch old parent e → (covers k v e && is_beside low high e) ≡ (covers k v e && not (within low high k))
     beside k v h e p b = split (covers k v e) refl
       where

@@ -1,4 +1,4 @@
--- An update goes one level up: a node was replaced, alone or with its sibling, and its parent edited.
+-- An update reaches the next level: a node was replaced, alone or with its sibling, and its parent was edited.
 use Rattle.std.proofs.Common.{◌≡◌, ◌≢◌, ℕ, ◌+◌, ◌-◌, ◌<◌, ◌≤◌, ◌⊎◌, inl, inr, List, ◌++◌, Bool, true, false, length, set, ap, refl, sym, ◌∙◌, subst, arith, filter, count_by, slice_get, Some, nat_eq, min, max, length-append}
 use Rattle.std.specs.Prelude.{All}
 use Rattle.std.proofs.lemmas.Bool.Decides.{nat_tests}
@@ -8,10 +8,10 @@ use Rattle.tq_arena.specs.Contents.{Contents}
 use Rattle.tq_mvbt.specs.declared.entry.Entry.{Entry}
 use Rattle.tq_mvbt.specs.NodeState.{NodeState}
 use Rattle.tq_mvbt.specs.Points.{now, is_live}
-use Rattle.tq_mvbt.specs.Shape.{IsNode, IsFilled, IsEnough}
+use Rattle.tq_mvbt.specs.Shape.{IsNode, IsFilled, HasEnoughLive}
 use Rattle.tq_mvbt.specs.Steps.{retired, edited, Changes}
 use Rattle.tq_mvbt.specs.Copies.{IsInside}
-use Rattle.tq_mvbt.specs.Loose.{IsFromBefore, IsLoose, IsUnder, AreBeside, IsForestBy, IsSettling, IsPartOf, IsStanding}
+use Rattle.tq_mvbt.specs.Unsettled.{IsFromBefore, IsUnsettled, IsWithinParent, AreAdjacent, IsForestBy, IsSettling, IsPartOf, IsCurrentNode}
 use Rattle.tq_mvbt.proofs.Lists.{all_at, all_both}
 use Rattle.tq_mvbt.proofs.Places.{at_set_same, at_set_other, at_left, at_append}
 use Rattle.tq_mvbt.proofs.Filled.{filled_ends}
@@ -22,15 +22,15 @@ use Rattle.tq_mvbt.proofs.Settled.{IsNewEntry, edit_settles}
 use Rattle.tq_mvbt.proofs.Renewed.{touch_of, sides_of, siblings_differ}
 use Rattle.tq_mvbt.proofs.Parents.{enough_now, ends_one_entry, ends_two_entries}
 
--- what stands between the end of the old nodes and the edit of the parent
+-- the state after the old nodes end and before the parent is edited
 pub record IsBetween (version level : ℕ) (mid : List NodeState) (q : ℕ) : Type 0 where
   pub filled : (i : ℕ) (m : NodeState) → slice_get mid i ≡ Some m → i ≢ q → IsFilled m
   pub above : (i : ℕ) (m : NodeState) → slice_get mid i ≡ Some m → level < m.level → i ≢ q → IsFromBefore version 0 m
 
--- the nodes put in are filled, and the parent is edited
+-- the added nodes are filled, and the parent is edited
 pub rises : (version level low high : ℕ) (lives : ℕ → ℕ → Bool) (old mid : List NodeState) (first second third : Contents NodeState) (items added : List Entry) (q : ℕ) (parent : NodeState)
     → version < now → first.nodes ≡ mid → (puts : IsPut version lives level low high old first second items added) → 5 ≤ length items → length items ≤ 40
-    → IsBetween version level mid q → slice_get mid q ≡ Some parent → parent.level ≡ level + 1 → parent.died ≡ now → IsFromBefore version 0 parent → IsFilled parent → IsEnough parent (count_by is_live parent.entries)
+    → IsBetween version level mid q → slice_get mid q ≡ Some parent → parent.level ≡ level + 1 → parent.died ≡ now → IsFromBefore version 0 parent → IsFilled parent → HasEnoughLive parent (count_by is_live parent.entries)
     → count_by (is_ended low high) parent.entries ≤ length added + 1
     → Changes second third q (edited low high version added) → IsSettling version (level + 1) (length added) third.nodes q
 rises version level low high lives old mid first second third items added q parent small here puts many few between stands above died older filled enough ends change =
@@ -58,7 +58,7 @@ rises version level low high lives old mid first second third items added q pare
     above_at i m l differ all (inl e) = between.above i m e l differ
     above_at i m l differ all (inr e) = let f = all_at (λ (n : NodeState). (n.level ≡ level) × (n.died ≡ now)) puts.made (i - length mid) m all e in let g = f.0 in absurd (omega arith)
 
--- what is known of the parent
+-- the properties of the parent
 parent_differs : (version level last : ℕ) (nodes : List NodeState) (p q : ℕ) → IsSettling version level last nodes p → (part : IsPartOf nodes level p q) → q ≢ p
 parent_differs version level last nodes p q settling part = λ (same : q ≡ p).
     let l = part.above_level in
@@ -79,11 +79,11 @@ pub parent_filled : (version level last : ℕ) (nodes : List NodeState) (p q : �
 parent_filled version level last nodes p q settling part =
     settling.others q part.above part.above_stands (parent_differs version level last nodes p q settling part)
 
-pub parent_loose : (version level last : ℕ) (nodes : List NodeState) (p q : ℕ) → IsSettling version level last nodes p → IsPartOf nodes level p q → IsLoose version (level + 1) 0 nodes q
+pub parent_loose : (version level last : ℕ) (nodes : List NodeState) (p q : ℕ) → IsSettling version level last nodes p → IsPartOf nodes level p q → IsUnsettled version (level + 1) 0 nodes q
 parent_loose version level last nodes p q settling part =
     record { node = part.above; stands = part.above_stands; at_level = part.above_level; died = part.above_died; from_before = parent_older version level last nodes p q settling part }
 
-pub part_under : (level : ℕ) (nodes : List NodeState) (p q : ℕ) → IsPartOf nodes level p q → IsUnder nodes p q
+pub part_under : (level : ℕ) (nodes : List NodeState) (p q : ℕ) → IsPartOf nodes level p q → IsWithinParent nodes p q
 part_under level nodes p q part = record { child = part.node; above = part.above; child_stands = part.stands; above_stands = part.above_stands; low = part.part.low; high = part.part.high }
 
 -- the node ends
@@ -157,13 +157,13 @@ renewed_settles version level last low high zeroth first second third items adde
         let differ : p ≢ i = grind (arith, nat_tests) in
         settling.above i m (sym (at_set_other zeroth.nodes p i (retired version last settling.loose.node) differ) ∙ k) (omega arith) (λ t. differ (sym t))
 
--- the sibling is as it was before the version
-pub sibling_older : (version level last : ℕ) (nodes : List NodeState) (p s : ℕ) → IsSettling version level last nodes p → AreBeside nodes p s → (standing : IsStanding level nodes s) → IsFromBefore version 0 standing.node
+-- the sibling is unchanged since before the version
+pub sibling_older : (version level last : ℕ) (nodes : List NodeState) (p s : ℕ) → IsSettling version level last nodes p → AreAdjacent nodes p s → (standing : IsCurrentNode level nodes s) → IsFromBefore version 0 standing.node
 sibling_older version level last nodes p s settling touching standing =
     let l = standing.at_level in
     settling.above s standing.node standing.stands (omega arith) (λ t. siblings_differ nodes p s touching (sym t))
 
-pub sibling_loose : (version level last : ℕ) (nodes : List NodeState) (p s : ℕ) → IsSettling version level last nodes p → AreBeside nodes p s → IsStanding level nodes s → IsLoose version level 0 nodes s
+pub sibling_loose : (version level last : ℕ) (nodes : List NodeState) (p s : ℕ) → IsSettling version level last nodes p → AreAdjacent nodes p s → IsCurrentNode level nodes s → IsUnsettled version level 0 nodes s
 sibling_loose version level last nodes p s settling touching standing =
     record { node = standing.node; stands = standing.stands; at_level = standing.at_level; died = standing.died; from_before = sibling_older version level last nodes p s settling touching standing }
 
@@ -177,9 +177,9 @@ module _ (version level last low high : ℕ) (zeroth half first second third : C
     (settling : IsSettling version level last zeroth.nodes p)
     (by : IsForestBy version zeroth.nodes)
     (part : IsPartOf zeroth.nodes level p q)
-    (touching : AreBeside zeroth.nodes p s)
-    (its_under : IsUnder zeroth.nodes s q)
-    (standing : IsStanding level zeroth.nodes s)
+    (touching : AreAdjacent zeroth.nodes p s)
+    (its_under : IsWithinParent zeroth.nodes s q)
+    (standing : IsCurrentNode level zeroth.nodes s)
     (thin : count_by is_live settling.loose.node.entries ≤ 7)
     (gone : Changes zeroth half p (retired version last))
     (its_gone : Changes half first s (retired version 0))
@@ -233,7 +233,7 @@ module _ (version level last low high : ℕ) (zeroth half first second third : C
         let its_is : its_gone.node ≡ m = cc in
         its_gone.nodes ∙ rw (half_is, its_is) refl
 
-    -- an element of what stands in between
+    -- an element of the state in between
     which : (i : ℕ) (x : NodeState) → slice_get mid i ≡ Some x → (a b : Bool) → nat_eq p i ≡ a → nat_eq s i ≡ b → ((retired version last n ≡ x) ⊎ (retired version 0 m ≡ x)) ⊎ ((p ≢ i) × (s ≢ i) × (slice_get old i ≡ Some x))
     which i x k true b t u =
         let at : p ≡ i = grind (arith, nat_tests) in
@@ -303,7 +303,7 @@ module _ (version level last low high : ℕ) (zeroth half first second third : C
     m_upper : m.high ≤ parent.high
     m_upper = subst (λ (x : NodeState). x.high ≤ parent.high) its_child (subst (λ (x : NodeState). its_under.child.high ≤ x.high) its_parent its_under.high)
 
-    -- nearly enough of one, and enough of the other
+    -- nearly enough live entries of one, and enough of the other
     n_many : 4 ≤ count_by is_live n.entries
     n_many = split (subst (λ (x : NodeState). (parent.low < x.low) ⊎ (x.high < parent.high)) n_is part.part.part)
       where
@@ -317,7 +317,7 @@ module _ (version level last low high : ℕ) (zeroth half first second third : C
     m_many : 5 ≤ count_by is_live m.entries
     m_many = split touch
       where
-        enough : IsEnough m (count_by is_live m.entries)
+        enough : HasEnoughLive m (count_by is_live m.entries)
         enough = enough_now version by.lives old m small (each s m standing.stands) standing.died m_filled
 
         split : (n.high ≡ m.low) ⊎ (m.high ≡ n.low) → 5 ≤ count_by is_live m.entries

@@ -1,4 +1,4 @@
--- The root ends: what begins in its place has no parent, and the height may change.
+-- The root ends: its replacement has no parent, and the height may change.
 use Rattle.std.proofs.Common.{◌≡◌, ℕ, ◌+◌, ◌-◌, ◌<◌, ◌≤◌, ◌⊎◌, inl, inr, List, [], ◌∷◌, ◌++◌, Bool, true, false, cond, ◌&&◌, length, get_or, ap, refl, sym, ◌∙◌, subst, arith, count_by, nat_lt, nat_le, nat_eq, slice_get, Some, take, drop, lit<}
 use Rattle.std.specs.Prelude.{All}
 use Rattle.std.proofs.lemmas.Bool.Decides.{nat_tests}
@@ -37,7 +37,7 @@ module _ (version : ℕ) (lives : ℕ → ℕ → Bool) (height : ℕ → ℕ) (
     pub entry_stays : (n : NodeState) (e : Entry) → (b : IsBranch old n e) → (ended e.child ≡ true → n.died ≤ version) → IsBranch (mid ++ more) n e
     entry_stays n e b f = branch_stays version old (mid ++ more) n e b (ended e.child) (later e.child b.child b.stands) (λ s. (ending.inside e.child b.child b.stands s).died) small f
 
-    -- no node stands above the root
+    -- no node is above the root
     none_above : (i : ℕ) (n : NodeState) → slice_get old i ≡ Some n → n.level ≡ level + 1 → n.died ≡ now → ⊥
     none_above i n e l d =
         let node = each_old i n e in
@@ -110,7 +110,7 @@ module _ (version : ℕ) (lives : ℕ → ℕ → Bool) (height : ℕ → ℕ) (
         keeps true = refl
         keeps false = refl
 
--- where nothing begins, the tree is one level lower from the version on
+-- if nothing begins, the tree is one level lower from the version on
 pub lower_tiles : (version level : ℕ) (height : ℕ → ℕ) (mid : List NodeState) → ((v : ℕ) → version ≤ v → v < now → height v ≡ level + 1) → ((l k v : ℕ) → k < top → v < now → count_by (at_point l k v) mid + tally (nat_eq level l && nat_le version v) ≡ tally (nat_lt l (height v))) → Tiles (raised height version level) (mid ++ [])
 lower_tiles version level height mid highest lost l k v kt vt =
     let parts = sum_by-append (λ n. tally (at_point l k v n)) mid [] in
@@ -129,14 +129,14 @@ lower_tiles version level height mid highest lost l k v kt vt =
         on : height v ≡ level + 1 → tally (nat_lt l level) + tally (nat_eq level l && true) ≡ tally (nat_lt l (height v))
         on h = rw h (grind (arith, nat_tests))
 
--- one node takes the root's place
+-- one node replaces the root
 pub one_root : (version : ℕ) (lives : ℕ → ℕ → Bool) (height : ℕ → ℕ) (level : ℕ) (old mid made : List NodeState) (ended : ℕ → Bool) (added : List Entry) → version < now → IsForest version lives height old → IsEnding version level 0 top old mid ended → ((v : ℕ) → version ≤ v → v < now → height v ≡ level + 1) → IsMade version lives level 0 top old (length old) made added → IsForest version lives height (mid ++ made)
 one_root version lives height level old mid made ended added small forest ending highest begins =
     rooted version lives height level old mid made ended small forest ending highest height
     (all_both (λ (n : NodeState). (n.level ≡ level) × (n.died ≡ now)) (IsNode version lives old) (IsNode version lives (mid ++ made)) (λ n f node. made_moves version lives height level old mid made ended small forest ending highest n f.0 node) made begins.fresh begins.each)
     (λ l k v kt vt. omega (arith, sum_by-append (λ n. tally (at_point l k v n)) mid made, ending.points l k v vt, begins.points l k v vt, forest.tiles l k v kt vt))
 
--- two nodes take its place, under a new root
+-- two nodes replace it, under a new root
 module _ (version : ℕ) (lives : ℕ → ℕ → Bool) (height : ℕ → ℕ) (level : ℕ) (old mid made : List NodeState) (ended : ℕ → Bool) (added : List Entry)
     (small : version < now)
     (forest : IsForest version lives height old)

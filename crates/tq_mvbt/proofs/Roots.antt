@@ -1,4 +1,4 @@
--- What takes the root's place.
+-- The replacement of the root.
 use Rattle.std.proofs.Common.{◌≡◌, ◌≢◌, ℕ, zero, suc, ◌+◌, ◌-◌, ◌<◌, ◌≤◌, List, [], ◌∷◌, ◌++◌, Bool, true, false, cond, ◌&&◌, length, set, ap, refl, sym, ◌∙◌, subst, arith, filter, count_by, slice_get, Some, nat_lt, nat_le, nat_eq, append_assoc, length-set, get_or}
 use Rattle.std.specs.Prelude.{All}
 use Rattle.std.specs.List.Sorted.{IsPartitionPoint}
@@ -16,7 +16,7 @@ use Rattle.tq_mvbt.specs.Points.{now, within, covers, is_live}
 use Rattle.tq_mvbt.specs.Shape.{top, tally, listed, IsNode, IsForest, IsBranch, IsFilled, raised}
 use Rattle.tq_mvbt.specs.Steps.{retired, fresh, Changes, Puts, PutsNodes}
 use Rattle.tq_mvbt.specs.Copies.{IsInside, IsCopy}
-use Rattle.tq_mvbt.specs.Loose.{IsForestBy, IsSettling, HeightChanges}
+use Rattle.tq_mvbt.specs.Unsettled.{IsForestBy, IsSettling, HeightChanges}
 use Rattle.tq_mvbt.specs.Directory.{last_root, root_of, IsTop}
 use Rattle.tq_mvbt.proofs.Lists.{all_at}
 use Rattle.tq_mvbt.proofs.Places.{at_set_same, at_set_other, at_right, all_from_places}
@@ -39,7 +39,7 @@ none_after (x ∷ roots) r v f =
     let off : nat_le x.from v ≡ false = grind (arith, nat_tests) in
     rw off (none_after roots r v (λ j y e. f (suc j) y e))
 
--- the root is the one that begins by the version, and none after it does
+-- the root is the one that begins at the version or earlier, and none after it does
 pub root_is : (roots : List Root) (i : ℕ) (r before : Root) (v : ℕ) → slice_get roots i ≡ Some r → r.from ≤ v → ((j : ℕ) (x : Root) → i < j → slice_get roots j ≡ Some x → v < x.from) → last_root before roots v ≡ r
 root_is [] i r before v e h f = cc
 root_is (x ∷ roots) zero r before v e h f =
@@ -49,7 +49,7 @@ root_is (x ∷ roots) zero r before v e h f =
 root_is (x ∷ roots) (suc i) r before v e h f =
     root_is roots i r (cond (nat_le x.from v) x before) v e h (λ j y l g. f (suc j) y (omega arith) g)
 
--- the place before the one that a search found
+-- the position before the one that a search found
 pub find_at : (roots : List Root) (i v : ℕ) (blank : Root) → 0 < length roots → IfSome (slice_get roots 0) (λ r. r.from ≡ 0) → i ≤ length roots
     → IsPartitionPoint (λ (r : Root). nat_le r.from v ≡ true) (λ (r : Root). nat_le r.from v ≡ false) roots i → (1 ≤ i) × (get_or roots (i - 1) blank ≡ root_of roots v)
 find_at roots i v blank some first bound point = (one, found)
@@ -83,7 +83,7 @@ find_at roots i v blank some first bound point = (one, found)
             let off' : nat_le x.from v ≡ false = subst (λ (y : Root). nat_le y.from v ≡ false) same off in
             grind (arith, nat_tests)
 
--- ---- a height that stays
+-- ---- an unchanged height
 
 pub raise_same : (version levels : ℕ) (lives : ℕ → ℕ → Bool) (height : ℕ → ℕ) (nodes : List NodeState) → ((v : ℕ) → version ≤ v → v < now → height v ≡ levels) → IsForest version lives height nodes → IsForest version lives (raised height version levels) nodes
 raise_same version levels lives height nodes highest forest =
@@ -135,7 +135,7 @@ root_high version level last nodes r settling whole =
     let same : whole.node ≡ settling.loose.node = cc in
     subst (λ (x : NodeState). x.high ≡ top) same whole.high
 
--- the root that stays has no entry over, and enough of them live
+-- the root that remains has at most 32 entries, and enough live ones
 pub fits_root : (version last : ℕ) (nodes : List NodeState) (r : Root) (least : ℕ) → version < now → 1 ≤ r.levels → IsForestBy version nodes → (settling : IsSettling version (r.levels - 1) last nodes r.node) → IsTop version nodes r
     → length settling.loose.node.entries ≤ 32 → least ≤ count_by is_live settling.loose.node.entries → (2 ≤ r.levels → least ≡ 2) → All IsFilled nodes
 fits_root version last nodes r least small levels by settling whole fits enough index =
@@ -226,7 +226,7 @@ module _ (version level last : ℕ) (zeroth first : Contents NodeState) (items :
     pub first_filled : All IsFilled first.nodes
     first_filled = rw here mid_filled
 
-    -- ---- one live child: the root gives way to it
+    -- ---- one live child: it replaces the root
 
     pub lowered : HeightChanges version (level + 1) level old first.nodes
     lowered lives height highest forest =
@@ -278,7 +278,7 @@ module _ (version level last : ℕ) (zeroth first : Contents NodeState) (items :
             split true s t = (grind (arith, nat_tests), grind (arith, nat_tests))
             split false s t = absurd (omega arith)
 
-    -- ---- one node in the root's place
+    -- ---- one new node replaces the root
 
     is_made : {ls : List Link} → (second : Contents NodeState) (added : List Entry) → PutsNodes first second level 0 top version items added ls → (lives : ℕ → ℕ → Bool) (height : ℕ → ℕ) → IsForest version lives height old → IsPut version lives level 0 top old first second items added
     is_made second added puts lives height forest = put version lives level 0 top old first second items added small (copy lives height forest) puts

@@ -1,4 +1,4 @@
--- A node's entries are edited, and then it alone may have too many entries or too few.
+-- A node's entries are edited; then it alone may have too many entries or too few live ones.
 use Rattle.std.proofs.Common.{◌≡◌, ◌≢◌, ℕ, ◌+◌, ◌-◌, ◌<◌, ◌≤◌, List, ◌++◌, Bool, true, false, cond, ◌&&◌, length, map, set, sym, ◌∙◌, subst, arith, count_by, take, drop, slice_get, Some, length-append}
 use Rattle.std.specs.Prelude.{All}
 use Rattle.std.proofs.lemmas.Option.{slice_get_within}
@@ -9,9 +9,9 @@ use Rattle.std.proofs.lemmas.List.Sums.{sum_by-append}
 use Rattle.tq_mvbt.specs.declared.entry.Entry.{Entry}
 use Rattle.tq_mvbt.specs.NodeState.{NodeState}
 use Rattle.tq_mvbt.specs.Points.{now, within, is_live, with_end}
-use Rattle.tq_mvbt.specs.Shape.{live_at, IsEnough, IsFilled}
+use Rattle.tq_mvbt.specs.Shape.{live_at, HasEnoughLive, IsFilled}
 use Rattle.tq_mvbt.specs.Steps.{edited}
-use Rattle.tq_mvbt.specs.Loose.{IsFromBefore, IsFilledBefore, IsNearEnough, IsSettling}
+use Rattle.tq_mvbt.specs.Unsettled.{IsFromBefore, IsFilledBefore, HasNearlyEnoughLive, IsSettling}
 use Rattle.tq_mvbt.proofs.Places.{at_set_same, at_set_other}
 use Rattle.tq_mvbt.proofs.Filled.{not_yet}
 use Rattle.tq_mvbt.proofs.Counts.{is_ended, live-edited, lived-edited, all_live}
@@ -38,7 +38,7 @@ module _ (version level low high : ℕ) (nodes : List NodeState) (q : ℕ) (n : 
     (died : n.died ≡ now)
     (older : IsFromBefore version 0 n)
     (filled : IsFilledBefore version n)
-    (enough : IsEnough n (count_by is_live n.entries))
+    (enough : HasEnoughLive n (count_by is_live n.entries))
     (new : All (IsNewEntry version) added)
     (few : length added ≤ 2)
     (ends : count_by (is_ended low high) n.entries ≤ length added + 1)
@@ -88,7 +88,7 @@ module _ (version level low high : ℕ) (nodes : List NodeState) (q : ℕ) (n : 
               record { lower = λ x. let w = was.lower x in omega (arith, w, same); upper = λ x. let w = was.upper x in omega (arith, w, same); index = λ x. let w = was.index x in omega (arith, w, same) };
         }
 
-    near : IsNearEnough n' (count_by is_live (kept ++ added))
+    near : HasNearlyEnoughLive n' (count_by is_live (kept ++ added))
     near =
         let a = live-edited low high version n.entries small in
         let b = all_live added (All-weaker (IsNewEntry version) (λ e. e.dead ≡ now) (λ e i. i.dead) added new) in

@@ -26,7 +26,7 @@ ends_alike v d h = split (nat_eq d now) refl
     split true s = let e : nat_lt v d ≡ true = grind (arith, nat_tests) in sym e
     split false s = refl
 
--- regions hold the points that the leaves do
+-- regions hold the points that the leaves hold
 regions_hold : (k v number : ℕ) (nodes : List NodeState) → v < now → count_by (region_holds k v) (regions_from number nodes) ≡ count_by (at_point 0 k v) nodes
 regions_hold k v number [] h = refl
 regions_hold k v number (n ∷ nodes) h = split (nat_eq n.level 0) refl (regions_hold k v (number + 1) nodes h) (sum_by-cons (λ m. tally (at_point 0 k v m)) n nodes)
@@ -44,7 +44,7 @@ regions_hold k v number (n ∷ nodes) h = split (nat_eq n.level 0) refl (regions
         let here : tally (at_point 0 k v n) ≡ 0 = rw s refl in
         omega (arith, rest, parts, here)
 
--- two lives that agree up to a version below which one of them ends are over alike
+-- two lives that agree up to a version before which one of them ends have the same end
 own_end : (born dead born' dead' died : ℕ) (lives : ℕ → Bool) → ((v : ℕ) → v < died → lives v ≡ within born dead v) → ((v : ℕ) → v < now → lives v ≡ within born' dead' v) → born ≡ born' → born < dead → born' < dead' → died ≤ now → dead < died → dead ≡ dead'
 own_end born dead born' dead' died lives f g same l l' c h =
     let here : within born' dead' dead ≡ within born dead dead = sym (g dead (omega arith)) ∙ f dead h in

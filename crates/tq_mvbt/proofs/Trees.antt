@@ -13,27 +13,27 @@ use Rattle.tq_mvbt.specs.NodeState.{NodeState}
 use Rattle.tq_mvbt.specs.Points.{now, within, holds, leads}
 use Rattle.tq_mvbt.specs.Steps.{fresh}
 use Rattle.tq_mvbt.specs.Shape.{top, tally, listed, with_life, raised, Tiles, at_point, IsPlaced, IsRow, IsBranch, IsNode, IsForest, IsFound, IsFilled}
-use Rattle.tq_mvbt.specs.Loose.{Grows, HeightChanges, KeyChanges}
+use Rattle.tq_mvbt.specs.Unsettled.{Grows, HeightChanges, KeyChanges}
 use Rattle.tq_mvbt.specs.Links.{AreLinked, LinkJust, IsLinkTo}
 use Rattle.tq_mvbt.specs.Directory.{last_root, root_of, IsTop}
-use Rattle.tq_mvbt.specs.TreeState.{among, lives_of, height_of, HasLife, IsRootAt, AreRoots, AreLives, IsTree}
+use Rattle.tq_mvbt.specs.TreeState.{count_keys, lives_of, height_of, HasLife, IsRootAt, AreRoots, AreLives, IsTree}
 use Rattle.tq_mvbt.proofs.Lists.{all_at}
 use Rattle.tq_mvbt.proofs.Places.{at_left}
 use Rattle.tq_mvbt.proofs.Known.{known, alike}
 use Rattle.tq_mvbt.proofs.Descent.{one_leads}
 use Rattle.tq_mvbt.proofs.Heights.{levels_most}
 use Rattle.tq_mvbt.proofs.Grown.{grows_more, grows_both}
-use Rattle.tq_mvbt.proofs.Among.{among-zero, among-suc, among-alike}
+use Rattle.tq_mvbt.proofs.Among.{count_keys-zero, count_keys-suc, count_keys-alike}
 use Rattle.tq_mvbt.proofs.Lifetimes.{this_life, lives_beyond, lives_change, other_life, few_keys}
 
 -- ---- the directory
 
--- a root that is added stands from its version on
+-- a root that is added is current from its version on
 pub last_root-append : (before r : Root) (roots : List Root) (v : ℕ) → last_root before (roots ++ r ∷ []) v ≡ cond (nat_le r.from v) r (last_root before roots v)
 last_root-append before r [] v = refl
 last_root-append before r (x ∷ roots) v = last_root-append (cond (nat_le x.from v) x before) r roots v
 
--- from the last root's version on, the root is one and the same
+-- from the last root's version on, the root stays the same
 pub root_lasts : (before : Root) (roots : List Root) (w v : ℕ) → All (λ r. r.from ≤ w) roots → w ≤ v → last_root before roots v ≡ last_root before roots w
 root_lasts before [] w v a h = refl
 root_lasts before (r ∷ roots) w v a h =
@@ -42,7 +42,7 @@ root_lasts before (r ∷ roots) w v a h =
     let two : nat_le r.from w ≡ true = grind (arith, nat_tests) in
     rw (one, two) (root_lasts r roots w v (All-tail (λ (x : Root). x.from ≤ w) r roots a) h)
 
--- the roots stay in order
+-- the roots remain ordered
 ordered-append : (roots : List Root) (r : Root) → IsNonDecreasingBy (λ x. x.from) roots → All (λ x. x.from ≤ r.from) roots → IsNonDecreasingBy (λ x. x.from) (roots ++ r ∷ [])
 ordered-append roots r rises below i j d h w = split (nat_lt j (length roots)) (nat_lt i (length roots)) refl refl
   where
@@ -148,7 +148,7 @@ module _ (before : ℕ) (nodes : List NodeState) (roots : List Root) (tree : IsT
           lasts n m a (inl e) = omega arith
           lasts n m a (inr e) = let x = e.1 in omega arith
 
-      -- a root that stands now is that of every later version
+      -- a current root is the root of every later version
       standing : (r : Root) (v : ℕ) → version ≤ v → v < now → IsTop version new r → IsRootAt new v r
       standing r v h n at =
           let b = at.born in
@@ -158,7 +158,7 @@ module _ (before : ℕ) (nodes : List NodeState) (roots : List Root) (tree : IsT
       not_later : All (λ (r : Root). r.from ≤ version) roots
       not_later = All-weaker (λ (r : Root). r.from ≤ before) (λ (r : Root). r.from ≤ version) (λ r h. omega arith) roots tree.rooted.latest
 
-      -- the tree, where the root stays
+      -- the tree, if the root stays
       stays : (next ≡ None) → IsForest version (with_life (lives_of nodes) key version alive) (height_of roots) new → IsTop version new root → AreRoots version new (roots ++ [])
       stays is forest at =
           subst (λ (rs : List Root). AreRoots version new rs) (sym (append-nil roots))
@@ -176,7 +176,7 @@ module _ (before : ℕ) (nodes : List NodeState) (roots : List Root) (tree : IsT
               let u : version ≤ v = grind (arith, nat_tests) in
               subst (λ (r : Root). IsRootAt new v r) (sym (root_lasts (record { from = 0; node = 0; levels = 0 }) roots before v tree.rooted.latest (omega arith))) (standing root v u h at)
 
-      -- the tree, where another root takes its place
+      -- the tree, if another root replaces it
       changed : (r : Root) → (r.from ≡ version) → IsTop version new r → AreRoots version new (roots ++ r ∷ [])
       changed r from at =
           record {
@@ -249,7 +249,7 @@ module _ (before : ℕ) (nodes : List NodeState) (roots : List Root) (tree : IsT
             linked = linked;
           }
 
-      -- the roots of earlier versions stay
+      -- the roots of earlier versions stay the same
       pub roots_before : (v : ℕ) → v < version → root_of roots' v ≡ root_of roots v
       roots_before v h = split next refl
         where
@@ -266,7 +266,7 @@ module _ (before : ℕ) (nodes : List NodeState) (roots : List Root) (tree : IsT
 pub beyond_top : (before : ℕ) (nodes : List NodeState) (roots : List Root) → IsTree before nodes roots → (k v : ℕ) → top ≤ k → lives_of nodes k v ≡ false
 beyond_top before nodes roots tree k v h = lives_beyond before (lives_of nodes) nodes nodes k v tree.forest.each (inl h)
 
--- the leaf of a key lists it just where it lives now
+-- the leaf of a key lists it exactly if it lives now
 pub alive_is : (before : ℕ) (nodes : List NodeState) (roots : List Root) → IsTree before nodes roots → (key p : ℕ) (n : NodeState) (r : Option ℕ) → (found : IsFound nodes 0 key p) → slice_get nodes p ≡ Some n
     → MatchOption r (count_by (leads key) n.entries ≡ 0) (λ _. 0 < count_by (leads key) n.entries) → is_some r ≡ lives_of nodes key before
 alive_is before nodes roots tree key p n r found stands matches =
@@ -288,7 +288,7 @@ alive_is before nodes roots tree key p n r found stands matches =
     split (Some x) h true e = refl
     split (Some x) h false e = absurd (omega arith)
 
--- ---- the steps of an update, put together
+-- ---- the steps of an update together
 
 after_none : (next : Option Root) (mid new : List NodeState) (P : List NodeState → Type 0) → IfNone next (new ≡ mid) → P mid → IfNone next (P new)
 after_none None mid new P e p = subst P (sym e) p
@@ -424,12 +424,12 @@ first_lives : AreLives 0 (lives_of (leaf ∷ []))
 first_lives =
     record {
       each = λ k kt. record { born = 0; dead = 0; begins = omega arith; ends = inr (omega arith); lives_at = λ v h. no_lives k v ∙ (let off : within 0 0 v ≡ false = grind (arith, nat_tests) in sym off) };
-      few = λ v h. (let none = nobody 0 top in let same = among-alike (λ k. lives_of (leaf ∷ []) k v) (λ k. false) 0 top (λ k a b. no_lives k v) in omega (arith, none, same));
+      few = λ v h. (let none = nobody 0 top in let same = count_keys-alike (λ k. lives_of (leaf ∷ []) k v) (λ k. false) 0 top (λ k a b. no_lives k v) in omega (arith, none, same));
     }
   where
-    nobody : (low n : ℕ) → among (λ k. false) low n ≡ 0
-    nobody low zero = among-zero (λ k. false) low
-    nobody low (suc n) = let z : tally false ≡ 0 = refl in omega (arith, z, among-suc (λ k. false) low n, nobody low n)
+    nobody : (low n : ℕ) → count_keys (λ k. false) low n ≡ 0
+    nobody low zero = count_keys-zero (λ k. false) low
+    nobody low (suc n) = let z : tally false ≡ 0 = refl in omega (arith, z, count_keys-suc (λ k. false) low n, nobody low n)
 
 first_roots : AreRoots 0 (leaf ∷ []) (first_root ∷ [])
 first_roots =

@@ -1,4 +1,4 @@
--- Live entries that tell all keys of a range, as they are copied into a new node (this project's own).
+-- Live entries that list all keys of a range, as they are copied into a new node (this project's own).
 use Rattle.std.specs.Prelude.{◌≡◌, ℕ, ◌<◌, ◌≤◌, Bool, true, List, All, count_by, []}
 use Rattle.tq_mvbt.specs.declared.entry.Entry.{Entry}
 use Rattle.tq_mvbt.specs.NodeState.{NodeState}

@@ -1,20 +1,20 @@
--- The directory of roots: which root stands at a version (this project's own).
+-- The directory of roots: the root of each version (this project's own).
 use Rattle.std.specs.Prelude.{◌≡◌, ℕ, ◌+◌, ◌≤◌, List, [], ◌∷◌, nat_le, cond, slice_get, Some}
 use Rattle.tq_mvbt.specs.declared.root.Root.{Root}
 use Rattle.tq_mvbt.specs.NodeState.{NodeState}
 use Rattle.tq_mvbt.specs.Points.{now}
 use Rattle.tq_mvbt.specs.Shape.{top}
 
--- the last root that begins by the version, or the first argument where none does
+-- the last root that begins at the version or earlier, or the first argument if none does
 abbrev pub last_root : Root → List Root → ℕ → Root
 last_root before [] v = before
 last_root before (r ∷ roots) v = last_root (cond (nat_le r.from v) r before) roots v
 
--- the root that stands at the version
+-- the root of the version
 abbrev pub root_of : List Root → ℕ → Root
 root_of roots v = last_root (record { from = 0; node = 0; levels = 0 }) roots v
 
--- the root's node stands now, holds all keys, and is on the highest level
+-- the root's node is current, holds all keys, and is on the highest level
 pub record IsTop (version : ℕ) (nodes : List NodeState) (r : Root) : Type 0 where
   pub node : NodeState
   pub stands : slice_get nodes r.node ≡ Some node

@@ -4,7 +4,7 @@ pub mod Links
 pub mod Shape
 pub mod Steps
 pub mod Copies
-pub mod Loose
+pub mod Unsettled
 pub mod Directory
 pub mod TreeState
 pub mod Regions

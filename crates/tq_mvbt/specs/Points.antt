@@ -1,18 +1,18 @@
--- Points of a key and a version: which entries and nodes hold one, and what ends (Becker et al. 1996; the
--- mark of what lives now is this project's own).
+-- Points, each a key and a version: which entries and nodes hold one, and what ends (Becker et al. 1996; the mark of
+-- what lives now is this project's own).
 use Rattle.std.specs.Prelude.{◌≡◌, ℕ, Bool, List, nat_le, nat_lt, nat_eq, cond, ◌&&◌, slice_get, Some, None, Option, true}
 use Rattle.tq_mvbt.specs.declared.entry.Entry.{Entry}
 use Rattle.tq_mvbt.specs.NodeState.{NodeState}
 
--- the mark of what lives or stands now
+-- the mark of what lives now
 abbrev pub now : ℕ
 now = 4294967295
 
--- the version at which a life ended, or none where it lasts
+-- the version at which a life ended, or none if it lasts
 abbrev pub end_of : ℕ → Option ℕ
 end_of v = cond (nat_eq v now) None (Some v)
 
--- whether a number lies from the first up to but not with the last
+-- whether a number is at least the first bound and less than the last
 abbrev pub within : ℕ → ℕ → ℕ → Bool
 within first last x = nat_le first x && nat_lt x last
 
@@ -28,7 +28,7 @@ with_end low high version e = cond (is_live e && within low high e.low) (record 
 abbrev pub leads : ℕ → Entry → Bool
 leads k e = is_live e && within e.low e.high k
 
--- the child is that of an entry which lives now and whose range holds the key
+-- the child of an entry that lives now and whose range holds the key
 pub record IsChild (entries : List Entry) (k child : ℕ) : Type 0 where
   pub place : ℕ
   pub entry : Entry

@@ -5,7 +5,7 @@ use Rattle.tq_mvbt.specs.NodeState.{NodeState}
 use Rattle.tq_mvbt.specs.Points.{end_of}
 use Rattle.tq_mvbt.specs.Links.{linked_numbers}
 
--- the region of a leaf under its number, with the leaves that it links
+-- the region of a leaf with its number, and the leaves that it links
 abbrev pub region_for : ℕ → NodeState → Region
 region_for number n = record { node = record { 0 = number }; low = n.low; high = n.high; born = n.born; died = end_of n.died; links = linked_numbers n.links }
 

@@ -14,7 +14,7 @@ edited low high version added n = record n { entries = map (with_end low high ve
 abbrev pub with_entry : Entry → NodeState → NodeState
 with_entry entry n = record n { entries = n.entries ++ entry ∷ [] }
 
--- the node, dead from the version on, without its last entries
+-- the node, dead from the version on, without its last n entries
 abbrev pub retired : ℕ → ℕ → NodeState → NodeState
 retired version last n = record n { died = version; entries = take (length n.entries - last) n.entries }
 
@@ -22,24 +22,24 @@ retired version last n = record n { died = version; entries = take (length n.ent
 abbrev pub fresh : ℕ → ℕ → ℕ → ℕ → List Entry → List Link → NodeState
 fresh level low high version items links = record { level = level; low = low; high = high; born = version; died = now; entries = items; links = links }
 
--- the entry for the node under the number
+-- the entry for the node with the number
 abbrev pub entry_for : ℕ → NodeState → Entry
 entry_for number n = record { low = n.low; high = n.high; born = n.born; dead = now; child = number }
 
--- the node under the number changes, and no other
+-- the node with the number changes, and no other
 pub record Changes (old new : Contents NodeState) (number : ℕ) (change : NodeState → NodeState) : Type 0 where
   pub node : NodeState
   pub stands : slice_get old.nodes number ≡ Some node
   pub nodes : new.nodes ≡ slice_set old.nodes number (change node)
   pub room : new.room ≡ old.room
 
--- the node under the number has room for more entries
+-- the node with the number has room for n more entries
 pub record HasRoom (nodes : List NodeState) (number more : ℕ) : Type 0 where
   pub node : NodeState
   pub stands : slice_get nodes number ≡ Some node
   pub room : length node.entries + more ≤ 34
 
--- a node is put in
+-- a node is added
 pub record Puts (old new : Contents NodeState) (node : NodeState) (entry : Entry) : Type 0 where
   pub nodes : new.nodes ≡ old.nodes ++ node ∷ []
   pub entry_is : entry ≡ entry_for (length old.nodes) node
@@ -57,13 +57,13 @@ pub record IsDivided (items lower upper : List Entry) (middle : ℕ) : Type 0 wh
   pub lower_len : length lower ≡ length items / 2
   pub upper_len : length upper ≡ length items - length items / 2
 
--- one node with the entries is put in
+-- one node with the entries is added
 pub record PutsOne (old new : Contents NodeState) (level low high version : ℕ) (items added : List Entry) (links : List Link) : Type 0 where
   pub entry : Entry
   pub puts : Puts old new (fresh level low high version items links) entry
   pub added_is : added ≡ entry ∷ []
 
--- two nodes are put in, between which the entries are divided
+-- two nodes are added that share the entries
 pub record PutsTwo (old new : Contents NodeState) (level low high version : ℕ) (items added : List Entry) (links : List Link) : Type 0 where
   pub lower : List Entry
   pub upper : List Entry
@@ -76,7 +76,7 @@ pub record PutsTwo (old new : Contents NodeState) (level low high version : ℕ)
   pub puts_upper : Puts between new (fresh level middle high version upper links) upper_entry
   pub added_is : added ≡ lower_entry ∷ upper_entry ∷ []
 
--- one node with the entries is put in, or two where there are 25 or more
+-- one node with the entries is added, or two if there are 25 or more
 pub record PutsNodes (old new : Contents NodeState) (level low high version : ℕ) (items added : List Entry) (links : List Link) : Type 0 where
   pub few : length items < 25 → PutsOne old new level low high version items added links
   pub many : 25 ≤ length items → PutsTwo old new level low high version items added links

@@ -1,4 +1,4 @@
--- How a tree's nodes lie over keys and versions, and what they list. (Becker et al. 1996: the weak version
+-- The nodes of a tree as regions of keys and versions, and what they list. (Becker et al. 1996: the weak version
 -- condition, with at least 5 live entries.)
 use Rattle.std.specs.Prelude.{◌≡◌, ◌≢◌, ℕ, ◌+◌, ◌<◌, ◌≤◌, ◌⊎◌, ◌↔◌, Bool, true, List, nat_lt, nat_le, ◌&&◌, count_by, slice_get, Some, None, Option}
 use Rattle.tq_mvbt.specs.declared.entry.Entry.{Entry}
@@ -34,7 +34,7 @@ pub record Meets (nodes : List NodeState) (n : NodeState) (k : ℕ) : Type 0 whe
   pub held : holds k version n ≡ true
   pub lives : lives_of nodes k version ≡ true
 
--- the entry tells a node that is alive at the version, one level lower, over the entry's keys
+-- the entry is for a node that is alive at the version, one level lower, over the entry's keys
 pub record IsChildAt (nodes : List NodeState) (n : NodeState) (e : Entry) (v : ℕ) : Type 0 where
   pub child : NodeState
   pub stands : slice_get nodes e.child ≡ Some child
@@ -43,10 +43,10 @@ pub record IsChildAt (nodes : List NodeState) (n : NodeState) (e : Entry) (v : �
   pub high : child.high ≡ e.high
   pub alive : within child.born child.died v ≡ true
 
--- each point lies in one region; a leaf lists just the keys whose life meets its region, with their lives;
--- a node that isn't the root has at least 5 live entries, an index node at least 2; the live entries of an
--- index node tell nodes that are alive then, and their ranges tile its own; a leaf links just the leaves whose life
--- ended where its own began
+-- each point lies in exactly one region; a leaf lists exactly the keys whose life meets its region, with their lives; a
+-- node that is not the root has at least 5 live entries, an index node at least 2; the live entries of an index node
+-- are for nodes that are alive then, and their ranges tile its own; a leaf links exactly the leaves whose life ended
+-- when its own began
 pub record IsTiling (nodes : List NodeState) (roots : List Root) : Type 0 where
   pub one_region : (k v : ℕ) → k < top → v < now → count_by (region_holds k v) (regions_from 0 nodes) ≡ 1
   pub lists : (i k : ℕ) (n : NodeState) → slice_get nodes i ≡ Some n → n.level ≡ 0 → Lists n k ↔ Meets nodes n k

@@ -6,11 +6,11 @@ ghost use Rattle.tq_mvbt.specs.Points.{is_live, with_end, leads, IsChild};
 
 use arrayvec::ArrayVec;
 
-/// The mark of what lives or stands now.
+/// The mark of what lives now: no end.
 pub const NOW: u32 = u32::MAX;
 
-/// A key, or a child, from `low` up to but not with `high`, at the versions from `born` up to but not
-/// with `dead`. A key has `high` one above `low`, and no child.
+/// An entry of a node: a key, or a child over the keys `low <= k < high`, at the versions `born <= v < dead`. For a
+/// key, `high` is `low + 1` and `child` is unused.
 #[derive(Clone, Copy, Default, Debug)]
 pub struct Entry {
     pub low: u128,
@@ -21,7 +21,7 @@ pub struct Entry {
 }
 
 impl Entry {
-    // Ends the entry, if it lives now and its low key lies in the range.
+    // Ends the entry at the version, if it lives now and its low key lies in the range.
     fn end_in(&mut self, low: u128, high: u128, version: u32)
         ensures { self.new ≡ with_end low high version self.old }
     {
@@ -31,7 +31,7 @@ impl Entry {
     }
 }
 
-// How many entries live now.
+// The number of entries that live now.
 pub(crate) fn count_live(entries: &[Entry]) -> usize
     ensures { result ≡ count_by is_live entries.now }
 {

@@ -1,11 +1,12 @@
-//! A multiversion B-tree: the keys that live at any version, after Becker, Gschwind, Ohler, Seeger and
-//! Widmayer 1996, with numbers of this project.
+//! A multiversion B-tree: it stores the keys that live at each version. After Becker, Gschwind, Ohler, Seeger and
+//! Widmayer 1996, with this project's own numbers.
 //!
-//! Each `insert` and each `delete` has a version of its own, and the tree answers for every version up to
-//! the last one. A node holds up to 32 entries and a region, a range of keys over an interval of versions;
-//! at each version the regions of the leaves tile the keys. A change first reserves every node that it can
-//! need, and then can't fail. What holds of every tree is `IsTree` of
-//! specs/TreeState.antt, and what follows for keys and versions is the law `trees_tile`.
+//! `Tree::insert` and `Tree::delete` each have a version of their own, and the tree is read at every version up to the
+//! last one. The invariant of every tree is `IsTree` in `specs/TreeState.antt`; the law `trees_tile` states what it
+//! means for keys and versions. A change first reserves all nodes that it can need, and then cannot fail.
+//! `docs/tree.md` describes nodes, splits and links.
+//!
+//! Open `src/tree.rt` first, then `src/replace.rt`.
 #![tactic(auto)]
 
 mod entry;

@@ -14,22 +14,18 @@ use tq_arena::NodeNo;
 /// The most entries of a node between two updates.
 pub(crate) const CAPACITY: usize = 32;
 
-/// A leaf that another leaf took the place of: its number and its range of keys.
+/// A leaf that another leaf replaced: its number, and its keys `low <= k < high`.
 #[derive(Clone, Copy, PartialEq, Eq, Default, Debug)]
 pub struct Link {
-    /// The number of the leaf.
     pub node: NodeNo,
-    /// The least key of its range.
     pub low: u128,
-    /// The key just above its range.
     pub high: u128,
 }
 
-/// The links of a leaf. A change replaces at most two leaves, so two links fit inline, and none is ever allocated.
+/// The links of a leaf. A change replaces at most two leaves, so both links fit inline and nothing is allocated.
 pub(crate) type Links = SmallVec<Link, 2>;
 
-/// A node of the tree, with the number of its entries that live now. During an update it may hold two entries too
-/// many.
+/// A node of the tree, with the number of its entries that live now. During an update it can have two entries too many.
 #[derive(Drop)]
 pub struct Node {
     level: u32,
@@ -72,7 +68,7 @@ impl Node {
         self.low
     }
 
-    /// The key just above the node's range.
+    /// The key after the last of the node's range.
     pub fn high(&self) -> u128
         ensures { result ≡ self.now.high }
     {
@@ -86,7 +82,7 @@ impl Node {
         self.born
     }
 
-    /// The first version after the node's life; none for a node that stands now.
+    /// The first version after the node's life; none for a current node.
     pub fn died(&self) -> Option<u32>
         ensures { result ≡ end_of self.now.died }
     {
@@ -100,7 +96,7 @@ impl Node {
         self.entries.len() as u32
     }
 
-    /// The key of a leaf's entry; the least key of a child's range.
+    /// The key of a leaf's entry number i, or the least key of an index entry's child.
     pub fn key(&self, i: u32) -> u128
         requires { i < length self.now.entries }
         ensures { IfSome (slice_get self.now.entries i) (λ e. result ≡ e.low) }
@@ -108,7 +104,7 @@ impl Node {
         self.entries[i as usize].low
     }
 
-    /// The key just above a leaf's entry; the key just above a child's range.
+    /// The key after that of a leaf's entry, or after the last of an index entry's child.
     pub fn high_of(&self, i: u32) -> u128
         requires { i < length self.now.entries }
         ensures { IfSome (slice_get self.now.entries i) (λ e. result ≡ e.high) }
@@ -124,8 +120,7 @@ impl Node {
         self.entries[i as usize].born
     }
 
-    /// The first version at which the entry's key was dead, or its child replaced; none where the entry
-    /// was never ended.
+    /// The first version at which the entry's key was dead, or its child replaced; none if the entry has not ended.
     pub fn dead_of(&self, i: u32) -> Option<u32>
         requires { i < length self.now.entries }
         ensures { IfSome (slice_get self.now.entries i) (λ e. result ≡ end_of e.dead) }
@@ -142,8 +137,8 @@ impl Node {
         NodeNo(self.entries[i as usize].child)
     }
 
-    /// The leaves that this leaf took the place of, at most two: those whose life ended where its own began. An
-    /// index node has none.
+    /// The leaves that this leaf replaced, at most two: those whose life ended when its own began. An index node has
+    /// none.
     pub fn links(&self) -> &[Link]
         ensures { result.now ≡ self.now.links }
     {
@@ -197,7 +192,7 @@ impl Node {
         self.live += 1;
     }
 
-    // Ends the node, and takes its last entries off.
+    // Ends the node at the version, and removes its last `last` entries.
     pub(crate) fn retire(&mut self, version: u32, last: usize)
         requires { last ≤ length self.old.entries }
         ensures { self.new ≡ retired version last self.old }
@@ -208,7 +203,7 @@ impl Node {
         self.died = version;
     }
 
-    // Puts in the link to the node under the number, if it is a leaf.
+    // Appends a link to this node with its number, if it is a leaf.
     pub(crate) fn push_link(&self, number: u32, links: &mut Links)
         requires { HasRoomFor links.old 1 }
         ensures links { links.new.items ≡ links.old.items ++ links_to number self.now }
@@ -224,14 +219,14 @@ impl Node {
         }
     }
 
-    // How many entries live now.
+    // The number of entries that live now.
     pub(crate) fn count_live(&self) -> usize
         ensures { result ≡ count_by is_live self.now.entries }
     {
         self.live
     }
 
-    // Whether no entry is over, and enough of them live.
+    // Whether the node has at most 32 entries, and at least `least` live ones.
     pub(crate) fn fits(&self, least: usize) -> bool
         ensures { IsTrue result ↔ ((length self.now.entries ≤ 32) × (least ≤ count_by is_live self.now.entries)) }
     {
@@ -262,7 +257,7 @@ fn ended(version: u32) -> Option<u32>
     if version == NOW { None } else { Some(version) }
 }
 
-// The same links, inline.
+// A copy of the links, inline.
 fn copy_links(links: &Links) -> Links
     requires { small_vec_len links.now ≤ 2 }
     ensures { result.items ≡ links.now.items }

@@ -1,4 +1,4 @@
-//! A list of node numbers, as public types hold it.
+//! A list of node numbers for public types.
 
 use std::marker::Model;
 use tq_arena::NodeNo;
@@ -21,14 +21,14 @@ impl Model for NodeNos {
 impl NodeNos {
     ghost use Rattle.std.specs.Prelude.{◌≡◌};
 
-    /// The numbers handed in; takes no memory.
+    /// Wraps the list; allocates nothing.
     pub fn of(items: Vec<NodeNo>) -> NodeNos
         ensures { result ≡ items.items }
     {
         NodeNos { items }
     }
 
-    /// The numbers; takes no memory.
+    /// The numbers; allocates nothing.
     pub fn get(&self) -> &[NodeNo]
         ensures { result.now ≡ self.now }
     {

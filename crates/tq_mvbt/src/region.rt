@@ -16,17 +16,17 @@ pub struct Region {
     pub node: NodeNo,
     /// The least key.
     pub low: u128,
-    /// The key just above.
+    /// The key after the last one.
     pub high: u128,
     /// The first version.
     pub born: u32,
-    /// The first version after; none for a leaf that stands now.
+    /// The first version after the last one; none for a current leaf.
     pub died: Option<u32>,
-    /// The leaves whose place it took, at most two.
+    /// The leaves that it replaced, at most two.
     pub links: NodeNos,
 }
 
-// The numbers of the leaves that are linked.
+// The numbers of the linked leaves.
 fn linked_leaves(alloc: Global, links: &[Link]) -> Result<NodeNos, AllocError>
     ensures { IfOk result (λ numbers. numbers ≡ linked_numbers links.now) }
 {
@@ -51,7 +51,7 @@ fn region_at(alloc: Global, number: u32, node: &Node) -> Result<Region, AllocErr
     })
 }
 
-// The regions of the leaves in the order of their numbers; each node is read once.
+// The regions of the leaves in the order of their numbers. Each node is read once.
 pub(crate) fn regions(
     alloc: Global,
     nodes: &Arena<Node>,

@@ -1,9 +1,9 @@
-//! A node that is too full or too empty gives way to others.
+//! Version splits: a node with too many entries, or too few live ones, is replaced by others.
 
 ghost use Rattle.std.specs.Prelude.{◌≡◌, ◌+◌, ◌<◌, ◌≤◌, ◌⊎◌, length};
 ghost use Rattle.tq_mvbt.specs.Shape.{IsSomeForest};
 ghost use Rattle.tq_mvbt.specs.Links.{KeepsLinks};
-ghost use Rattle.tq_mvbt.specs.Loose.{IsForestBy, IsSettling, NeedsChange, IsAmple, IsThin, IsPart, IsPartOf, IsUnder, IsStanding, IsRightFirst, AreBeside, Grows, StaysForest};
+ghost use Rattle.tq_mvbt.specs.Unsettled.{IsForestBy, IsSettling, NeedsChange, HasManyLive, HasFewLive, IsPart, IsPartOf, IsWithinParent, IsCurrentNode, IsRightFirst, AreAdjacent, Grows, StaysForest};
 
 use crate::node::Node;
 use crate::steps::{count_live, edit, push_nodes, retire};
@@ -12,8 +12,8 @@ use smallvec::SmallVec;
 use std::alloc::Global;
 use tq_arena::{Arena, Meter, NodeNo};
 
-// Replaces the node, whose last entries began at the version, by one or two; gives how many entries
-// the parent got.
+// Replaces the node by one or two; its last `last` entries began at the version. Returns the number of entries that the
+// parent got.
 fn renew(
     alloc: Global,
     nodes: &mut Arena<Node>,
@@ -27,7 +27,7 @@ fn renew(
     requires room { 2 ≤ nodes.old.room }
     requires forest { IsForestBy version nodes.old.nodes }
     requires settling { IsSettling version level last nodes.old.nodes number }
-    requires ample { IsAmple nodes.old.nodes number }
+    requires ample { HasManyLive nodes.old.nodes number }
     requires part { IsPartOf nodes.old.nodes level number parent }
     ensures forest { StaysForest version nodes.old.nodes nodes.new.nodes }
     ensures settling { IsSettling version (level + 1) result nodes.new.nodes parent }
@@ -44,8 +44,8 @@ fn renew(
     added.len()
 }
 
-// Replaces the node, whose last entries began at the version, and the one beside it, by one or two;
-// gives how many entries the parent got.
+// Replaces the node and its sibling by one or two; the node's last `last` entries began at the version. Returns the
+// number of entries that the parent got.
 fn merge(
     alloc: Global,
     nodes: &mut Arena<Node>,
@@ -60,11 +60,11 @@ fn merge(
     requires room { 2 ≤ nodes.old.room }
     requires forest { IsForestBy version nodes.old.nodes }
     requires settling { IsSettling version level last nodes.old.nodes number }
-    requires thin { IsThin nodes.old.nodes number }
+    requires thin { HasFewLive nodes.old.nodes number }
     requires part { IsPartOf nodes.old.nodes level number parent }
-    requires beside { AreBeside nodes.old.nodes number sibling }
-    requires under { IsUnder nodes.old.nodes sibling parent }
-    requires standing { IsStanding level nodes.old.nodes sibling }
+    requires beside { AreAdjacent nodes.old.nodes number sibling }
+    requires under { IsWithinParent nodes.old.nodes sibling parent }
+    requires standing { IsCurrentNode level nodes.old.nodes sibling }
     ensures forest { StaysForest version nodes.old.nodes nodes.new.nodes }
     ensures settling { IsSettling version (level + 1) result nodes.new.nodes parent }
     ensures grows { Grows version (level + 1) nodes.old.nodes nodes.new.nodes }
@@ -83,8 +83,8 @@ fn merge(
     added.len()
 }
 
-// A key of the parent just beside the node, above it if there is one.
-fn key_beside(node: &Node, above: &Node) -> u128
+// The parent's key next to the node's range: the one above it, or the one below it if the parent has none above.
+fn adjacent_key(node: &Node, above: &Node) -> u128
     requires { IsPart node.now above.now }
     ensures low { above.now.low ≤ result }
     ensures high { result < above.now.high }
@@ -98,24 +98,23 @@ fn key_beside(node: &Node, above: &Node) -> u128
     }
 }
 
-// The node beside the node under the same parent, on the right if there is one.
+// The adjacent node under the same parent, on the right if there is one.
 fn sibling_of(nodes: &Arena<Node>, number: u32, parent: u32, level: u32) -> u32
     requires level { level < 4294967295 }
     requires forest { IsSomeForest nodes.now.nodes }
     requires part { IsPartOf nodes.now.nodes level number parent }
-    ensures beside { AreBeside nodes.now.nodes number result }
-    ensures under { IsUnder nodes.now.nodes result parent }
-    ensures standing { IsStanding level nodes.now.nodes result }
+    ensures beside { AreAdjacent nodes.now.nodes number result }
+    ensures under { IsWithinParent nodes.now.nodes result parent }
+    ensures standing { IsCurrentNode level nodes.now.nodes result }
     ensures right { IsRightFirst nodes.now.nodes number parent result }
 {
     let mut meter = Meter::new();
     let node = nodes.read(NodeNo(number), &mut meter);
     let above = nodes.read(NodeNo(parent), &mut meter);
-    above.child_at(key_beside(node, above)).unwrap()
+    above.child_at(adjacent_key(node, above)).unwrap()
 }
 
-// Replaces the node, alone or with the one beside it, by one or two; gives how many entries the
-// parent got.
+// Replaces the node, alone or with its sibling, by one or two. Returns the number of entries that the parent got.
 pub(crate) fn replace(
     alloc: Global,
     nodes: &mut Arena<Node>,

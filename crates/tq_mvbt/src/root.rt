@@ -1,10 +1,10 @@
-//! Roots, and the directory that tells which one stands at a version.
+//! Roots, and the directory that names the root of each version.
 
 ghost use Rattle.std.specs.Prelude.{◌≡◌, ℕ, ◌+◌, ◌-◌, ◌<◌, ◌≤◌, length, All, slice_get, IfSome, IfNone, MatchOption};
 ghost use Rattle.std.specs.List.Sorted.{IsNonDecreasingBy};
 ghost use Rattle.tq_mvbt.specs.Shape.{IsSomeForest, IsFound, IsFilled};
 ghost use Rattle.tq_mvbt.specs.Links.{KeepsLinks};
-ghost use Rattle.tq_mvbt.specs.Loose.{IsForestBy, IsSettling, NeedsChange, Grows, HeightChanges};
+ghost use Rattle.tq_mvbt.specs.Unsettled.{IsForestBy, IsSettling, NeedsChange, Grows, HeightChanges};
 ghost use Rattle.tq_mvbt.specs.Directory.{root_of, IsTop};
 
 use crate::node::Node;
@@ -14,10 +14,10 @@ use smallvec::SmallVec;
 use std::alloc::Global;
 use tq_arena::Arena;
 
-/// One above the greatest key.
+/// One more than the greatest key.
 pub(crate) const TOP: u128 = 79228162514264337593543950336;
 
-/// The root from a version on, and how many levels the tree has then.
+/// The root from a version on, and the number of levels of the tree then.
 #[derive(Clone, Copy, Debug)]
 pub struct Root {
     pub from: u32,
@@ -25,7 +25,7 @@ pub struct Root {
     pub levels: u32,
 }
 
-// The last root that begins by the version.
+// The last root that begins at the version or earlier.
 pub(crate) fn find_root(roots: &[Root], version: u32) -> Root
     requires some { 0 < length roots.now }
     requires first { IfSome (slice_get roots.now 0) (λ r. r.from ≡ 0) }
@@ -36,7 +36,7 @@ pub(crate) fn find_root(roots: &[Root], version: u32) -> Root
     roots[after - 1]
 }
 
-// The leaf that stands now and whose range holds the key, below a node that does.
+// The current leaf whose range holds the key, below a current node.
 pub(crate) fn leaf_of(nodes: &Arena<Node>, top: u32, levels: u32, key: u128) -> u32
     requires forest { IsSomeForest nodes.now.nodes }
     requires found { IsFound nodes.now.nodes levels key top }
@@ -51,7 +51,7 @@ pub(crate) fn leaf_of(nodes: &Arena<Node>, top: u32, levels: u32, key: u128) -> 
     number
 }
 
-// The root that takes the place of one which is too full or too empty.
+// Replaces a root with too many entries or too few live ones. Returns the new root.
 fn replace_root(
     alloc: Global,
     nodes: &mut Arena<Node>,
@@ -111,7 +111,7 @@ fn replace_root(
     }
 }
 
-// Puts the root right; gives the root in its place, if there is another one.
+// Replaces the root if it must be. Returns the new root, if there is one.
 pub(crate) fn settle_root(
     alloc: Global,
     nodes: &mut Arena<Node>,

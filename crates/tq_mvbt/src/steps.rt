@@ -1,4 +1,4 @@
-//! Steps on the nodes of an arena: finding, editing, ending and beginning them.
+//! Steps on the nodes of an arena: finding, editing, ending and adding nodes.
 
 ghost use Rattle.std.specs.Prelude.{◌≡◌, ◌+◌, ◌-◌, ◌<◌, ◌≤◌, ◌++◌, IsTrue, true, ◌↔◌, length, count_by, slice_get, IfSome, filter, IsPermutation};
 ghost use Rattle.std.specs.List.Sorted.{IsNonDecreasingBy};
@@ -14,7 +14,7 @@ use crate::node::{Links, Node};
 use arrayvec::ArrayVec;
 use tq_arena::{Arena, Meter, NodeNo};
 
-// The child on the way to the key.
+// The child on the path to the key.
 pub(crate) fn child_of(nodes: &Arena<Node>, number: u32, level: u32, key: u128) -> u32
     requires forest { IsSomeForest nodes.now.nodes }
     requires index { 0 < level }
@@ -50,7 +50,7 @@ pub(crate) fn add(nodes: &mut Arena<Node>, number: u32, entry: Entry)
     nodes.change(NodeNo(number)).add(entry);
 }
 
-// Whether the node has no entry over, and enough of them live.
+// Whether the node has at most 32 entries, and at least `least` live ones.
 pub(crate) fn fits(nodes: &Arena<Node>, number: u32, least: usize) -> bool
     requires { number < length nodes.now.nodes }
     ensures { IfSome (slice_get nodes.now.nodes number) (λ n. IsTrue result ↔ ((length n.entries ≤ 32) × (least ≤ count_by is_live n.entries))) }
@@ -59,7 +59,7 @@ pub(crate) fn fits(nodes: &Arena<Node>, number: u32, least: usize) -> bool
     nodes.read(NodeNo(number), &mut meter).fits(least)
 }
 
-// How many entries of the node live now.
+// The number of the node's entries that live now.
 pub(crate) fn count_live(nodes: &Arena<Node>, number: u32) -> usize
     requires { number < length nodes.now.nodes }
     ensures { IfSome (slice_get nodes.now.nodes number) (λ n. result ≡ count_by is_live n.entries) }
@@ -68,7 +68,7 @@ pub(crate) fn count_live(nodes: &Arena<Node>, number: u32) -> usize
     nodes.read(NodeNo(number), &mut meter).count_live()
 }
 
-// Ends the node, takes its last entries off, copies the live ones, and links it, if it is a leaf; gives the
+// Ends the node, removes its last `last` entries, copies the live ones, and links the node if it is a leaf. Returns the
 // node's range.
 pub(crate) fn retire(
     nodes: &mut Arena<Node>,
@@ -97,7 +97,7 @@ pub(crate) fn retire(
     range
 }
 
-// Puts in a node with the entries, and gives the entry for it.
+// Adds a node with the entries, and returns the entry for it.
 pub(crate) fn push_node(
     nodes: &mut Arena<Node>,
     level: u32,
@@ -140,7 +140,7 @@ fn sort_copied(copied: &mut ArrayVec<Entry, 40>)
     sort_entries(copied.as_mut_slice());
 }
 
-// Puts in two nodes with the entries, the smaller part below, and gives the entries for them.
+// Adds two nodes that share the entries, the smaller half in the lower one, and returns the entries for them.
 fn push_two(
     nodes: &mut Arena<Node>,
     level: u32,
@@ -164,7 +164,7 @@ fn push_two(
     added
 }
 
-// Puts in one node with the entries, or two where there are 25 or more, and gives the entries for them.
+// Adds one node with the entries, or two if there are 25 or more, and returns the entries for them.
 pub(crate) fn push_nodes(
     nodes: &mut Arena<Node>,
     level: u32,

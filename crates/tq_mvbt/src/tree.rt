@@ -36,7 +36,7 @@ impl Model for Tree {
 }
 
 impl Tree {
-    /// A tree of no key: one leaf, from version 0 on. It keeps the allocator.
+    /// A tree without keys: one leaf, from version 0 on. It keeps the allocator.
     pub fn new(alloc: Global) -> Result<Tree, AllocError>
         ensures tree { IfOk result (λ t. IsTree t.version t.nodes t.roots) }
         ensures version { IfOk result (λ t. t.version ≡ 0) }
@@ -59,7 +59,7 @@ impl Tree {
         })
     }
 
-    /// The version of the last change; 0 before the first one.
+    /// The version of the last change, 0 before the first one.
     pub fn version(&self) -> u32
         ensures version { result ≡ self.now.version }
         ensures tree { IsTree self.now.version self.now.nodes self.now.roots }
@@ -91,7 +91,7 @@ impl Tree {
         NodeNo(find_root(&self.roots, version).node)
     }
 
-    /// How many levels the tree has at the version, from 1 to 10.
+    /// The number of levels of the tree at the version, from 1 to 10.
     pub fn levels(&self, version: u32) -> u32
         ensures levels { result ≡ (root_of self.now.roots version).levels }
         ensures some { version < 4294967295 → 1 ≤ result }
@@ -100,7 +100,7 @@ impl Tree {
         find_root(&self.roots, version).levels
     }
 
-    /// The node under the number; the meter counts one read.
+    /// The node with the number; the meter counts one read.
     pub fn node(&self, number: NodeNo, meter: &mut Meter) -> &Node
         requires { number.0 < length self.now.nodes }
         ensures node { slice_get self.now.nodes number.0 ≡ Some result.now }
@@ -109,8 +109,7 @@ impl Tree {
         self.nodes.read(number, meter)
     }
 
-    /// The key lives from the version on.
-    /// Out of memory: the tree is as before.
+    /// Begins the key's life at the version. After `AllocError` the tree is unchanged.
     pub fn insert(&mut self, key: u128, version: u32) -> Result<(), AllocError>
         requires later { self.old.version < version }
         requires small { version ≤ 16777216 }
@@ -134,8 +133,7 @@ impl Tree {
         )
     }
 
-    /// The key is dead from the version on.
-    /// Out of memory: the tree is as before.
+    /// Ends the key's life at the version, from which on it is dead. After `AllocError` the tree is unchanged.
     pub fn delete(&mut self, key: u128, version: u32) -> Result<(), AllocError>
         requires later { self.old.version < version }
         requires small { version ≤ 16777216 }
@@ -159,8 +157,8 @@ impl Tree {
         )
     }
 
-    /// The regions of the leaves in the order of their numbers; the meter counts at least one read a leaf.
-    /// Out of memory: nothing is given.
+    /// The regions of the leaves in the order of their numbers; the meter counts at least one read for each leaf.
+    /// `AllocError` if an allocation failed.
     pub fn leaf_regions(&self, meter: &mut Meter) -> Result<Vec<Region>, AllocError>
         ensures regions { IfOk result (λ rs. rs.items ≡ regions_from 0 self.now.nodes) }
         ensures in_range { IfOk result (λ rs. All (λ r. r.node.0 < length self.now.nodes) rs.items) }
@@ -170,7 +168,7 @@ impl Tree {
     }
 }
 
-// Keeps the root that takes the last one's place, if there is one.
+// Appends the new root, if there is one.
 fn push_root(roots: &mut Vec<Root>, next: Option<Root>)
     requires { vec_len roots.old < vec_capacity roots.old }
     ensures { roots.new.items ≡ roots.old.items ++ option_to_list next }

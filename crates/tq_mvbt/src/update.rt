@@ -1,10 +1,11 @@
-//! A key's life begins or ends, and the nodes on its way are put right from the leaf upwards.
+//! An update: a key's life begins or ends, and the nodes on its path are replaced from the leaf upwards if they must
+//! be.
 
 ghost use Rattle.std.specs.Prelude.{◌≡◌, ◌+◌, ◌*◌, ◌<◌, ◌≤◌, ◌∷◌, [], true, false, length};
 ghost use Rattle.tq_mvbt.specs.Shape.{IsFound};
 ghost use Rattle.tq_mvbt.specs.Steps.{HasRoom, Changes, edited};
 ghost use Rattle.tq_mvbt.specs.Links.{AreUntouched, UpdatesLinks};
-ghost use Rattle.tq_mvbt.specs.Loose.{IsForestBy, IsReady, IsSettling, Grows, KeyChanges};
+ghost use Rattle.tq_mvbt.specs.Unsettled.{IsForestBy, IsReady, IsSettling, Grows, KeyChanges};
 
 use crate::entry::{Entry, NOW};
 use crate::node::Node;
@@ -13,7 +14,7 @@ use crate::steps::{add, child_of, edit, fits};
 use std::alloc::Global;
 use tq_arena::Arena;
 
-// Lists a key in its leaf from the version on, or ends it there; gives how many entries the leaf got.
+// Adds the key to its leaf from the version on, or ends it there. Returns the number of entries that the leaf got.
 fn set_life(nodes: &mut Arena<Node>, leaf: u32, key: u128, version: u32, alive: bool) -> usize
     requires small { version < 4294967295 }
     requires key { key < 79228162514264337593543950336 }
@@ -41,8 +42,8 @@ fn set_life(nodes: &mut Arena<Node>, leaf: u32, key: u128, version: u32, alive: 
     1
 }
 
-// Begins or ends the key's life below the node, and puts every node below it right; gives how many
-// entries the node itself got, which may now be too full or too empty.
+// Begins or ends the key's life below the node, and replaces each node below it that must be. Returns the number of
+// entries that the node itself got. The node can then have too many entries or too few live ones.
 pub(crate) fn update(
     alloc: Global,
     nodes: &mut Arena<Node>,

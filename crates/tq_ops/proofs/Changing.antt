@@ -9,8 +9,8 @@ use Rattle.tq_base.specs.declared.period.Period.{Period}
 use Rattle.tq_base.specs.declared.fragment.Fragment.{Fragment}
 use Rattle.tq_base.specs.Layering.{held, rows_of}
 use Rattle.tq_base.specs.Periods.{holds, IsOverlap, Overlap}
-use Rattle.tq_base.specs.declared.sides.Side.{Side}
-use Rattle.tq_base.specs.declared.sides.Side.TheVariants.{Left, Right}
+use Rattle.tq_base.specs.declared.sort_input.Side.{Side}
+use Rattle.tq_base.specs.declared.sort_input.Side.TheVariants.{Left, Right}
 use Rattle.tq_base.specs.Keys.{is_same_side, Held}
 use Rattle.tq_ops.specs.declared.difference.Change.{Change}
 use Rattle.tq_ops.specs.Differences.{rises_upto, falls_upto, side_held, AddsDifference, IsEven}
@@ -19,7 +19,7 @@ use Rattle.tq_ops.proofs.Meeting.{sum_by-nothing}
 use Rattle.tq_ops.proofs.Cutting.{holds-overlap, holds_apart}
 use Rattle.tq_ops.proofs.Sweeping.{held_one}
 
--- the changes of one row and the row itself weigh each other out
+-- the changes of one row balance the row
 one_row : (side : Side) (p : Period) (t : ℕ) → let b = is_same_side Left side in
     one_if (b && nat_le p.start t) + one_if (not b && nat_le p.end t) + one_if (is_same_side Right side && holds p t)
     ≡ one_if (not b && nat_le p.start t) + one_if (not (not b) && nat_le p.end t) + one_if (is_same_side Left side && holds p t)
@@ -64,7 +64,7 @@ module _ (window : Period) (rows : List Held) (i : ℕ) (r : Held) (lt : i < len
         ap (λ h. one_if (is_same_side Left r.side && h)) (holds-overlap r.row.period window p overlap t),
       )
 
-  -- a row apart from the window
+  -- a row that does not overlap the window
   pub counts_past : (changes : List Change) → (Overlap r.row.period window → ⊥)
       → (t : ℕ) → rises_upto changes t + side_held window Right (take i rows) t ≡ falls_upto changes t + side_held window Left (take i rows) t
       → rises_upto changes t + side_held window Right (take (i + 1) rows) t ≡ falls_upto changes t + side_held window Left (take (i + 1) rows) t
@@ -84,7 +84,7 @@ module _ (window : Period) (rows : List Held) (i : ℕ) (r : Held) (lt : i < len
       nothing true = refl
       nothing false = refl
 
--- a rise and a fall keep the changes even
+-- a rise and a fall keep rises and falls equally many
 pub stays_even : (old mid new : List Change) (b : Bool) (start end : ℕ) → mid ≡ old ++ (record { at = start; rises = b }) ∷ [] → new ≡ mid ++ (record { at = end; rises = not b }) ∷ [] → IsEven old → IsEven new
 stays_even old mid new b start end first second even =
     let at_start : Change = record { at = start; rises = b } in
@@ -118,7 +118,7 @@ none_held side window rows none t =
     sum_by-nothing (λ (r : Held). one_if (is_same_side side r.side && (holds r.row.period t && holds window t))) rows
     (λ k d lt. ap (λ b. one_if (b && (holds (get_or rows k d).row.period t && holds window t))) (none k d lt))
 
--- a group of the right takes nothing that is there
+-- a group of the right removes no existing row
 pub adds_nothing : (window : Period) (rows : List Held) (v : List Value) (out : List Fragment) → All (λ (r : Held). is_same_side Left r.side ≡ false) rows → AddsDifference window rows v out out
 adds_nothing window rows v out right = record {
   periods = [];
@@ -126,7 +126,7 @@ adds_nothing window rows v out right = record {
   added = sym (append-nil out);
 }
 
--- one of the left is left over
+-- a group of the left remains
 pub adds_all : (window : Period) (rows : List Held) (v : List Value) (old new : List Fragment) (periods : List Period) → All (λ (r : Held). is_same_side Left r.side ≡ true) rows
     → ((t : ℕ) → held periods t ≡ side_held window Left rows t) → new ≡ old ++ rows_of v periods → AddsDifference window rows v old new
 adds_all window rows v old new periods left counted added = record {
@@ -167,7 +167,7 @@ module _ (window : Period) (rows : List Held) (i : ℕ) (r : Held) (lt : i < len
         ∙ ap (λ l. old ++ l) (sym (map-append (λ q. record { values = v; period = q }) w.periods (p ∷ [])));
   }
 
-  -- a row apart from the window
+  -- a row that does not overlap the window
   pub cut_past : (v : List Value) (old new : List Fragment) → (Overlap r.row.period window → ⊥) → Cut window (take i rows) v old new → Cut window (take (i + 1) rows) v old new
   cut_past v old new apart w = record {
     periods = w.periods;

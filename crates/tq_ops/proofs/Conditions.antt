@@ -33,7 +33,7 @@ weight_step (Test-F.And a b) = a + b + 1
 weight_step (Test-F.Or a b) = a + b + 1
 weight_step (Test-F.Not a) = a + 1
 
--- how many pairs and negations a condition has
+-- the number of pairs and negations in a condition
 unfoldable pub weight : Test → ℕ
 weight t = fold-Test ℕ weight_step t
 

@@ -11,7 +11,7 @@ use Rattle.tq_base.specs.Periods.{holds}
 use Rattle.tq_base.specs.Fragments.{at, copies, occurrences}
 use Rattle.tq_base.specs.Copies.{tally, copies-append, copies-sum_by}
 
--- 1 where the test holds, else 0
+-- 1 if the test holds, else 0
 abbrev pub one_if : Bool → ℕ
 one_if b = cond b 1 0
 
@@ -54,7 +54,7 @@ sum_by-at w (f ∷ fragments) t = cases (sum_by-at w fragments t) (holds f.perio
     cases rest true = omega (arith, sum_by-cons w f.values (at fragments t), rest)
     cases rest false = omega (arith, rest)
 
--- where no row stands there once, there is no row
+-- if no row occurs, the list is empty
 pub none_there : (rows : List (List Value)) → ((v : List Value) → occurrences rows v ≡ 0) → rows ≡ []
 none_there [] none = refl
 none_there (u ∷ rows) none =

@@ -36,7 +36,7 @@ holds_apart p q apart t = split (holds p t && holds q t) refl
     split false is = refl
     split true is = absurd (apart (starts_before p.start p.end q.start q.end t is, ends_after p.start p.end q.start q.end t is))
 
--- what copies inside the window and none outside mean for the clauses
+-- the clauses follow from the number of copies inside the window and none outside
 pub inside_from_counts : (window : Period) (out : List Fragment) (count : ℕ → List Value → ℕ) → ((t : ℕ) (v : List Value) → copies out v t ≡ cond (holds window t) (count t v) 0) → HasInside window out count
 inside_from_counts window out count counted t v inside = counted t v ∙ cases (holds window t) inside
   where

@@ -1,4 +1,4 @@
--- Groups of rows of equal values in a sorted list, and what the difference of one adds.
+-- Groups of equal rows in a sorted list, and what the difference of one adds.
 use Rattle.std.proofs.Common.{zero, suc, ◌≡◌, ◌≢◌, ℕ, ◌+◌, ◌-◌, ◌<◌, ◌≤◌, Bool, true, false, ◌&&◌, cond, List, [], ◌∷◌, ◌++◌, length, take, drop, get_or, sym, refl, ap, ◌∙◌, subst, arith, inl, inr, length-take, length-drop}
 use Rattle.std.proofs.Math.Seq.{take-add}
 use Rattle.std.specs.Prelude.{All, AllPairs}
@@ -19,8 +19,8 @@ use Rattle.tq_base.specs.Fragments.{copies}
 use Rattle.tq_base.specs.Layering.{held, rows_of}
 use Rattle.tq_base.specs.Sweep.{held-cons}
 use Rattle.tq_base.specs.Copies.{tally, copies-sum_by, copies-append}
-use Rattle.tq_base.specs.declared.sides.Side.{Side}
-use Rattle.tq_base.specs.declared.sides.Side.TheVariants.{Left, Right}
+use Rattle.tq_base.specs.declared.sort_input.Side.{Side}
+use Rattle.tq_base.specs.declared.sort_input.Side.TheVariants.{Left, Right}
 use Rattle.tq_base.specs.Keys.{is_same_side, Held}
 use Rattle.tq_ops.specs.Differences.{side_held, side_copies, AddsDifference, AreOfValues}
 use Rattle.tq_ops.proofs.Counting.{one_if}
@@ -28,11 +28,11 @@ use Rattle.tq_ops.proofs.Counting.{one_if}
 abbrev values : Held → List Value
 values r = r.row.values
 
--- no row's values are above those of a later one
+-- no row's values are greater than those of a later one
 abbrev pub AreSorted : List Held → Type 0
 AreSorted rows = AllPairs (λ (a b : Held). values_cmp a.row.values b.row.values ≢ Greater) rows
 
--- values of which none is above the other
+-- values of which neither is greater are equal
 tied_values : (u v : List Value) → values_cmp u v ≢ Greater → values_cmp v u ≢ Greater → u ≡ v
 tied_values u v not_above not_below = split (values_cmp u v) refl
   where
@@ -52,7 +52,7 @@ not_above_later rows sorted d i j le below = elim (cases_lt i j) [
       subst (λ k. values_cmp (get_or rows i d).row.values (get_or rows k d).row.values ≢ Greater) same (itself_not_above (get_or rows i d).row.values)
 ]
 
--- no group goes on over the place
+-- no group continues across the position
 abbrev pub IsBoundary : List Held → ℕ → Type 0
 IsBoundary rows start = (d : Held) → 0 < start → start < length rows → (get_or rows start d).row.values ≢ (get_or rows (start - 1) d).row.values
 
@@ -75,7 +75,7 @@ item_at [] i lt = absurd (omega arith)
 item_at (x ∷ xs) zero lt = (x, refl)
 item_at (x ∷ xs) (suc i) lt = item_at xs i (omega arith)
 
--- the place after a group
+-- the position after a group
 module _ (rows : List Held) (start len : ℕ) (within : len ≤ length (drop start rows))
     (alike : (d : Held) → AreOfValues (get_or (drop start rows) 0 d).row.values (take len (drop start rows)))
     (ends : (d : Held) → len < length (drop start rows) → (get_or (drop start rows) len d).row.values ≢ (get_or (drop start rows) 0 d).row.values) where
@@ -140,7 +140,7 @@ module _ (window : Period) (side : Side) (v : List Value) (t : ℕ) where
   with_test false true c same = ap (λ (b : Bool). cond b (one_if false) 0) same
   with_test false false c same = ap (λ (b : Bool). cond b (one_if false) 0) same
 
-  -- rows of one list of values
+  -- rows with the same values
   side_copies_alike : (u : List Value) (rows : List Held) → AreOfValues u rows → side_copies window side rows v t ≡ cond (eq_by_cmp values_cmp u v) (side_held window side rows t) 0
   side_copies_alike u [] alike = cases (eq_by_cmp values_cmp u v)
     where
@@ -157,7 +157,7 @@ module _ (window : Period) (side : Side) (v : List Value) (t : ℕ) where
       cases true m n k is = is
       cases false m n k is = refl
 
-  -- rows of other values
+  -- rows with other values
   side_copies_apart : (rows : List Held) → All (λ r. r.row.values ≢ v) rows → side_copies window side rows v t ≡ 0
   side_copies_apart [] apart = refl
   side_copies_apart (r ∷ rows) apart =
@@ -166,7 +166,7 @@ module _ (window : Period) (side : Side) (v : List Value) (t : ℕ) where
 
 -- ---- the pass
 
--- the rows before the place are counted, and no group goes on over it
+-- the rows before the position are counted, and no group continues across it
 pub record Grouping (window : Period) (rows : List Held) (start : ℕ) (out : List Fragment) : Type 0 where
   pub counted : (t : ℕ) (v : List Value) → copies out v t ≡ side_copies window Left (take start rows) v t - side_copies window Right (take start rows) v t
   pub boundary : IsBoundary rows start
@@ -175,7 +175,7 @@ pub record Grouping (window : Period) (rows : List Held) (start : ℕ) (out : Li
 pub adds_group : (window : Period) (rows : List Held) (start len : ℕ) (out new : List Fragment) (x : Held) → AreSorted rows → start < length rows → x ≡ get_or rows start x → start + len ≤ length rows
     → AreOfValues x.row.values (take len (drop start rows)) → IsBoundary rows (start + len) → AddsDifference window (take len (drop start rows)) x.row.values out new
     → Grouping window rows start out → Grouping window rows (start + len) new
-adds_group window rows start len out new x sorted below is enough alike boundary adds w = record {
+adds_group window rows start len out new x sorted below is sufficient_range alike boundary adds w = record {
   counted = λ t v.
       let left = side_copies-append window Left v t done group in
       let right = side_copies-append window Right v t done group in
@@ -190,7 +190,7 @@ adds_group window rows start len out new x sorted below is enough alike boundary
       split t v (eq_by_cmp values_cmp u v) refl left right more there' shown l r both_left both_right
       (λ same. side_copies_apart window Left v t done (apart same)) (λ same. side_copies_apart window Right v t done (apart same));
   boundary = boundary;
-  within = enough;
+  within = sufficient_range;
 }
   where
     u : List Value

@@ -1,4 +1,4 @@
--- What a condition tells of the number at a place, part by part.
+-- The range to which a condition restricts the number at a place, part by part.
 use Rattle.std.proofs.Common.{◌≡◌, ℕ, ℤ, ◌⊎◌, inl, inr, Bool, true, false, not, ◌&&◌, ◌||◌, List, Option, refl, sym, ap, ◌∙◌}
 use Rattle.std.specs.Prelude.{FitsSigned}
 use Rattle.std.specs.Int.{w64}
@@ -16,15 +16,15 @@ use Rattle.tq_ops.specs.declared.condition.Operand.TheVariants.{Column, Literal}
 use Rattle.tq_ops.specs.declared.condition.Test.{Test}
 use Rattle.tq_ops.specs.declared.condition.Test.TheVariants.{Is, And, Or, Not}
 use Rattle.tq_ops.specs.Conditions.{accepts, operand_value, passes}
-use Rattle.tq_ops.specs.KeyRanges.{HasBeside, HasCompared, TellsWithin}
+use Rattle.tq_ops.specs.KeyRanges.{HasValueRange, HasCompared, BoundsWithin}
 use Rattle.tq_ops.specs.Known.{agrees}
 use Rattle.tq_ops.proofs.Conditions.{passes-Is, passes-And, passes-Or, passes-Not}
 
 -- ---- one comparison
 
--- a number that is compared with the place says what the place is compared with it
+-- a number compared with the place is the place compared with the number, by the reversed comparison
 pub backwards : (left right : Operand) (op reversed : Compare) (value : Value) (column place : ℕ) (numbers : Option KeyRange) → left ≡ Literal value → right ≡ Column column → column ≡ place
-    → ((order : Ordering) → accepts reversed order ≡ accepts op (ordering_reverse order)) → HasBeside reversed value numbers → HasCompared left op right place numbers
+    → ((order : Ordering) → accepts reversed order ≡ accepts op (ordering_reverse order)) → HasValueRange reversed value numbers → HasCompared left op right place numbers
 backwards left right op reversed value column place numbers is_left is_right same turns beside row n at fits holds =
     beside n fits (turns (value_cmp (Int n) value) ∙ ap (accepts op) (sym (value_total.antisymm value (Int n))) ∙ sym compared ∙ holds)
   where
@@ -36,7 +36,7 @@ backwards left right op reversed value column place numbers is_left is_right sam
 
 -- ---- parts
 
--- a number that the whole lets through is one that the part does of those in the range, or one of the others
+-- a number that the whole allows is one that the part allows within the range, or one of the others
 abbrev pub Leads : Test → Bool → ℕ → Option KeyRange → Test → Bool → Option KeyRange → Option KeyRange → Type 0
 Leads whole whole_wanted place whole_within part wanted within also =
     (row : List Value) (n : ℤ) → value_at row place ≡ Int n → FitsSigned w64 n → passes whole row ≡ whole_wanted → IsInSomeRange whole_within n
@@ -50,12 +50,12 @@ not_twice : (b wanted : Bool) → not b ≡ wanted → b ≡ not wanted
 not_twice true wanted is = ap not is
 not_twice false wanted is = ap not is
 
--- a comparison ends it
+-- a comparison is the last step
 pub ends : (whole part : Test) (whole_wanted wanted : Bool) (place : ℕ) (whole_within within also numbers common told : Option KeyRange) (left right : Operand) (op agreeing : Compare)
     → part ≡ Is left op right → ((o : Ordering) → accepts agreeing o ≡ agrees (accepts op o) wanted) → HasCompared left agreeing right place numbers
     → ((n : ℤ) → IsInSomeRange numbers n → IsInSomeRange within n → IsInSomeRange common n)
     → ((n : ℤ) → IsInSomeRange also n → IsInSomeRange told n) → ((n : ℤ) → IsInSomeRange common n → IsInSomeRange told n)
-    → Leads whole whole_wanted place whole_within part wanted within also → TellsWithin whole whole_wanted place whole_within told
+    → Leads whole whole_wanted place whole_within part wanted within also → BoundsWithin whole whole_wanted place whole_within told
 ends whole part whole_wanted wanted place whole_within within also numbers common told left right op agreeing is agree compared both from_also from_common leads row n at fits passed inside =
     elim (leads row n at fits passed inside) as (λ found. IsInSomeRange told n) [
       | inl found ↦ from_common n (both n
@@ -75,7 +75,7 @@ leads_not whole part inner whole_wanted wanted place whole_within within also is
       | inr found ↦ inr found
     ]
 
--- two parts of which both have to come out as wanted, or of which either is enough
+-- two parts that must both have the truth, or of which either suffices
 abbrev pub Both : Test → Test → Test → Bool → Type 0
 Both part first last wanted = (row : List Value) → passes part row ≡ wanted → (passes first row ≡ wanted) × (passes last row ≡ wanted)
 
@@ -83,7 +83,7 @@ abbrev pub Either : Test → Test → Test → Bool → Type 0
 Either part first last wanted = (row : List Value) → passes part row ≡ wanted → (passes first row ≡ wanted) ⊎ (passes last row ≡ wanted)
 
 leads_both : (whole part first last : Test) (whole_wanted wanted : Bool) (place : ℕ) (whole_within within also numbers narrow more : Option KeyRange)
-    → Both part first last wanted → TellsWithin last wanted place within numbers
+    → Both part first last wanted → BoundsWithin last wanted place within numbers
     → ((n : ℤ) → IsInSomeRange numbers n → IsInSomeRange narrow n) → ((n : ℤ) → IsInSomeRange also n → IsInSomeRange more n)
     → Leads whole whole_wanted place whole_within part wanted within also → Leads whole whole_wanted place whole_within first wanted narrow more
 leads_both whole part first last whole_wanted wanted place whole_within within also numbers narrow more both tells narrows keeps leads row n at fits passed inside =
@@ -93,7 +93,7 @@ leads_both whole part first last whole_wanted wanted place whole_within within a
     ]
 
 leads_either : (whole part first last : Test) (whole_wanted wanted : Bool) (place : ℕ) (whole_within within also numbers narrow more : Option KeyRange)
-    → Either part first last wanted → TellsWithin last wanted place within numbers
+    → Either part first last wanted → BoundsWithin last wanted place within numbers
     → ((n : ℤ) → IsInSomeRange within n → IsInSomeRange narrow n) → ((n : ℤ) → IsInSomeRange numbers n → IsInSomeRange more n) → ((n : ℤ) → IsInSomeRange also n → IsInSomeRange more n)
     → Leads whole whole_wanted place whole_within part wanted within also → Leads whole whole_wanted place whole_within first wanted narrow more
 leads_either whole part first last whole_wanted wanted place whole_within within also numbers narrow more either tells stays adds keeps leads row n at fits passed inside =
@@ -122,9 +122,9 @@ or_false : (a b : Bool) → (a || b) ≡ false → (a ≡ false) × (b ≡ false
 or_false true b is = cc
 or_false false b is = (refl, is)
 
--- what is told with one more part of a pair
+-- one more part of a pair
 pub leads_and : (whole part first last : Test) (whole_wanted wanted : Bool) (place : ℕ) (whole_within within also numbers narrow more : Option KeyRange) → part ≡ And first last
-    → TellsWithin last wanted place within numbers
+    → BoundsWithin last wanted place within numbers
     → ((n : ℤ) → IsInSomeRange also n → IsInSomeRange more n)
     → (wanted ≡ true → (n : ℤ) → IsInSomeRange numbers n → IsInSomeRange narrow n)
     → (wanted ≡ false → (n : ℤ) → IsInSomeRange within n → IsInSomeRange narrow n)
@@ -138,7 +138,7 @@ leads_and whole part first last whole_wanted false place whole_within within als
     (λ row came. and_false (passes first row) (passes last row) (sym (passes-And first last row) ∙ ap (λ t. passes t row) (sym is) ∙ came)) tells (stays refl) (adds refl) keeps leads
 
 pub leads_or : (whole part first last : Test) (whole_wanted wanted : Bool) (place : ℕ) (whole_within within also numbers narrow more : Option KeyRange) → part ≡ Or first last
-    → TellsWithin last wanted place within numbers
+    → BoundsWithin last wanted place within numbers
     → ((n : ℤ) → IsInSomeRange also n → IsInSomeRange more n)
     → (not wanted ≡ true → (n : ℤ) → IsInSomeRange numbers n → IsInSomeRange narrow n)
     → (not wanted ≡ false → (n : ℤ) → IsInSomeRange within n → IsInSomeRange narrow n)

@@ -16,7 +16,7 @@ use Rattle.tq_ops.specs.Ordinary.{admits, selection}
 use Rattle.tq_ops.proofs.Counting.{one_if, sum_by-cond, sum_by-filter, sum_by-at}
 use Rattle.tq_ops.proofs.Cutting.{holds-overlap, holds_apart}
 
--- 1 where the fragment gives the selection these values at the instant
+-- 1 if the fragment gives the selection a row with these values at the instant
 abbrev pub selected : Period → Option Test → ℕ → List Value → Fragment → ℕ
 selected window test t v f = cond (holds window t) (cond (holds f.period t) (cond (admits test f.values) (one_if (eq_by_cmp values_cmp f.values v)) 0) 0) 0
 
@@ -53,7 +53,7 @@ fails window test f no' t v =
     cases false true = refl
     cases false false = refl
 
--- a row that lies apart from the window
+-- a row that does not overlap the window
 pub lies_apart : (window : Period) (test : Option Test) (f : Fragment) → (Overlap f.period window → ⊥) → (t : ℕ) (v : List Value) → selected window test t v f ≡ 0
 lies_apart window test f apart t v = cases (holds f.period t) (holds window t) (holds_apart f.period window apart t)
   where

@@ -1,4 +1,4 @@
--- The sweep over changes: what holds between two of them, and that each keeps it.
+-- The sweep over changes: its invariant between two of them, and that each keeps it.
 use Rattle.std.proofs.Common.{◌≡◌, ℕ, ◌+◌, ◌-◌, ◌<◌, ◌≤◌, inl, inr, Bool, true, false, not, ◌&&◌, nat_le, List, [], ◌∷◌, ◌++◌, length, count_by, refl, ap, ◌∙◌, arith, length-append}
 use Rattle.std.specs.Prelude.{All, AllPairs}
 use Rattle.std.proofs.lemmas.Bool.{cases_lt}
@@ -19,7 +19,7 @@ rises_in changes = count_by (λ c. c.rises) changes
 abbrev falls_in : List Change → ℕ
 falls_in changes = count_by (λ c. not c.rises) changes
 
--- the changes done and to come, the starts that are opened, how many falls wait for a rise, and the periods made
+-- the changes done and to come, the open starts, the number of falls that wait for a rise, and the periods so far
 pub record Sweeping (done rest : List Change) (opened : List ℕ) (owed : ℕ) (made : List Period) : Type 0 where
   pub settled : (t : ℕ) → All (λ c. t < c.at) rest → held made t + upto opened t ≡ rises_upto done t - falls_upto done t
   pub balanced : length opened + count_by (λ c. not c.rises) done ≡ count_by (λ c. c.rises) done + owed
@@ -57,7 +57,7 @@ falls_all [] t low = refl
 falls_all (c ∷ cs) t low =
     omega (arith, falls_all cs t (All-tail (λ c. c.at ≤ t) c cs low), one_low (not c.rises) c.at t (All-head (λ c. c.at ≤ t) c cs low), sum_by-cons (λ c. one_if (not c.rises && nat_le c.at t)) c cs, sum_by-cons (λ c. one_if (not c.rises)) c cs)
 
--- once all lies behind the instant
+-- when all is before the instant
 late : (done : List Change) (opened : List ℕ) (owed : ℕ) (made : List Period) (t : ℕ) → All (λ c. c.at ≤ t) done → All (λ s. s ≤ t) opened → All (λ p. p.end ≤ t) made
     → length opened + falls_in done ≡ rises_in done + owed → (0 < owed → length opened ≡ 0)
     → held made t + upto opened t ≡ rises_upto done t - falls_upto done t
@@ -68,13 +68,13 @@ late done opened owed made t past low over balanced either = elim (cases_lt 0 ow
       omega (arith, held_none made t over, upto_all opened t low, rises_all done t past, falls_all done t past, balanced)
 ]
 
--- a period holds an instant where it has begun and not ended
+-- a period holds an instant if it has begun and not ended
 pub held_one : (p : Period) (t : ℕ) → one_if (holds p t) + one_if (nat_le p.end t) ≡ one_if (nat_le p.start t)
 held_one p t = let ordered : p.start < p.end = p.ordered in grind (arith, nat_tests)
 
 -- ---- one change
 
--- what each kind of change has to show
+-- what each kind of change must keep
 record Turn (c : Change) (done : List Change) (opened opened' : List ℕ) (owed' : ℕ) (made made' : List Period) : Type 0 where
   early : (t : ℕ) → t < c.at → held made' t + upto opened' t ≡ held made t + upto opened t
   balanced : length opened' + falls_in (done ++ c ∷ []) ≡ rises_in (done ++ c ∷ []) + owed'
@@ -128,7 +128,7 @@ module _ (c : Change) (done rest : List Change) (opened : List ℕ) (owed : ℕ)
     sum_by_push (λ c. one_if (not c.rises)) done c ∙ ap (λ b. falls_in done + one_if (not b)) is,
   )
 
-  -- a rise that a fall waits for
+  -- a rise for which a fall waits
   pub pays : c.rises ≡ true → 0 < owed → Sweeping (done ++ c ∷ []) rest opened (owed - 1) made
   pays is some = turns c done rest opened opened owed (owed - 1) made made w (record {
     early = λ t before. refl;
@@ -138,7 +138,7 @@ module _ (c : Change) (done rest : List Change) (opened : List ℕ) (owed : ℕ)
     over = over_now;
   })
 
-  -- a rise that none waits for
+  -- a rise for which none waits
   pub opens : c.rises ≡ true → owed ≡ 0 → Sweeping (done ++ c ∷ []) rest (opened ++ c.at ∷ []) owed made
   opens is none = turns c done rest opened (opened ++ c.at ∷ []) owed owed made made w (record {
     early = λ t before. omega (arith, upto-push opened c.at t, one_high true c.at t before);
@@ -148,7 +148,7 @@ module _ (c : Change) (done rest : List Change) (opened : List ℕ) (owed : ℕ)
     over = over_now;
   })
 
-  -- a fall where no start is opened
+  -- a fall when no start is open
   pub waits : c.rises ≡ false → length opened ≡ 0 → Sweeping (done ++ c ∷ []) rest opened (owed + 1) made
   waits is none = turns c done rest opened opened owed (owed + 1) made made w (record {
     early = λ t before. refl;
@@ -175,7 +175,7 @@ module _ (c : Change) (done rest : List Change) (opened : List ℕ) (owed : ℕ)
       over = All-push (λ p. p.end ≤ c.at) made p over_now (omega arith);
     })
 
-    -- a fall where the start was opened at the same bound
+    -- a fall at the bound at which the start was opened
     pub drops : c.rises ≡ false → c.at ≤ s → Sweeping (done ++ c ∷ []) rest opened' owed made
     drops is empty = turns c done rest opened opened' owed owed made made w (record {
       early = λ t before. omega (arith, ap (λ l. upto l t) popped, upto-push opened' s t, one_high true s t (omega arith));

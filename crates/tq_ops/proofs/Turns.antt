@@ -1,4 +1,4 @@
--- Runs of sorted keys, as the groups of the rows that they stand for.
+-- Runs of sorted keys are the groups of their rows.
 use Rattle.std.proofs.Common.{◌≡◌, ◌≢◌, ℕ, ◌+◌, ◌<◌, ◌≤◌, Bool, true, false, cond, sum_by, ◌&&◌, List, ◌++◌, length, take, drop, get_or, map, refl, sym, ap, ◌∙◌, subst, arith, length-drop}
 use Rattle.std.specs.Prelude.{All}
 use Rattle.std.specs.Ordering.{eq_by_cmp}
@@ -9,11 +9,11 @@ use Rattle.std.proofs.lemmas.List.Sorted.{sum_by-IsPermutation}
 use Rattle.tq_base.specs.declared.value.Value.{Value}
 use Rattle.tq_base.specs.declared.period.Period.{Period}
 use Rattle.tq_base.specs.declared.fragment.Fragment.{Fragment}
-use Rattle.tq_base.specs.declared.sides.Key.{Key}
-use Rattle.tq_base.specs.declared.sides.Mark.TheVariants.{Unknown}
-use Rattle.tq_base.specs.declared.sides.Side.{Side}
-use Rattle.tq_base.specs.declared.sides.Side.TheVariants.{Left, Right}
-use Rattle.tq_base.specs.Keys.{held, held_on, is_overlap, is_same_side, key_row, key_values, overlapping, rows_on, Held, Rises, SidesState}
+use Rattle.tq_base.specs.declared.sort_input.SortKey.{SortKey}
+use Rattle.tq_base.specs.declared.sort_input.RunStart.TheVariants.{Unknown}
+use Rattle.tq_base.specs.declared.sort_input.Side.{Side}
+use Rattle.tq_base.specs.declared.sort_input.Side.TheVariants.{Left, Right}
+use Rattle.tq_base.specs.Keys.{held, held_on, is_overlap, is_same_side, key_row, key_values, overlapping, rows_on, Held, Rises, SortInputState}
 use Rattle.tq_base.specs.ValueOrder.{values_cmp}
 use Rattle.tq_base.specs.Periods.{holds}
 use Rattle.tq_base.specs.Copies.{tally, copies-sum_by}
@@ -24,10 +24,10 @@ use Rattle.tq_ops.proofs.Cutting.{holds_not_both}
 use Rattle.tq_ops.proofs.Grouping.{adds_group, group_ends, item_at, AreSorted, Grouping}
 use Rattle.tq_ops.proofs.Products.{sum_by-overlapping, sum_by-side}
 
-abbrev no_key : Key
-no_key = record { rank = 0; start = 0; row = 0; side = Left; mark = Unknown }
+abbrev no_key : SortKey
+no_key = record { prefix = 0; start = 0; row = 0; side = Left; run_start = Unknown }
 
-module _ (s : SidesState) (keys : List Key) (whole : All (λ k. key_values s k ≡ (key_row s k).values) keys) where
+module _ (s : SortInputState) (keys : List SortKey) (whole : All (λ k. key_values s k ≡ (key_row s k).values) keys) where
   -- the row of a key
   row_of : (i : ℕ) (d : Held) → i < length keys → get_or (map (held s) keys) i d ≡ held s (get_or keys i no_key)
   row_of i d lt = get_or-map (held s) keys i no_key d lt
@@ -41,14 +41,14 @@ module _ (s : SidesState) (keys : List Key) (whole : All (λ k. key_values s k �
       (ap (λ u. values_cmp u (key_values s b)) (whole i no_key (omega (arith, before, short))) ∙ ap (values_cmp (key_row s a).values) (whole j no_key short)
       ∙ sym (ap (λ (r : Held). values_cmp r.row.values (key_row s b).values) (row_of i d (omega (arith, before, short)))) ∙ sym (ap (λ (r : Held). values_cmp (get_or (map (held s) keys) i d).row.values r.row.values) (row_of j d short)) ∙ above)
 
-  -- what a run says of the rows from a place on
+  -- what a run means for the rows from a position on
   module _ (start len : ℕ) (below : start < length keys) (within : len ≤ length (drop start keys))
-      (alike : (d : Key) → All (λ k. key_values s k ≡ key_values s (get_or (drop start keys) 0 d)) (take len (drop start keys)))
-      (ends : (d : Key) → len < length (drop start keys) → key_values s (get_or (drop start keys) len d) ≢ key_values s (get_or (drop start keys) 0 d)) where
+      (alike : (d : SortKey) → All (λ k. key_values s k ≡ key_values s (get_or (drop start keys) 0 d)) (take len (drop start keys)))
+      (ends : (d : SortKey) → len < length (drop start keys) → key_values s (get_or (drop start keys) len d) ≢ key_values s (get_or (drop start keys) 0 d)) where
     some_key : 0 < length (drop start keys)
     some_key = omega (arith, below, length-drop start keys)
 
-    -- the row at a place behind the start
+    -- the row at a position after the start
     from_start : (i : ℕ) (d : Held) → i < length (drop start keys) → get_or (drop start (map (held s) keys)) i d ≡ held s (get_or (drop start keys) i no_key)
     from_start i d lt = ap (λ l. get_or l i d) (drop-map (held s) start keys) ∙ get_or-map (held s) (drop start keys) i no_key d lt
 
@@ -75,7 +75,7 @@ module _ (s : SidesState) (keys : List Key) (whole : All (λ k. key_values s k �
         ends no_key lt
         (whole_from len no_key lt ∙ sym (ap (λ (r : Held). r.row.values) (from_start len d lt)) ∙ same ∙ ap (λ (r : Held). r.row.values) (from_start 0 d some_key) ∙ sym (whole_from 0 no_key some_key))
 
-    -- the group of the run goes into the difference
+    -- the group of the run is added to the difference
     pub adds_run : (window : Period) (out new : List Fragment) → Rises s keys
         → ((v : List Value) → AreOfValues v (take len (drop start (map (held s) keys))) → AddsDifference window (take len (drop start (map (held s) keys))) v out new)
         → Grouping window (map (held s) keys) start out → Grouping window (map (held s) keys) (start + len) new
@@ -88,7 +88,7 @@ module _ (s : SidesState) (keys : List Key) (whole : All (λ k. key_values s k �
         adds_group window rows start len out new x (sorted rising) inside is (omega (arith, within_rows, length-drop start rows)) alike_x
         (group_ends rows start len within_rows alike_rows ends_rows inside) (adds x.row.values alike_x) w
 
--- ---- what the rows of a side count
+-- ---- counts of the rows of a side
 
 both : (h e : Bool) → one_if ((h && true) && e) ≡ cond h (one_if e) 0
 both true e = refl
@@ -98,7 +98,7 @@ neither : (h e : Bool) → one_if ((h && false) && e) ≡ 0
 neither true e = refl
 neither false e = refl
 
-module _ (s : SidesState) (window : Period) (keys : List Key) (are : AreKeysOfBoth s window keys) (t : ℕ) (v : List Value) where
+module _ (s : SortInputState) (window : Period) (keys : List SortKey) (are : AreKeysOfBoth s window keys) (t : ℕ) (v : List Value) where
   abbrev counted_as : Side → Held → ℕ
   counted_as side r = one_if ((is_same_side side r.side && (holds r.row.period t && holds window t)) && eq_by_cmp values_cmp r.row.values v)
 

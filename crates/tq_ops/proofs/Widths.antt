@@ -8,11 +8,11 @@ use Rattle.std.proofs.lemmas.List.Sums.{sum_by-cons}
 use Rattle.tq_base.specs.declared.value.Value.{Value}
 use Rattle.tq_base.specs.declared.fragment.Fragment.{Fragment}
 use Rattle.std.specs.List.{range_with_len}
-use Rattle.tq_base.specs.declared.sides.Key.{Key}
-use Rattle.tq_base.specs.declared.sides.Side.{Side}
-use Rattle.tq_base.specs.declared.sides.Side.TheVariants.{Left, Right}
-use Rattle.tq_base.specs.Keys.{columns_on, key_row, key_values, no_row, rows_on, IsKey, SidesState}
-use Rattle.tq_base.specs.KeyLaws.{whole_row}
+use Rattle.tq_base.specs.declared.sort_input.SortKey.{SortKey}
+use Rattle.tq_base.specs.declared.sort_input.Side.{Side}
+use Rattle.tq_base.specs.declared.sort_input.Side.TheVariants.{Left, Right}
+use Rattle.tq_base.specs.Keys.{columns_on, key_row, key_values, no_row, rows_on, IsSortKey, SortInputState}
+use Rattle.tq_base.specs.SortKeyLaws.{whole_row}
 use Rattle.tq_base.specs.ValueOrder.{values_cmp, same_from_eq}
 use Rattle.tq_base.specs.Periods.{holds}
 use Rattle.tq_base.specs.Copies.{tally, copies-sum_by}
@@ -20,7 +20,7 @@ use Rattle.tq_base.specs.Fragments.{copies}
 use Rattle.tq_ops.specs.Ordinary.{selection}
 use Rattle.tq_ops.proofs.Counting.{one_if}
 
--- values of another width stand in no row
+-- values of another width are in no row
 none_of_width : (rows : List Fragment) (width : ℕ) (v : List Value) (t : ℕ) → All (λ (row : Fragment). length row.values ≡ width) rows → (length v ≡ width → ⊥) → copies rows v t ≡ 0
 none_of_width [] width v t wide differ = refl
 none_of_width (f ∷ rows) width v t wide differ =
@@ -38,7 +38,7 @@ none_of_width (f ∷ rows) width v t wide differ =
     none true false is = refl
     none false b is = refl
 
--- rows of another width are never equal: nothing is taken away
+-- rows of different widths are never equal, so nothing is removed
 pub nothing_taken : (left right : List Fragment) (width other : ℕ) (v : List Value) (t : ℕ) → All (λ (row : Fragment). length row.values ≡ width) left → All (λ (row : Fragment). length row.values ≡ other) right → width ≢ other
     → copies left v t ≡ copies left v t - copies right v t
 nothing_taken left right width other v t lefts rights differ = elim (cases_eq (length v) width) [
@@ -52,15 +52,15 @@ all_pass (row ∷ rows) = ap (λ l. row ∷ l) (all_pass rows)
 
 -- ---- keys that are compared by all columns
 
-module _ (s : SidesState) (width : ℕ) (lefts : All (λ (row : Fragment). length row.values ≡ width) s.left) (rights : All (λ (row : Fragment). length row.values ≡ width) s.right) where
-  pub wide : (k : Key) → IsKey s k → length (key_row s k).values ≡ width
+module _ (s : SortInputState) (width : ℕ) (lefts : All (λ (row : Fragment). length row.values ≡ width) s.left) (rights : All (λ (row : Fragment). length row.values ≡ width) s.right) where
+  pub wide : (k : SortKey) → IsSortKey s k → length (key_row s k).values ≡ width
   wide k is = by k.side is.stands
     where
       by : (side : Side) → k.row < length (rows_on s side) → length (get_or (rows_on s side) k.row no_row).values ≡ width
       by Left stands = lefts k.row no_row stands
       by Right stands = rights k.row no_row stands
 
-  pub whole : s.left_columns ≡ range_with_len 0 width → s.right_columns ≡ range_with_len 0 width → (k : Key) → IsKey s k → key_values s k ≡ (key_row s k).values
+  pub whole : s.left_columns ≡ range_with_len 0 width → s.right_columns ≡ range_with_len 0 width → (k : SortKey) → IsSortKey s k → key_values s k ≡ (key_row s k).values
   whole left right k is = whole_row s k width (by k.side) (wide k is)
     where
       by : (side : Side) → columns_on s side ≡ range_with_len 0 width

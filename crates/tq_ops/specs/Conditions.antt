@@ -1,4 +1,4 @@
--- Conditions on one row, as SQL has them where no value is null: each holds or does not.
+-- Conditions on one row, as in SQL without NULL: each is true or false.
 use Rattle.std.specs.Prelude.{Bool, true, false, not, ◌&&◌, ◌||◌, List}
 use Rattle.std.specs.declared.cmp.Ordering.{Ordering}
 use Rattle.std.specs.declared.cmp.Ordering.TheVariants.{Less, Equal, Greater}
@@ -16,7 +16,7 @@ abbrev pub operand_value : Operand → List Value → Value
 operand_value (Column place) row = value_at row place
 operand_value (Literal value) row = value
 
--- whether a comparison holds of two values that stand so to each other
+-- whether a comparison holds for two values in this order
 abbrev pub accepts : Compare → Ordering → Bool
 accepts compare.Eq Equal = true
 accepts compare.Eq Less = false
@@ -37,7 +37,7 @@ accepts compare.Ge Less = false
 accepts compare.Ge Equal = true
 accepts compare.Ge Greater = true
 
--- one layer of a condition, once its parts are decided
+-- one level of a condition whose parts are decided
 abbrev pub passes_step : List Value → Test-F Bool → Bool
 passes_step row (Test-F.Is left op right) = accepts op (value_cmp (operand_value left row) (operand_value right row))
 passes_step row (Test-F.And a b) = a && b

@@ -1,9 +1,9 @@
 pub mod Conditions
 pub mod Differences
-pub mod Folds
+pub mod JoinChains
 pub mod Joins
 pub mod KeyRanges
 pub mod Known
-pub mod Links
+pub mod EquiJoin
 pub mod Ordinary
 pub mod Steps

@@ -33,7 +33,7 @@ product_of (rows ∷ next ∷ lists) = product rows (product_of (next ∷ lists)
 abbrev pub projection : List ℕ → List Value → List Value
 projection places row = map (value_at row) places
 
--- at each instant of the window as many copies of each row are valid as the count says
+-- at each instant of the window, as many copies of each row are valid as the count says
 abbrev pub HasInside : Period → List Fragment → (ℕ → List Value → ℕ) → Type 0
 HasInside window out count = (t : ℕ) (v : List Value) → IsTrue (holds window t) → copies out v t ≡ count t v
 

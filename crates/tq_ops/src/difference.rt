@@ -1,34 +1,34 @@
-//! Difference: the rows of each list of values are counted up and down along the time line.
+//! Difference: a sweep counts the rows of each group of equal values up and down over time.
 
 ghost use Rattle.std.specs.Prelude.{◌≡◌, ℕ, ◌+◌, ◌-◌, ◌<◌, ◌↔◌, [], true, false, if◌then◌else◌, length, map, All, IfOk, IfSome, IsNone, IsSome, IsTrue, List, OnOk, IsSortedByKey};
 ghost use Rattle.std.specs.List.{Contains};
 ghost use Rattle.std.specs.Ordering.{nat_cmp};
 ghost use Rattle.tq_base.specs.declared.value.Value.{Value};
-ghost use Rattle.tq_base.specs.declared.relation.Line.{Line};
-ghost use Rattle.tq_base.specs.declared.sides.Side.TheVariants.{Left, Right};
+ghost use Rattle.tq_base.specs.declared.relation.RowPeriod.{RowPeriod};
+ghost use Rattle.tq_base.specs.declared.sort_input.Side.TheVariants.{Left, Right};
 ghost use Rattle.tq_base.specs.Fragments.{copies};
-ghost use Rattle.tq_base.specs.Keys.{held as held_key, is_same_side, key_row, key_values, IsKey};
-ghost use Rattle.tq_base.specs.KeySides.{state_of};
+ghost use Rattle.tq_base.specs.Keys.{held as held_key, is_same_side, key_row, key_values, IsSortKey};
+ghost use Rattle.tq_base.specs.SortInputs.{state_of};
 ghost use Rattle.tq_base.specs.Layering.{held};
 ghost use Rattle.tq_base.specs.Periods.{holds};
-ghost use Rattle.tq_base.specs.Relations.{line_of};
+ghost use Rattle.tq_base.specs.Relations.{row_period_of};
 ghost use Rattle.tq_ops.specs.declared.difference.Change.{Change};
-ghost use Rattle.tq_ops.specs.Differences.{falls_upto, lines_made, rises_upto, side_held, periods_on, AddsDifference, AreKeysOfBoth, AreLines, AreOfValues, IsEven};
+ghost use Rattle.tq_ops.specs.Differences.{falls_upto, rows_at_periods, rises_upto, side_held, periods_on, AddsDifference, AreKeysOfBoth, AreRowPeriods, AreOfValues, IsEven};
 ghost use Rattle.tq_ops.specs.Ordinary.{HasInside, IsEmptyOutside};
 
-use crate::gathering::gathered;
+use crate::overlapping::overlapping_keys;
 use crate::selection::select;
 use std::alloc::{AllocError, Global};
-use tq_base::{Bound, Instant, Key, Line, Period, Relation, Side, Sides, all_columns};
+use tq_base::{Bound, Instant, Period, Relation, RowPeriod, Side, SortInput, SortKey, all_columns};
 
-// From the bound on there is one row more, or one row less, that is not taken away.
+// From the bound on there is one row more to return, or one row less.
 #[derive(Clone, Copy)]
 struct Change {
     at: Bound,
     rises: bool,
 }
 
-// The period between the bounds, if the first is below the second.
+// The period between the bounds, if the first is less than the second.
 fn between(start: Bound, end: Bound) -> Option<Period>
     ensures some { IsSome result ↔ (start < end) }
     ensures start { IfSome result (λ period. period.start ≡ start) }
@@ -38,30 +38,34 @@ fn between(start: Bound, end: Bound) -> Option<Period>
     Period::new(start, end)
 }
 
-// The periods of the rows that keys name, read in one short loop: keys in order name rows that lie anywhere, and such
-// reads wait for memory together.
-fn periods_of(alloc: Global, sides: &Sides<'_>, keys: &[Key]) -> Result<Vec<Period>, AllocError>
-    ensures { IfOk result (λ periods. periods.items ≡ periods_on (state_of sides.now) keys.now) }
+// The periods of the rows that the keys name. Sorted keys name rows that are far apart in memory. The loop does no more
+// than this, so that the processor overlaps the cache misses.
+fn periods_of(
+    alloc: Global,
+    sort_input: &SortInput<'_>,
+    keys: &[SortKey],
+) -> Result<Vec<Period>, AllocError>
+    ensures { IfOk result (λ periods. periods.items ≡ periods_on (state_of sort_input.now) keys.now) }
 {
     let mut periods = Vec::with_capacity(alloc, keys.len())?;
     'keys: for key in keys {
-        periods.push_reserved(sides.period(key));
+        periods.push_reserved(sort_input.period(key));
     }
     Ok(periods)
 }
 
-// The changes that the starts and ends of the rows, cut to the window, make, in order.
+// The changes at the starts and ends of the rows, cut to the window, in order.
 fn changes_of(
     alloc: Global,
-    sides: &Sides<'_>,
-    group: &[Key],
+    sort_input: &SortInput<'_>,
+    group: &[SortKey],
     periods: &[Period],
     window: &Period,
 ) -> Result<Vec<Change>, AllocError>
-    requires { periods.now ≡ periods_on (state_of sides.now) group.now }
+    requires { periods.now ≡ periods_on (state_of sort_input.now) group.now }
     ensures counted { IfOk result (λ changes. (t : ℕ) →
-        rises_upto changes.items t + side_held window.now Right (map (held_key (state_of sides.now)) group.now) t
-        ≡ falls_upto changes.items t + side_held window.now Left (map (held_key (state_of sides.now)) group.now) t) }
+        rises_upto changes.items t + side_held window.now Right (map (held_key (state_of sort_input.now)) group.now) t
+        ≡ falls_upto changes.items t + side_held window.now Left (map (held_key (state_of sort_input.now)) group.now) t) }
     ensures even { IfOk result (λ changes. IsEven changes.items) }
     ensures sorted { IfOk result (λ changes. IsSortedByKey (λ (c : Change). c.at) nat_cmp changes.items) }
 {
@@ -93,7 +97,7 @@ fn is_left(side: Side) -> bool
     }
 }
 
-// Periods that hold each instant as often as more changes up to it let the count rise than fall.
+// The periods. At each instant, the number of valid ones is the rises up to it minus the falls, or 0 if falls prevail.
 fn swept(alloc: Global, changes: &[Change]) -> Result<Vec<Period>, AllocError>
     requires sorted { IsSortedByKey (λ (c : Change). c.at) nat_cmp changes.now }
     requires even { IsEven changes.now }
@@ -121,7 +125,7 @@ fn swept(alloc: Global, changes: &[Change]) -> Result<Vec<Period>, AllocError>
 }
 
 // Whether all rows of the group are of the left.
-fn are_left(group: &[Key]) -> bool
+fn are_left(group: &[SortKey]) -> bool
     ensures { IsTrue result → All (λ k. is_same_side Left k.side ≡ true) group.now }
 {
     'keys: for key in group {
@@ -132,8 +136,8 @@ fn are_left(group: &[Key]) -> bool
     true
 }
 
-// The first row of the group that is of the left, if one is.
-fn first_left(group: &[Key]) -> Option<Key>
+// The first row of the group that is of the left, if there is one.
+fn first_left(group: &[SortKey]) -> Option<SortKey>
     ensures left { IfSome result (λ key. is_same_side Left key.side ≡ true) }
     ensures stands { IfSome result (λ key. Contains group.now key) }
     ensures none { IsNone result → All (λ k. is_same_side Left k.side ≡ false) group.now }
@@ -146,26 +150,26 @@ fn first_left(group: &[Key]) -> Option<Key>
     None
 }
 
-// The rows of a group of the left, cut to the window, go to the end of the list.
+// Appends the rows of a group of the left, cut to the window.
 fn add_cut(
-    sides: &Sides<'_>,
-    group: &[Key],
+    sort_input: &SortInput<'_>,
+    group: &[SortKey],
     periods: &[Period],
     window: &Period,
-    lines: &mut Vec<Line>,
+    lines: &mut Vec<RowPeriod>,
 ) -> Result<(), AllocError>
-    requires periods { periods.now ≡ periods_on (state_of sides.now) group.now }
+    requires periods { periods.now ≡ periods_on (state_of sort_input.now) group.now }
     requires left { All (λ k. is_same_side Left k.side ≡ true) group.now }
-    requires keys { All (IsKey (state_of sides.now)) group.now }
-    ensures within { OnOk result (AreLines (state_of sides.now) lines.old.items → AreLines (state_of sides.now) lines.new.items) }
-    ensures rows { OnOk result ((v : List Value) → AreOfValues v (map (held_key (state_of sides.now)) group.now)
-        → AddsDifference window.now (map (held_key (state_of sides.now)) group.now) v (lines_made (state_of sides.now) lines.old.items) (lines_made (state_of sides.now) lines.new.items)) }
+    requires keys { All (IsSortKey (state_of sort_input.now)) group.now }
+    ensures within { OnOk result (AreRowPeriods (state_of sort_input.now) lines.old.items → AreRowPeriods (state_of sort_input.now) lines.new.items) }
+    ensures rows { OnOk result ((v : List Value) → AreOfValues v (map (held_key (state_of sort_input.now)) group.now)
+        → AddsDifference window.now (map (held_key (state_of sort_input.now)) group.now) v (rows_at_periods (state_of sort_input.now) lines.old.items) (rows_at_periods (state_of sort_input.now) lines.new.items)) }
 {
     'rows: for place in 0..group.len() {
         let Some(period) = periods[place].overlap(window) else {
             continue;
         };
-        lines.push(Line {
+        lines.push(RowPeriod {
             row: group[place].row,
             period,
         })?;
@@ -173,32 +177,32 @@ fn add_cut(
     Ok(())
 }
 
-// The difference of a group of rows of equal values goes to the end of the list: its first row of the left,
-// once for each period that is left over. Where one side alone has such rows, no count has to be kept.
+// Appends the difference of a group of equal rows: its first row of the left, once for each remaining period. A group
+// of one side alone needs no sweep.
 fn add_difference(
     alloc: Global,
-    sides: &Sides<'_>,
-    group: &[Key],
+    sort_input: &SortInput<'_>,
+    group: &[SortKey],
     periods: &[Period],
     window: &Period,
-    lines: &mut Vec<Line>,
+    lines: &mut Vec<RowPeriod>,
 ) -> Result<(), AllocError>
-    requires periods { periods.now ≡ periods_on (state_of sides.now) group.now }
-    requires keys { All (IsKey (state_of sides.now)) group.now }
-    ensures within { OnOk result (AreLines (state_of sides.now) lines.old.items → AreLines (state_of sides.now) lines.new.items) }
-    ensures rows { OnOk result ((v : List Value) → AreOfValues v (map (held_key (state_of sides.now)) group.now)
-        → AddsDifference window.now (map (held_key (state_of sides.now)) group.now) v (lines_made (state_of sides.now) lines.old.items) (lines_made (state_of sides.now) lines.new.items)) }
+    requires periods { periods.now ≡ periods_on (state_of sort_input.now) group.now }
+    requires keys { All (IsSortKey (state_of sort_input.now)) group.now }
+    ensures within { OnOk result (AreRowPeriods (state_of sort_input.now) lines.old.items → AreRowPeriods (state_of sort_input.now) lines.new.items) }
+    ensures rows { OnOk result ((v : List Value) → AreOfValues v (map (held_key (state_of sort_input.now)) group.now)
+        → AddsDifference window.now (map (held_key (state_of sort_input.now)) group.now) v (rows_at_periods (state_of sort_input.now) lines.old.items) (rows_at_periods (state_of sort_input.now) lines.new.items)) }
 {
     let Some(first) = first_left(group) else {
         return Ok(());
     };
     if are_left(group) {
-        return add_cut(sides, group, periods, window, lines);
+        return add_cut(sort_input, group, periods, window, lines);
     }
-    let changes = changes_of(alloc, sides, group, periods, window)?;
+    let changes = changes_of(alloc, sort_input, group, periods, window)?;
     let left = swept(alloc, &changes)?;
     'periods: for period in &left {
-        lines.push(Line {
+        lines.push(RowPeriod {
             row: first.row,
             period: *period,
         })?;
@@ -206,37 +210,41 @@ fn add_difference(
     Ok(())
 }
 
-// The rows of both sides that overlap the window, in the order of their values.
-fn sorted_keys(alloc: Global, sides: &Sides<'_>, window: &Period) -> Result<Vec<Key>, AllocError>
-    ensures { IfOk result (λ keys. AreKeysOfBoth (state_of sides.now) window.now keys.items) }
+// The keys of the rows of both sides that overlap the window, in the order of their values.
+fn sorted_keys(
+    alloc: Global,
+    sort_input: &SortInput<'_>,
+    window: &Period,
+) -> Result<Vec<SortKey>, AllocError>
+    ensures { IfOk result (λ keys. AreKeysOfBoth (state_of sort_input.now) window.now keys.items) }
 {
-    let mut keys = gathered(alloc, sides, window)?;
-    sides.sort(&mut keys)?;
+    let mut keys = overlapping_keys(alloc, sort_input, window)?;
+    sort_input.sort(&mut keys)?;
     Ok(keys)
 }
 
-// The differences of all groups go to the end of the list, which is empty.
+// Appends the differences of all groups to the empty list.
 fn add_differences(
     alloc: Global,
-    sides: &Sides<'_>,
-    keys: &[Key],
+    sort_input: &SortInput<'_>,
+    keys: &[SortKey],
     window: &Period,
-    lines: &mut Vec<Line>,
+    lines: &mut Vec<RowPeriod>,
 ) -> Result<(), AllocError>
-    requires keys { AreKeysOfBoth (state_of sides.now) window.now keys.now }
-    requires whole { All (λ k. key_values (state_of sides.now) k ≡ (key_row (state_of sides.now) k).values) keys.now }
+    requires keys { AreKeysOfBoth (state_of sort_input.now) window.now keys.now }
+    requires whole { All (λ k. key_values (state_of sort_input.now) k ≡ (key_row (state_of sort_input.now) k).values) keys.now }
     requires empty { lines.old.items ≡ [] }
-    ensures within { OnOk result (AreLines (state_of sides.now) lines.new.items) }
-    ensures counted { OnOk result ((t : ℕ) (v : List Value) → copies (lines_made (state_of sides.now) lines.new.items) v t
-        ≡ (if holds window.now t then copies sides.now.left.now.items v t - copies sides.now.right.now.items v t else 0)) }
+    ensures within { OnOk result (AreRowPeriods (state_of sort_input.now) lines.new.items) }
+    ensures counted { OnOk result ((t : ℕ) (v : List Value) → copies (rows_at_periods (state_of sort_input.now) lines.new.items) v t
+        ≡ (if holds window.now t then copies sort_input.now.left.now.items v t - copies sort_input.now.right.now.items v t else 0)) }
 {
-    let periods = periods_of(alloc, sides, keys)?;
+    let periods = periods_of(alloc, sort_input, keys)?;
     let mut start = 0;
     'groups: while start < keys.len() {
-        let end = start + sides.run_len(&keys[start..]);
+        let end = start + sort_input.run_len(&keys[start..]);
         add_difference(
             alloc,
-            sides,
+            sort_input,
             &keys[start..end],
             &periods[start..end],
             window,
@@ -247,34 +255,34 @@ fn add_differences(
     Ok(())
 }
 
-// The numbers of the rows that are left over of the left, each with a period, where both sides have one width.
-fn lines_left<'a>(
+// The rows of the left that remain, by number, each with a period. Both sides must have the same width.
+fn remaining_periods<'a>(
     alloc: Global,
     left: &'a Relation<'a>,
     right: &'a Relation<'a>,
     window: &Period,
-) -> Result<Vec<Line>, AllocError>
+) -> Result<Vec<RowPeriod>, AllocError>
     requires { right.now.width ≡ left.now.width }
-    ensures within { IfOk result (λ lines. All (λ (line : Line). line.row < length left.now.items) lines.items) }
-    ensures inside { IfOk result (λ lines. HasInside window.now (map (line_of left.now.items) lines.items) (λ t v. copies left.now.items v t - copies right.now.items v t)) }
-    ensures outside { IfOk result (λ lines. IsEmptyOutside window.now (map (line_of left.now.items) lines.items)) }
+    ensures within { IfOk result (λ lines. All (λ (line : RowPeriod). line.row < length left.now.items) lines.items) }
+    ensures inside { IfOk result (λ lines. HasInside window.now (map (row_period_of left.now.items) lines.items) (λ t v. copies left.now.items v t - copies right.now.items v t)) }
+    ensures outside { IfOk result (λ lines. IsEmptyOutside window.now (map (row_period_of left.now.items) lines.items)) }
 {
     let columns = all_columns(alloc, left.width())?;
     right.width();
-    let sides = Sides {
+    let sort_input = SortInput {
         left,
         right,
         left_columns: &columns,
         right_columns: &columns,
     };
-    let keys = sorted_keys(alloc, &sides, window)?;
+    let keys = sorted_keys(alloc, &sort_input, window)?;
     let mut lines = Vec::new(alloc);
-    add_differences(alloc, &sides, &keys, window, &mut lines)?;
+    add_differences(alloc, &sort_input, &keys, window, &mut lines)?;
     Ok(lines)
 }
 
-/// Each row of the left as often as it stands there more often than on the right, at each instant of
-/// the window. No value is copied. `AllocError` where a growth was refused.
+/// At each instant of the window, each row as often as it is valid on the left more often than on the right. No value
+/// is copied. `AllocError` if an allocation failed.
 pub fn except_all<'a>(
     alloc: Global,
     left: Relation<'a>,
@@ -288,6 +296,6 @@ pub fn except_all<'a>(
     if left.width() != right.width() {
         return select(alloc, left, window, None);
     }
-    let lines = lines_left(alloc, &left, right, window)?;
-    left.pick(alloc, &lines)
+    let lines = remaining_periods(alloc, &left, right, window)?;
+    left.take_row_periods(alloc, &lines)
 }

@@ -1,4 +1,4 @@
-//! What a condition tells of the number at a place of a row.
+//! The range to which a condition restricts the number in a column.
 
 ghost use Rattle.std.specs.Prelude.{◌≡◌, ◌≢◌, ℤ, false, not, FitsSigned, IfSome, IsTrue, List};
 ghost use Rattle.std.specs.Int.{w64};
@@ -10,14 +10,14 @@ ghost use Rattle.tq_base.specs.Contents.{Int};
 ghost use Rattle.tq_base.specs.KeyRanges.{IsInRange, IsInSomeRange};
 ghost use Rattle.tq_base.specs.ValueOrder.{value_cmp};
 ghost use Rattle.tq_ops.specs.Conditions.{accepts, operand_value};
-ghost use Rattle.tq_ops.specs.KeyRanges.{HasBeside, HasCompared, IsEnough, TellsNumbers, TellsWithin};
+ghost use Rattle.tq_ops.specs.KeyRanges.{HasValueRange, HasCompared, IsSufficient, BoundsNumbers, BoundsWithin};
 ghost use Rattle.tq_ops.specs.Known.{agrees};
 
 use crate::condition::{Compare, Operand, Test};
-use tq_base::{KeyRange, Seen, Value};
+use tq_base::{KeyRange, Value, ValueRef};
 
 impl Compare {
-    // The comparison that holds where this one does not.
+    // The comparison that holds exactly if this one does not.
     fn negated(self) -> Compare
         ensures { (order : Ordering) → accepts result order ≡ not (accepts self order) }
     {
@@ -31,14 +31,14 @@ impl Compare {
         }
     }
 
-    // The comparison that holds where this one comes out as wanted.
+    // The comparison that holds exactly if this one has the truth `wanted`.
     fn agreeing(self, wanted: bool) -> Compare
         ensures { (order : Ordering) → accepts result order ≡ agrees (accepts self order) wanted }
     {
         if wanted { self } else { self.negated() }
     }
 
-    // The comparison that holds of two values where this one holds of them turned round.
+    // The comparison with its operands exchanged.
     fn reversed(self) -> Compare
         ensures { (order : Ordering) → accepts result order ≡ accepts self (ordering_reverse order) }
     {
@@ -53,8 +53,8 @@ impl Compare {
     }
 }
 
-// The numbers of 64 signed bits that stand so to the given one, and no others; all for `<>`.
-fn numbers_by(op: Compare, number: i64) -> Option<KeyRange>
+// The numbers of 64 signed bits for which `n op number` holds; for `<>`, all of them.
+fn range_for_number(op: Compare, number: i64) -> Option<KeyRange>
     ensures all { (n : ℤ) → FitsSigned w64 n → IsTrue (accepts op (int_cmp n number)) → IsInSomeRange result n }
     ensures exact { op ≢ Compare.Ne → (n : ℤ) → IsInSomeRange result n → IsTrue (accepts op (int_cmp n number)) }
 {
@@ -68,36 +68,36 @@ fn numbers_by(op: Compare, number: i64) -> Option<KeyRange>
     }
 }
 
-// The numbers of 64 signed bits that stand so to the value; all where it is no such number.
-fn numbers_beside(op: Compare, value: &Value) -> Option<KeyRange>
-    ensures { HasBeside op value.now result }
+// The range of the numbers of 64 signed bits for which `n op value` holds; all if the value is not such a number.
+fn range_for_value(op: Compare, value: &Value) -> Option<KeyRange>
+    ensures { HasValueRange op value.now result }
 {
-    match value.seen() {
-        Seen::Int(number) => match i64::try_from(number) {
-            Ok(number) => numbers_by(op, number),
+    match value.as_ref() {
+        ValueRef::Int(number) => match i64::try_from(number) {
+            Ok(number) => range_for_number(op, number),
             Err(_) => Some(KeyRange::all()),
         },
-        Seen::Text(_) => Some(KeyRange::all()),
+        ValueRef::Text(_) => Some(KeyRange::all()),
     }
 }
 
-// The numbers of 64 signed bits that may stand at the place of a row of which the comparison holds: all where it
-// compares anything else than the place with a number.
+// A range of the numbers in column `place` of the rows for which the comparison holds. It is all numbers unless the
+// comparison is between that column and a number.
 fn compared_numbers(left: &Operand, op: Compare, right: &Operand, place: u32) -> Option<KeyRange>
     ensures { HasCompared left.now op right.now place result }
 {
     match (left, right) {
         (Operand::Column(column), Operand::Literal(value)) if *column == place => {
-            numbers_beside(op, value)
+            range_for_value(op, value)
         }
         (Operand::Literal(value), Operand::Column(column)) if *column == place => {
-            numbers_beside(op.reversed(), value)
+            range_for_value(op.reversed(), value)
         }
         _ => Some(KeyRange::all()),
     }
 }
 
-// What lies in both.
+// The intersection of both.
 fn common_of(one: Option<KeyRange>, other: Option<KeyRange>) -> Option<KeyRange>
     ensures { (n : ℤ) → IsInSomeRange one n → IsInSomeRange other n → IsInSomeRange result n }
 {
@@ -107,7 +107,7 @@ fn common_of(one: Option<KeyRange>, other: Option<KeyRange>) -> Option<KeyRange>
     }
 }
 
-// What lies in either, and between them.
+// The least range that holds both.
 fn hull_of(one: Option<KeyRange>, other: Option<KeyRange>) -> Option<KeyRange>
     ensures one { (n : ℤ) → IsInSomeRange one n → IsInSomeRange result n }
     ensures other { (n : ℤ) → IsInSomeRange other n → IsInSomeRange result n }
@@ -119,30 +119,29 @@ fn hull_of(one: Option<KeyRange>, other: Option<KeyRange>) -> Option<KeyRange>
     }
 }
 
-// The numbers that a condition lets through: those in `also`, and those in `within` that what is left of it lets
-// through.
+// The numbers that a condition allows: those in `also`, and those in `within` that the rest of the condition allows.
 #[derive(Clone, Copy)]
-struct Told {
+struct AllowedNumbers {
     within: Option<KeyRange>,
     also: Option<KeyRange>,
 }
 
-impl Told {
-    // What is told with one more part: what is left lets through no other numbers where it wants both, and any of
-    // them besides where either is enough.
-    fn with_part(self, both: bool, part: Option<KeyRange>) -> Told
+impl AllowedNumbers {
+    // Adds one more part. If both are required, the rest allows no other numbers than those of the part. Otherwise
+    // either suffices, and the part's numbers are allowed too.
+    fn with_part(self, both: bool, part: Option<KeyRange>) -> AllowedNumbers
         ensures also { (n : ℤ) → IsInSomeRange self.also n → IsInSomeRange result.also n }
         ensures both { IsTrue both → (n : ℤ) → IsInSomeRange part n → IsInSomeRange result.within n }
         ensures within { both ≡ false → (n : ℤ) → IsInSomeRange self.within n → IsInSomeRange result.within n }
         ensures either { both ≡ false → (n : ℤ) → IsInSomeRange part n → IsInSomeRange result.also n }
     {
         if both {
-            Told {
+            AllowedNumbers {
                 within: part,
                 also: self.also,
             }
         } else {
-            Told {
+            AllowedNumbers {
                 within: self.within,
                 also: hull_of(self.also, part),
             }
@@ -151,22 +150,23 @@ impl Told {
 }
 
 impl Test {
-    /// A range of the numbers at the place of the rows that pass: each row that passes, and in which a number of
-    /// 64 signed bits stands there, has it in the range. `None` where no such row passes. A comparison of the
-    /// place with a number tells just those that it lets through, but for `<>`; any other tells nothing.
+    /// A range of the numbers in column `place` of the rows that pass: if a row passes and has a number of 64 signed
+    /// bits there, that number lies in the range. `None` only if no such row passes. A comparison of the column with a
+    /// number restricts the range to the numbers that pass, except for `<>`; other comparisons do not restrict it.
     pub fn numbers_at(&self, place: u32) -> Option<KeyRange>
-        ensures { TellsNumbers self.now place result }
+        ensures { BoundsNumbers self.now place result }
     {
         self.numbers_within(true, place, Some(KeyRange::all()))
     }
 
-    // The same where the condition has to come out as wanted, of numbers in the range. What one part tells narrows
-    // the range for the other where both have to come out so, and so the walk goes down a chain in a loop.
+    // `numbers_at` for rows on which the condition has the truth `wanted` and whose number lies in `within`. If both
+    // parts of a pair must have that truth, the range of the last one narrows that of the first. So the walk goes down
+    // a chain in a loop.
     fn numbers_within(&self, wanted: bool, place: u32, within: Option<KeyRange>) -> Option<KeyRange>
-        ensures { TellsWithin self.now wanted place within result }
+        ensures { BoundsWithin self.now wanted place within result }
     {
         let mut wanted = wanted;
-        let mut told = Told { within, also: None };
+        let mut told = AllowedNumbers { within, also: None };
         let mut part = self;
         'parts: loop {
             match part {
@@ -193,32 +193,32 @@ impl Test {
     }
 }
 
-// Numbers of 64 signed bits that all stand so to the value; none where that is not plain.
-fn numbers_so(op: Compare, value: &Value) -> Option<KeyRange>
+// A range of numbers of 64 signed bits for which `n op value` holds; `None` if it cannot be read off the value.
+fn inner_range(op: Compare, value: &Value) -> Option<KeyRange>
     ensures { (n : ℤ) → IsInSomeRange result n → IsTrue (accepts op (value_cmp (Int n) value.now)) }
 {
     if op == Compare::Ne {
         return None;
     }
-    match value.seen() {
-        Seen::Int(number) => match i64::try_from(number) {
-            Ok(number) => numbers_by(op, number),
+    match value.as_ref() {
+        ValueRef::Int(number) => match i64::try_from(number) {
+            Ok(number) => range_for_number(op, number),
             Err(_) => None,
         },
-        Seen::Text(_) => None,
+        ValueRef::Text(_) => None,
     }
 }
 
-// Numbers of a column of which each is enough: a row in which one stands there passes a condition.
+// A range of numbers in a column that are sufficient: a row with one of them passes the condition.
 #[derive(Clone, Copy)]
-pub(crate) struct Enough {
+pub(crate) struct SufficientRange {
     pub(crate) column: u32,
     pub(crate) range: KeyRange,
 }
 
-impl Enough {
-    // The numbers of both, where they are of one column.
-    fn both(self, other: Enough) -> Option<Enough>
+impl SufficientRange {
+    // The numbers in both ranges, if they are of one column.
+    fn both(self, other: SufficientRange) -> Option<SufficientRange>
         ensures column { IfSome result (λ both. both.column ≡ self.column) }
         ensures same { IfSome result (λ both. both.column ≡ other.column) }
         ensures one { IfSome result (λ both. (n : ℤ) → IsInRange both.range n → IsInRange self.range n) }
@@ -227,49 +227,49 @@ impl Enough {
         if self.column != other.column {
             return None;
         }
-        Some(Enough {
+        Some(SufficientRange {
             column: self.column,
             range: self.range.common(other.range)?,
         })
     }
 }
 
-// Numbers of a column that is compared with a value, of which each is enough for the comparison to hold.
-fn enough_compared(left: &Operand, op: Compare, right: &Operand) -> Option<Enough>
+// The numbers in a column that are sufficient for the comparison with a literal to hold.
+fn sufficient_comparison(left: &Operand, op: Compare, right: &Operand) -> Option<SufficientRange>
     ensures { IfSome result (λ e. (row : List Value) (n : ℤ) → value_at row e.column ≡ Int n → IsInRange e.range n
         → IsTrue (accepts op (value_cmp (operand_value left.now row) (operand_value right.now row)))) }
 {
     match (left, right) {
-        (Operand::Column(column), Operand::Literal(value)) => Some(Enough {
+        (Operand::Column(column), Operand::Literal(value)) => Some(SufficientRange {
             column: *column,
-            range: numbers_so(op, value)?,
+            range: inner_range(op, value)?,
         }),
         _ => None,
     }
 }
 
 impl Test {
-    // The same of a condition that is one comparison.
-    fn enough_of_one(&self) -> Option<Enough>
-        ensures { IfSome result (λ e. IsEnough self.now e.column e.range) }
+    // The sufficient numbers of a condition that is one comparison.
+    fn sufficient_of_one(&self) -> Option<SufficientRange>
+        ensures { IfSome result (λ e. IsSufficient self.now e.column e.range) }
     {
         match self {
-            Test::Is { left, op, right } => enough_compared(left, *op, right),
+            Test::Is { left, op, right } => sufficient_comparison(left, *op, right),
             _ => None,
         }
     }
 
-    // Numbers of a column of which each is enough for its row to pass, where the condition is a comparison or two that
-    // bound the column by numbers.
-    pub(crate) fn enough(&self) -> Option<Enough>
-        ensures { IfSome result (λ e. IsEnough self.now e.column e.range) }
+    // The sufficient numbers of a condition that is a comparison of a column with a number, or two such comparisons of
+    // one column joined by AND.
+    pub(crate) fn sufficient_range(&self) -> Option<SufficientRange>
+        ensures { IfSome result (λ e. IsSufficient self.now e.column e.range) }
     {
         match self {
             Test::And(first, last) => {
-                let one = first.get().enough_of_one()?;
-                one.both(last.get().enough_of_one()?)
+                let one = first.get().sufficient_of_one()?;
+                one.both(last.get().sufficient_of_one()?)
             }
-            _ => self.enough_of_one(),
+            _ => self.sufficient_of_one(),
         }
     }
 }

@@ -1,27 +1,27 @@
-//! The operators of ordinary queries on relations: selection, join and difference, each at every instant at
-//! once.
+//! The relational operators on rows with periods: selection, join and difference.
 //!
-//! What comes out of an operator is said instant by instant: the rows valid at an instant of the window
-//! are, duplicates counted, the ordinary operator's answer over the rows then valid in what went in.
-//! Outside the window nothing is valid. No operator evaluates a single instant: selection goes over the rows
-//! once, join and difference sweep over the sorted keys of both sides. None copies a value: what comes out
-//! names rows of what went in.
+//! The contracts of `select`, `join`, `join_all` and `except_all` are stated instant by instant. At an instant of the
+//! window the valid rows are, with duplicates, the ordinary operator's result over the rows valid then (`HasInside` in
+//! `specs/Ordinary.antt`). Outside the window no row is valid. No operator evaluates single instants: selection makes
+//! one pass, join and difference sweep over sorted keys. No operator copies values; results refer to rows of the input.
+//!
+//! Open `src/merge_join.rt` first; `specs/Ordinary.antt` has the ordinary operators.
 #![tactic(auto)]
 
 mod condition;
 mod difference;
-mod folding;
-mod gathering;
-mod joining;
+mod equi_join;
+mod join_chain;
 mod key_range;
 mod known;
 pub mod laws;
-mod links;
+mod merge_join;
+mod overlapping;
 mod selection;
 
 pub use condition::{Compare, Operand, Test};
 pub use difference::except_all;
-pub use folding::{decided, join_all};
-pub use joining::join;
-pub use links::{Link, Links, links_of};
+pub use equi_join::{EquiJoin, KeyPair, equi_join_keys};
+pub use join_chain::{join_all, pushable};
+pub use merge_join::join;
 pub use selection::select;

@@ -9,15 +9,15 @@ use Rattle.tq_table.specs.declared.table.Table.{Table}
 use Rattle.tq_plan.specs.declared.plans.Plan.{Plan}
 use Rattle.tq_eval.specs.Answers.{as_of, times_at, AnswersExist, IsPlanAnswer}
 
--- each plan has an answer over every history, as of every count of its events, and no two
-abbrev pub AnswersAreDecided : Type 0
-AnswersAreDecided = LayersAreUnique × AnswersExist
+-- each plan has exactly one answer over every history, as of every count of its events
+abbrev pub PlansHaveOneAnswer : Type 0
+PlansHaveOneAnswer = LayersAreUnique × AnswersExist
 
--- what is answered over these events: the one answer of the plan as of all of them
-abbrev pub plain_answer : AnswersAreDecided → List Event → Plan → Table
-plain_answer decided events plan = (decided.1 events (length events) plan).0
+-- the answer over these events: the only answer of the plan as of all of them
+abbrev pub plain_answer : PlansHaveOneAnswer → List Event → Plan → Table
+plain_answer one_answer events plan = (one_answer.1 events (length events) plan).0
 
--- ---- there is one way to decide answers at most
+-- ---- these facts have at most one proof, so an answer does not depend on it
 
 unique_prop : IsProp LayersAreUnique
 unique_prop = hlevel props
@@ -39,5 +39,5 @@ exist_prop unique one other = λ i. λ events n plan.
     let same : a.0 ≡ b.0 = same_answer unique events n plan a.0 b.0 a.1 b.1 in
     (same i, is_prop→PathP (λ j. IsPlanAnswer events n plan (same j)) (λ j. answer_prop events n plan (same j)) a.1 b.1 i)
 
-pub decided_prop : IsProp AnswersAreDecided
-decided_prop one other = λ i. (unique_prop one.0 other.0 i, exist_prop one.0 one.1 other.1 i)
+pub one_answer_prop : IsProp PlansHaveOneAnswer
+one_answer_prop one other = λ i. (unique_prop one.0 other.0 i, exist_prop one.0 one.1 other.1 i)

@@ -9,17 +9,17 @@ use Rattle.tq_core.specs.Runs.{AnswersOverLast, IsAt}
 use Rattle.tq_table.specs.declared.table.Table.{Table}
 use Rattle.tq_plan.specs.declared.plans.Plan.{Plan}
 use Rattle.tq_eval.specs.Answers.{IsPlanAnswer}
-use Rattle.tq_oracle.specs.Plain.{plain_answer, AnswersAreDecided}
+use Rattle.tq_oracle.specs.Plain.{plain_answer, PlansHaveOneAnswer}
 
--- each answer to an Ask of a plan as of n events is the answer of that plan as of n, over the events published in
--- the end, and there are n
-abbrev pub PlansAreAnswered : List (Step Plan) → List (Reply Table) → Machine → Type 0
-PlansAreAnswered steps replies after =
+-- each answer to an Ask of a plan as of n events is the answer of that plan as of n, over the events published in the
+-- end; at least n are published
+abbrev pub AsksAnswerPlans : List (Step Plan) → List (Reply Table) → Machine → Type 0
+AsksAnswerPlans steps replies after =
     (place reader n pieces : ℕ) (plan : Plan) (table : Table) → IsAt steps replies place (Ask reader n plan pieces) (Answer table)
     → (n ≤ length after.published) × IsPlanAnswer after.published n plan table
 
--- so it is in each run that answers by the function of `Plain`
-abbrev pub RunsAnswerPlans : AnswersAreDecided → Type 0
-RunsAnswerPlans decided = (steps : List (Step Plan)) (replies : List (Reply Table)) (after : Machine)
-    → AnswersOverLast (λ catalogue events plan. plain_answer decided events plan) steps replies after
-    → PlansAreAnswered steps replies after
+-- this holds for each run with the answers of `Plain`
+abbrev pub RunsAnswerPlans : PlansHaveOneAnswer → Type 0
+RunsAnswerPlans one_answer = (steps : List (Step Plan)) (replies : List (Reply Table)) (after : Machine)
+    → AnswersOverLast (λ catalogue events plan. plain_answer one_answer events plan) steps replies after
+    → AsksAnswerPlans steps replies after

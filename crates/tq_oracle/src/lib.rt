@@ -1,7 +1,8 @@
-//! The core machine's oracle: a question is a plan, and its answer is the table.
+//! The oracle of the core machine (`tq_core`) for plans: a query is a plan, and its answer is a table.
 //!
-//! For every list of steps, in whatever order, an answer to a plan as of n events is the answer of that plan over
-//! the first n events that are published in the end (the law `Plain::runs_answer_plans`).
+//! The law `Plain::runs_answer_plans` holds for steps in any order. An answer to a plan as of n events is that of the
+//! plan over the first n events that are published in the end (`RunsAnswerPlans`). Open `src/plain.rt` first, then
+//! `specs/Runs.antt`.
 #![tactic(auto)]
 
 mod plain;

@@ -1,12 +1,12 @@
-// Plans over tables as of any count of events.
+// The oracle for plans over tables as of any count of events.
 
 ghost use Rattle.std.specs.Prelude.{◌≡◌, ◌≤◌, IfOk, List, length, take};
 ghost use Rattle.tq_event.specs.declared.event.Event.{Event as AnyEvent};
 ghost use Rattle.tq_event.specs.History.{IsHistory};
 ghost use Rattle.tq_plan.specs.declared.plans.Plan.{Plan as AnyPlan};
-ghost use Rattle.tq_plan.specs.Standing.{IsPlanOver};
+ghost use Rattle.tq_plan.specs.ValidPlans.{IsPlanOver};
 ghost use Rattle.tq_eval.specs.Answers.{IsPlanAnswer};
-ghost use Rattle.tq_oracle.specs.Plain.{decided_prop, plain_answer, AnswersAreDecided};
+ghost use Rattle.tq_oracle.specs.Plain.{one_answer_prop, plain_answer, PlansHaveOneAnswer};
 ghost use Rattle.tq_oracle.specs.Runs.{RunsAnswerPlans};
 
 use std::alloc::{AllocError, Global};
@@ -20,35 +20,35 @@ use tq_plan::Plan;
 use tq_store::Db;
 use tq_table::Table;
 
-/// The oracle that answers plans over a world's catalogue, each over a `Db` that takes the first events. It is
-/// owed that a plan is one that `plan` gave over the world's catalogue.
+/// The oracle that answers plans over a world's catalogue. Each answer is computed over a new `Db` with the first n
+/// events. Requires that `plan` made the plan over the world's catalogue.
 #[derive(Drop)]
 pub struct Plain {
-    ghost decided: { AnswersAreDecided } by { decided_prop },
+    ghost one_answer: { PlansHaveOneAnswer } by { one_answer_prop },
 }
 
 impl Plain {
-    /// The one oracle of this kind.
+    /// The only value of this type.
     pub fn new() -> Plain {
         layers_are_unique();
         answers_exist();
         Plain {}
     }
 
-    /// What it answers over the events of a history is the answer of the plan as of all of them. It does nothing.
+    /// The oracle's answer over the events of a history is that of the plan as of all of them. A law: the body is
+    /// empty.
     pub fn answers(&self)
-        ensures { (events : List AnyEvent) (plan : AnyPlan) → IsPlanAnswer events (length events) plan (plain_answer self.now.decided events plan) }
+        ensures { (events : List AnyEvent) (plan : AnyPlan) → IsPlanAnswer events (length events) plan (plain_answer self.now.one_answer events plan) }
     {}
 
-    /// Each answer of `World::run` with this oracle is the answer of the plan as of the `n` events that were asked
-    /// for, over the events that are published after the run. The law turns the clause `answers` of `World::run`
-    /// into this. It does nothing.
+    /// Each answer of `World::run` with this oracle is that of the plan as of the requested `n` events. The events are
+    /// those published after the run. A law for use with the clause `answers` of `World::run`: the body is empty.
     pub fn runs_answer_plans(&self)
-        ensures { RunsAnswerPlans self.now.decided }
+        ensures { RunsAnswerPlans self.now.one_answer }
     {}
 }
 
-// A `Db` of the first n events.
+// A `Db` with the first n events.
 fn filled(alloc: Global, catalogue: &Catalogue, events: &[Event], n: u32) -> Result<Db, AllocError>
     requires history { IsHistory catalogue.now events.now }
     requires few { length events.now ≤ 16777216 }
@@ -69,7 +69,7 @@ impl Oracle for Plain {
 
     ghost fits = { λ catalogue plan. IsPlanOver catalogue plan };
 
-    ghost value = { λ plain catalogue events plan. plain_answer plain.decided events plan };
+    ghost value = { λ plain catalogue events plan. plain_answer plain.one_answer events plan };
 
     fn answer(
         &self,

@@ -1,17 +1,17 @@
-// Plans over the events of a file, asked of the oracle and in a run of the core machine.
+// Plans over the events of a file, as queries to the oracle and in a run of the core machine.
 
 ghost use Rattle.std.specs.Prelude.{◌≤◌, All, IfOk, length};
 ghost use Rattle.tq_base.specs.Catalogues.{IsCatalogue};
-ghost use Rattle.tq_core.specs.Machine.{AsksFittingly};
+ghost use Rattle.tq_core.specs.Machine.{HasFittingQuery};
 ghost use Rattle.tq_event.specs.History.{IsHistory};
-ghost use Rattle.tq_oracle.specs.Runs.{PlansAreAnswered};
-ghost use Rattle.tq_plan.specs.Standing.{IsPlanOver};
+ghost use Rattle.tq_oracle.specs.Runs.{AsksAnswerPlans};
+ghost use Rattle.tq_plan.specs.ValidPlans.{IsPlanOver};
 
 use crate::plain::Plain;
 use std::alloc::{AllocError, Global};
 use std::fmt::Write;
 use std::test::Fail;
-use tq_base::{Catalogue, Form, Items};
+use tq_base::{Catalogue, Form, List};
 use tq_core::{Oracle, Reply, Step, World};
 use tq_event::{Event, FileBytes, MAX_EVENTS, TableFile, laws, load};
 use tq_plan::{Plan, plan};
@@ -29,13 +29,13 @@ const EMP: &[u8] = b"emp:int,name:text,dept:text,from,to
 fn files(alloc: Global) -> Result<Vec<TableFile>, Fail> {
     let mut files = Vec::new(alloc);
     files.push(TableFile {
-        name: Items::of(b"emp".to_vec(alloc)?),
+        name: List::of(b"emp".to_vec(alloc)?),
         bytes: FileBytes::of(EMP.to_vec(alloc)?),
     })?;
     Ok(files)
 }
 
-// Who was there.
+// The plan of a query for the names.
 fn question(alloc: Global, catalogue: &Catalogue) -> Result<Plan, Fail>
     ensures { IfOk result (IsPlanOver catalogue.now) }
 {
@@ -43,7 +43,7 @@ fn question(alloc: Global, catalogue: &Catalogue) -> Result<Plan, Fail>
     Ok(plan(alloc, catalogue, &statement, Form::Numbers)?)
 }
 
-// The text of the answer as of the first events.
+// The text of the answer as of the first `n` events.
 fn answered(
     alloc: Global,
     catalogue: &Catalogue,
@@ -61,7 +61,7 @@ fn answered(
     Ok(table_text(alloc, &table, Form::Numbers)?)
 }
 
-// As of three events cat, ann and bob have come, and nobody has left.
+// As of three events, rows of cat, ann and bob have started, and none has ended.
 #[test]
 fn a_plan_is_answered_as_of_the_first_events(rt: HostRuntime) -> Result<(), Fail> {
     let alloc = rt.alloc();
@@ -78,21 +78,21 @@ fn a_plan_is_answered_as_of_the_first_events(rt: HostRuntime) -> Result<(), Fail
     Ok(())
 }
 
-// The replies to steps: each answer is that of its plan.
+// The replies to steps. By its contract, each answer is that of its plan.
 fn replies_to(
     world: &mut World,
     plain: &Plain,
     steps: &[Step<Plan>],
 ) -> Result<Vec<Reply<Table<'static>>>, AllocError>
-    requires { All (AsksFittingly IsPlanOver world.old.catalogue) steps.now }
-    ensures { IfOk result (λ replies. PlansAreAnswered steps.now replies.items world.new) }
+    requires { All (HasFittingQuery IsPlanOver world.old.catalogue) steps.now }
+    ensures { IfOk result (λ replies. AsksAnswerPlans steps.now replies.items world.new) }
 {
     let replies = world.run(plain, steps)?;
     plain.runs_answer_plans();
     Ok(replies)
 }
 
-// A line for the reply; an answer is its table's lines.
+// Writes a line for the reply, and the lines of an answer's table.
 fn write_reply(alloc: Global, reply: &Reply<Table<'static>>, out: &mut String) -> Result<(), Fail> {
     match reply {
         Reply::Done => out.push_str("done\n")?,
@@ -114,7 +114,7 @@ fn write_reply(alloc: Global, reply: &Reply<Table<'static>>, out: &mut String) -
     Ok(())
 }
 
-// The first event is published between two questions, of which only the second may see it.
+// The first event is published between two queries, of which only the second may see it.
 #[test]
 fn a_run_answers_a_plan_as_of_what_its_reader_has_seen(rt: HostRuntime) -> Result<(), Fail> {
     let alloc = rt.alloc();

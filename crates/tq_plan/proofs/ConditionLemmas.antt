@@ -14,7 +14,7 @@ use Rattle.tq_plan.specs.declared.conditions.Step.{Step}
 use Rattle.tq_plan.specs.declared.conditions.Step.TheVariants as step
 use Rattle.tq_plan.specs.Scope.{Field}
 use Rattle.tq_plan.specs.Conditions.{both, comparison_of, negated, test_of, test_step}
-use Rattle.tq_plan.specs.Steps.{all_undone, undone}
+use Rattle.tq_plan.specs.Steps.{all_rebuilt, rebuilt}
 
 pub test_of-Is : (fields : List Field) (left : Term) (sign : Sign) (right : Term) → test_of fields (Is left sign right) ≡ comparison_of fields left sign right
 unfolding test_of
@@ -46,7 +46,7 @@ weight_step (Cond-F.And a b) = a + b + 1
 weight_step (Cond-F.Or a b) = a + b + 1
 weight_step (Cond-F.Not a) = a + 1
 
--- how many pairs and negations a condition has
+-- the number of pairs and negations in a condition
 unfoldable pub weight : Cond → ℕ
 weight c = fold-Cond ℕ weight_step c
 
@@ -64,26 +64,26 @@ weight-Not a = ap (λ c. fold-Cond ℕ weight_step c) (sym (rolls-Not a)) ∙ fo
 
 -- ---- steps
 
-pub all_undone_push : (steps : List Step) (s : Step) (part : Result Test PlanFault) → all_undone (steps ++ s ∷ []) part ≡ all_undone steps (undone s part)
+pub all_undone_push : (steps : List Step) (s : Step) (part : Result Test PlanFault) → all_rebuilt (steps ++ s ∷ []) part ≡ all_rebuilt steps (rebuilt s part)
 all_undone_push [] s part = refl
-all_undone_push (r ∷ steps) s part = ap (undone r) (all_undone_push steps s part)
+all_undone_push (r ∷ steps) s part = ap (rebuilt r) (all_undone_push steps s part)
 
 -- one more step down
-pub deeper : (steps new : List Step) (s : Step) (part next whole : Result Test PlanFault) → new ≡ steps ++ s ∷ [] → part ≡ undone s next → all_undone steps part ≡ whole → all_undone new next ≡ whole
+pub deeper : (steps new : List Step) (s : Step) (part next whole : Result Test PlanFault) → new ≡ steps ++ s ∷ [] → part ≡ rebuilt s next → all_rebuilt steps part ≡ whole → all_rebuilt new next ≡ whole
 deeper steps new s part next whole pushed is leads =
-    ap (λ l. all_undone l next) pushed ∙ all_undone_push steps s next ∙ ap (all_undone steps) (sym is) ∙ leads
+    ap (λ l. all_rebuilt l next) pushed ∙ all_undone_push steps s next ∙ ap (all_rebuilt steps) (sym is) ∙ leads
 
--- the fault of a part, with nothing to its left, is that of the whole
-pub undone_fault : (s : Step) (fault : PlanFault) → undone s (Err fault) ≡ Err fault
+-- the fault of a part with nothing to its left is that of the whole
+pub undone_fault : (s : Step) (fault : PlanFault) → rebuilt s (Err fault) ≡ Err fault
 undone_fault (step.And last) fault = refl
 undone_fault (step.Or last) fault = refl
 undone_fault step.Not fault = refl
 
-pub all_undone_fault : (steps : List Step) (fault : PlanFault) → all_undone steps (Err fault) ≡ Err fault
+pub all_undone_fault : (steps : List Step) (fault : PlanFault) → all_rebuilt steps (Err fault) ≡ Err fault
 all_undone_fault [] fault = refl
-all_undone_fault (s ∷ steps) fault = ap (undone s) (all_undone_fault steps fault) ∙ undone_fault s fault
+all_undone_fault (s ∷ steps) fault = ap (rebuilt s) (all_undone_fault steps fault) ∙ undone_fault s fault
 
--- what was told of a part is what it means
+-- the planned part is what its definition gives
 pub told_is : (meaning told planned : Result Test PlanFault) → told ≡ planned → IfErr told (λ fault. fault ≢ OutOfMemory) → IfOk planned (λ test. meaning ≡ Ok test)
     → IfErr planned (λ fault. fault ≢ OutOfMemory → meaning ≡ Err fault) → meaning ≡ told
 told_is meaning (Ok test) planned same known means refuses = subst (λ r. IfOk r (λ test. meaning ≡ Ok test)) (sym same) means

@@ -13,7 +13,7 @@ pub one_more_is : (start middle end : ℕ) (p : Period) (ps qs : List Period) �
 one_more_is start middle end p ps qs f begins ends is =
     subst (Follow start end) (sym is) (subst (λ e. Follow start e (ps ++ p ∷ [])) ends (one_more start middle p ps f begins))
 
--- what holds of a later piece, and of the first one
+-- what holds for a later piece, and for the first one
 pub of_each : (piece n : ℕ) → 1 ≤ piece → (2 ≤ piece → 0 < n) → (piece ≡ 1 → ⊥) → 0 < n
 of_each zero n one later first = absurd (omega (arith, one))
 of_each (suc zero) n one later first = absurd (first refl)

@@ -1,5 +1,4 @@
--- The items of a statement's plan may stand, and its sources stand one after the other, with the columns of their
--- tables.
+-- The items of a statement's plan are valid, and its sources are contiguous and have the columns of their tables.
 use Rattle.std.proofs.Common.{◌≡◌, ℕ, ◌+◌, length, ◌&&◌, ◌||◌, Bool, true, false, if◌then◌else◌, List, [], ◌∷◌, ◌++◌, map, Option, Some, None, Result, Ok, Err, refl, sym, ap, ◌∙◌, subst, arith}
 use Rattle.std.specs.Prelude.{All, IsSomeAnd, slice_get}
 use Rattle.std.specs.List.{list_all, list_any}
@@ -32,14 +31,14 @@ use Rattle.tq_plan.specs.declared.plans.Output.TheVariants as output
 use Rattle.tq_plan.specs.declared.plans.Plan.{Plan}
 use Rattle.tq_plan.specs.declared.plans.QueryPlan.{QueryPlan}
 use Rattle.tq_plan.specs.declared.plans.QuerySource.{QuerySource}
-use Rattle.tq_plan.specs.Standing as standing
+use Rattle.tq_plan.specs.ValidPlans as standing
 use Rattle.tq_plan.specs.Plans.{column_output, group_after, grouped_sum, has_aggregate, is_aggregate, is_groupable, output_of, outputs_after, plan_of, query_of, right_of, same_kinds, sum_output, with_kinds, column_names}
 use Rattle.tq_plan.specs.Conditions.{where_of}
 use Rattle.tq_plan.specs.Scope.{Field, Sources, add_numbered, add_source, add_table, alias_of, is_numbered, no_sources, resolved, source_of, sources_after}
 use Rattle.tq_plan.specs.Windows.{window_plan}
-use Rattle.tq_plan.specs.Standing.{HasColumns, IsPlanOver, IsQueryOver, StandFrom, items_stand, may_stand}
+use Rattle.tq_plan.specs.ValidPlans.{HasColumns, IsPlanOver, IsQueryOver, AreContiguousFrom, are_valid_items, is_valid_item}
 
--- what a call in two steps gives is given by both
+-- the result of a call in two steps comes from both
 record Both {A B E : Type 0} (first : Result A E) (next : A → Result B E) (b : B) : Type 0 where
   value : A
   first_gives : first ≡ Ok value
@@ -55,10 +54,10 @@ Pair = Output × Kind
 ok_is : {A E : Type 0} (a b : A) → (let left : Result A E = Ok a in left) ≡ Ok b → a ≡ b
 ok_is a b is = ap (λ r. result_unwrap_or r b) is
 
--- ---- each item may stand, and counts or sums where the statement's does
+-- ---- each item is valid, and counts or sums if the statement's item does
 
 record Stands (counted : Bool) (group : List ℕ) (aggregate : Bool) (one : Pair) : Type 0 where
-  may : may_stand counted group one.0 ≡ true
+  may : is_valid_item counted group one.0 ≡ true
   kept : standing.is_aggregate one.0 ≡ aggregate
 
 as_made : (counted : Bool) (group : List ℕ) (aggregate : Bool) (made one : Pair) → (let left : Result Pair PlanFault = Ok made in left) ≡ Ok one → Stands counted group aggregate made → Stands counted group aggregate one
@@ -94,14 +93,14 @@ abbrev outputs_of : List Pair → List Output
 outputs_of = map (λ (one : Pair). one.0)
 
 record AllStand (counted : Bool) (group : List ℕ) (aggregate : Bool) (outputs : List Pair) : Type 0 where
-  may : list_all (may_stand counted group) (outputs_of outputs) ≡ true
+  may : list_all (is_valid_item counted group) (outputs_of outputs) ≡ true
   kept : list_any standing.is_aggregate (outputs_of outputs) ≡ aggregate
 
 one_more : (counted : Bool) (group : List ℕ) (before this : Bool) (done : List Pair) (one : Pair) → AllStand counted group before done → Stands counted group this one → AllStand counted group (before || this) (done ++ one ∷ [])
 one_more counted group before this done one all stands = record {
   may =
-      ap (list_all (may_stand counted group)) (map-append (λ (p : Pair). p.0) done (one ∷ []))
-      ∙ list_all-append (may_stand counted group) (outputs_of done) (one.0 ∷ [])
+      ap (list_all (is_valid_item counted group)) (map-append (λ (p : Pair). p.0) done (one ∷ []))
+      ∙ list_all-append (is_valid_item counted group) (outputs_of done) (one.0 ∷ [])
       ∙ (λ i. all.may i && (stands.may i && true));
   kept =
       ap (list_any standing.is_aggregate) (map-append (λ (p : Pair). p.0) done (one ∷ []))
@@ -132,14 +131,14 @@ all_stand fields counted group before done (item ∷ items) outputs all is =
     (all_stand fields counted group (before || is_aggregate item.what) (done ++ b.value ∷ []) items outputs
     (one_more counted group before (is_aggregate item.what) done b.value all (output_stands fields counted group item.what b.value b.first_gives)) b.then_gives)
 
--- ---- the sources stand one after the other
+-- ---- the sources are contiguous
 
--- the place behind the last one
+-- the place after the last one
 abbrev end_of : ℕ → List QuerySource → ℕ
 end_of place [] = place
 end_of place (source ∷ sources) = end_of (place + source.width) sources
 
-stand_more : (place : ℕ) (sources : List QuerySource) (one : QuerySource) → StandFrom place sources → one.first ≡ end_of place sources → StandFrom place (sources ++ one ∷ [])
+stand_more : (place : ℕ) (sources : List QuerySource) (one : QuerySource) → AreContiguousFrom place sources → one.first ≡ end_of place sources → AreContiguousFrom place (sources ++ one ∷ [])
 stand_more place [] one stand is = (is, tt)
 stand_more place (source ∷ sources) one stand is = (stand.0, stand_more (place + source.width) sources one stand.1 is)
 
@@ -148,7 +147,7 @@ end_more place [] one = refl
 end_more place (source ∷ sources) one = end_more (place + source.width) sources one
 
 record AreInLine (catalogue : Catalogue) (s : Sources) : Type 0 where
-  stand : StandFrom 0 s.sources
+  stand : AreContiguousFrom 0 s.sources
   ends : end_of 0 s.sources ≡ length s.fields
   columns : All (HasColumns catalogue) s.sources
 
@@ -207,7 +206,7 @@ query_stands catalogue query plan kinds is =
     let line = are_in_line catalogue no_sources s.value query.sources (none_yet catalogue) s.first_gives in
     let made : record { sources = s.value.sources; test = w.value; group = g.value; outputs = outputs_of o.value } ≡ plan = ap (λ (p : QueryPlan × List Kind). p.0) (ok_is _ (plan, kinds) o.then_gives) in
     subst (IsQueryOver catalogue) made
-    (record { items = ap (λ c. list_all (may_stand c g.value) (outputs_of o.value)) all.kept ∙ all.may; sources = line.stand; columns = line.columns })
+    (record { items = ap (λ c. list_all (is_valid_item c g.value) (outputs_of o.value)) all.kept ∙ all.may; sources = line.stand; columns = line.columns })
 
 pub left_stands : (catalogue : Catalogue) (plan : Plan) → IsPlanOver catalogue plan → IsQueryOver catalogue plan.left
 left_stands catalogue plan is =

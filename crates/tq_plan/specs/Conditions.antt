@@ -1,5 +1,5 @@
--- What a condition means: the same condition over places of a row. After SQL; a comparison of a number
--- with a text is refused.
+-- The planned condition: the same condition over places of the joined row. After SQL; a comparison of a number with a
+-- text is a fault.
 use Rattle.std.specs.Prelude.{Bool, true, false, if◌then◌else◌, List, Option, Some, None, Result, Ok, Err}
 use Rattle.tq_base.specs.declared.catalogue.Kind.{Kind}
 use Rattle.tq_base.specs.declared.catalogue.Kind.TheVariants as kind
@@ -21,7 +21,7 @@ use Rattle.tq_plan.specs.declared.fault.PlanFault.{PlanFault}
 use Rattle.tq_plan.specs.declared.fault.PlanFault.TheVariants.{TypeMismatch}
 use Rattle.tq_plan.specs.Scope.{Field, resolved}
 
--- an operand over places, and its kind
+-- the planned operand, and its kind
 abbrev pub operand_of : List Field → Term → Result (Operand × Kind) PlanFault
 operand_of fields (term.Column column) = and_then (resolved fields column) (λ meaning. Ok (operand.Column meaning.0, meaning.1))
 operand_of fields (term.Int number) = Ok (operand.Literal (value.Int number), kind.Int)
@@ -55,18 +55,18 @@ both joined first last = and_then first (λ a. and_then last (λ b. Ok (joined a
 abbrev pub negated : Result Test PlanFault → Result Test PlanFault
 negated inner = and_then inner (λ a. Ok (test.Not a))
 
--- one layer of a condition, once its parts are looked up
+-- one level of a condition whose parts are planned
 abbrev pub test_step : List Field → Cond-F (Result Test PlanFault) → Result Test PlanFault
 test_step fields (Cond-F.Is left sign right) = comparison_of fields left sign right
 test_step fields (Cond-F.And a b) = both test.And a b
 test_step fields (Cond-F.Or a b) = both test.Or a b
 test_step fields (Cond-F.Not a) = negated a
 
--- the condition over places, or the first fault from the left
+-- the planned condition, or the first fault from the left
 unfoldable pub test_of : List Field → Cond → Result Test PlanFault
 test_of fields cond = fold-Cond (Result Test PlanFault) (test_step fields) cond
 
--- the condition after WHERE, if there is one
+-- the planned condition after WHERE, if there is one
 abbrev pub where_of : List Field → Option Cond → Result (Option Test) PlanFault
 where_of fields None = Ok None
 where_of fields (Some cond) = and_then (test_of fields cond) (λ test. Ok (Some test))

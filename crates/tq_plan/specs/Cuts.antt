@@ -1,8 +1,8 @@
--- Periods that follow one another. This project's own.
+-- Periods that tile another period. This project's own.
 use Rattle.std.specs.Prelude.{◌≡◌, ℕ, ◌<◌, List, [], ◌∷◌}
 use Rattle.tq_base.specs.declared.period.Period.{Period}
 
--- each of the periods begins where the one before it ends, the first at the start; the last ends at the end
+-- the first of the periods begins at the start, each other where the one before it ends, and the last ends at the end
 abbrev pub Follow : ℕ → ℕ → List Period → Type 0
 Follow start end [] = start ≡ end
 Follow start end (p ∷ ps) = (p.start ≡ start) × Follow p.end end ps

@@ -2,8 +2,8 @@ pub mod Scope
 pub mod Conditions
 pub mod KeyRanges
 pub mod Steps
-pub mod Seen
+pub mod Views
 pub mod Windows
 pub mod Plans
 pub mod Cuts
-pub mod Standing
+pub mod ValidPlans

@@ -1,5 +1,5 @@
--- The plan of a statement over a catalogue, or its first fault: of the window, of the left query, of the
--- right one, of both together; in a query of its sources, its condition, its groups, its items. After SQL.
+-- The plan of a statement over a catalogue, or its first fault: of the window, of the left query, of the right one, of
+-- both together. In a query the order is: sources, condition, groups, items. After SQL.
 use Rattle.std.specs.Prelude.{ℕ, Bool, true, false, not, ◌&&◌, ◌==◌, if◌then◌else◌, List, [], ◌∷◌, ◌++◌, map, Option, Some, None, Result, Ok, Err, codes}
 use Rattle.std.specs.List.{list_any}
 use Rattle.tq_base.specs.declared.catalogue.Kind.{Kind}
@@ -20,7 +20,7 @@ use Rattle.tq_plan.specs.declared.plans.Output.TheVariants as output
 use Rattle.tq_plan.specs.declared.plans.Plan.{Plan}
 use Rattle.tq_plan.specs.declared.plans.QueryPlan.{QueryPlan}
 use Rattle.tq_plan.specs.declared.plans.QuerySource.{QuerySource}
-use Rattle.tq_plan.specs.Scope.{Field, given_or, no_sources, resolved, sources_after}
+use Rattle.tq_plan.specs.Scope.{Field, alias_or_name, no_sources, resolved, sources_after}
 use Rattle.tq_plan.specs.Conditions.{same_kind, where_of}
 use Rattle.tq_plan.specs.Windows.{window_plan}
 
@@ -40,7 +40,7 @@ is_aggregate (what.Sum column) = true
 abbrev pub has_aggregate : List Item → Bool
 has_aggregate items = list_any (λ (item : Item). is_aggregate item.what) items
 
--- a column may stand by itself where it is one of GROUP BY, or where nothing is grouped, counted or summed
+-- a column can be selected by itself if it is in GROUP BY, or if nothing is grouped, counted or summed
 abbrev pub is_groupable : Bool → List ℕ → ℕ → Bool
 is_groupable counted [] place = not counted
 is_groupable counted (first ∷ more) place = list_any (λ key. key == place) (first ∷ more)
@@ -57,7 +57,7 @@ abbrev pub grouped_sum : List Field → List ℕ → ColumnRef → Result (Outpu
 grouped_sum fields [] column = Err SumNeedsGroup
 grouped_sum fields (first ∷ more) column = and_then (resolved fields column) (λ meaning. sum_output meaning.0 meaning.1)
 
--- an item over places, and its kind
+-- the planned item, and its kind
 abbrev pub output_of : List Field → Bool → List ℕ → What → Result (Output × Kind) PlanFault
 output_of fields counted group (what.Column column) = and_then (resolved fields column) (column_output counted group)
 output_of fields counted group what.Count = Ok (output.Count, kind.Int)
@@ -78,7 +78,7 @@ tables_in sources = map (λ (s : QuerySource). s.table) sources
 abbrev pub tables_of : QueryPlan → List ℕ
 tables_of query = tables_in query.sources
 
--- a query over places, and the kinds of its items
+-- the plan of a query, and the kinds of its items
 abbrev pub query_of : Catalogue → Query → Result (QueryPlan × List Kind) PlanFault
 query_of catalogue query =
     and_then (sources_after catalogue no_sources query.sources) (λ sources.
@@ -96,7 +96,7 @@ same_kinds (j ∷ js) (k ∷ ks) = same_kind j k && same_kinds js ks
 abbrev pub with_kinds : List Kind → QueryPlan × List Kind → Result (Option QueryPlan) PlanFault
 with_kinds kinds right = if same_kinds kinds right.1 then Ok (Some right.0) else Err UnequalColumns
 
--- the query after EXCEPT ALL, if there is one: its items are of these kinds
+-- the plan of the query after EXCEPT ALL, if there is one: its items must have these kinds
 abbrev pub right_of : Catalogue → List Kind → Option Query → Result (Option QueryPlan) PlanFault
 right_of catalogue kinds None = Ok None
 right_of catalogue kinds (Some query) = and_then (query_of catalogue query) (with_kinds kinds)
@@ -106,9 +106,9 @@ what_name (what.Column column) = column.column
 what_name what.Count = codes "count"
 what_name (what.Sum column) = codes "sum"
 
--- the names of an answer's columns: that after AS, else the column's own, `count` or `sum`
+-- the names of the output columns: the name after AS, else the column's own, `count` or `sum`
 abbrev pub column_names : List Item → List (List ℕ)
-column_names items = map (λ (item : Item). given_or (what_name item.what) item.alias) items
+column_names items = map (λ (item : Item). alias_or_name (what_name item.what) item.alias) items
 
 -- the plan of a statement, or its first fault
 abbrev pub plan_of : Form → Catalogue → Statement → Result Plan PlanFault

@@ -1,5 +1,5 @@
--- What the names of a query mean: the columns of its sources, one after the other. After SQL, where a
--- table's own name serves as its alias if none is given.
+-- Resolution of names: the columns of a query's sources, one source after the other. After SQL, where a table's own
+-- name serves as its alias if none is given.
 use Rattle.std.specs.Prelude.{ℕ, ◌+◌, Bool, true, false, ◌&&◌, if◌then◌else◌, List, [], ◌∷◌, ◌++◌, length, map, Option, Some, None, Result, Ok, Err, slice_get}
 use Rattle.std.specs.List.{list_any}
 use Rattle.std.specs.Str.{bytes_eq}
@@ -29,13 +29,13 @@ pub record Sources : Type 0 where
 abbrev pub no_sources : Sources
 no_sources = record { sources = []; aliases = []; fields = [] }
 
-abbrev pub given_or : List ℕ → Option (List ℕ) → List ℕ
-given_or name None = name
-given_or name (Some alias) = alias
+abbrev pub alias_or_name : List ℕ → Option (List ℕ) → List ℕ
+alias_or_name name None = name
+alias_or_name name (Some alias) = alias
 
--- the alias of a source: the one given, else its table's name
+-- the alias of a source, or its table's name if none is given
 abbrev pub alias_of : SourceRef → List ℕ
-alias_of source = given_or source.table source.alias
+alias_of source = alias_or_name source.table source.alias
 
 abbrev pub is_number : Kind → Bool
 is_number kind.Int = true
@@ -46,7 +46,7 @@ abbrev pub is_numbered : List Column → Bool
 is_numbered [] = false
 is_numbered (column ∷ columns) = is_number column.kind
 
--- a source with these columns, whose first one stands at the place
+-- a source with these columns, whose first one is at the place
 abbrev pub source_of : ℕ → ℕ → List Column → QuerySource
 source_of table first columns = record { table = table; first = first; width = length columns; numbered = is_numbered columns }
 
@@ -64,7 +64,7 @@ abbrev pub add_numbered : Catalogue → Sources → List ℕ → Option ℕ → 
 add_numbered catalogue sources alias None = Err UnknownTable
 add_numbered catalogue sources alias (Some table) = add_table sources alias table (slice_get catalogue.tables table)
 
--- the sources and one more
+-- the sources so far, and this one
 abbrev pub add_source : Catalogue → Sources → SourceRef → Result Sources PlanFault
 add_source catalogue sources source = add_numbered catalogue sources (alias_of source) (table_number catalogue source.table)
 
@@ -75,26 +75,26 @@ sources_after catalogue sources (source ∷ rest) = and_then (add_source catalog
 
 -- ---- columns
 
--- whether the alias is the one asked for, if one is
+-- whether the alias is the requested one, if one is requested
 abbrev pub is_source : Option (List ℕ) → List ℕ → Bool
 is_source None alias = true
 is_source (Some asked) alias = bytes_eq asked alias
 
--- whether the column is meant
-abbrev pub is_meant : ColumnRef → Field → Bool
-is_meant column field = is_source column.source field.0 && bytes_eq column.column field.1.name
+-- whether the field is the named column
+abbrev pub is_match : ColumnRef → Field → Bool
+is_match column field = is_source column.source field.0 && bytes_eq column.column field.1.name
 
--- the places and kinds of the columns that are meant, where places begin at the given one
-abbrev pub meanings : ColumnRef → ℕ → List Field → List (ℕ × Kind)
-meanings column place [] = []
-meanings column place (field ∷ fields) =
-    if is_meant column field then (place, field.1.kind) ∷ meanings column (place + 1) fields else meanings column (place + 1) fields
+-- the places and kinds of the columns with the name; the first field has the given place
+abbrev pub matching_columns : ColumnRef → ℕ → List Field → List (ℕ × Kind)
+matching_columns column place [] = []
+matching_columns column place (field ∷ fields) =
+    if is_match column field then (place, field.1.kind) ∷ matching_columns column (place + 1) fields else matching_columns column (place + 1) fields
 
-abbrev pub the_one : List (ℕ × Kind) → Result (ℕ × Kind) PlanFault
-the_one [] = Err UnknownColumn
-the_one (meaning ∷ []) = Ok meaning
-the_one (meaning ∷ another ∷ more) = Err AmbiguousColumn
+abbrev pub exactly_one : List (ℕ × Kind) → Result (ℕ × Kind) PlanFault
+exactly_one [] = Err UnknownColumn
+exactly_one (meaning ∷ []) = Ok meaning
+exactly_one (meaning ∷ another ∷ more) = Err AmbiguousColumn
 
--- the place and kind of the one column that is meant
+-- the place and kind of the only column with the name
 abbrev pub resolved : List Field → ColumnRef → Result (ℕ × Kind) PlanFault
-resolved fields column = the_one (meanings column 0 fields)
+resolved fields column = exactly_one (matching_columns column 0 fields)

@@ -1,4 +1,4 @@
--- Steps down a condition, and the way back to what the whole means.
+-- Steps down a condition, and the way back to the planned whole.
 use Rattle.std.specs.Prelude.{List, [], ◌∷◌, Result}
 use Rattle.tq_ops.specs.declared.condition.Test.{Test}
 use Rattle.tq_ops.specs.declared.condition.Test.TheVariants as test
@@ -7,13 +7,13 @@ use Rattle.tq_plan.specs.declared.conditions.Step.{Step}
 use Rattle.tq_plan.specs.declared.conditions.Step.TheVariants as step
 use Rattle.tq_plan.specs.Conditions.{both, negated}
 
--- what the condition means that a step down led away from, where the part means what it led to
-abbrev pub undone : Step → Result Test PlanFault → Result Test PlanFault
-undone (step.And last) first = both test.And first last
-undone (step.Or last) first = both test.Or first last
-undone step.Not inner = negated inner
+-- the plan of the condition from which the step was taken, given the plan of the part to which it leads
+abbrev pub rebuilt : Step → Result Test PlanFault → Result Test PlanFault
+rebuilt (step.And last) first = both test.And first last
+rebuilt (step.Or last) first = both test.Or first last
+rebuilt step.Not inner = negated inner
 
--- what the condition means at which the steps began
-abbrev pub all_undone : List Step → Result Test PlanFault → Result Test PlanFault
-all_undone [] part = part
-all_undone (s ∷ steps) part = undone s (all_undone steps part)
+-- the plan of the condition at which the steps began
+abbrev pub all_rebuilt : List Step → Result Test PlanFault → Result Test PlanFault
+all_rebuilt [] part = part
+all_rebuilt (s ∷ steps) part = rebuilt s (all_rebuilt steps part)

@@ -14,53 +14,53 @@ abbrev pub ordered_if : (start end : ℕ) (b : Bool) → nat_lt start end ≡ b 
 ordered_if start end true is = Some record { start = start; end = end; ordered = ltb-true start end is }
 ordered_if start end false is = None
 
--- the period from the start to the end, where the start is below it
+-- the period from the start to the end, if the start is before the end
 abbrev pub period_between : ℕ → ℕ → Option Period
 period_between start end = ordered_if start end (nat_lt start end) refl
 
--- without the spaces in front
-abbrev pub front_trimmed : List ℕ → List ℕ
-front_trimmed [] = []
-front_trimmed (b ∷ bs) = if b == 32 then front_trimmed bs else b ∷ bs
+-- without the leading spaces
+abbrev pub without_leading_spaces : List ℕ → List ℕ
+without_leading_spaces [] = []
+without_leading_spaces (b ∷ bs) = if b == 32 then without_leading_spaces bs else b ∷ bs
 
--- without the spaces in front and at the end
+-- without the spaces at both ends
 abbrev pub trimmed : List ℕ → List ℕ
-trimmed bytes = reverse (front_trimmed (reverse (front_trimmed bytes)))
+trimmed bytes = reverse (without_leading_spaces (reverse (without_leading_spaces bytes)))
 
 abbrev pub between : Option ℕ → Option ℕ → Option Period
 between None end = None
 between (Some start) None = None
 between (Some start) (Some end) = period_between start end
 
--- how many bytes of an instant may be dashes: none of a number, the ten of a date
+-- the most dashes that an instant can have: none for a number, the ten bytes of a date
 abbrev pub dashed_bytes : Form → ℕ
 dashed_bytes Numbers = 0
 dashed_bytes Dates = 10
 
--- the place of the first dash behind so many bytes
-abbrev pub dash_behind : ℕ → List ℕ → Option ℕ
-dash_behind many bytes = option_map (λ place. many + place) (position (λ b. b == 45) (drop many bytes))
+-- the position of the first dash after the first n bytes
+abbrev pub dash_after : ℕ → List ℕ → Option ℕ
+dash_after many bytes = option_map (λ place. many + place) (position (λ b. b == 45) (drop many bytes))
 
--- an instant before the dash at this place, and a bound after it
+-- an instant before the dash at this position, and a bound after it
 abbrev pub around_dash : Form → List ℕ → Option ℕ → Option Period
 around_dash form inside None = None
 around_dash form inside (Some dash) = between (instant_of form (trimmed (take dash inside))) (bound_of form (trimmed (drop (dash + 1) inside)))
 
--- an instant, a dash and a bound, with spaces beside the instant and the bound
+-- an instant, a dash and a bound, with spaces around the instant and the bound
 abbrev pub period_in : Form → List ℕ → Option Period
-period_in form inside = around_dash form inside (dash_behind (dashed_bytes form) inside)
+period_in form inside = around_dash form inside (dash_after (dashed_bytes form) inside)
 
 -- whether the text begins with `[` and ends with `)`
 abbrev pub is_bracketed : List ℕ → Bool
 is_bracketed text = nat_lt 1 (length text) && (slice_index text 0 == 91 && slice_index text (length text - 1) == 41)
 
--- what stands between the first byte and the last
+-- the bytes between the first and the last
 abbrev pub inside_of : List ℕ → List ℕ
 inside_of text = take (length text - 2) (drop 1 text)
 
 -- the period that the text writes
 abbrev pub window_of : Form → List ℕ → Option Period
-window_of form text = if is_bracketed text then period_in form (front_trimmed (inside_of text)) else None
+window_of form text = if is_bracketed text then period_in form (without_leading_spaces (inside_of text)) else None
 
 -- every instant
 abbrev pub always : Period
@@ -70,7 +70,7 @@ abbrev pub window_or_fault : Option Period → Result Period PlanFault
 window_or_fault None = Err BadWindow
 window_or_fault (Some window) = Ok window
 
--- the window of a statement: that which the text after PERIOD writes, or else every instant
+-- the window of a statement: what the text after PERIOD writes, or else all instants
 abbrev pub window_plan : Form → Option (List ℕ) → Result Period PlanFault
 window_plan form None = Ok always
 window_plan form (Some text) = window_or_fault (window_of form text)

@@ -1,9 +1,9 @@
-// Conditions over places.
+// Conditions over places, the numbers of columns in the joined row.
 
 ghost use Rattle.std.specs.Prelude.{◌≡◌, ◌≢◌, Err, IfErr, IfOk, Ok, map, option_copied};
 ghost use Rattle.tq_plan.specs.Conditions.{compare_of, comparison_of, operand_of, same_kind, test_of, where_of};
-ghost use Rattle.tq_plan.specs.Seen.{field_seen};
-ghost use Rattle.tq_plan.specs.Steps.{undone};
+ghost use Rattle.tq_plan.specs.Views.{field_view};
+ghost use Rattle.tq_plan.specs.Steps.{rebuilt};
 
 use crate::fault::PlanFault;
 use crate::scope::{Field, push, resolve};
@@ -13,10 +13,9 @@ use tq_base::{Kind, Value};
 use tq_ops::{Compare, Operand, Test};
 use tq_sql::{Cond, Sign, Term};
 
-// An operand over places, and its kind.
 fn plan_operand(fields: &[Field<'_>], term: &Term) -> Result<(Operand, Kind), PlanFault>
-    ensures operand { IfOk result (λ operand. operand_of (map field_seen fields.now) term.now ≡ Ok operand) }
-    ensures fault { IfErr result (λ fault. fault ≢ PlanFault.OutOfMemory → operand_of (map field_seen fields.now) term.now ≡ Err fault) }
+    ensures operand { IfOk result (λ operand. operand_of (map field_view fields.now) term.now ≡ Ok operand) }
+    ensures fault { IfErr result (λ fault. fault ≢ PlanFault.OutOfMemory → operand_of (map field_view fields.now) term.now ≡ Err fault) }
 {
     match term {
         Term::Column(column) => {
@@ -52,15 +51,15 @@ pub fn is_same_kind(left: Kind, right: Kind) -> bool
     }
 }
 
-// A comparison over places. Faults: of the left operand, of the right one, `TypeMismatch`.
+// Faults: those of the left operand, those of the right one, `TypeMismatch`.
 fn plan_comparison(
     fields: &[Field<'_>],
     left: &Term,
     sign: Sign,
     right: &Term,
 ) -> Result<Test, PlanFault>
-    ensures test { IfOk result (λ test. comparison_of (map field_seen fields.now) left.now sign right.now ≡ Ok test) }
-    ensures fault { IfErr result (λ fault. fault ≢ PlanFault.OutOfMemory → comparison_of (map field_seen fields.now) left.now sign right.now ≡ Err fault) }
+    ensures test { IfOk result (λ test. comparison_of (map field_view fields.now) left.now sign right.now ≡ Ok test) }
+    ensures fault { IfErr result (λ fault. fault ≢ PlanFault.OutOfMemory → comparison_of (map field_view fields.now) left.now sign right.now ≡ Err fault) }
 {
     let (left, left_kind) = plan_operand(fields, left)?;
     let (right, right_kind) = plan_operand(fields, right)?;
@@ -74,8 +73,7 @@ fn plan_comparison(
     })
 }
 
-// What a step down to the first part of a condition leaves behind: what its last part means, or that
-// the part is negated.
+// A step down to the first part of a condition. It keeps the planned last part, or that the part is negated.
 #[derive(Drop)]
 enum Step {
     And(Result<Test, PlanFault>),
@@ -83,7 +81,7 @@ enum Step {
     Not,
 }
 
-// What a condition means; `AllocError` where a growth was refused.
+// Separates `OutOfMemory` from the other faults: `AllocError` if an allocation failed, else `planned`.
 fn known(planned: Result<Test, PlanFault>) -> Result<Result<Test, PlanFault>, AllocError>
     ensures same { IfOk result (λ told. told ≡ planned) }
     ensures known { IfOk result (λ told. IfErr told (λ fault. fault ≢ PlanFault.OutOfMemory)) }
@@ -94,10 +92,10 @@ fn known(planned: Result<Test, PlanFault>) -> Result<Result<Test, PlanFault>, Al
     }
 }
 
-// The condition that the step was taken in, where its first part is this one.
-fn undo(alloc: Global, step: Step, first: Test) -> Result<Test, PlanFault>
-    ensures test { IfOk result (λ test. undone step (Ok first) ≡ Ok test) }
-    ensures fault { IfErr result (λ fault. fault ≢ PlanFault.OutOfMemory → undone step (Ok first) ≡ Err fault) }
+// The condition from which the step was taken, if `first` is its planned first part.
+fn rebuild(alloc: Global, step: Step, first: Test) -> Result<Test, PlanFault>
+    ensures test { IfOk result (λ test. rebuilt step (Ok first) ≡ Ok test) }
+    ensures fault { IfErr result (λ fault. fault ≢ PlanFault.OutOfMemory → rebuilt step (Ok first) ≡ Err fault) }
 {
     match step {
         Step::And(last) => {
@@ -112,11 +110,11 @@ fn undo(alloc: Global, step: Step, first: Test) -> Result<Test, PlanFault>
     }
 }
 
-/// A condition over places. The first fault from the left is answered. A chain of AND or OR is as deep
-/// as it is long, so its first parts go by a loop.
+/// The planned condition, or the first fault from the left. A chain of AND or OR nests as deep as it is long, so a loop
+/// handles the first parts.
 pub fn plan_condition(alloc: Global, fields: &[Field<'_>], cond: &Cond) -> Result<Test, PlanFault>
-    ensures test { IfOk result (λ test. test_of (map field_seen fields.now) cond.now ≡ Ok test) }
-    ensures fault { IfErr result (λ fault. fault ≢ PlanFault.OutOfMemory → test_of (map field_seen fields.now) cond.now ≡ Err fault) }
+    ensures test { IfOk result (λ test. test_of (map field_view fields.now) cond.now ≡ Ok test) }
+    ensures fault { IfErr result (λ fault. fault ≢ PlanFault.OutOfMemory → test_of (map field_view fields.now) cond.now ≡ Err fault) }
 {
     let mut steps: Vec<Step> = Vec::new(alloc);
     let mut part = cond;
@@ -142,19 +140,19 @@ pub fn plan_condition(alloc: Global, fields: &[Field<'_>], cond: &Cond) -> Resul
         }
     };
     'steps: while let Some(step) = steps.pop() {
-        test = undo(alloc, step, test)?;
+        test = rebuild(alloc, step, test)?;
     }
     Ok(test)
 }
 
-/// The condition after WHERE over places, if there is one.
+/// The planned condition after WHERE, if there is one. Faults are those of `plan_condition`.
 pub fn plan_where(
     alloc: Global,
     fields: &[Field<'_>],
     cond: Option<&Cond>,
 ) -> Result<Option<Test>, PlanFault>
-    ensures test { IfOk result (λ test. where_of (map field_seen fields.now) (option_copied cond.entry) ≡ Ok test) }
-    ensures fault { IfErr result (λ fault. fault ≢ PlanFault.OutOfMemory → where_of (map field_seen fields.now) (option_copied cond.entry) ≡ Err fault) }
+    ensures test { IfOk result (λ test. where_of (map field_view fields.now) (option_copied cond.entry) ≡ Ok test) }
+    ensures fault { IfErr result (λ fault. fault ≢ PlanFault.OutOfMemory → where_of (map field_view fields.now) (option_copied cond.entry) ≡ Err fault) }
 {
     match cond {
         Some(cond) => Ok(Some(plan_condition(alloc, fields, cond)?)),

@@ -1,4 +1,4 @@
-// Periods that tile a plan's window, for work in pieces.
+// Periods that tile a plan's window, so that several workers can execute it.
 
 ghost use Rattle.std.specs.Prelude.{◌≡◌, ◌≤◌, ◌<◌, ◌*◌, ◌↔◌, All, Contains, IfOk, IfSome, IsSome, IsTrue, ℕ, length};
 ghost use Rattle.tq_plan.specs.Cuts.{LiesInside, Tile};
@@ -7,14 +7,13 @@ use crate::plans::Plan;
 use std::alloc::{AllocError, Global};
 use tq_base::{Bound, Instant, Period};
 
-// Whether the bound lies strictly inside the period.
 fn lies_inside(period: &Period, bound: Bound) -> bool
     ensures { IsTrue result ↔ LiesInside period.now bound }
 {
     period.start.number() < bound.number() && bound.number() < period.end.number()
 }
 
-// Of the bounds those that lie strictly inside the period.
+// The bounds that lie strictly inside the period.
 fn bounds_inside(alloc: Global, period: &Period, bounds: &[Bound]) -> Result<Vec<Bound>, AllocError>
     ensures inside { IfOk result (λ inside. All (LiesInside period.now) inside.items) }
     ensures some { (bound : ℕ) → Contains bounds.now bound → LiesInside period.now bound → IfOk result (λ inside. 0 < length inside.items) }
@@ -28,7 +27,7 @@ fn bounds_inside(alloc: Global, period: &Period, bounds: &[Bound]) -> Result<Vec
     Ok(inside)
 }
 
-// The same in order.
+// The bounds that lie strictly inside the period, in order.
 fn sorted_inside(alloc: Global, period: &Period, bounds: &[Bound]) -> Result<Vec<Bound>, AllocError>
     ensures inside { IfOk result (λ inside. All (LiesInside period.now) inside.items) }
     ensures some { (bound : ℕ) → Contains bounds.now bound → LiesInside period.now bound → IfOk result (λ inside. 0 < length inside.items) }
@@ -38,8 +37,8 @@ fn sorted_inside(alloc: Global, period: &Period, bounds: &[Bound]) -> Result<Vec
     Ok(inside)
 }
 
-// How many pieces so many workers get at most: four each, so that none waits long for the last one.
-fn most_pieces(workers: u32) -> u32
+// The most pieces for the workers: four each, so that no worker waits long for the last one.
+fn max_pieces(workers: u32) -> u32
     requires some { 1 ≤ workers }
     requires at_most { workers ≤ 16 }
     ensures some { 1 ≤ result }
@@ -49,7 +48,7 @@ fn most_pieces(workers: u32) -> u32
     if workers > 1 { 4 * workers } else { 1 }
 }
 
-// Where the piece of this number begins, as many bounds in each piece; `None` where there are no bounds.
+// The bound at which the piece begins, if all pieces have equally many bounds; `None` if there are no bounds.
 fn bound_at(bounds: &[Bound], piece: u32, pieces: u32) -> Option<Bound>
     requires { piece < pieces }
     ensures some { 0 < length bounds.now → IsSome result }
@@ -59,8 +58,8 @@ fn bound_at(bounds: &[Bound], piece: u32, pieces: u32) -> Option<Bound>
     bounds.get(place as usize).copied()
 }
 
-// The parts of the period in front of the bound and behind it, where the bound lies strictly inside.
-fn parted(period: &Period, bound: Bound) -> Option<(Period, Period)>
+// The parts of the period before and after the bound; `None` unless the bound lies strictly inside.
+fn split_at_bound(period: &Period, bound: Bound) -> Option<(Period, Period)>
     ensures some { LiesInside period.now bound → IsSome result }
     ensures parts { IfSome result (λ parts. (parts.0.start ≡ period.now.start) × (parts.0.end ≡ bound) × (parts.1.start ≡ bound) × (parts.1.end ≡ period.now.end)) }
 {
@@ -73,17 +72,16 @@ fn parted(period: &Period, bound: Bound) -> Option<(Period, Period)>
     Some((first, second))
 }
 
-// The parts of the rest of a window in front of the place where the piece of this number begins and behind it, where
-// that lies strictly inside.
+// The rest of a window, split at the bound where the piece begins; `None` unless that lies strictly inside.
 fn cut_rest(bounds: &[Bound], rest: &Period, piece: u32, pieces: u32) -> Option<(Period, Period)>
     requires { piece < pieces }
     ensures some { All (LiesInside rest.now) bounds.now → 0 < length bounds.now → IsSome result }
     ensures parts { IfSome result (λ parts. (parts.0.start ≡ rest.now.start) × (parts.0.end ≡ parts.1.start) × (parts.1.end ≡ rest.now.end)) }
 {
-    parted(rest, bound_at(bounds, piece, pieces)?)
+    split_at_bound(rest, bound_at(bounds, piece, pieces)?)
 }
 
-// The periods that tile the window, cut at the bounds where so many pieces of as many bounds begin.
+// The periods that tile the window if it is cut into `pieces` pieces of equally many bounds.
 fn cut_window(
     alloc: Global,
     window: &Period,
@@ -109,9 +107,9 @@ fn cut_window(
 }
 
 impl Plan {
-    /// Periods in order that tile the window, for work among so many workers: at most four a worker, and at least
-    /// two for two workers or more where one of the edges lies strictly inside the window. They are cut at edges,
-    /// so that each has about as many of them. `AllocError` where a growth was refused.
+    /// Periods in order that tile the window, for `workers` workers. There are at most four for each worker, and at
+    /// least two for two or more workers if an edge lies strictly inside the window. Cuts are at edges, so that each
+    /// period has about equally many. `AllocError` if an allocation failed.
     pub fn cuts(
         &self,
         alloc: Global,
@@ -124,6 +122,6 @@ impl Plan {
         ensures several { (edge : ℕ) → Contains edges.now edge → LiesInside self.now.window edge → 2 ≤ workers → IfOk result (λ cuts. 2 ≤ length cuts.items) }
     {
         let bounds = sorted_inside(alloc, &self.window, edges)?;
-        cut_window(alloc, &self.window, &bounds, most_pieces(workers))
+        cut_window(alloc, &self.window, &bounds, max_pieces(workers))
     }
 }

@@ -1,4 +1,4 @@
-// The keys of the rows that a query can need of its sources.
+// Ranges of keys that a query needs from its sources.
 
 ghost use Rattle.std.specs.Prelude.{◌≡◌, Some};
 ghost use Rattle.std.specs.Option.{option_copied};
@@ -9,8 +9,8 @@ use crate::plans::{Plan, QueryPlan, QuerySource};
 use tq_base::KeyRange;
 
 impl QueryPlan {
-    /// A range of the keys of the source's rows that are part of a row which passes the condition; `None` where
-    /// no row passes. The key is the number in the source's first column, or 0 where that holds no numbers.
+    /// A range that holds the keys of those rows of the source that are part of a row which passes the condition.
+    /// `None` only if no row passes. The key of a row is the number in its first column, or 0 if that column holds texts.
     pub fn keys_of(&self, source: &QuerySource) -> Option<KeyRange>
         ensures { HasKeysOf self.now source.now result }
     {
@@ -20,7 +20,7 @@ impl QueryPlan {
         }
     }
 
-    /// The same of the source of this number; `None` where there is no such source.
+    /// `keys_of` for the source with this number; `None` if there is no such source.
     pub fn key_range(&self, source: u32) -> Option<KeyRange>
         ensures { HasKeys self.now source result }
     {
@@ -29,7 +29,7 @@ impl QueryPlan {
 }
 
 impl Plan {
-    // The query on this side.
+    // The query of this side, if the plan has it.
     fn query_on(&self, side: u32) -> Option<&QueryPlan>
         ensures { option_copied result ≡ query_on self.now side }
     {
@@ -40,8 +40,7 @@ impl Plan {
         }
     }
 
-    /// The same of the query on this side: the left one is that of side 0, the right one that of side 1. `None`
-    /// where there is no such query.
+    /// `QueryPlan::key_range` for one side: 0 is the left query, 1 the right one. `None` if there is no such query.
     pub fn key_range(&self, side: u32, source: u32) -> Option<KeyRange>
         ensures { (query : QueryPlan) → query_on self.now side ≡ Some query → HasKeys query source result }
     {

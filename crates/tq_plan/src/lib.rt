@@ -1,7 +1,9 @@
-//! What a statement means over the tables that there are.
+//! The planner: it resolves the tables and columns of a statement against a catalogue.
 //!
-//! `plan` looks up the tables and columns that a statement names and refuses a statement that means
-//! nothing, by its first fault.
+//! The contract is that of `plan`: the plan, or the first fault, that `plan_of` in `specs/Plans.antt` defines.
+//! `specs/ValidPlans.antt` has the laws of plans. `tq_eval` defines what the answer of a plan is.
+//!
+//! Open `src/planning.rt` first, then `src/plans.rt`.
 #![tactic(auto)]
 
 mod conditions;

@@ -1,4 +1,4 @@
--- Results that carry the numbers of their pieces come to the places of their pieces.
+-- Results with the numbers of their pieces go to the slots of their pieces.
 use native.Mathlib.Decide.{dec_le, ℕ_discrete}
 use mathlib.Core.Logic.{dite}
 use Rattle.std.proofs.Common.{Option, Some, IsSomeAnd, get_or, set, subst, length-set, get_or-set_same, get_or-set_other, lt_of_not-le, ◌≡◌, ℕ, ◌+◌, ◌<◌, ◌≤◌, List, [], ◌∷◌, ◌++◌, length, refl, sym, ap, ◌∙◌, arith, append_assoc, append-nil, length-append}
@@ -6,14 +6,14 @@ use Rattle.std.proofs.Math.Seq.{get_or-append_seam}
 use Rattle.std.proofs.lemmas.List.{map-append, get_or_append_left}
 use Rattle.tq_run.specs.Counting.{times, EachOnce}
 use Rattle.tq_run.specs.Results.{IsResultList}
-use Rattle.tq_run.specs.Sharing.{numbers, EachRelates, AllFilled}
+use Rattle.tq_run.specs.Sharing.{numbers, ResultsRelate, AllFilled}
 use Rattle.tq_run.proofs.Counts.{times-append, times_here, times_elsewhere}
 
 pub no_items : {A : Type 0} (xs : List A) → length xs ≡ 0 → xs ≡ []
 no_items [] e = refl
 no_items (x ∷ xs) e = absurd (omega arith)
 
--- where no items are left, all have come
+-- if no items remain, all are done
 pub all_come : {A : Type 0} (done rest all : List A) → done ++ rest ≡ all → length rest ≡ 0 → done ≡ all
 all_come done rest all is none = sym (append-nil done) ∙ ap (λ l. done ++ l) (sym (no_items rest none)) ∙ is
 
@@ -21,7 +21,7 @@ module _ {A : Type 0} where
   pub numbers-append : (xs ys : List (ℕ × A)) → numbers (xs ++ ys) ≡ numbers xs ++ numbers ys
   numbers-append xs ys = map-append (λ (q : ℕ × A). q.0) xs ys
 
-  -- a number that stands among those that each stand once is below n
+  -- a number of a list that has each number below n exactly once is below n
   pub below_count : (n i : ℕ) (x : A) (done rest all : List (ℕ × A)) → EachOnce (numbers all) n → done ++ (i, x) ∷ rest ≡ all → i < n
   below_count n i x done rest all once is = elim (dec_le n i) [
     | yes h ↦
@@ -36,14 +36,14 @@ module _ {A : Type 0} where
   ]
 
 module _ {A : Type 0} (relates : ℕ → A → Type 0) where
-  relates_at : (i : ℕ) (x : A) (done rest all : List (ℕ × A)) → EachRelates relates all → done ++ (i, x) ∷ rest ≡ all → relates i x
+  relates_at : (i : ℕ) (x : A) (done rest all : List (ℕ × A)) → ResultsRelate relates all → done ++ (i, x) ∷ rest ≡ all → relates i x
   relates_at i x done rest all each is =
       let at = get_or-append_seam done (i, x) rest (i, x) in
       let long = length-append done ((i, x) ∷ rest) in
-      let here = subst (EachRelates relates) (sym is) each (length done) (i, x) (omega arith) in
+      let here = subst (ResultsRelate relates) (sym is) each (length done) (i, x) (omega arith) in
       subst (λ (q : ℕ × A). relates q.0 q.1) at here
 
-  -- There are as many places as pieces, and the place of each number of the list holds a result of its piece.
+  -- there are as many slots as pieces, and the slot of each number of the list has a result of its piece
   abbrev pub IsFilled : ℕ → List ℕ → List (Option A) → Type 0
   IsFilled count done places = (length places ≡ count) × ((i : ℕ) (d : Option A) → i < count → 1 ≤ times i done → IsSomeAnd (get_or places i d) (relates i))
 
@@ -62,8 +62,8 @@ module _ {A : Type 0} (relates : ℕ → A → Type 0) where
           let a = times-append j done (i ∷ []) in let none = times_elsewhere j i (λ e. other (sym e)) in
           subst (λ o. IsSomeAnd o (relates j)) (sym (get_or-set_other places i j (Some x) d other)) (f.1 j d l (omega arith)))
 
-  -- one more result is put at its place
-  pub filled_next : (n i : ℕ) (x : A) (done rest all : List (ℕ × A)) (places : List (Option A)) → EachOnce (numbers all) n → EachRelates relates all → done ++ (i, x) ∷ rest ≡ all
+  -- one more result is put into its slot
+  pub filled_next : (n i : ℕ) (x : A) (done rest all : List (ℕ × A)) (places : List (Option A)) → EachOnce (numbers all) n → ResultsRelate relates all → done ++ (i, x) ∷ rest ≡ all
       → IsFilled n (numbers done) places → IsFilled n (numbers (done ++ (i, x) ∷ [])) (set places i (Some x))
   filled_next n i x done rest all places once each is f =
       subst (λ l. IsFilled n l (set places i (Some x))) (sym (numbers-append done ((i, x) ∷ [])))
@@ -72,7 +72,7 @@ module _ {A : Type 0} (relates : ℕ → A → Type 0) where
   pub filled_all : (n : ℕ) (done : List ℕ) (places : List (Option A)) → EachOnce done n → IsFilled n done places → AllFilled relates n places
   filled_all n done places once f = (f.0, λ i d h. let t = (once i).0 h in f.1 i d h (omega arith))
 
-  -- the next place holds a result of its piece
+  -- the next slot has a result of its piece
   pub next_filled : (n : ℕ) (done : List (Option A)) (s : Option A) (rest all : List (Option A)) → AllFilled relates n all → done ++ s ∷ rest ≡ all → IsSomeAnd s (relates (length done))
   next_filled n done s rest all f is =
       let long = length-append done (s ∷ rest) in let total = ap length is in let count = f.0 in

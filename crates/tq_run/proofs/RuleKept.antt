@@ -8,28 +8,28 @@ use Rattle.atomic_table.specs.Table.{State, Me, step, keeps, stepped, Allows, Sp
 use Rattle.atomic_table.proofs.Lists.{at_set, at_snoc}
 use Rattle.tq_run.specs.declared.seat_view.SeatView.{SeatView}
 use Rattle.tq_run.specs.Counting.{times, EachOnce}
-use Rattle.tq_run.specs.ClaimRule.{times_in_all, is_marked, is_spent, added_view, after_split, after_join, spent_view, after_taking, after_none, Fits, Claimed, ClaimTells}
+use Rattle.tq_run.specs.ClaimRule.{times_in_all, is_marked, is_spent, added_view, after_split, after_join, spent_view, after_taking, after_exhausted, Fits, Claimed, ClaimRecords}
 use Rattle.tq_run.proofs.Counts.{times-append, times_here, times_elsewhere}
 use Rattle.tq_run.proofs.Views.{sum-set, sum-snoc, le-sum, marked-length, marked_one, one_left}
 
 abbrev St : Type 0
 St = State (Unit {0}) SeatView
 
--- how many numbers a view has
+-- the number of numbers of a view
 abbrev many_of : SeatView → ℕ
 many_of v = length v.taken
 
--- how often a view has x
+-- the number of times that a view has x
 abbrev times_of : ℕ → SeatView → ℕ
 times_of x v = times x v.taken
 
--- what the rule says of the lists, at the word n
+-- the rule for the lists, at the word n
 record Listed (p n : ℕ) (views : List SeatView) : Type 0 where
   pub once : (x : ℕ) → x < min n p → times_in_all x views ≡ 1
   pub none : (x : ℕ) → min n p ≤ x → times_in_all x views ≡ 0
   pub many : sum_by many_of views ≡ min n p
 
--- a step on the word, at which the seat id comes to know w
+-- a step on the word, after which seat id knows w
 
 placed : (p : ℕ) (s : St) → Claimed p s → (id : ℕ) (v : SeatView) (n : ℕ) (w : SeatView) (c : List (ℕ × Unit {0})) → get_elem? s.views id ≡ some v → get_or s.words 0 0 ≤ n
     → Listed p n (set s.views id w) → n ≤ p + sum_by is_marked (set s.views id w)
@@ -54,25 +54,25 @@ placed p s r id v n w c at rises listed past same fits =
           (λ (t : (seat ≢ id) × (get_elem? s.views seat ≡ some u)). let old = r.each seat u t.1 in record {
             pieces = old.pieces;
             leads = λ f. let l = old.leads f in (l.0, wide ∙ l.1, spends ∙ l.2);
-            told = λ a b. let le = old.told a b in omega arith;
+            exhausted = λ a b. let le = old.exhausted a b in omega arith;
             spent = old.spent;
           })
           (at_set s.views id seat w u e));
     }
 
--- the lists stay where the number that was claimed is no piece
-listed_past : (p n : ℕ) (s : St) → Claimed p s → (id : ℕ) (v : SeatView) → get_elem? s.views id ≡ some v → get_or s.words 0 0 ≡ n → p ≤ n → Listed p (n + 1) (set s.views id (after_none v))
+-- the lists stay the same if the claimed number is not that of a piece
+listed_past : (p n : ℕ) (s : St) → Claimed p s → (id : ℕ) (v : SeatView) → get_elem? s.views id ≡ some v → get_or s.words 0 0 ≡ n → p ≤ n → Listed p (n + 1) (set s.views id (after_exhausted v))
 listed_past p n s r id v at word past =
-    let views : List SeatView = set s.views id (after_none v) in
+    let views : List SeatView = set s.views id (after_exhausted v) in
     let a : min (get_or s.words 0 0) p ≡ p = omega arith in let b : min (n + 1) p ≡ p = omega arith in
-    let all : (x : ℕ) → times_in_all x views ≡ times_in_all x s.views = λ x. let y = sum-set (times_of x) s.views id v (after_none v) at in omega arith in
-    let y = sum-set many_of s.views id v (after_none v) at in let m = r.many in record {
+    let all : (x : ℕ) → times_in_all x views ≡ times_in_all x s.views = λ x. let y = sum-set (times_of x) s.views id v (after_exhausted v) at in omega arith in
+    let y = sum-set many_of s.views id v (after_exhausted v) at in let m = r.many in record {
       once = λ x l. all x ∙ r.once x (omega arith);
       none = λ x l. all x ∙ r.none x (omega arith);
       many = omega arith;
     }
 
--- the number that was claimed is put on one list
+-- the claimed number is added to one list
 listed_more : (p n : ℕ) (s : St) → Claimed p s → (id : ℕ) (v : SeatView) → get_elem? s.views id ≡ some v → get_or s.words 0 0 ≡ n → n < p → Listed p (n + 1) (set s.views id (after_taking v n))
 listed_more p n s r id v at word piece =
     let w : SeatView = after_taking v n in let views : List SeatView = set s.views id w in
@@ -89,8 +89,8 @@ listed_more p n s r id v at word piece =
     below : (x n : ℕ) → n ≢ x → x < n + 1 → x < n
     below x n other l = elim (dec_le n x) [ yes h ↦ absurd (other (omega arith)) | no h ↦ lt_of_not-le h ]
 
-pub takes : (p slots id : ℕ) (m : Me (Unit {0}) SeatView) → m.0.told ≡ false → m.0.spent ≡ false → Allows (Claimed p) slots id m 0 (λ n. (n + 1) % 2 ^ 64) (ClaimTells (step slots 0 1 0 none) m)
-takes p slots id m untold fresh s r _ at _ =
+pub takes : (p slots id : ℕ) (m : Me (Unit {0}) SeatView) → m.0.exhausted ≡ false → m.0.spent ≡ false → Allows (Claimed p) slots id m 0 (λ n. (n + 1) % 2 ^ 64) (ClaimRecords (step slots 0 1 0 none) m)
+takes p slots id m not_exhausted fresh s r _ at _ =
     let v : SeatView = m.0 in let n : ℕ = get_or s.words 0 0 in
     let past = r.past in let few = r.seats in let little = r.small in let bound = marked-length s.views in
     let next : n + 1 ≡ (n + 1) % 2 ^ 64 = omega arith in
@@ -99,9 +99,9 @@ takes p slots id m untold fresh s r _ at _ =
     let wide = length-set s.views id in
     elim (dec_le p n) [
       | yes h ↦
-          let w : SeatView = after_none v in
+          let w : SeatView = after_exhausted v in
           let t = sum-set is_marked s.views id v w at in
-          let before : is_marked v ≡ 0 = ap (λ (z : Bool × Bool). cond z.0 1 (cond z.1 1 0)) (λ i. (fresh i, untold i)) in
+          let before : is_marked v ≡ 0 = ap (λ (z : Bool × Bool). cond z.0 1 (cond z.1 1 0)) (λ i. (fresh i, not_exhausted i)) in
           let after : is_marked w ≡ 1 = ap (λ (z : Bool). cond z 1 1) fresh in
           let x = sum-set is_spent s.views id v w at in (
             w,
@@ -112,7 +112,7 @@ takes p slots id m untold fresh s r _ at _ =
                 record {
                   pieces = λ _. sized;
                   leads = λ f. let l = mine.leads f in (l.0, wide w ∙ l.1, let l2 = l.2 in omega arith);
-                  told = λ _ _. omega arith;
+                  exhausted = λ _ _. omega arith;
                   spent = mine.spent;
                 }),
             (refl, (λ lt. absurd (omega arith)), λ _. refl),
@@ -132,7 +132,7 @@ takes p slots id m untold fresh s r _ at _ =
                 record {
                   pieces = λ _. sized;
                   leads = λ f. let l = mine.leads f in (l.0, wide w ∙ l.1, let l2 = l.2 in omega arith);
-                  told = λ y _. absurd (true≢false (sym y ∙ untold));
+                  exhausted = λ y _. absurd (true≢false (sym y ∙ not_exhausted));
                   spent = λ y. absurd (true≢false (sym y ∙ fresh));
                 }),
             (refl, (λ _. (refl, omega arith)), λ ge. absurd (omega arith)),
@@ -162,20 +162,20 @@ splits p id v lead fresh few s r at =
           (λ (t : (seat ≡ id) × (left ≡ u)). subst (λ (q : ℕ × SeatView). Fits p (get_or s.words 0 0) (views ++ right ∷ []) q.0 q.1) (λ i. (sym t.0 i, t.1 i)) record {
             pieces = mine.pieces;
             leads = λ _. (l.0, omega arith, spends ∙ l2);
-            told = mine.told;
+            exhausted = mine.exhausted;
             spent = mine.spent;
           })
           (λ (t : (seat ≢ id) × (get_elem? s.views seat ≡ some u)). let old = r.each seat u t.1 in record {
             pieces = old.pieces;
             leads = λ f. absurd (t.0 ((old.leads f).0 ∙ sym l.0));
-            told = old.told;
+            exhausted = old.exhausted;
             spent = old.spent;
           })
           (at_set s.views id seat left u was))
           (λ (is : right ≡ u). subst (Fits p (get_or s.words 0 0) (views ++ right ∷ []) seat) is record {
             pieces = λ _. mine.pieces fresh;
             leads = λ f. absurd (off f);
-            told = λ f _. absurd (off f);
+            exhausted = λ f _. absurd (off f);
             spent = λ _. refl;
           })
           (at_snoc views right u seat e);
@@ -207,32 +207,32 @@ joins p id v other w lead fresh unspent s r at apart there =
           (λ (t : (seat ≡ other) × (spent_view ≡ u)). subst (Fits p (get_or s.words 0 0) after seat) t.1 record {
             pieces = λ f. absurd (off (sym f));
             leads = λ f. absurd (off f);
-            told = λ f _. absurd (off f);
+            exhausted = λ f _. absurd (off f);
             spent = λ _. refl;
           })
           (λ (was : (seat ≢ other) × (get_elem? views seat ≡ some u)). ⊎_elim
           (λ (t : (seat ≡ id) × (both ≡ u)). subst (λ (q : ℕ × SeatView). Fits p (get_or s.words 0 0) after q.0 q.1) (λ i. (sym t.0 i, t.1 i)) record {
             pieces = mine.pieces;
             leads = λ _. (l.0, long ∙ l1, counted);
-            told = mine.told;
+            exhausted = mine.exhausted;
             spent = λ f. absurd (true≢false (sym f ∙ fresh));
           })
           (λ (t : (seat ≢ id) × (get_elem? s.views seat ≡ some u)). let old = r.each seat u t.1 in record {
             pieces = old.pieces;
             leads = λ f. absurd (t.0 ((old.leads f).0 ∙ sym l.0));
-            told = old.told;
+            exhausted = old.exhausted;
             spent = old.spent;
           })
           (at_set s.views id seat both u was.1))
           (at_set views other seat spent_view u e);
     }
 
--- where all others were taken in, and the first seat was told that no piece is left, its list has each piece once
-pub closes : (p id : ℕ) (v : SeatView) (ws : List ℕ) (xs : List (Unit {0})) → v.first ≡ true → v.told ≡ true → v.spent ≡ false → v.joins ≡ v.splits → Final (Seen (Claimed p) id v) ws xs → EachOnce v.taken p
-closes p id v ws xs lead told fresh level f x =
+-- if all others were joined, and the first seat found that no piece is left, its list has each piece once
+pub closes : (p id : ℕ) (v : SeatView) (ws : List ℕ) (xs : List (Unit {0})) → v.first ≡ true → v.exhausted ≡ true → v.spent ≡ false → v.joins ≡ v.splits → Final (Seen (Claimed p) id v) ws xs → EachOnce v.taken p
+closes p id v ws xs lead exhausted fresh level f x =
     let s = f.0 in let r = f.1.0 in let at = f.1.1 in
     let mine = r.each id v at in let l = mine.leads lead in let l1 = l.1 in let l2 = l.2 in
-    let reached = mine.told told fresh in
+    let reached = mine.exhausted exhausted fresh in
     let a : min (get_or s.words 0 0) p ≡ p = omega arith in
     let none : is_spent v ≡ 0 = ap (λ (b : Bool). cond b 1 0) fresh in
     let sole : times_in_all x s.views ≡ times x v.taken = one_left (times_of x) s.views id v (λ j u e spent. ap (times x) ((r.each j u e).spent spent)) at none (omega arith) in

@@ -18,7 +18,7 @@ sum-set f (x ∷ xs) (suc i) v w e =
     let a = sum_by-cons f x xs in let b = sum_by-cons f x (set xs i w) in
     omega arith
 
--- a sum with one view more
+-- a sum with one more view
 pub sum-snoc : (f : SeatView → ℕ) (views : List SeatView) (w : SeatView) → sum_by f (views ++ w ∷ []) ≡ sum_by f views + f w
 sum-snoc f views w = let r = sum_by-append f views (w ∷ []) in omega arith
 
@@ -29,7 +29,7 @@ le-sum f (x ∷ xs) zero v e = let is : f x ≡ f v = ap f (some-injective x v e
 le-sum f (x ∷ xs) (suc i) v e = let r = le-sum f xs i v e in let a = sum_by-cons f x xs in omega arith
 
 pub marked_one : (v : SeatView) → is_marked v ≤ 1
-marked_one v = flags v.spent v.told
+marked_one v = flags v.spent v.exhausted
   where
     flags : (a b : Bool) → cond a 1 (cond b 1 0) ≤ 1
     flags true b = omega arith
@@ -59,11 +59,11 @@ is_true v e = flag v.spent e
     flag true e = refl
     flag false e = absurd (omega arith)
 
--- each spent view of the list weighs nothing
+-- each spent view of the list counts 0
 abbrev pub SpentIsNothing : (SeatView → ℕ) → List SeatView → Type 0
 SpentIsNothing f views = (i : ℕ) (v : SeatView) → get_elem? views i ≡ some v → v.spent ≡ true → f v ≡ 0
 
--- where all seats are spent, the sum is nothing
+-- if all seats are spent, the sum is 0
 all_spent : (f : SeatView → ℕ) (views : List SeatView) → SpentIsNothing f views → sum_by is_spent views ≡ length views → sum_by f views ≡ 0
 all_spent f [] nothing e = refl
 all_spent f (x ∷ xs) nothing e =
@@ -74,7 +74,7 @@ all_spent f (x ∷ xs) nothing e =
     let r = all_spent f xs (λ i v. nothing (suc i) v) (omega arith) in
     omega arith
 
--- where a seat is not spent, not all are
+-- if a seat is not spent, not all are
 some_left : (views : List SeatView) (i : ℕ) (v : SeatView) → get_elem? views i ≡ some v → is_spent v ≡ 0 → sum_by is_spent views + 1 ≤ length views
 some_left [] i v at fresh = absurd (some-ne-none v (sym at))
 some_left (x ∷ xs) zero v at fresh =
@@ -83,7 +83,7 @@ some_left (x ∷ xs) zero v at fresh =
 some_left (x ∷ xs) (suc i) v at fresh =
     let r = some_left xs i v at fresh in let o = spent_one x in let a = sum_by-cons is_spent x xs in omega arith
 
--- where all seats but one are spent, the sum is that of the one
+-- if all seats except one are spent, the sum is that of this one
 pub one_left : (f : SeatView → ℕ) (views : List SeatView) (i : ℕ) (v : SeatView) → SpentIsNothing f views → get_elem? views i ≡ some v → is_spent v ≡ 0 → sum_by is_spent views + 1 ≡ length views
     → sum_by f views ≡ f v
 one_left f [] i v nothing at fresh e = absurd (some-ne-none v (sym at))

@@ -1,7 +1,7 @@
-// Numbers of pieces, each claimed once, on one shared word.
+// Claims of piece numbers, each number once, on one shared word.
 ghost use Rattle.std.specs.Prelude.{◌≡◌, ◌<◌, ◌≤◌, [], true, false, IfOk, IsOk, IfSome, IfNone, length};
 ghost use Rattle.tq_run.specs.Counting.{EachOnce};
-ghost use Rattle.tq_run.specs.ClaimRule.{ClaimsValue, ClaimantValue, Claimed, ClaimTells, IsClaimantOf, opening_view, added_view, after_split, after_join, spent_view, after_taking, after_none};
+ghost use Rattle.tq_run.specs.ClaimRule.{ClaimsValue, ClaimantValue, Claimed, ClaimRecords, IsClaimantOf, opening_view, added_view, after_split, after_join, spent_view, after_taking, after_exhausted};
 
 use crate::seat_view::SeatView;
 use atomic_table::{Join, Play, Seat, Split, Table, TableRule};
@@ -21,26 +21,25 @@ impl TableRule<(), SeatView, u32> for ClaimRule {
 struct Claim;
 
 impl Play<(), SeatView> for Claim {
-    ghost then = { ClaimTells };
+    ghost then = { ClaimRecords };
 }
 
-// A seat beside the first one, made and taken back.
-struct Beside;
+// A seat in addition to the first one: how it is split off and joined.
+struct OtherSeat;
 
-impl Split<SeatView> for Beside {
+impl Split<SeatView> for OtherSeat {
     ghost left = { after_split };
 
     ghost right = { added_view };
 }
 
-impl Join<SeatView> for Beside {
+impl Join<SeatView> for OtherSeat {
     ghost both = { after_join };
 
     ghost spent = { spent_view };
 }
 
-/// Numbers of pieces from 0 on, of which each is handed out once, to whichever claimant asks next.
-/// Threads share it by `&`.
+/// The numbers of pieces, from 0. Each is given once, to the claimant that asks next. Threads share it by `&`.
 #[derive(Drop)]
 pub struct Claims {
     table: Table<(), SeatView, u32, ClaimRule, Global>,
@@ -57,7 +56,7 @@ impl Model for Claims {
         × (c.table.shared.table_id.slots ≡ 0) };
 }
 
-/// One that claims numbers. It has no bytes and may go to another thread.
+/// The right to claim numbers. It has no bytes and can move to another thread.
 #[derive(Drop)]
 pub struct Claimant {
     seat: Seat<(), SeatView>,
@@ -72,8 +71,7 @@ impl Model for Claimant {
 }
 
 impl Claims {
-    /// Claims on this many pieces, with their first claimant.
-    /// `AllocError` where there was no memory for the word.
+    /// Claims of this many pieces, with their first claimant. `AllocError` if an allocation failed.
     pub fn new(alloc: Global, pieces: u32) -> Result<(Claims, Claimant), AllocError>
         ensures pieces { IfOk result (λ r. r.0.pieces ≡ pieces) }
         ensures of { IfOk result (λ r. IsClaimantOf r.0 r.1) }
@@ -83,7 +81,7 @@ impl Claims {
         Ok((Claims { table, pieces }, Claimant { seat }))
     }
 
-    /// One more claimant, at most 15 of them. It takes no memory and always succeeds.
+    /// One more claimant, at most 15 in addition to the first. It allocates nothing and always succeeds.
     pub fn split(&self, first: &mut Claimant) -> Result<Claimant, AllocError>
         requires of { IsClaimantOf self.now first.old }
         requires first { first.old.knows.first ≡ true }
@@ -94,22 +92,22 @@ impl Claims {
         ensures new_of { IfOk result (λ c. IsClaimantOf self.now c) }
         ensures new_knows { IfOk result (λ c. c.knows ≡ added_view first.old.knows) }
     {
-        let seat = self.table.shared.split_seat::<Beside>(&mut first.seat);
+        let seat = self.table.shared.split_seat::<OtherSeat>(&mut first.seat);
         Ok(Claimant { seat })
     }
 
-    /// The next number, which nobody else gets, or `None` once all below the piece count were handed out.
-    /// One atomic addition; it takes no memory and waits for nobody.
+    /// The next number, which no other claimant gets, or `None` if all numbers of pieces are taken. One atomic
+    /// addition; it allocates nothing and never waits.
     pub fn take(&self, by: &mut Claimant) -> Option<u32>
         requires of { IsClaimantOf self.now by.old }
-        requires untold { by.old.knows.told ≡ false }
+        requires not_exhausted { by.old.knows.exhausted ≡ false }
         ensures of { IsClaimantOf self.now by.new }
         ensures piece { IfSome result (λ n. n < self.now.pieces) }
 
-        // It has as many numbers below it as its claimant took before.
+        // The number is at least the number of those that this claimant took before.
         ensures above { IfSome result (λ n. length by.old.knows.taken ≤ n) }
         ensures listed { IfSome result (λ n. by.new.knows ≡ after_taking by.old.knows n) }
-        ensures none { IfNone result (by.new.knows ≡ after_none by.old.knows) }
+        ensures none { IfNone result (by.new.knows ≡ after_exhausted by.old.knows) }
     {
         let n = self.table.shared.fetch_add::<Claim>(&mut by.seat, 0, 1);
         if n < u64::from(self.pieces) {
@@ -119,7 +117,7 @@ impl Claims {
         }
     }
 
-    /// The first claimant takes in another one with its numbers. It takes no memory.
+    /// Joins another claimant to the first one, which gets its numbers. It allocates nothing.
     pub fn join(&self, first: &mut Claimant, other: Claimant)
         requires of { IsClaimantOf self.now first.old }
         requires other_of { other.word ≡ self.now.word }
@@ -128,15 +126,17 @@ impl Claims {
         ensures joined { first.new.knows ≡ after_join first.old.knows other.knows }
     {
         let Claimant { seat } = other;
-        self.table.shared.join_seat::<Beside>(&mut first.seat, seat);
+        self.table
+            .shared
+            .join_seat::<OtherSeat>(&mut first.seat, seat);
     }
 
-    /// The end, once the first claimant was told `None` and has taken in all others: its list holds each
-    /// number below the piece count once. It takes no memory.
+    /// Ends the claims. It requires that the first claimant got `None` and has joined all others; then its list has
+    /// each number of a piece exactly once. It allocates nothing.
     pub fn close(self, first: Claimant)
         requires of { first.word ≡ self.word }
         requires first { first.knows.first ≡ true }
-        requires told { first.knows.told ≡ true }
+        requires exhausted { first.knows.exhausted ≡ true }
         requires joined { first.knows.joins ≡ first.knows.splits }
         ensures { EachOnce first.knows.taken self.pieces }
     {

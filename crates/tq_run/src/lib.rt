@@ -1,18 +1,17 @@
-//! Work in numbered pieces, done on one thread or by several, with the same results in the same order.
+//! Work in numbered pieces, run by one thread or several, with the same results in the same order.
 //!
-//! `run_with` starts the workers. Each of them claims the number of the next piece on one shared word, runs
-//! that piece, and goes on until no piece is left; then the results are put at the places of their pieces. The
-//! contract of `run_here` and of `run_with` is one and the same: as many results as pieces, and the result at
-//! place i is one of piece i. It is proved for every number of workers and every way in which the pieces fall
-//! to them.
+//! `run_with` starts the workers. Each claims the number of the next piece on one shared word, runs that piece, and
+//! repeats this until no piece is left. `run_with` and `run_here` have the same contract, `IsResultList` in
+//! `specs/Results.antt`: there are as many results as pieces, and result i belongs to piece i. It holds for every
+//! number of workers and every schedule. `Claims` are proved with the crate `atomic_table`. What a piece does, this
+//! crate does not know.
 //!
-//! `Claims` stand on the crate `atomic_table`. The workers know of the shared word only what the contracts of
-//! `Claims` say, and nothing here knows what a piece is.
+//! Open `src/pieces.rt` first, then `src/workers.rt`. `docs/threads.md` describes the steps.
 #![tactic(auto)]
 
 mod claiming;
+mod ordering;
 mod pieces;
-mod placing;
 mod seat_view;
 mod workers;
 

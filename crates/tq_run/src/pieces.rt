@@ -1,40 +1,40 @@
-// Work in numbered pieces, and the run on the calling thread.
+// Work in numbered pieces, and its run on the calling thread.
 ghost use Rattle.std.specs.Prelude.{◌≡◌, ℕ, ◌<◌, IfOk};
 ghost use Rattle.tq_run.specs.Results.{IsResultList};
 
 use std::alloc::{AllocError, Global};
 
-/// Work that falls into pieces, which are numbered from 0 on.
+/// Work in pieces, numbered from 0.
 pub trait Work {
-    /// What running one piece gives.
+    /// The result of one piece.
     type Out;
 
-    // How many pieces there are.
+    // The number of pieces.
     ghost count: { Self → ℕ };
 
-    // What the number of a piece has to do with its result.
+    // The relation between the number of a piece and its result.
     ghost relates: { Self → ℕ → Self.Out → Type 0 };
 
-    /// How many pieces there are.
+    /// The number of pieces.
     fn pieces(&self) -> u32
         ensures { result ≡ count self.now };
 
-    /// Runs piece `i`, which is below the piece count. `AllocError` says that it found no memory.
+    /// Runs piece `i`, which is less than the number of pieces. `AllocError` if an allocation failed.
     fn run(&self, i: u32) -> Result<Self::Out, AllocError>
         requires { i < count self.now }
         ensures { IfOk result (λ x. relates self.now i x) };
 }
 
-/// Is told of each piece, by the worker that took it, before that worker runs it.
+/// An observer of pieces: the worker that took a piece calls it before it runs the piece.
 pub trait Gate {
-    /// So many pieces are to be run next. Told before the first of them; whoever does not ask for that is told nothing.
+    /// `pieces` pieces are to be run next. It is called before the first of them; by default it does nothing.
     fn expect(&self, _pieces: u32) {}
 
-    /// Piece `i` was taken and is to be run next. It may hold the worker up.
+    /// Piece `i` was taken and is to be run next. The call may delay the worker.
     fn arrive(&self, i: u32);
 }
 
-/// A gate that does nothing. It takes no memory.
+/// A gate that does nothing. It allocates nothing.
 #[derive(Clone, Copy, Debug)]
 pub struct Open;
 
@@ -42,8 +42,8 @@ impl Gate for Open {
     fn arrive(&self, _: u32) {}
 }
 
-/// The results of all pieces in order of their numbers, run on the calling thread. It waits for nobody.
-/// `AllocError` where a piece answered it, or where there was no memory for the list of results.
+/// The results of all pieces in the order of their numbers, run on the calling thread. `AllocError` if a piece returns
+/// it, or an allocation failed.
 pub fn run_here<W: Work>(alloc: Global, work: &W) -> Result<Vec<W::Out>, AllocError>
 where
     W::Out: Drop,

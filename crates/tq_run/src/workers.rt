@@ -1,23 +1,23 @@
-// Several workers, of which each claims piece after piece.
+// Several workers, each of which claims piece after piece.
 ghost use Rattle.std.specs.Prelude.{◌≡◌, ℕ, ◌+◌, ◌-◌, ◌<◌, ◌≤◌, ◌++◌, [], ◌∷◌, true, false, IfOk, OnOk, length, vec_len, All};
 ghost use denote.Param.Send.{IsSync};
 ghost use Rattle.tq_run.specs.Results.{IsResultList};
-ghost use Rattle.tq_run.specs.Sharing.{AreReady, IsFresh, IsShare, Leads};
+ghost use Rattle.tq_run.specs.Sharing.{AreNewClaimants, IsFresh, IsWorkerResult, Leads};
 
 use crate::claiming::{Claimant, Claims};
+use crate::ordering::in_order;
 use crate::pieces::{Gate, Work};
-use crate::placing::in_order;
 use std::alloc::{AllocError, Global};
 use std::thread::{Threads, join};
 
-// What a worker brings back: its claimant, and each result with its piece's number.
+// The result of a worker: its claimant, and each result with its piece's number.
 #[derive(Drop)]
-struct Share<X> {
+struct WorkerResult<X> {
     by: Claimant,
     done: Vec<(u32, X)>,
 }
 
-// Runs one piece that was claimed.
+// Reports a claimed piece to the gate and runs it.
 fn run_piece<W: Work, G: Gate>(
     work: &W,
     gate: &G,
@@ -34,19 +34,19 @@ where
     Ok(())
 }
 
-// Claims pieces and runs them until no piece is left.
-fn work_off<W: Work, G: Gate>(
+// Claims pieces and runs them until none is left.
+fn run_claimed<W: Work, G: Gate>(
     alloc: Global,
     claims: &Claims,
     work: &W,
     gate: &G,
     mut by: Claimant,
-) -> Result<Share<W::Out>, AllocError>
+) -> Result<WorkerResult<W::Out>, AllocError>
 where
     W::Out: Drop,
     requires pieces { claims.now.pieces ≡ W.count work.now }
     requires fresh { IsFresh claims.now by }
-    ensures share { IfOk result (λ s. IsShare claims.now (W.relates work.now) s.by s.done.items) }
+    ensures share { IfOk result (λ s. IsWorkerResult claims.now (W.relates work.now) s.by s.done.items) }
     ensures first { IfOk result (λ s. s.by.knows.first ≡ by.knows.first) }
     ensures splits { IfOk result (λ s. s.by.knows.splits ≡ by.knows.splits) }
     ensures joins { IfOk result (λ s. s.by.knows.joins ≡ by.knows.joins) }
@@ -55,13 +55,13 @@ where
     while let Some(i) = claims.take(&mut by) {
         run_piece(work, gate, i, &mut done)?;
     }
-    Ok(Share { by, done })
+    Ok(WorkerResult { by, done })
 }
 
-// Each claimant of `others` works in a thread of its own where one can be started, and else here. `first` works
-// on the calling thread, and takes the others in.
+// Runs each claimant of `others` in a thread of its own, or on the calling thread if no thread can be started. `first`
+// runs on the calling thread, and then joins the others.
 #[cycle(workers)]
-fn work_among<R: Threads + Sync, W: Work + Sync, G: Gate + Sync>(
+fn run_claimants<R: Threads + Sync, W: Work + Sync, G: Gate + Sync>(
     rt: &R,
     alloc: Global,
     claims: &Claims,
@@ -69,35 +69,35 @@ fn work_among<R: Threads + Sync, W: Work + Sync, G: Gate + Sync>(
     gate: &G,
     first: Claimant,
     mut others: Vec<Claimant>,
-) -> Result<Share<W::Out>, AllocError>
+) -> Result<WorkerResult<W::Out>, AllocError>
 where
     W::Out: Send + Drop,
-    requires { AreReady claims.now (W.count work.now) first others.items }
-    ensures share { IfOk result (λ s. IsShare claims.now (W.relates work.now) s.by s.done.items) }
+    requires { AreNewClaimants claims.now (W.count work.now) first others.items }
+    ensures share { IfOk result (λ s. IsWorkerResult claims.now (W.relates work.now) s.by s.done.items) }
     ensures leads { IfOk result (λ s. Leads first.knows.splits (vec_len others) s.by) }
 {
     let Some(by) = others.pop() else {
-        return work_off(alloc, claims, work, gate, first);
+        return run_claimed(alloc, claims, work, gate, first);
     };
-    let theirs = move || -> Result<Share<W::Out>, AllocError>
+    let theirs = move || -> Result<WorkerResult<W::Out>, AllocError>
         requires { (claims.now.pieces ≡ W.count work.now) × IsFresh claims.now by }
-        ensures { IfOk result (λ s. IsShare claims.entry.now (W.relates work.entry.now) s.by s.done.items) }
-    { work_off(alloc, claims, work, gate, by) };
-    let ours = move || -> Result<Share<W::Out>, AllocError>
+        ensures { IfOk result (λ s. IsWorkerResult claims.entry.now (W.relates work.entry.now) s.by s.done.items) }
+    { run_claimed(alloc, claims, work, gate, by) };
+    let ours = move || -> Result<WorkerResult<W::Out>, AllocError>
         requires { IsSync R.row × IsSync W.row × IsSync G.row
-            × AreReady claims.now (W.count work.now) first others.items }
-        ensures { IfOk result (λ s. IsShare claims.entry.now (W.relates work.entry.now) s.by s.done.items
+            × AreNewClaimants claims.now (W.count work.now) first others.items }
+        ensures { IfOk result (λ s. IsWorkerResult claims.entry.now (W.relates work.entry.now) s.by s.done.items
             × Leads first.knows.splits (vec_len others) s.by) }
-    { work_among(rt, alloc, claims, work, gate, first, others) };
+    { run_claimants(rt, alloc, claims, work, gate, first, others) };
     let (theirs, ours) = join(rt, theirs, ours);
     let mut all = ours?;
-    let Share { by, mut done } = theirs?;
+    let WorkerResult { by, mut done } = theirs?;
     claims.join(&mut all.by, by);
     all.done.append(&mut done)?;
     Ok(all)
 }
 
-// A claimant for each worker but the first.
+// A claimant for each worker except the first.
 fn other_claimants(
     alloc: Global,
     claims: &Claims,
@@ -120,9 +120,9 @@ fn other_claimants(
     Ok(others)
 }
 
-/// The results of all pieces in order of their numbers, run by 1 to 16 workers, the calling thread among them.
-/// No more start than there are pieces; one whose thread cannot be started is done without; each is joined, so
-/// the call returns when the pieces do. `AllocError` where a piece answered it, or where a list could not grow.
+/// The results of all pieces in the order of their numbers, run by 1 to 16 workers, of which the calling thread is one.
+/// No more workers start than there are pieces; if a thread cannot be started, there is one worker less. All threads
+/// are joined before the call returns. `AllocError` if a piece returns it, or an allocation failed.
 pub fn run_with<R: Threads + Sync, W: Work + Sync, G: Gate + Sync>(
     rt: &R,
     alloc: Global,
@@ -141,7 +141,7 @@ where
     let (claims, mut first) = Claims::new(alloc, pieces)?;
     let workers = workers.min(pieces.max(1));
     let others = other_claimants(alloc, &claims, &mut first, workers)?;
-    let Share { by, done } = work_among(rt, alloc, &claims, work, gate, first, others)?;
+    let WorkerResult { by, done } = run_claimants(rt, alloc, &claims, work, gate, first, others)?;
     claims.close(by);
     in_order(alloc, work, done)
 }

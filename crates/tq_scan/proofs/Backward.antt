@@ -1,5 +1,5 @@
--- Backwards along links: each leaf that meets a part and died in it is led to by one leaf alone, which was born where
--- it died, so all leaves of the part are come to once from those at its last version.
+-- Going back along links. Each leaf that meets a part and died in it is reached from exactly one leaf, which was born
+-- when it died. So all leaves of the part are reached once from those at its last version.
 use Rattle.std.proofs.Common.{◌≡◌, ℕ, zero, suc, ◌+◌, ◌-◌, ◌<◌, ◌≤◌, Bool, true, false, cond, ◌&&◌, List, [], ◌∷◌, ◌++◌, length, take, drop, ap, refl, sym, ◌∙◌, subst, arith, count_by, slice_get, Some, nat_eq, nat_le, nat_lt, max}
 use Rattle.std.specs.Prelude.{All}
 use Rattle.std.proofs.lemmas.Bool.Decides.{nat_tests}
@@ -21,7 +21,7 @@ use Rattle.tq_scan.specs.declared.window.Window.{Window}
 use Rattle.tq_scan.specs.Windows.{IsInside}
 use Rattle.tq_scan.specs.Scans.{IsMetLeaf, numbers}
 use Rattle.tq_scan.specs.Lists.{ListsOnce}
-use Rattle.tq_scan.specs.Rows.{is_held, held_at, IsMetNode, IsRowOf}
+use Rattle.tq_scan.specs.Rows.{holds_key, holds_key_at, IsMetNode, IsRowOf}
 use Rattle.tq_scan.specs.Follows.{is_met_link, is_followed, followed_at, followed_from}
 use Rattle.tq_scan.proofs.Lists.{tally, count-cons, all_at, all_from_places, count_alike, count_none, count_map_filter, count_both, all_map_filter, times, times_numbers, few_different, Passes, some_passes}
 use Rattle.tq_scan.proofs.KeysOnce.{and_first, and_second, and_both, both_ways, Held, held_of, holds_from, each, one_leaf, unique, at_leaf, small, keys_small}
@@ -45,7 +45,7 @@ is_same a b h = grind (arith, nat_tests)
 same_of : (a b : ℕ) → nat_eq a b ≡ true → a ≡ b
 same_of a b h = grind (arith, nat_tests)
 
--- what it is to follow a link
+-- what a followed link satisfies
 pub record Follows (p : Part) (n : NodeState) (l : Link) : Type 0 where
   pub born : p.first < n.born
   pub low : l.low < p.high
@@ -90,7 +90,7 @@ module _ (version : ℕ) (nodes : List NodeState) (roots : List Root) (tree : Is
   alone : (i j : ℕ) (m n : NodeState) (k v : ℕ) → k < p.high → v < now → slice_get nodes i ≡ Some m → slice_get nodes j ≡ Some n → m.level ≡ 0 → n.level ≡ 0 → holds k v m ≡ true → holds k v n ≡ true → i ≡ j
   alone i j m n k v kh vt e f l l' a b = unique version nodes roots tree tiling i j m n k v (keys_small version nodes roots tree tiling w p inside k kh) vt e f l l' a b
 
-  -- ---- what is followed meets the part
+  -- ---- a followed leaf meets the part
 
   followed_met : (b : ℕ) → (met : IsMetLeaf nodes p b) → (j : ℕ) (l : Link) → slice_get met.node.links j ≡ Some l → is_followed p met.node l ≡ true → IsMetLeaf nodes p l.node.0
   followed_met b met j l s h =
@@ -109,7 +109,7 @@ module _ (version : ℕ) (nodes : List NodeState) (roots : List Root) (tree : Is
       subst (λ o. All (λ (a : NodeNo). IsMetLeaf nodes p a.0) (followed_at p o)) (sym met.stands)
       (all_map_filter (λ (a : NodeNo). IsMetLeaf nodes p a.0) (λ (l : Link). l.node) (is_followed p met.node) met.node.links (followed_met b.0 met))
 
-  -- ---- a leaf that stands at the part's last version is not linked
+  -- ---- a leaf that is alive at the part's last version is not linked
 
   module _ (a : ℕ) (n : NodeState) (stands : slice_get nodes a ≡ Some n) (leaf : n.level ≡ 0) where
     module _ (lasts : p.last < n.died) where
@@ -136,7 +136,7 @@ module _ (version : ℕ) (nodes : List NodeState) (roots : List Root) (tree : Is
           let rest = never_followed xs (All-tail (λ (b : NodeNo). IsMetLeaf nodes p b.0) x xs all) in
           omega (arith, here, rest, sum_by-append (λ (y : NodeNo). tally (nat_eq a y.0)) (followed_at p (slice_get nodes x.0)) (followed_from p nodes xs))
 
-    -- ---- one that died in the part is followed from one leaf
+    -- ---- a leaf that died in the part is reached from exactly one leaf
 
     module _ (met_n : Meeting p n) (ends : n.died ≤ p.last) where
       abbrev key : ℕ
@@ -148,7 +148,7 @@ module _ (version : ℕ) (nodes : List NodeState) (roots : List Root) (tree : Is
       key_high : key < p.high
       key_high = (let m = met_n.low in let i = inside.wide in omega arith)
 
-      -- the leaf that holds the key where the leaf died
+      -- the leaf that holds the key at the version at which the leaf died
       next : Passes (at_point 0 key n.died) nodes
       next = some_passes (at_point 0 key n.died) nodes (let one = one_leaf version nodes roots tree tiling key n.died (keys_small version nodes roots tree tiling w p inside key key_high) (let s = last_small in omega arith) in omega arith)
 
@@ -158,7 +158,7 @@ module _ (version : ℕ) (nodes : List NodeState) (roots : List Root) (tree : Is
       next_held : Held next.element key n.died
       next_held = held_of next.element key n.died (and_second (nat_eq next.element.level 0) (holds key n.died next.element) next.passes)
 
-      -- it was born there
+      -- it was born at that version
       next_born : next.element.born ≡ n.died
       next_born = split (nat_lt next.element.born n.died) refl
         where
@@ -255,7 +255,7 @@ module _ (version : ℕ) (nodes : List NodeState) (roots : List Root) (tree : Is
     first_met = All-weaker (IsMetNode nodes p 0) (λ (b : NodeNo). IsMetLeaf nodes p b.0)
         (λ b m. let l = inside.long in let d = m.died in met_from version nodes roots tree tiling w p inside b.0 m.node m.stands m.at_level (record { low = m.low; high = m.high; born = m.born; died = omega arith })) first row.each
 
-    -- a leaf that stands then is among them once
+    -- a leaf that is alive then is among them once
     first_once : (a : ℕ) → (met : IsMetLeaf nodes p a) → p.last < met.node.died → times a first ≡ 1
     first_once a met lasts =
         let n = met.node in
@@ -264,18 +264,18 @@ module _ (version : ℕ) (nodes : List NodeState) (roots : List Root) (tree : Is
         let wide = (node_at a n met.stands).wide in let i = inside.wide in
         let k : ℕ = max n.low p.low in
         let mine : holds k p.last n ≡ true = holds_from n k p.last (record { low = omega arith; high = omega arith; born = g3; died = lasts }) in
-        count_alike (λ (b : NodeNo). nat_eq a b.0) (held_at nodes k p.last) first (All-weaker (IsMetNode nodes p 0) (λ (b : NodeNo). nat_eq a b.0 ≡ held_at nodes k p.last b) (λ b m. both_ways (nat_eq a b.0) (held_at nodes k p.last b) (onward b k mine) (back b m k (omega arith) mine)) first row.each)
+        count_alike (λ (b : NodeNo). nat_eq a b.0) (holds_key_at nodes k p.last) first (All-weaker (IsMetNode nodes p 0) (λ (b : NodeNo). nat_eq a b.0 ≡ holds_key_at nodes k p.last b) (λ b m. both_ways (nat_eq a b.0) (holds_key_at nodes k p.last b) (onward b k mine) (back b m k (omega arith) mine)) first row.each)
         ∙ row.tiles k (omega arith) (omega arith)
       where
-        onward : (b : NodeNo) (k : ℕ) → holds k p.last met.node ≡ true → nat_eq a b.0 ≡ true → held_at nodes k p.last b ≡ true
-        onward b k mine h = subst (λ x. is_held k p.last (slice_get nodes x) ≡ true) (same_of a b.0 h) (ap (is_held k p.last) met.stands ∙ mine)
+        onward : (b : NodeNo) (k : ℕ) → holds k p.last met.node ≡ true → nat_eq a b.0 ≡ true → holds_key_at nodes k p.last b ≡ true
+        onward b k mine h = subst (λ x. holds_key k p.last (slice_get nodes x) ≡ true) (same_of a b.0 h) (ap (holds_key k p.last) met.stands ∙ mine)
 
-        back : (b : NodeNo) → IsMetNode nodes p 0 b → (k : ℕ) → k < p.high → holds k p.last met.node ≡ true → held_at nodes k p.last b ≡ true → nat_eq a b.0 ≡ true
+        back : (b : NodeNo) → IsMetNode nodes p 0 b → (k : ℕ) → k < p.high → holds k p.last met.node ≡ true → holds_key_at nodes k p.last b ≡ true → nat_eq a b.0 ≡ true
         back b m k kh mine h =
-            let its : holds k p.last m.node ≡ true = ap (is_held k p.last) (sym m.stands) ∙ h in
+            let its : holds k p.last m.node ≡ true = ap (holds_key k p.last) (sym m.stands) ∙ h in
             is_same a b.0 (alone a b.0 met.node m.node k p.last kh last_small met.stands m.stands met.leaf m.at_level mine its)
 
-    -- one that died before is not
+    -- a leaf that died before is not
     first_none : (a : ℕ) (n : NodeState) → slice_get nodes a ≡ Some n → n.died ≤ p.last → times a first ≡ 0
     first_none a n stands ends = count_none (λ (b : NodeNo). nat_eq a b.0) first (All-weaker (IsMetNode nodes p 0) (λ (b : NodeNo). nat_eq a b.0 ≡ false) (λ b m. both_ways (nat_eq a b.0) false (λ h. absurd (never b m h)) (λ h. cc)) first row.each)
       where
@@ -286,7 +286,7 @@ module _ (version : ℕ) (nodes : List NodeState) (roots : List Root) (tree : Is
             let d = m.died in
             omega arith
 
-    -- ---- with those that they lead to
+    -- ---- with the leaves that are reached from them
 
     module _ (leaves : List NodeNo) (place : ℕ) (all : All (λ b. IsMetLeaf nodes p b.0) leaves) (grown : leaves ≡ first ++ followed_from p nodes (take place leaves)) where
       all_done : All (λ b. IsMetLeaf nodes p b.0) (take place leaves)
@@ -333,7 +333,7 @@ module _ (version : ℕ) (nodes : List NodeState) (roots : List Root) (tree : Is
       pub few_leaves : length leaves ≤ length nodes
       few_leaves = few_different (length nodes) leaves (All-weaker (λ (b : NodeNo). IsMetLeaf nodes p b.0) (λ (b : NodeNo). b.0 < length nodes) (λ b m. slice_get_within nodes b.0 m.node m.stands) leaves all) at_most_once
 
-    -- where all have been gone on from, each leaf of the part is among them once
+    -- if all links are followed, each leaf of the part is in the list once
     module _ (leaves : List NodeNo) (all : All (λ b. IsMetLeaf nodes p b.0) leaves) (grown : leaves ≡ first ++ followed_from p nodes leaves) where
       all_parts : (a : ℕ) → times a leaves ≡ times a first + times a (followed_from p nodes leaves)
       all_parts a = ap (times a) grown ∙ sum_by-append (λ (y : NodeNo). tally (nat_eq a y.0)) first (followed_from p nodes leaves)

@@ -18,7 +18,7 @@ use Rattle.std.specs.List.Sorted.{IsPermutation}
 use Rattle.std.proofs.lemmas.List.Sorted.{sum_by-IsPermutation}
 use Rattle.tq_scan.specs.Scans.{is_alive, alive_at}
 use Rattle.tq_scan.specs.Lists.{IsLonger}
-use Rattle.tq_scan.specs.Rows.{is_held, held_at, IsMetNode, IsRowOf}
+use Rattle.tq_scan.specs.Rows.{holds_key, holds_key_at, IsMetNode, IsRowOf}
 use Rattle.tq_scan.specs.Follows.{is_met_child, met_children, children_at, children_of}
 use Rattle.tq_scan.proofs.Lists.{tally, count-cons, all_at, all_from_places, count_alike, count_none, count_map_filter, all_map_filter}
 use Rattle.tq_scan.proofs.KeysOnce.{within_true, within_low, within_high, and_first, and_second, and_both, held_of, holds_from, ends_alike, both_ways}
@@ -35,7 +35,7 @@ is_less a b h = grind (arith, nat_tests)
 is_at_most : (a b : ℕ) → a ≤ b → nat_le a b ≡ true
 is_at_most a b h = grind (arith, nat_tests)
 
--- what it is to be gone on to
+-- what a visited child satisfies
 pub record MetChild (p : Part) (e : Entry) : Type 0 where
   pub low : e.low < p.high
   pub high : p.low < e.high
@@ -65,7 +65,7 @@ module _ (version : ℕ) (nodes : List NodeState) (roots : List Root) (tree : Is
   node_at : (i : ℕ) (n : NodeState) → slice_get nodes i ≡ Some n → IsNode version (lives_of nodes) nodes n
   node_at i n e = all_at (IsNode version (lives_of nodes) nodes) nodes i n tree.forest.each e
 
-  -- ---- a level down
+  -- ---- one level down
 
   module _ (level : ℕ) where
     module _ (i : ℕ) (n : NodeState) (stands : slice_get nodes i ≡ Some n) (at_level : n.level ≡ level + 1) (born : n.born ≤ p.last) (died : p.last < n.died) where
@@ -84,21 +84,21 @@ module _ (version : ℕ) (nodes : List NodeState) (roots : List Root) (tree : Is
           let life = b.life p.last died ∙ is_less p.last e.dead m.dead in
           record { node = b.child; stands = b.stands; at_level = omega arith; low = omega arith; high = omega arith; born = omega arith; died = less p.last b.child.died life }
 
-      alike : (k : ℕ) → p.low ≤ k → k < p.high → (j : ℕ) (e : Entry) → slice_get n.entries j ≡ Some e → (held_at nodes k p.last (record { 0 = e.child }) && is_met_child p e) ≡ covers k p.last e
-      alike k kl kh j e s = both_ways (held_at nodes k p.last (record { 0 = e.child }) && is_met_child p e) (covers k p.last e) onward back
+      alike : (k : ℕ) → p.low ≤ k → k < p.high → (j : ℕ) (e : Entry) → slice_get n.entries j ≡ Some e → (holds_key_at nodes k p.last (record { 0 = e.child }) && is_met_child p e) ≡ covers k p.last e
+      alike k kl kh j e s = both_ways (holds_key_at nodes k p.last (record { 0 = e.child }) && is_met_child p e) (covers k p.last e) onward back
         where
           b : IsBranch nodes n e
           b = branch j e s
 
-          onward : (held_at nodes k p.last (record { 0 = e.child }) && is_met_child p e) ≡ true → covers k p.last e ≡ true
+          onward : (holds_key_at nodes k p.last (record { 0 = e.child }) && is_met_child p e) ≡ true → covers k p.last e ≡ true
           onward h =
-              let held : holds k p.last b.child ≡ true = ap (is_held k p.last) (sym b.stands) ∙ and_first (held_at nodes k p.last (record { 0 = e.child })) (is_met_child p e) h in
+              let held : holds k p.last b.child ≡ true = ap (holds_key k p.last) (sym b.stands) ∙ and_first (holds_key_at nodes k p.last (record { 0 = e.child })) (is_met_child p e) h in
               let f = held_of b.child k p.last held in
-              let m = met_child_of p e last_small (and_second (held_at nodes k p.last (record { 0 = e.child })) (is_met_child p e) h) in
+              let m = met_child_of p e last_small (and_second (holds_key_at nodes k p.last (record { 0 = e.child })) (is_met_child p e) h) in
               let a1 = b.low in let a2 = b.high in let f1 = f.low in let f2 = f.high in
               and_both (within e.low e.high k) (within e.born e.dead p.last) (within_true e.low e.high k (omega arith) (omega arith)) (within_true e.born e.dead p.last m.born m.dead)
 
-          back : covers k p.last e ≡ true → (held_at nodes k p.last (record { 0 = e.child }) && is_met_child p e) ≡ true
+          back : covers k p.last e ≡ true → (holds_key_at nodes k p.last (record { 0 = e.child }) && is_met_child p e) ≡ true
           back h =
               let h1 = and_first (within e.low e.high k) (within e.born e.dead p.last) h in
               let h2 = and_second (within e.low e.high k) (within e.born e.dead p.last) h in
@@ -108,14 +108,14 @@ module _ (version : ℕ) (nodes : List NodeState) (roots : List Root) (tree : Is
               let x4 = within_high e.born e.dead p.last h2 in
               let a1 = b.low in let a2 = b.high in let a3 = b.born in
               let life = less p.last b.child.died (b.life p.last died ∙ is_less p.last e.dead x4) in
-              and_both (held_at nodes k p.last (record { 0 = e.child })) (is_met_child p e)
-              (ap (is_held k p.last) b.stands ∙ holds_from b.child k p.last (record { low = omega arith; high = omega arith; born = omega arith; died = life }))
+              and_both (holds_key_at nodes k p.last (record { 0 = e.child })) (is_met_child p e)
+              (ap (holds_key k p.last) b.stands ∙ holds_from b.child k p.last (record { low = omega arith; high = omega arith; born = omega arith; died = life }))
               (met_child_from p e last_small (record { low = omega arith; high = omega arith; born = x3; dead = x4 }))
 
-      counted : (k : ℕ) → p.low ≤ k → k < p.high → count_by (held_at nodes k p.last) (met_children p n) ≡ tally (holds k p.last n)
+      counted : (k : ℕ) → p.low ≤ k → k < p.high → count_by (holds_key_at nodes k p.last) (met_children p n) ≡ tally (holds k p.last n)
       counted k kl kh =
-          count_map_filter (held_at nodes k p.last) (λ (e : Entry). record { 0 = e.child }) (is_met_child p) n.entries
-          ∙ count_alike (λ (e : Entry). held_at nodes k p.last (record { 0 = e.child }) && is_met_child p e) (covers k p.last) n.entries (all_from_places (λ (e : Entry). (held_at nodes k p.last (record { 0 = e.child }) && is_met_child p e) ≡ covers k p.last e) n.entries (alike k kl kh))
+          count_map_filter (holds_key_at nodes k p.last) (λ (e : Entry). record { 0 = e.child }) (is_met_child p) n.entries
+          ∙ count_alike (λ (e : Entry). holds_key_at nodes k p.last (record { 0 = e.child }) && is_met_child p e) (covers k p.last) n.entries (all_from_places (λ (e : Entry). (holds_key_at nodes k p.last (record { 0 = e.child }) && is_met_child p e) ≡ covers k p.last e) n.entries (alike k kl kh))
           ∙ split (holds k p.last n) refl
         where
           split : (b : Bool) → holds k p.last n ≡ b → count_by (covers k p.last) n.entries ≡ tally b
@@ -137,11 +137,11 @@ module _ (version : ℕ) (nodes : List NodeState) (roots : List Root) (tree : Is
         subst (λ o. All (IsMetNode nodes p level) (children_at p o)) (sym met.stands)
         (all_map_filter (IsMetNode nodes p level) (λ (e : Entry). record { 0 = e.child }) (is_met_child p) met.node.entries (child_met a.0 met.node met.stands met.at_level met.born met.died))
 
-    children_count : (a : NodeNo) → IsMetNode nodes p (level + 1) a → (k : ℕ) → p.low ≤ k → k < p.high → count_by (held_at nodes k p.last) (children_at p (slice_get nodes a.0)) ≡ tally (held_at nodes k p.last a)
+    children_count : (a : NodeNo) → IsMetNode nodes p (level + 1) a → (k : ℕ) → p.low ≤ k → k < p.high → count_by (holds_key_at nodes k p.last) (children_at p (slice_get nodes a.0)) ≡ tally (holds_key_at nodes k p.last a)
     children_count a met k kl kh =
-        ap (λ o. count_by (held_at nodes k p.last) (children_at p o)) met.stands
+        ap (λ o. count_by (holds_key_at nodes k p.last) (children_at p o)) met.stands
         ∙ counted a.0 met.node met.stands met.at_level met.born met.died k kl kh
-        ∙ ap (λ o. tally (is_held k p.last o)) (sym met.stands)
+        ∙ ap (λ o. tally (holds_key k p.last o)) (sym met.stands)
 
     children_some : (a : NodeNo) → IsMetNode nodes p (level + 1) a → 1 ≤ length (children_at p (slice_get nodes a.0))
     children_some a met =
@@ -151,8 +151,8 @@ module _ (version : ℕ) (nodes : List NodeState) (roots : List Root) (tree : Is
         let m1 = met.low in let m2 = met.high in let w' = is_small.wide in
         let k : ℕ = max n.low p.low in
         let held : holds k p.last n ≡ true = holds_from n k p.last (record { low = omega arith; high = omega arith; born = met.born; died = met.died }) in
-        let one : count_by (held_at nodes k p.last) (children_at p (slice_get nodes a.0)) ≡ 1 = children_count a met k (omega arith) (omega arith) ∙ ap (λ o. tally (is_held k p.last o)) met.stands ∙ ap tally held in
-        omega (arith, one, count_by-le-length (held_at nodes k p.last) (children_at p (slice_get nodes a.0)))
+        let one : count_by (holds_key_at nodes k p.last) (children_at p (slice_get nodes a.0)) ≡ 1 = children_count a met k (omega arith) (omega arith) ∙ ap (λ o. tally (holds_key k p.last o)) met.stands ∙ ap tally held in
+        omega (arith, one, count_by-le-length (holds_key_at nodes k p.last) (children_at p (slice_get nodes a.0)))
 
     all_children : (row : List NodeNo) → All (IsMetNode nodes p (level + 1)) row → All (IsMetNode nodes p level) (children_of p nodes row)
     all_children [] a = All-nil (IsMetNode nodes p level)
@@ -161,12 +161,12 @@ module _ (version : ℕ) (nodes : List NodeState) (roots : List Root) (tree : Is
         (children_met x (All-head (IsMetNode nodes p (level + 1)) x xs a))
         (all_children xs (All-tail (IsMetNode nodes p (level + 1)) x xs a))
 
-    all_counted : (row : List NodeNo) → All (IsMetNode nodes p (level + 1)) row → (k : ℕ) → p.low ≤ k → k < p.high → count_by (held_at nodes k p.last) (children_of p nodes row) ≡ count_by (held_at nodes k p.last) row
+    all_counted : (row : List NodeNo) → All (IsMetNode nodes p (level + 1)) row → (k : ℕ) → p.low ≤ k → k < p.high → count_by (holds_key_at nodes k p.last) (children_of p nodes row) ≡ count_by (holds_key_at nodes k p.last) row
     all_counted [] a k kl kh = refl
     all_counted (x ∷ xs) a k kl kh =
         let here = children_count x (All-head (IsMetNode nodes p (level + 1)) x xs a) k kl kh in
         let rest = all_counted xs (All-tail (IsMetNode nodes p (level + 1)) x xs a) k kl kh in
-        omega (arith, here, rest, count-cons (held_at nodes k p.last) x xs, sum_by-append (λ n. tally (held_at nodes k p.last n)) (children_at p (slice_get nodes x.0)) (children_of p nodes xs))
+        omega (arith, here, rest, count-cons (holds_key_at nodes k p.last) x xs, sum_by-append (λ n. tally (holds_key_at nodes k p.last n)) (children_at p (slice_get nodes x.0)) (children_of p nodes xs))
 
     pub more_children : (row : List NodeNo) → All (IsMetNode nodes p (level + 1)) row → length row ≤ length (children_of p nodes row)
     more_children [] a = omega arith
@@ -178,11 +178,11 @@ module _ (version : ℕ) (nodes : List NodeState) (roots : List Root) (tree : Is
     pub row_below : (row : List NodeNo) → IsRowOf nodes p (level + 1) row → IsRowOf nodes p level (children_of p nodes row)
     row_below row r = record { each = all_children row r.each; tiles = λ k kl kh. all_counted row r.each k kl kh ∙ r.tiles k kl kh }
 
--- some node of a level is come to
+-- some node of a level is visited
 pub some_in_row : (nodes : List NodeState) (p : Part) (level : ℕ) (row : List NodeNo) → p.low < p.high → IsRowOf nodes p level row → 1 ≤ length row
-some_in_row nodes p level row wide r = omega (arith, r.tiles p.low (omega arith) wide, count_by-le-length (held_at nodes p.low p.last) row)
+some_in_row nodes p level row wide r = omega (arith, r.tiles p.low (omega arith) wide, count_by-le-length (holds_key_at nodes p.low p.last) row)
 
--- reads on the way down
+-- reads during the descent
 pub reads_more : (m r r' passed row row' : ℕ) → 1 ≤ passed → r ≤ m + (passed - 1) * row → r' ≤ r + row → row ≤ row' → r' ≤ m + (passed + 1 - 1) * row'
 reads_more m r r' (suc q) row row' h a b le =
     let e : suc q - 1 ≡ q = omega arith in
@@ -219,7 +219,7 @@ row_alive nodes p (x ∷ xs) a =
     let one : tally (alive_at nodes p.last x) ≡ 1 = ap (λ o. tally (is_alive p.last o)) met.stands ∙ ap tally (within_true met.node.born met.node.died p.last met.born met.died) in
     omega (arith, one, count-cons (alive_at nodes p.last) x xs, row_alive nodes p xs (All-tail (IsMetNode nodes p 0) x xs a))
 
--- more leaves do not make fewer of them alive
+-- a longer list has at least as many leaves that are alive
 pub alive_longer : (nodes : List NodeState) (p : Part) (first leaves sorted : List NodeNo) → All (IsMetNode nodes p 0) first → IsLonger first leaves → IsPermutation leaves sorted → length first ≤ count_by (alive_at nodes p.last) sorted
 alive_longer nodes p first leaves sorted met longer moved =
     let same = sum_by-IsPermutation (λ n. tally (alive_at nodes p.last n)) leaves sorted moved in

@@ -1,4 +1,4 @@
--- The keys that the leaves of a part report are just those that are found in it, each once.
+-- The keys that the leaves of a part report are exactly those that are found in it, each once.
 use Rattle.std.proofs.Common.{◌≡◌, ◌≢◌, ℕ, ◌<◌, ◌≤◌, ◌⊎◌, inl, inr, Bool, true, false, cond, ◌&&◌, List, [], ◌∷◌, ap, refl, sym, ◌∙◌, subst, arith, count_by, slice_get, Some, None, nat_eq, nat_le, nat_lt, max}
 use Rattle.std.specs.Prelude.{All}
 use Rattle.std.proofs.lemmas.Bool.Decides.{nat_tests}
@@ -43,7 +43,7 @@ pub and_both : (a b : Bool) → a ≡ true → b ≡ true → (a && b) ≡ true
 and_both true b h g = g
 and_both false b h g = h
 
--- what it is to lie in a part
+-- a point that lies in a part
 pub record Inside (p : Part) (k v : ℕ) : Type 0 where
   pub low : p.low ≤ k
   pub high : k < p.high
@@ -77,7 +77,7 @@ lies_from p k v i = and_both (nat_le p.low k && nat_lt k p.high) (nat_le p.first
     versions : (a b c : ℕ) → a ≤ b → b ≤ c → (nat_le a b && nat_le b c) ≡ true
     versions a b c h g = grind (arith, nat_tests)
 
--- what it is to be held by a node
+-- a point that a node holds
 pub record Held (n : NodeState) (k v : ℕ) : Type 0 where
   pub low : n.low ≤ k
   pub high : k < n.high
@@ -93,7 +93,7 @@ held_of n k v h =
 pub holds_from : (n : NodeState) (k v : ℕ) → Held n k v → holds k v n ≡ true
 holds_from n k v h = and_both (within n.low n.high k) (within n.born n.died v) (within_true n.low n.high k h.low h.high) (within_true n.born n.died v h.born h.died)
 
--- before the end of a life
+-- a version before the end of a life
 pub ends_alike : (v d : ℕ) → v < now → before_end v (end_of d) ≡ nat_lt v d
 ends_alike v d h = split (nat_eq d now) refl
   where
@@ -108,7 +108,7 @@ both_ways true false f g = sym (f refl)
 both_ways false true f g = g refl
 both_ways false false f g = refl
 
--- what it is to report an entry's key
+-- an entry whose key is reported
 pub record Reports (w : Window) (p : Part) (n : NodeState) (e : Entry) : Type 0 where
   pub inside : Inside p e.low (max e.born w.first)
   pub born : n.born ≤ max e.born w.first
@@ -198,7 +198,7 @@ module _ (version : ℕ) (nodes : List NodeState) (roots : List Root) (tree : Is
     pub keys_small : (k : ℕ) → k < p.high → k < top
     keys_small k h = (let a = inside.high in let b = w.in_keys in omega arith)
 
-    -- a leaf reports a key just where it holds its reference point
+    -- a leaf reports a key exactly if it holds the key's reference point
     module _ (k born dead : ℕ) (life : HasLife nodes k born dead) (lies : lies_in p k (max born w.first) ≡ true) (lasts : max born w.first < dead) where
       abbrev r : ℕ
       r = max born w.first
@@ -262,7 +262,7 @@ module _ (version : ℕ) (nodes : List NodeState) (roots : List Root) (tree : Is
       lives_there : lives_of nodes k r ≡ true
       lives_there = life.lives r r_small ∙ within_true born dead r (omega arith) lasts
 
-      -- how often a leaf reports the key
+      -- the number of times that a leaf reports the key
       reported_count : (i : ℕ) (n : NodeState) → slice_get nodes i ≡ Some n → n.level ≡ 0 → count_by (nat_eq k) (reported_keys w p n) ≡ tally (holds k r n)
       reported_count i n at leaf =
           count_map_filter (nat_eq k) (λ (e : Entry). e.low) (is_reported w p n) n.entries
@@ -325,7 +325,7 @@ module _ (version : ℕ) (nodes : List NodeState) (roots : List Root) (tree : Is
         let lasts : max f.born w.first < f.dead = omega arith in
         counted k f.born f.dead f.life f.reference lasts leaves met.all ∙ met.once _ (home_met k f.born f.dead f.life f.reference lasts)
 
-    -- what a leaf reports is found
+    -- a reported key is found
     reported_found : (i j : ℕ) (n : NodeState) (e : Entry) → slice_get nodes i ≡ Some n → n.level ≡ 0 → slice_get n.entries j ≡ Some e → is_reported w p n e ≡ true → FoundIn nodes w p e.low
     reported_found i j n e at leaf stands h =
         let f = reports_of w p n small e h in

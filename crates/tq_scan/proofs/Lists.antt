@@ -1,4 +1,4 @@
--- Lists: counts, elements and their places.
+-- Lists: counts, elements and their positions.
 use Rattle.std.proofs.Common.{◌≡◌, ◌≢◌, ℕ, zero, suc, ◌+◌, ◌<◌, ◌≤◌, Bool, true, false, cond, List, [], ◌∷◌, ◌++◌, length, map, get_or, ap, refl, sym, ◌∙◌, subst, arith, count_by, slice_get, Some, nat_eq, filter, take, ◌&&◌, append_assoc}
 use Rattle.std.specs.Prelude.{All, Contains, slice_index}
 use Rattle.std.specs.List.Sorted.{IsPermutation, IsNonDecreasing, IsNonDecreasingBy}
@@ -28,7 +28,7 @@ pub all_from_places : {X : Type 0} (P : X → Type 0) (xs : List X) → ((i : �
 all_from_places P [] f = All-nil P
 all_from_places P (x ∷ xs) f = All-cons P x xs (f 0 x refl) (all_from_places P xs (λ i y e. f (suc i) y e))
 
--- tests that agree at each element count alike
+-- equal tests count equally many
 pub count_alike : {X : Type 0} (p q : X → Bool) (xs : List X) → All (λ x. p x ≡ q x) xs → count_by p xs ≡ count_by q xs
 count_alike p q [] a = refl
 count_alike p q (x ∷ xs) a =
@@ -63,7 +63,7 @@ two_pass p (a ∷ xs) (suc i) zero x y n e f t u =
 two_pass p (a ∷ xs) (suc i) (suc j) x y n e f t u =
     omega (arith, two_pass p xs i j x y (λ s. n (ap suc s)) e f t u, count-cons p a xs)
 
--- an element that passes, where one counts
+-- an element that passes, if one is counted
 pub record Passes {X : Type 0} (p : X → Bool) (xs : List X) : Type 0 where
   pub place : ℕ
   pub element : X
@@ -136,12 +136,12 @@ numbers_ascend nodes sorted i j d le h =
     let s = sorted i j (record { 0 = d }) le long in
     omega arith
 
--- what holds of a list's numbers holds of the number at a place
+-- what holds for a list's numbers holds for the number at a position
 pub all_numbers : (P : ℕ → Type 0) (nodes : List NodeNo) → All P (numbers nodes) → All (λ n. P n.0) nodes
 all_numbers P [] a = All-nil (λ (n : NodeNo). P n.0)
 all_numbers P (n ∷ nodes) a = All-cons (λ (m : NodeNo). P m.0) n nodes (All-head P n.0 (numbers nodes) a) (all_numbers P nodes (All-tail P n.0 (numbers nodes) a))
 
--- how often a test holds in what is made of the elements that pass
+-- counting the images of the elements that pass
 pub count_map_filter : {X Y : Type 0} (q : Y → Bool) (f : X → Y) (t : X → Bool) (xs : List X) → count_by q (map f (filter t xs)) ≡ count_by (λ x. q (f x) && t x) xs
 count_map_filter q f t [] = refl
 count_map_filter q f t (e ∷ es) = split (t e) (count_map_filter q f t es) (count-cons (λ x. q (f x) && t x) e es)
@@ -175,7 +175,7 @@ all_map_filter P f q (e ∷ es) h = split (q e) refl (all_map_filter P f q es (�
     split true t rest = All-cons P (f e) (map f (filter q es)) (h 0 e refl t) rest
     split false t rest = rest
 
--- how often a number stands among those of nodes
+-- the number of times that a number occurs among those of nodes
 abbrev pub times : ℕ → List NodeNo → ℕ
 times a nodes = count_by (λ n. nat_eq a n.0) nodes
 
@@ -183,7 +183,7 @@ pub times_numbers : (a : ℕ) (nodes : List NodeNo) → count_by (nat_eq a) (num
 times_numbers a [] = refl
 times_numbers a (n ∷ nodes) = omega (arith, times_numbers a nodes, count-cons (nat_eq a) n.0 (numbers nodes), count-cons (λ (m : NodeNo). nat_eq a m.0) n nodes)
 
--- ---- as many different numbers below a bound as the bound says
+-- ---- a list of different numbers below n has at most n of them
 
 sum_to : (ℕ → ℕ) → ℕ → ℕ
 sum_to f zero = 0
@@ -241,14 +241,14 @@ pub append-nil : {X : Type 0} (xs : List X) → xs ++ [] ≡ xs
 append-nil [] = refl
 append-nil (x ∷ xs) = ap (λ ys. x ∷ ys) (append-nil xs)
 
--- what is made of the elements that pass, one element further
+-- the images of the elements that pass, one element further
 pub filter_step : {X Y : Type 0} (f : X → Y) (p : X → Bool) (es : List X) (i : ℕ) (d : X) (b : Bool) (initial before after : List Y) → i < length es → p (get_or es i d) ≡ b → after ≡ before ++ map f (cond b (get_or es i d ∷ []) []) → before ≡ initial ++ map f (filter p (take i es)) → after ≡ initial ++ map f (filter p (take (i + 1) es))
 filter_step f p es i d b initial before after h t e is =
     e ∙ ap (λ xs. xs ++ map f (cond b (get_or es i d ∷ []) [])) is
     ∙ append_assoc initial (map f (filter p (take i es))) (map f (cond b (get_or es i d ∷ []) []))
     ∙ ap (λ xs. initial ++ xs) (sym (ap (map f) (filter_more p es i d h ∙ ap (λ x. filter p (take i es) ++ cond x (get_or es i d ∷ []) []) t) ∙ map-append f (filter p (take i es)) (cond b (get_or es i d ∷ []) [])))
 
--- what is made of a list's elements, one element further, where the list has grown
+-- the images of a list's elements, one element further, if the list has grown
 pub flat_step : {X Y : Type 0} (f : X → List Y) (xs more : List X) (i : ℕ) (x : X) → slice_get xs i ≡ Some x → flat_map f (take (i + 1) (xs ++ more)) ≡ flat_map f (take i xs) ++ f x
 flat_step f xs more i x e =
     let inside = slice_get_within xs i x e in

@@ -1,4 +1,4 @@
--- A leaf meets a part just where its keys and versions overlap those of the part.
+-- A leaf meets a part exactly if its keys and versions overlap those of the part.
 use Rattle.std.proofs.Common.{◌≡◌, ℕ, ◌<◌, ◌≤◌, List, arith, slice_get, Some, max}
 use Rattle.tq_mvbt.specs.declared.root.Root.{Root}
 use Rattle.tq_mvbt.specs.NodeState.{NodeState}

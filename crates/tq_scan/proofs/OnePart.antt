@@ -1,4 +1,4 @@
--- Each key of a window is found in one part of any cut.
+-- Each key of a window is found in exactly one part of any cut.
 use Rattle.std.proofs.Common.{◌≡◌, ◌≢◌, ℕ, Bool, true, false, List, refl, ap, sym, ◌∙◌, subst, arith, count_by, slice_get, Some, nat_eq, max}
 use Rattle.std.proofs.lemmas.Bool.Decides.{nat_tests}
 use Rattle.tq_mvbt.specs.NodeState.{NodeState}
@@ -9,7 +9,7 @@ use Rattle.tq_scan.specs.declared.window.Window.{Window}
 use Rattle.tq_scan.specs.Windows.{IsInside, lies_in, whole_of}
 use Rattle.tq_scan.specs.Cuts.{AreTiles}
 use Rattle.tq_scan.specs.Scans.{FoundIn}
-use Rattle.tq_scan.specs.Laws.{IsInOnePart, EachInOnePart}
+use Rattle.tq_scan.specs.Laws.{IsInOnePart, KeysAreInOnePart}
 use Rattle.tq_scan.proofs.Lists.{tally, all_at, two_pass, some_passes}
 use Rattle.tq_scan.proofs.KeysOnce.{inside_of, lies_from, within_true, within_low}
 
@@ -62,5 +62,5 @@ module _ (nodes : List NodeState) (w : Window) (parts : List Part) (tiled : AreT
         reference = lies_from (whole_of w) k (max f.born w.first) (record { low = omega arith; high = omega arith; first = omega arith; last = omega arith });
       }
 
-  pub each_in_one_part : EachInOnePart nodes w parts
+  pub each_in_one_part : KeysAreInOnePart nodes w parts
   each_in_one_part = record { one = one; all = all }

@@ -1,4 +1,4 @@
--- A window of one version: all but two of its leaves have five keys each that are found.
+-- A window of one version: each of its leaves, except two, has five keys that are found.
 use Rattle.std.proofs.Common.{◌≡◌, ℕ, ◌+◌, ◌-◌, ◌*◌, ◌/◌, ◌<◌, ◌≤◌, Bool, true, false, ◌&&◌, List, [], ◌∷◌, length, filter, ap, refl, sym, ◌∙◌, subst, arith, count_by, slice_get, Some, None, Option, nat_eq, nat_le, nat_lt, length-append}
 use Rattle.std.specs.Prelude.{All}
 use Rattle.std.proofs.lemmas.Bool.Decides.{nat_tests}
@@ -19,12 +19,12 @@ use Rattle.tq_scan.specs.Windows.{IsInside}
 use Rattle.tq_scan.specs.Scans.{IsMetLeaf, numbers}
 use Rattle.tq_scan.specs.Lists.{ListsOnce}
 use Rattle.tq_scan.specs.Reports.{is_reported, reported_keys, keys_at, keys_of}
-use Rattle.tq_scan.specs.Rows.{is_held, held_at}
+use Rattle.tq_scan.specs.Rows.{holds_key, holds_key_at}
 use Rattle.tq_scan.proofs.Lists.{tally, count-cons, all_at, all_from_places, all_numbers, times, times_numbers, some_passes}
 use Rattle.tq_scan.proofs.KeysOnce.{within_true, within_low, within_high, and_first, and_second, held_of, holds_from, reported_from, each, one_leaf, unique, at_leaf, small, keys_small}
 use Rattle.tq_scan.proofs.MetLeaves.{met_from, meeting_from}
 
--- a test that holds wherever another one does counts no less
+-- a test that holds wherever another one does counts at least as many
 count_grows : {X : Type 0} (p q : X → Bool) (xs : List X) → All (λ x. p x ≡ true → q x ≡ true) xs → count_by p xs ≤ count_by q xs
 count_grows p q [] a = omega arith
 count_grows p q (x ∷ xs) a =
@@ -96,7 +96,7 @@ module _ (version : ℕ) (nodes : List NodeState) (roots : List Root) (tree : Is
 
   -- ---- the leaves at the ends
 
-  held_by_one : (leaves : List NodeNo) → ListsOnce (IsMetLeaf nodes p) (numbers leaves) → (k : ℕ) → p.low ≤ k → k < p.high → count_by (held_at nodes k v) leaves ≤ 1
+  held_by_one : (leaves : List NodeNo) → ListsOnce (IsMetLeaf nodes p) (numbers leaves) → (k : ℕ) → p.low ≤ k → k < p.high → count_by (holds_key_at nodes k v) leaves ≤ 1
   held_by_one leaves lists k kl kh =
       let kt = keys_small version nodes roots tree tiling w p inside k kh in
       let count = one_leaf version nodes roots tree tiling k v kt v_small in
@@ -108,21 +108,21 @@ module _ (version : ℕ) (nodes : List NodeState) (roots : List Root) (tree : Is
       let i1 = inside.first in let i2 = inside.last in let i3 = inside.long in
       let met = met_from version nodes roots tree tiling w p inside f.place f.element f.stands leaf (record { low = omega arith; high = omega arith; born = omega arith; died = omega arith }) in
       let once : times f.place leaves ≡ 1 = sym (times_numbers f.place leaves) ∙ lists.once f.place met in
-      let more = count_grows (held_at nodes k v) (λ (a : NodeNo). nat_eq f.place a.0) leaves (All-weaker (λ (a : NodeNo). IsMetLeaf nodes p a.0) (λ (a : NodeNo). held_at nodes k v a ≡ true → nat_eq f.place a.0 ≡ true) (λ a m t.
-      let its : holds k v m.node ≡ true = ap (is_held k v) (sym m.stands) ∙ t in
+      let more = count_grows (holds_key_at nodes k v) (λ (a : NodeNo). nat_eq f.place a.0) leaves (All-weaker (λ (a : NodeNo). IsMetLeaf nodes p a.0) (λ (a : NodeNo). holds_key_at nodes k v a ≡ true → nat_eq f.place a.0 ≡ true) (λ a m t.
+      let its : holds k v m.node ≡ true = ap (holds_key k v) (sym m.stands) ∙ t in
       is_same f.place a.0 (unique version nodes roots tree tiling f.place a.0 f.element m.node k v kt v_small f.stands m.stands leaf m.leaf held its)) leaves (all_numbers (IsMetLeaf nodes p) leaves lists.all)) in
       omega arith
     where
       is_same : (a b : ℕ) → a ≡ b → nat_eq a b ≡ true
       is_same a b h = grind (arith, nat_tests)
 
-  ends_or_inner : (a : NodeNo) → IsMetLeaf nodes p a.0 → 1 ≤ tally (is_inner p (slice_get nodes a.0)) + (tally (held_at nodes p.low v a) + tally (held_at nodes (p.high - 1) v a))
+  ends_or_inner : (a : NodeNo) → IsMetLeaf nodes p a.0 → 1 ≤ tally (is_inner p (slice_get nodes a.0)) + (tally (holds_key_at nodes p.low v a) + tally (holds_key_at nodes (p.high - 1) v a))
   ends_or_inner a met =
       let n = met.node in
       let m = meeting_from version nodes roots tree tiling w p inside a.0 met in
       let m1 = m.low in let m2 = m.high in let w1 = inside.wide in
       let wide = (each version nodes roots tree tiling a.0 n met.stands).wide in
-      subst (λ o. 1 ≤ tally (is_inner p o) + (tally (is_held p.low v o) + tally (is_held (p.high - 1) v o))) (sym met.stands)
+      subst (λ o. 1 ≤ tally (is_inner p o) + (tally (holds_key p.low v o) + tally (holds_key (p.high - 1) v o))) (sym met.stands)
       (split (nat_lt p.low n.low) (nat_le n.high p.high) refl refl
       (λ h. ap tally (holds_from n p.low v (record { low = h; high = m2; born = born_by a.0 met; died = died_after a.0 met })))
       (λ h. ap tally (holds_from n (p.high - 1) v (record { low = omega arith; high = omega arith; born = born_by a.0 met; died = died_after a.0 met }))))
@@ -132,12 +132,12 @@ module _ (version : ℕ) (nodes : List NodeState) (roots : List Root) (tree : Is
       split true false e f g h = (let x : p.high < met.node.high = grind (arith, nat_tests) in let y = h x in omega arith)
       split false t e f g h = (let x : met.node.low ≤ p.low = grind (arith, nat_tests) in let y = g x in omega arith)
 
-  all_ends : (leaves : List NodeNo) → All (λ a. IsMetLeaf nodes p a.0) leaves → length leaves ≤ count_by (λ (a : NodeNo). is_inner p (slice_get nodes a.0)) leaves + (count_by (held_at nodes p.low v) leaves + count_by (held_at nodes (p.high - 1) v) leaves)
+  all_ends : (leaves : List NodeNo) → All (λ a. IsMetLeaf nodes p a.0) leaves → length leaves ≤ count_by (λ (a : NodeNo). is_inner p (slice_get nodes a.0)) leaves + (count_by (holds_key_at nodes p.low v) leaves + count_by (holds_key_at nodes (p.high - 1) v) leaves)
   all_ends [] a = omega arith
   all_ends (x ∷ xs) a =
       let here = ends_or_inner x (All-head (λ (b : NodeNo). IsMetLeaf nodes p b.0) x xs a) in
       let rest = all_ends xs (All-tail (λ (b : NodeNo). IsMetLeaf nodes p b.0) x xs a) in
-      omega (arith, here, rest, count-cons (λ (b : NodeNo). is_inner p (slice_get nodes b.0)) x xs, count-cons (held_at nodes p.low v) x xs, count-cons (held_at nodes (p.high - 1) v) x xs)
+      omega (arith, here, rest, count-cons (λ (b : NodeNo). is_inner p (slice_get nodes b.0)) x xs, count-cons (holds_key_at nodes p.low v) x xs, count-cons (holds_key_at nodes (p.high - 1) v) x xs)
 
   five_each : (leaves : List NodeNo) → All (λ a. IsMetLeaf nodes p a.0) leaves → 5 * count_by (λ (a : NodeNo). is_inner p (slice_get nodes a.0)) leaves ≤ length (keys_of w p nodes leaves)
   five_each [] a = omega arith

@@ -67,7 +67,7 @@ keys_inside w low high first last versions (c ∷ cuts) i (a, (b, g)) h =
     (versions_inside w low c first last versions (record { wide = a; long = x2; low = x3; high = omega arith; first = x5; last = x6 }) h)
     (keys_inside w c high first last versions cuts (record { wide = b; long = x2; low = omega arith; high = x4; first = x5; last = x6 }) g h)
 
--- the parts of a window that is cut tile it
+-- the parts of a cut window tile it
 pub parts_tile : (w : Window) (keys versions : List ℕ) → AreCuts w keys versions → AreTiles w (parts_of w keys versions)
 parts_tile w keys versions cuts =
     record {

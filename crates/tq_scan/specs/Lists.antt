@@ -1,13 +1,13 @@
--- Lists that have just what is wanted (this project's own).
+-- Lists of exactly the numbers with a property (this project's own).
 use Rattle.std.specs.Prelude.{◌≡◌, ℕ, ◌↔◌, List, Contains, All, count_by, nat_eq, ◌++◌}
 use Rattle.std.specs.List.Sorted.{IsStrictlyIncreasing}
 
--- the list strictly ascends and has just the numbers of which the fact holds
+-- the list strictly ascends and has exactly the numbers with the property
 pub record ListsJust (P : ℕ → Type 0) (xs : List ℕ) : Type 0 where
   pub ascending : IsStrictlyIncreasing xs
   pub just : (x : ℕ) → Contains xs x ↔ P x
 
--- the list has each number of which the fact holds once, and no other
+-- the list has each number with the property once, and no other
 pub record ListsOnce (P : ℕ → Type 0) (xs : List ℕ) : Type 0 where
   pub all : All P xs
   pub once : (x : ℕ) → P x → count_by (nat_eq x) xs ≡ 1

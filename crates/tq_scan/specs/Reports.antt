@@ -1,5 +1,5 @@
--- Which of the keys that a leaf lists it reports: each key is reported by one leaf, since its reference point lies
--- in one region (this project's own).
+-- The keys of a leaf that a scan reports: each key is reported by exactly one leaf, since its reference point lies in
+-- one region (this project's own).
 use Rattle.std.specs.Prelude.{ℕ, Bool, List, [], nat_le, ◌&&◌, map, filter, max, Option, Some, None, slice_get}
 use Rattle.std.specs.List.{flat_map}
 use Rattle.tq_arena.specs.declared.arena.NodeNo.{NodeNo}
@@ -21,7 +21,7 @@ is_reported w p leaf e =
 abbrev pub reported_keys : Window → Part → NodeState → List ℕ
 reported_keys w p leaf = map (λ e. e.low) (filter (is_reported w p leaf) leaf.entries)
 
--- the keys that a leaf reports, by its number
+-- the keys that a leaf reports, by the leaf's number
 abbrev pub keys_at : Window → Part → Option NodeState → List ℕ
 keys_at w p None = []
 keys_at w p (Some leaf) = reported_keys w p leaf

@@ -1,4 +1,4 @@
--- What is found in a part of a window (van den Bercken and Seeger 1996; the choice of the reference point is this
+-- What a scan finds in a part of a window (van den Bercken and Seeger 1996; the choice of the reference point is this
 -- project's own).
 use Rattle.std.specs.Prelude.{◌≡◌, ℕ, Bool, true, false, List, max, map, slice_get, Option, Some, None}
 use Rattle.tq_arena.specs.declared.arena.NodeNo.{NodeNo}
@@ -46,6 +46,6 @@ abbrev pub is_alive : ℕ → Option NodeState → Bool
 is_alive version None = false
 is_alive version (Some n) = within n.born n.died version
 
--- whether the node under the number is alive at the version
+-- whether the node with the number is alive at the version
 abbrev pub alive_at : List NodeState → ℕ → NodeNo → Bool
 alive_at nodes version number = is_alive version (slice_get nodes number.0)

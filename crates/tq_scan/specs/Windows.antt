@@ -1,10 +1,10 @@
--- Windows of keys and versions and their parts, as sets of points, each a key at a version (van den Bercken and
--- Seeger 1996).
+-- Windows of keys and versions, and their parts, as sets of points, each a key at a version (van den Bercken and Seeger
+-- 1996).
 use Rattle.std.specs.Prelude.{◌≡◌, ℕ, ◌<◌, ◌≤◌, Bool, nat_le, nat_lt, ◌&&◌}
 use Rattle.tq_scan.specs.declared.window.Part.{Part}
 use Rattle.tq_scan.specs.declared.window.Window.{Window}
 
--- some keys below 2^96, and some versions up to 16,777,216
+-- at least one key, all below 2^96, and at least one version, all at most 16,777,216
 pub record IsWindow (low high first last : ℕ) : Type 0 where
   pub wide : low < high
   pub in_keys : high ≤ 79228162514264337593543950336
@@ -18,7 +18,7 @@ pub record IsOf (low high first last : ℕ) (w : Window) : Type 0 where
   pub first_is : w.first ≡ first
   pub last_is : w.last ≡ last
 
--- all of a window
+-- the whole window as a part
 abbrev pub whole_of : Window → Part
 whole_of w = record { low = w.low; high = w.high; first = w.first; last = w.last }
 

@@ -6,7 +6,7 @@ ghost use Rattle.tq_scan.specs.Cuts.{AreCuts, AreTiles, KeysAscend, VersionsAsce
 use crate::window::{Part, Window};
 use std::alloc::{AllocError, Global};
 
-// Whether the keys strictly ascend between the low and the high one.
+// Whether the cuts strictly ascend and lie between the low and the high key.
 pub(crate) fn ascends_keys(low: u128, high: u128, cuts: &[u128]) -> bool
     ensures { IsTrue result ↔ KeysAscend low high cuts.now }
 {
@@ -20,7 +20,7 @@ pub(crate) fn ascends_keys(low: u128, high: u128, cuts: &[u128]) -> bool
     true
 }
 
-// Whether the versions strictly ascend from the first one, up to the last one.
+// Whether the cuts strictly ascend, all after the first version and none after the last one.
 pub(crate) fn ascends_versions(first: u32, last: u32, cuts: &[u32]) -> bool
     ensures { IsTrue result ↔ VersionsAscend first last cuts.now }
 {
@@ -34,7 +34,7 @@ pub(crate) fn ascends_versions(first: u32, last: u32, cuts: &[u32]) -> bool
     true
 }
 
-// Appends the parts over a range of keys, one after the other in versions.
+// Appends the parts over a range of keys, in the order of their versions.
 fn push_parts(
     parts: &mut Vec<Part>,
     low: u128,
@@ -64,9 +64,9 @@ fn push_parts(
     Ok(())
 }
 
-/// The parts of the window that is cut at these keys and versions, by keys and then by versions. A key cut is the
-/// least key above it, a version cut the first version after it.
-/// Out of memory: nothing is given.
+/// The parts of the window that is cut at these keys and versions, by keys and then by versions. A key cut is the least
+/// key of the part above it, a version cut the first version of the part after it. `AllocError` if an allocation
+/// failed.
 pub fn cut(
     alloc: Global,
     window: &Window,

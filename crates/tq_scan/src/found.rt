@@ -1,4 +1,4 @@
-//! What a scan finds.
+//! The result of a scan.
 
 use std::marker::Model;
 use tq_mvbt::NodeNos;
@@ -20,14 +20,14 @@ impl Model for Keys {
 impl Keys {
     ghost use Rattle.std.specs.Prelude.{◌≡◌};
 
-    /// The keys handed in; takes no memory.
+    /// Wraps the list; allocates nothing.
     pub fn of(items: Vec<u128>) -> Keys
         ensures { result ≡ items.items }
     {
         Keys { items }
     }
 
-    /// The keys; takes no memory.
+    /// The keys; allocates nothing.
     pub fn get(&self) -> &[u128]
         ensures { result.now ≡ self.now }
     {
@@ -35,11 +35,11 @@ impl Keys {
     }
 }
 
-/// What a part of a window has: the keys that are found in it, and the leaves whose region meets it.
+/// The keys that are found in a part of a window, and the leaves whose region meets the part.
 #[derive(Drop, Debug)]
 pub struct Found {
-    /// The keys; in ascending order where they are sorted.
+    /// The keys; in ascending order after `scan`.
     pub keys: Keys,
-    /// The numbers of the leaves; in ascending order where they are sorted.
+    /// The numbers of the leaves; in ascending order after `scan`.
     pub leaves: NodeNos,
 }

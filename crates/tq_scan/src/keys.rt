@@ -23,8 +23,8 @@ fn is_in(part: &Part, key: u128, version: u32) -> bool
     (part.low <= key) & (key < part.high) & ((part.first <= version) & (version <= part.last))
 }
 
-// Whether the reference point of the entry's key lies in the part and in the leaf's region, and the key lives
-// there. All is compared: which of it holds differs from entry to entry, so a branch would be guessed wrong.
+// Whether the reference point of the entry's key lies in the part and in the leaf's region, and the key lives there.
+// All is compared without a branch: the outcomes differ from entry to entry, and a branch would be mispredicted.
 fn reports(leaf: &Node, place: u32, window: &Window, part: &Part) -> bool
     requires { place < length leaf.now.entries }
     ensures { IfSome (slice_get leaf.now.entries place) (λ e. result ≡ is_reported window.now part.now leaf.now e) }
@@ -35,8 +35,8 @@ fn reports(leaf: &Node, place: u32, window: &Window, part: &Part) -> bool
             & (is_before(version, leaf.died()) & is_before(version, leaf.dead_of(place))))
 }
 
-// Appends the keys that the leaf reports. Each key is put in and taken back where it is not reported, so that the loop
-// has no branch to guess, and the processor waits for many entries at once.
+// Appends the keys that the leaf reports. Each key is pushed, and removed again if it is not reported. So the loop has
+// no branch to predict, and the processor overlaps the cache misses of many entries.
 pub(crate) fn push_keys(
     keys: &mut Vec<u128>,
     leaf: &Node,

@@ -1,4 +1,4 @@
-//! From the root to the leaves at a part's last version, and from a leaf to those that it links.
+//! The descent from the root to the leaves at a part's last version, and the links from a leaf.
 
 ghost use Rattle.std.specs.Prelude.{◌≡◌, ◌+◌, ◌-◌, ◌*◌, ◌<◌, ◌≤◌, ◌++◌, length, min, All, IfOk, OnOk, IfSome, slice_get};
 ghost use Rattle.tq_mvbt.specs.TreeState.{height_of};
@@ -13,12 +13,12 @@ use std::alloc::{AllocError, Global};
 use tq_arena::{Meter, NodeNo};
 use tq_mvbt::{Link, Node, Tree};
 
-// The nodes of one level that a scan has still to read. A question for one key has one node a level, and one for a
-// short range of keys has a few, so eight fit inline; the levels of longer ranges take an allocation.
+// The nodes of one level that a scan still has to read. A scan for one key has one node on each level, and one for a
+// short range of keys a few, so eight are stored inline. Longer ranges need an allocation.
 type Row = SmallVec<NodeNo, 8>;
 
 // Whether the entry's child is alive at the part's last version and has keys of the part.
-fn leads_on(node: &Node, place: u32, part: &Part) -> bool
+fn leads_to_part(node: &Node, place: u32, part: &Part) -> bool
     requires { place < length node.now.entries }
     ensures { IfSome (slice_get node.now.entries place) (λ e. result ≡ is_met_child part.now e) }
 {
@@ -28,20 +28,20 @@ fn leads_on(node: &Node, place: u32, part: &Part) -> bool
         && is_before(part.last, node.dead_of(place))
 }
 
-// Appends the children that a scan goes on to.
+// Appends the children that a scan visits.
 fn push_children(row: &mut Row, node: &Node, part: &Part) -> Result<(), AllocError>
     requires { 0 < node.now.level }
     ensures { OnOk result (row.new.items ≡ row.old.items ++ met_children part.now node.now) }
 {
     for place in 0..node.len() {
-        if leads_on(node, place, part) {
+        if leads_to_part(node, place, part) {
             row.push(node.child(place))?;
         }
     }
     Ok(())
 }
 
-// The children that a scan goes on to from the nodes of a level; each of these is read once.
+// The children that a scan visits from the nodes of a level; each of these nodes is read once.
 fn next_row(
     alloc: Global,
     tree: &Tree,
@@ -93,8 +93,8 @@ pub(crate) fn meets(leaf: &Node, link: &Link, part: &Part) -> bool
     part.first < leaf.born() && link.low < part.high && part.low < link.high
 }
 
-// Whether the link is followed: the linked leaf has a point in the part, and the greater of its low key and that of
-// the part lies in the leaf's range.
+// Whether a scan follows the link: the linked leaf has a point in the part, and the greater of its low key and the
+// part's lies in the leaf's range.
 pub(crate) fn follows(leaf: &Node, link: &Link, part: &Part) -> bool
     ensures { result ≡ is_followed part.now leaf.now link.now }
 {
@@ -102,7 +102,7 @@ pub(crate) fn follows(leaf: &Node, link: &Link, part: &Part) -> bool
     meets(leaf, link, part) && leaf.low() <= low && low < leaf.high()
 }
 
-// Appends the leaves that the leaf leads to.
+// Appends the leaves to which the leaf's followed links lead.
 pub(crate) fn push_linked(
     leaves: &mut Vec<NodeNo>,
     leaf: &Node,

@@ -1,10 +1,12 @@
-//! Which keys of a tree live in a window of keys and versions, each of them found once, however the window is
-//! cut into parts.
+//! Scans of a multiversion tree: the keys that live in a window of keys and versions, each found exactly once.
 //!
-//! A window is a range of keys over an interval of versions, and `cut` divides it into parts. `scan` answers for
-//! one part: the leaves whose region meets it, and the keys whose reference point in the window lies in it, sorted;
-//! `scan_unsorted` leaves them as they are come to. A key's reference point is the key itself at the later of its birth and the window's first version, so each key
-//! that lives in the window is found in just one part of any cut (the law `each_key_in_one_part`).
+//! A window is a range of keys over an interval of versions; `cut` divides it into parts. `scan` returns the keys whose
+//! reference point lies in a part, and the leaves whose region meets it; `scan_unsorted` returns the same in any order.
+//! A key's reference point is the key at the later of its birth and the window's first version. So each key is found in
+//! exactly one part of any cut (law `keys_are_in_one_part`). The contract of `scan` cites `FoundIn` and `IsMetLeaf` in
+//! `specs/Scans.antt`.
+//!
+//! Open `src/scanning.rt` first.
 #![tactic(auto)]
 
 mod cutting;
@@ -17,6 +19,6 @@ mod window;
 
 pub use cutting::cut;
 pub use found::{Found, Keys};
-pub use laws::each_key_in_one_part;
+pub use laws::keys_are_in_one_part;
 pub use scanning::{scan, scan_unsorted};
 pub use window::{Part, Window};

@@ -1,4 +1,4 @@
-//! What a part of a window has.
+//! The scan of a part of a window.
 
 ghost use Rattle.std.specs.Prelude.{◌≡◌, ◌+◌, ◌-◌, ◌*◌, ◌/◌, ◌<◌, ◌≤◌, ◌++◌, slice_get, length, min, count_by, OnOk, IfOk, IsPermutation};
 ghost use Rattle.std.specs.List.Sorted.{IsNonDecreasing, IsNonDecreasingBy};
@@ -18,7 +18,6 @@ use std::alloc::{AllocError, Global};
 use tq_arena::{Meter, NodeNo};
 use tq_mvbt::{NodeNos, Tree, trees_tile};
 
-// Puts keys in ascending order.
 fn sort_keys(keys: &mut Vec<u128>) -> Result<(), AllocError>
     ensures same { IsPermutation keys.old.items keys.new.items }
     ensures len { length keys.new.items ≡ length keys.old.items }
@@ -27,7 +26,7 @@ fn sort_keys(keys: &mut Vec<u128>) -> Result<(), AllocError>
     keys.sort()
 }
 
-// Puts nodes in ascending order of their numbers.
+// Sorts nodes by number.
 fn sort_nodes(nodes: &mut Vec<NodeNo>) -> Result<(), AllocError>
     ensures same { IsPermutation nodes.old.items nodes.new.items }
     ensures len { length nodes.new.items ≡ length nodes.old.items }
@@ -37,7 +36,7 @@ fn sort_nodes(nodes: &mut Vec<NodeNo>) -> Result<(), AllocError>
     Ok(())
 }
 
-// Reads the leaf, and appends the keys that it reports and the leaves that it leads to.
+// Reads the leaf, and appends the keys that it reports and the leaves to which its followed links lead.
 fn read_leaf(
     tree: &Tree,
     number: NodeNo,
@@ -57,7 +56,7 @@ fn read_leaf(
     push_linked(leaves, leaf, part)
 }
 
-// The keys that the leaves report; the leaves that these lead to along links are appended to them. Each leaf is read
+// The keys that the leaves report. Leaves that are reached along links are appended to the list; each leaf is read
 // once.
 fn read_leaves(
     alloc: Global,
@@ -87,11 +86,11 @@ fn read_leaves(
     Ok(keys)
 }
 
-/// The keys of the tree that are found in the part, and the leaves whose region meets it. It goes down once, to the
-/// leaves at the part's last version, and from there back along links. The meter counts each of those leaves once,
-/// and on the way down one node a level at least, and at most one for each leaf that it leads to. A part of a window of
-/// one version has at most two leaves more than a fifth of its keys.
-/// Out of memory: nothing is given.
+/// The keys of the tree that are found in the part, and the leaves whose region meets it, both in ascending order. It
+/// descends once, to the leaves at the part's last version, and goes back from there along links. The meter counts each
+/// leaf once. On each level above the leaves it counts at least one read, and at most one for each leaf that is alive
+/// at the part's last version. A window of one version meets at most two leaves more than a fifth of its keys.
+/// `AllocError` if an allocation failed.
 pub fn scan(
     alloc: Global,
     tree: &Tree,
@@ -118,8 +117,7 @@ pub fn scan(
     })
 }
 
-/// The same, each key and each leaf once, in any order: what `scan` sorts.
-/// Out of memory: nothing is given.
+/// `scan` without sorting: each key and each leaf once, in any order. `AllocError` if an allocation failed.
 pub fn scan_unsorted(
     alloc: Global,
     tree: &Tree,

@@ -4,10 +4,10 @@ ghost use Rattle.std.specs.Prelude.{◌≡◌, ◌<◌, ◌≤◌, ◌↔◌, �
 
 use crate::cutting::{ascends_keys, ascends_versions};
 
-/// One above the greatest key.
+/// One more than the greatest key.
 const TOP: u128 = 79228162514264337593543950336;
 
-/// The last version that a tree can have.
+/// The last version of any tree.
 const LAST: u32 = 16777216;
 
 /// The keys `low <= k < high` at the versions `first <= v <= last`.
@@ -19,8 +19,8 @@ pub struct Part {
     pub last: u32,
 }
 
-/// The keys `low <= k < high` at the versions `first <= v <= last`: some keys below 2^96, and some versions up to
-/// 16,777,216.
+/// The keys `low <= k < high` at the versions `first <= v <= last`. There is at least one of each; keys are below 2^96,
+/// and versions at most 16,777,216.
 #[derive(Clone, Copy, PartialEq, Eq, Debug)]
 pub struct Window {
     pub low: u128,
@@ -37,7 +37,8 @@ impl Window {
     ghost use Rattle.tq_scan.specs.Windows.{IsWindow, IsOf, whole_of};
     ghost use Rattle.tq_scan.specs.Cuts.{AreCuts};
 
-    /// The window of these keys and versions; `None` where there are none, or some are too great.
+    /// The window of these keys and versions; `None` if it would be empty, or goes beyond the keys or versions of a
+    /// tree.
     pub fn new(low: u128, high: u128, first: u32, last: u32) -> Option<Window>
         ensures valid { IsSome result ↔ IsWindow low high first last }
         ensures value { IfSome result (IsOf low high first last) }
@@ -54,7 +55,7 @@ impl Window {
         }
     }
 
-    /// All of the window as one part.
+    /// The whole window as one part.
     pub fn whole(&self) -> Part
         ensures { result ≡ whole_of self.now }
     {
@@ -66,8 +67,8 @@ impl Window {
         }
     }
 
-    /// Whether the window can be cut at these keys and versions: both lists strictly ascend, and each cut has
-    /// keys or versions of the window on both sides.
+    /// Whether the window can be cut at these keys and versions: both lists strictly ascend, and each cut has keys or
+    /// versions of the window on both sides.
     pub fn admits(&self, key_cuts: &[u128], version_cuts: &[u32]) -> bool
         ensures { IsTrue result ↔ AreCuts self.now key_cuts.now version_cuts.now }
     {

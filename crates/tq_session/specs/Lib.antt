@@ -1,10 +1,10 @@
 pub mod Lines
 pub mod Input
-pub mod Gathering
+pub mod LineBuffers
 pub mod Requests
 pub mod Replies
 pub mod Transcripts
 pub mod Recording
-pub mod Asking
+pub mod Query
 pub mod Sessions
-pub mod Stepping
+pub mod LineSteps

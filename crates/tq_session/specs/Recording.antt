@@ -1,4 +1,4 @@
--- The table and the values that a command names. This project's own.
+-- The table and the values of a command's arguments. This project's own.
 use Rattle.std.specs.Prelude.{◌≡◌, ℕ, List, Some, None}
 use Rattle.tq_base.specs.declared.catalogue.Catalogue.{Catalogue}
 use Rattle.tq_base.specs.declared.value.Value.{Value}
@@ -7,12 +7,12 @@ use Rattle.tq_session.specs.declared.reply.Refusal.{Refusal}
 use Rattle.tq_session.specs.declared.reply.Refusal.TheVariants as refusal
 use Rattle.tq_session.specs.Transcripts.{values_for}
 
--- the table has the name, and the values are those that the bytes write for it
+-- the table has the name, and the values are those of the fields
 pub record AreFound (catalogue : Catalogue) (name : List ℕ) (fields : List ℕ) (table : ℕ) (values : List Value) : Type 0 where
   pub named : table_number catalogue name ≡ Some table
   pub written : values_for catalogue table fields ≡ Some values
 
--- the table has the name, and the bytes write no values for it
+-- the table has the name, and the fields are not values of it
 pub record AreBadValues (catalogue : Catalogue) (name : List ℕ) (fields : List ℕ) : Type 0 where
   pub table : ℕ
   pub named : table_number catalogue name ≡ Some table
@@ -23,7 +23,7 @@ pub record IsNamed (catalogue : Catalogue) (name : List ℕ) : Type 0 where
   pub table : ℕ
   pub named : table_number catalogue name ≡ Some table
 
--- why they are not found
+-- why there is no such table, or no such values
 abbrev pub NotFound : Catalogue → List ℕ → List ℕ → Refusal → Type 0
 NotFound catalogue name fields refusal.UnknownTable = table_number catalogue name ≡ None
 NotFound catalogue name fields refusal.BadValues = AreBadValues catalogue name fields

@@ -1,4 +1,4 @@
--- What a session prints for each reply. This project's own.
+-- The text of each reply. This project's own.
 use Rattle.std.specs.Prelude.{◌≡◌, ℕ, List, [], ◌++◌, Option, Some, None, codes, decimal}
 use Rattle.std.specs.Borrow.{Bor}
 use Rattle.std.specs.Io.KnownBytes.{Appends}
@@ -36,8 +36,8 @@ refusal_name (refusal.TooNew published) = codes "TooNew"
 refusal_name refusal.Closed = codes "Closed"
 refusal_name refusal.OutOfMemory = codes "OutOfMemory"
 
--- its number as it is printed, where it has one: the time of the last event, the offset in the statement, or how many
--- events are published
+-- the number after a refusal's name, if it has one: the time of the last event, the offset in the statement, or the
+-- number of published events
 abbrev pub refusal_number : Form → Refusal → Option (List ℕ)
 refusal_number form refusal.BadLine = None
 refusal_number form refusal.UnknownTable = None
@@ -51,13 +51,12 @@ refusal_number form (refusal.TooNew published) = Some (decimal published)
 refusal_number form refusal.Closed = None
 refusal_number form refusal.OutOfMemory = None
 
--- a line: what stands first in it, a word, the digits of a number behind a space where there is one; and a text behind
--- the line
+-- a line: its first part, a word, and a space and digits if there are any; then a text after the line
 abbrev pub line_text : List ℕ → List ℕ → Option (List ℕ) → List ℕ → List ℕ
 line_text first word None text = first ++ (word ++ (codes "\n" ++ text))
 line_text first word (Some digits) text = first ++ (word ++ (codes " " ++ (digits ++ (codes "\n" ++ text))))
 
--- what is printed: nothing for an empty line, else a line, and behind it the text of an answer
+-- the text of a reply: nothing for an empty line, else a line, followed by the text of an answer
 abbrev pub reply_text : Form → Reply → List ℕ
 reply_text form reply.Nothing = []
 reply_text form (reply.Row row) = line_text [] (codes "row") (Some (decimal row)) []
@@ -65,10 +64,10 @@ reply_text form (reply.Published count) = line_text [] (codes "published") (Some
 reply_text form (reply.Answer rows text) = line_text [] (codes "answer") (Some (decimal rows)) text.items
 reply_text form (reply.Refused why) = line_text (codes "refused ") (refusal_name why) (refusal_number form why) []
 
--- the bytes of slices, one behind the other
+-- the bytes of slices, one after the other
 abbrev pub joined : List (Bor (List ℕ)) → List ℕ
 joined parts = flat_map (λ (part : Bor (List ℕ)). part.now) parts
 
--- known bytes grow by all of these bytes but the rest
-abbrev pub AppendsAllBut : Option (List ℕ) → Option (List ℕ) → List ℕ → List ℕ → Type 0
-AppendsAllBut old new bytes rest = (sent : List ℕ) × (bytes ≡ sent ++ rest) × Appends old new sent
+-- known bytes grow by these bytes without the rest
+abbrev pub AppendsAllExcept : Option (List ℕ) → Option (List ℕ) → List ℕ → List ℕ → Type 0
+AppendsAllExcept old new bytes rest = (sent : List ℕ) × (bytes ≡ sent ++ rest) × Appends old new sent

@@ -4,8 +4,8 @@ ghost use Rattle.std.specs.Prelude.{◌≡◌, ◌*◌, ◌-◌, ◌<◌, ◌≤
 ghost use Rattle.std.specs.Result.{is_err};
 ghost use Rattle.std.specs.Io.KnownBytes.{Consumes, IsAtEnd, Keeps};
 ghost use Rattle.tq_table.specs.Sink.{one_more};
-ghost use Rattle.tq_session.specs.Gathering.{Gathers, IsEnded, IsGathered, IsLast, MovesAll, MovesLine};
-ghost use Rattle.tq_session.specs.Input.{IsCutOff, IsFound, most_of_read, reads_after};
+ghost use Rattle.tq_session.specs.LineBuffers.{Collects, IsEnded, HasCollected, IsLast, TakesAll, TakesLine};
+ghost use Rattle.tq_session.specs.Input.{IsCutOff, IsFound, max_read, reads_after};
 ghost use Rattle.tq_session.specs.Lines.{HasNoFeed};
 
 use memchr::memchr;
@@ -14,27 +14,27 @@ use std::io::Read;
 use std::marker::Model;
 use tq_engine::{FileFault, Source};
 
-// The most reads of one session.
+// The maximal number of reads in one session.
 const READ_LIMIT: u32 = 1_073_741_824;
 
-// The most bytes of a line, without its line feed and with a carriage return before it.
+// The maximal length of a line, without its line feed, but with a carriage return before it.
 const LINE_LIMIT: usize = 70_000;
 
-// The bytes asked for in one read.
+// The size of the buffer of one read, in bytes.
 const CHUNK: usize = 65_536;
 
-/// What is found next in the input.
+/// What is next in the input. The `bool` is true for the last line, which has no line feed.
 #[derive(Clone, Copy, Debug, PartialEq, Eq)]
 pub enum Found {
-    /// A line, which `Input::line` lends, and whether it is the last one, which no line feed ends.
+    /// A line, which `Input::line` returns.
     Line(bool),
-    /// A line of more than 70,000 bytes, which were passed over, and the same of it.
+    /// A line of more than 70,000 bytes, which was skipped.
     TooLong(bool),
     /// The end of the input.
     End,
 }
 
-// The bytes of one read, of which the first were gone through.
+// The bytes of one read; the first of them are consumed.
 #[derive(Drop)]
 struct Chunk {
     bytes: Vec<u8>,
@@ -53,7 +53,7 @@ impl Model for Chunk {
 }
 
 impl Chunk {
-    // Room for one read, with no byte yet.
+    // An empty buffer for one read.
     fn with_room(alloc: Global) -> Result<Chunk, AllocError>
         ensures { IfOk result (λ chunk. chunk ≡ []) }
     {
@@ -64,27 +64,27 @@ impl Chunk {
         })
     }
 
-    // The bytes that were not gone through yet.
-    fn unread(&self) -> &[u8]
+    // The bytes that are not consumed yet.
+    fn unconsumed(&self) -> &[u8]
         ensures { result.now ≡ self.now }
     {
         &self.bytes[self.from..self.to]
     }
 
-    // Goes through so many bytes.
-    fn pass(&mut self, count: usize)
+    // Consumes the first `count` bytes.
+    fn consume(&mut self, count: usize)
         requires { count ≤ length self.old }
         ensures { self.new ≡ drop count self.old }
     {
         self.from += count;
     }
 
-    // One read, whose bytes take the place of the others. How many came.
+    // Reads once, replaces the bytes by those read, and returns their number.
     fn fill<R: Read>(&mut self, source: &mut Source<R>) -> Result<usize, FileFault>
         ensures taken { OnOk result (Consumes (R.remaining source.old.reader) (R.remaining source.new.reader)
             self.new) }
         ensures count { IfOk result (λ count. count ≡ length self.new) }
-        ensures most { OnOk result (length self.new ≤ most_of_read) }
+        ensures most { OnOk result (length self.new ≤ max_read) }
         ensures end { OnOk result (self.new ≡ [] → IsAtEnd (R.remaining source.new.reader)) }
         ensures kept { OnErr result (Keeps (R.remaining source.old.reader) (R.remaining source.new.reader)) }
         ensures fault { IfErr result (λ fault. fault ≡ FileFault.Read) }
@@ -100,58 +100,58 @@ impl Chunk {
     }
 }
 
-// A line as far as it was read: its bytes, while they are at most 70,000.
+// The line that is being read: its bytes, while they are at most 70,000.
 #[derive(Drop)]
-struct Gathered {
+struct LineBuffer {
     bytes: Vec<u8>,
     too_long: bool,
 }
 
-impl Model for Gathered {
+impl Model for LineBuffer {
     ghost use Rattle.std.specs.Prelude.{◌≤◌, vec_len, vec_capacity};
-    ghost use Rattle.tq_session.specs.Gathering.{GatheredState};
+    ghost use Rattle.tq_session.specs.LineBuffers.{LineBufferState};
 
-    ghost Value = { GatheredState };
+    ghost Value = { LineBufferState };
 
     ghost view = { λ g. record { bytes = g.bytes.items; too_long = g.too_long } };
 
     ghost invariant = { λ g. (vec_len g.bytes ≤ 70000) × (70000 ≤ vec_capacity g.bytes) };
 }
 
-impl Gathered {
-    // Room for 70,000 bytes, with none yet.
-    fn with_room(alloc: Global) -> Result<Gathered, AllocError> {
-        Ok(Gathered {
+impl LineBuffer {
+    // An empty buffer for 70,000 bytes.
+    fn with_room(alloc: Global) -> Result<LineBuffer, AllocError> {
+        Ok(LineBuffer {
             bytes: Vec::with_capacity(alloc, LINE_LIMIT)?,
             too_long: false,
         })
     }
 
-    // Another line begins.
+    // Begins another line.
     fn clear(&mut self)
-        ensures { IsGathered self.new [] }
+        ensures { HasCollected self.new [] }
     {
         self.bytes.clear();
         self.too_long = false;
     }
 
-    // More bytes of the line.
+    // Adds bytes to the line.
     fn add(&mut self, more: &[u8])
-        ensures { Gathers self.old self.new more.now }
+        ensures { Collects self.old self.new more.now }
     {
         if self.too_long || more.len() > LINE_LIMIT - self.bytes.len() {
             self.too_long = true;
             return;
         }
         let Ok(()) = self.bytes.extend_from_slice(more) else {
-            // The room is there.
+            // The buffer has capacity for them.
             unreachable!()
         };
     }
 
-    // What the line is where a line feed ends it: a carriage return before that is dropped.
+    // The line if a line feed ends it; a carriage return before that is removed.
     fn at_feed(&mut self) -> Found
-        ensures { (bytes : List ℕ) → IsGathered self.old bytes → IsEnded bytes self.new result }
+        ensures { (bytes : List ℕ) → HasCollected self.old bytes → IsEnded bytes self.new result }
     {
         if self.too_long {
             return Found::TooLong(false);
@@ -163,9 +163,9 @@ impl Gathered {
         Found::Line(false)
     }
 
-    // What the line is where the input ends.
+    // The line if the input ends.
     fn at_end(&self) -> Found
-        ensures { (bytes : List ℕ) → IsGathered self.now bytes → IsLast bytes self.now result }
+        ensures { (bytes : List ℕ) → HasCollected self.now bytes → IsLast bytes self.now result }
     {
         if self.too_long {
             return Found::TooLong(true);
@@ -176,7 +176,7 @@ impl Gathered {
         Found::Line(true)
     }
 
-    // The bytes that are kept.
+    // The bytes of the line so far.
     fn bytes(&self) -> &[u8]
         ensures { result.now ≡ self.now.bytes }
     {
@@ -184,29 +184,30 @@ impl Gathered {
     }
 }
 
-// Gathers what is unread up to its first line feed, which is passed over. Whether there is one.
-fn gather(chunk: &mut Chunk, line: &mut Gathered) -> bool
-    ensures { MatchBool result (MovesLine chunk.old chunk.new line.old line.new)
-        (MovesAll chunk.old chunk.new line.old line.new) }
+// Moves bytes into the line up to the first line feed, which is consumed too. Returns whether there is one; if not, all
+// bytes are moved.
+fn collect_line(chunk: &mut Chunk, line: &mut LineBuffer) -> bool
+    ensures { MatchBool result (TakesLine chunk.old chunk.new line.old line.new)
+        (TakesAll chunk.old chunk.new line.old line.new) }
 {
-    let unread = chunk.unread();
-    let Some(feed) = memchr(b'\n', unread) else {
-        line.add(unread);
-        let count = unread.len();
-        chunk.pass(count);
+    let unconsumed = chunk.unconsumed();
+    let Some(feed) = memchr(b'\n', unconsumed) else {
+        line.add(unconsumed);
+        let count = unconsumed.len();
+        chunk.consume(count);
         return false;
     };
-    line.add(&unread[..feed]);
-    chunk.pass(feed + 1);
+    line.add(&unconsumed[..feed]);
+    chunk.consume(feed + 1);
     true
 }
 
-/// The input of a session: what was read of it and not gone through yet, and the line that was found last. All
-/// memory that it needs is taken when it is made: 65,536 bytes for a read, and 70,000 for a line.
+/// The input of a session: the bytes read but not consumed, and the current line. All memory is allocated by `new`:
+/// 65,536 bytes for a read and 70,000 for a line.
 #[derive(Drop)]
 pub struct Input {
     chunk: Chunk,
-    line: Gathered,
+    line: LineBuffer,
     left: u32,
 }
 
@@ -215,16 +216,16 @@ impl Model for Input {
 
     ghost Value = { InputState };
 
-    ghost view = { λ i. record { unread = i.chunk; line = i.line.bytes; left = i.left } };
+    ghost view = { λ i. record { unconsumed = i.chunk; line = i.line.bytes; left = i.left } };
 }
 
 impl Input {
-    /// An input of which nothing was read yet, and of which 1,073,741,824 reads may be made.
+    /// An input without any bytes read, which makes at most 1,073,741,824 reads. `AllocError` if an allocation failed.
     pub fn new(alloc: Global) -> Result<Input, AllocError>
-        ensures { IfOk result (λ input. (input.unread ≡ []) × (input.left ≡ 1073741824)) }
+        ensures { IfOk result (λ input. (input.unconsumed ≡ []) × (input.left ≡ 1073741824)) }
     {
         let chunk = Chunk::with_room(alloc)?;
-        let line = Gathered::with_room(alloc)?;
+        let line = LineBuffer::with_room(alloc)?;
         Ok(Input {
             chunk,
             line,
@@ -232,20 +233,20 @@ impl Input {
         })
     }
 
-    /// The line that `next` found last: without its line feed and one carriage return before it, or whole where
-    /// the input ended without a line feed.
+    /// The line that `next` found, without its line feed and one carriage return before it. A last line without a line
+    /// feed is complete.
     pub fn line(&self) -> &[u8]
         ensures { result.now ≡ self.now.line }
     {
         self.line.bytes()
     }
 
-    /// Finds the next line, as soon as its line feed was read, or the end. `Read` comes where a read failed, and
-    /// where one was needed and as many were made as may be.
+    /// Finds the next line, as soon as its line feed is read, or the end. `Read` if a read failed, or one more read is
+    /// needed after 1,073,741,824.
     pub fn next<R: Read>(&mut self, source: &mut Source<R>) -> Result<Found, FileFault>
         ensures found { IfOk result (λ found. (taken : List ℕ)
             × Consumes (R.remaining source.old.reader) (R.remaining source.new.reader) taken
-            × (length taken ≤ most_of_read * (self.old.left - self.new.left))
+            × (length taken ≤ max_read * (self.old.left - self.new.left))
             × IsFound self.old self.new taken (R.remaining source.new.reader) found) }
         ensures cut_off { OnErr result ((taken : List ℕ)
             × Consumes (R.remaining source.old.reader) (R.remaining source.new.reader) taken
@@ -256,10 +257,10 @@ impl Input {
             ⊎ ((source.new.failed ≡ source.old.failed) × (self.new.left ≡ 0))) }
         ensures reads { source.new.reads ≡ reads_after source.old.reads (self.old.left - self.new.left) }
         ensures left { self.new.left ≤ self.old.left }
-        ensures ready { (HasNoFeed self.old.unread → ⊥) → self.new.left ≡ self.old.left }
+        ensures ready { (HasNoFeed self.old.unconsumed → ⊥) → self.new.left ≡ self.old.left }
     {
         self.line.clear();
-        'reads: while !gather(&mut self.chunk, &mut self.line) {
+        'reads: while !collect_line(&mut self.chunk, &mut self.line) {
             if self.left == 0 {
                 return Err(FileFault::Read);
             }

@@ -1,19 +1,18 @@
-//! Sessions: lines that start and end rows, publish, and ask as of any earlier count of events, each answered as soon
-//! as it was read.
+//! Sessions over a history that grows: commands that start and end rows, publish events, and query as of any earlier
+//! count of events. Each command is one line, and its reply is printed as soon as the line is complete.
 //!
-//! The lines come through a `Source`, from which `Input` takes one after another (`input`). What a line asks for is
-//! read (`request`) and carried out by a writer and a reader of a shared store (`desk`, which uses `recording` and
-//! `asking`; `tq_snapshot`), and the reply is printed through a `Sink` (`reply`). The contract of `session` is that
-//! what is printed is a transcript of the lines over the history of the files (`IsTranscript` in
-//! specs/Transcripts.antt).
+//! Lines come through a `Source` (`src/input.rt`). A line is parsed (`src/request.rt`) and executed by a writer and a
+//! reader of a shared store (`src/session_state.rt`, with `src/appending.rt` and `src/query.rt`). The reply is printed
+//! through a `Sink` (`src/reply.rt`). The contract is that of `session`: what is printed is a transcript of the lines
+//! over the history of the files (`IsTranscript` in `specs/Transcripts.antt`). Open `src/transcript.rt` first.
 #![tactic(auto)]
 
-mod asking;
-mod desk;
+mod appending;
 mod input;
-mod recording;
+mod query;
 mod reply;
 mod request;
+mod session_state;
 mod transcript;
 
 pub use transcript::{SessionFault, session};

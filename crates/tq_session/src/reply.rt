@@ -1,11 +1,11 @@
-// Replies to the lines of a session, and what is printed of them.
+// Replies to the lines of a session, and their text.
 
 ghost use Rattle.std.specs.Prelude.{◌≡◌, ◌++◌, [], codes, decimal, option_copied, OnOk, OnErr, Some, if◌then◌else◌};
 ghost use Rattle.std.specs.Result.{is_err};
 ghost use Rattle.std.specs.Io.KnownBytes.{Appends};
 ghost use Rattle.tq_base.specs.Numbers.{instant_text};
 ghost use Rattle.tq_table.specs.Sink.{AppendsPrefix, one_more};
-ghost use Rattle.tq_session.specs.Replies.{AppendsAllBut, joined, line_text, refusal_name, refusal_number, refused_event, reply_text};
+ghost use Rattle.tq_session.specs.Replies.{AppendsAllExcept, joined, line_text, refusal_name, refusal_number, refused_event, reply_text};
 
 use arrayvec::ArrayVec;
 use itoa::Buffer;
@@ -20,40 +20,40 @@ use tq_table::{Sink, WriteFault};
 /// Why a line was refused.
 #[derive(Clone, Copy, Debug, PartialEq, Eq)]
 pub enum Refusal {
-    /// It is no command, or is too long.
+    /// The line is not a command, or is too long.
     BadLine,
-    /// There is no table of this name.
+    /// There is no table with this name.
     UnknownTable,
-    /// The values are no row of the table.
+    /// The values are not a row of the table.
     BadValues,
-    /// The last event, published or pending, is later.
+    /// The last event, published or pending, has a later time.
     TooEarly { last: Instant },
-    /// No row of these values is open that started before the instant.
+    /// No row with these values is open and started before the instant.
     NoOpenRow,
-    /// There are as many events as there may be.
+    /// The limit on events is reached.
     TooManyEvents,
     /// The first fault of the statement's text.
     Statement(SqlFault),
     /// The first fault of the statement's plan.
     Plan(PlanFault),
-    /// Only so many events are published.
+    /// Fewer events than requested are published.
     TooNew { published: u32 },
     /// The store was not entered.
     Closed,
-    /// A growth was refused.
+    /// An allocation failed.
     OutOfMemory,
 }
 
 /// The reply to a line.
 #[derive(Drop, Debug)]
 pub enum Reply {
-    /// Nothing, to an empty line.
+    /// The reply to an empty line; nothing is printed.
     Nothing,
     /// The number of the row that was started or ended.
     Row(u32),
-    /// How many events are published.
+    /// The number of published events.
     Published(u32),
-    /// How many rows the answer has, and its text.
+    /// The number of rows of the answer, and its text.
     Answer(usize, Vec<u8>),
     Refused(Refusal),
 }
@@ -74,7 +74,6 @@ impl From<AppendFault> for Refusal {
 }
 
 impl Refusal {
-    // Its name.
     fn name(&self) -> &'static str
         ensures { result.now ≡ refusal_name self.now }
     {
@@ -94,41 +93,44 @@ impl Refusal {
     }
 }
 
-// The bytes that are held for the next write.
-type Held = ArrayVec<u8, 512>;
+// The bytes that wait for the next write.
+type WriteBuffer = ArrayVec<u8, 512>;
 
-// Holds the part behind the bytes that are held. Where it does not fit, these go out, and the part behind them. It
-// takes no memory.
-fn hold<W: Write>(sink: &mut Sink<W>, held: &mut Held, part: &[u8]) -> Result<(), WriteFault>
-    ensures rest { OnOk result (AppendsAllBut (W.contents sink.old.writer) (W.contents sink.new.writer) (held.old.items ++ part.now) held.new.items) }
-    ensures prefix { OnErr result (AppendsPrefix (W.contents sink.old.writer) (W.contents sink.new.writer) (held.old.items ++ part.now)) }
+// Appends the part to the buffer. If it does not fit, the buffered bytes are written first, then the part. Allocates
+// nothing.
+fn buffer_part<W: Write>(
+    sink: &mut Sink<W>,
+    buffer: &mut WriteBuffer,
+    part: &[u8],
+) -> Result<(), WriteFault>
+    ensures rest { OnOk result (AppendsAllExcept (W.contents sink.old.writer) (W.contents sink.new.writer) (buffer.old.items ++ part.now) buffer.new.items) }
+    ensures prefix { OnErr result (AppendsPrefix (W.contents sink.old.writer) (W.contents sink.new.writer) (buffer.old.items ++ part.now)) }
     ensures failed { sink.new.failed ≡ (if is_err result then one_more sink.old.failed else sink.old.failed) }
 {
-    if held.try_extend_from_slice(part).is_ok() {
+    if buffer.try_extend_from_slice(part).is_ok() {
         return Ok(());
     }
-    sink.put(held.as_slice())?;
-    held.clear();
+    sink.put(buffer.as_slice())?;
+    buffer.clear();
     sink.put(part)
 }
 
-// Writes the parts one behind the other, all in one write where they fit into it, and flushes the writer. It takes no
-// memory.
+// Writes the parts one after the other, in one write if they fit into the buffer, and flushes. Allocates nothing.
 fn send_parts<W: Write>(sink: &mut Sink<W>, parts: &[&[u8]]) -> Result<(), WriteFault>
     ensures whole { OnOk result (Appends (W.contents sink.old.writer) (W.contents sink.new.writer) (joined parts.now)) }
     ensures prefix { OnErr result (AppendsPrefix (W.contents sink.old.writer) (W.contents sink.new.writer) (joined parts.now)) }
     ensures failed { sink.new.failed ≡ (if is_err result then one_more sink.old.failed else sink.old.failed) }
 {
-    let mut held = Held::new();
+    let mut buffer = WriteBuffer::new();
     'parts: for part in parts {
-        hold(sink, &mut held, part)?;
+        buffer_part(sink, &mut buffer, part)?;
     }
-    sink.put(held.as_slice())?;
+    sink.put(buffer.as_slice())?;
     sink.flush()
 }
 
-// The same of six parts.
-fn send_six<'a, W: Write>(
+// Does what `send_parts` does, for six parts.
+fn send_six_parts<'a, W: Write>(
     sink: &mut Sink<W>,
     first: &'a [u8],
     second: &'a [u8],
@@ -144,7 +146,7 @@ fn send_six<'a, W: Write>(
     send_parts(sink, &[first, second, third, fourth, fifth, sixth])
 }
 
-// Writes a line of what stands first, a word and the digits of a number, and a text behind it. It takes no memory.
+// Writes a line of `first`, a word and the digits of a number if there are any, then the text. Allocates nothing.
 fn send_line<W: Write>(
     sink: &mut Sink<W>,
     first: &str,
@@ -158,12 +160,12 @@ fn send_line<W: Write>(
 {
     let (first, word) = (first.as_bytes(), word.as_bytes());
     match digits {
-        Some(digits) => send_six(sink, first, word, b" ", digits, b"\n", text),
-        None => send_six(sink, first, word, b"", b"", b"\n", text),
+        Some(digits) => send_six_parts(sink, first, word, b" ", digits, b"\n", text),
+        None => send_six_parts(sink, first, word, b"", b"", b"\n", text),
     }
 }
 
-// The same with a number.
+// Does what `send_line` does, with a number.
 fn send_number<W: Write>(
     sink: &mut Sink<W>,
     first: &str,
@@ -185,7 +187,7 @@ fn send_number<W: Write>(
     )
 }
 
-// The same with an instant, written in the form.
+// Does what `send_line` does, with an instant as the number, written as `form` says.
 fn send_instant<W: Write>(
     sink: &mut Sink<W>,
     first: &str,
@@ -224,7 +226,8 @@ impl Refusal {
 }
 
 impl Reply {
-    /// Writes what is printed, instants in the form, and flushes the writer. It takes no memory.
+    /// Writes the text of the reply, with instants as `form` says, and flushes. An error if a write failed. Allocates
+    /// nothing.
     pub fn send<W: Write>(&self, sink: &mut Sink<W>, form: Form) -> Result<(), WriteFault>
         ensures whole { OnOk result (Appends (W.contents sink.old.writer) (W.contents sink.new.writer) (reply_text form self.now)) }
         ensures prefix { OnErr result (AppendsPrefix (W.contents sink.old.writer) (W.contents sink.new.writer) (reply_text form self.now)) }

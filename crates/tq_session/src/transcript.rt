@@ -4,13 +4,13 @@ ghost use Rattle.std.specs.Prelude.{◌≡◌, ◌≢◌, ◌+◌, ◌-◌, ◌�
 ghost use Rattle.tq_event.specs.History.{IsHistory};
 ghost use Rattle.tq_table.specs.Sink.{one_more};
 ghost use Rattle.tq_session.specs.Input.{reads_after};
-ghost use Rattle.tq_session.specs.Sessions.{AnswersAll, AnswersEnded, AnswersPart, HasAnsweredAll, HasAnsweredEnded, HasAnsweredPart, IsStartFault, streams, unopened};
-ghost use Rattle.tq_session.specs.Stepping.{IsBroken, IsEnd, IsReply};
+ghost use Rattle.tq_session.specs.Sessions.{RepliesToAll, RepliesToEnded, RepliesToSome, HasRepliedToAll, HasRepliedToEnded, HasRepliedToSome, IsStartFault, streams, open_refusal};
+ghost use Rattle.tq_session.specs.LineSteps.{IsBroken, IsEnd, IsReply};
 ghost use Rattle.tq_session.specs.Transcripts.{opening};
 
-use crate::desk::Desk;
 use crate::input::{Found, Input};
 use crate::reply::{Refusal, Reply};
+use crate::session_state::SessionState;
 use std::alloc::Global;
 use std::io::{Read, Write};
 use std::marker::Brand;
@@ -21,12 +21,11 @@ use tq_base::Form;
 use tq_engine::Source;
 use tq_event::laws::{loaded_is_history, loaded_is_within};
 use tq_event::{LoadFault, LoadFaultKind, Loaded, MAX_EVENTS, TableFile, load};
-use tq_snapshot::{Naming, OpenFault, Opened};
+use tq_snapshot::{OpenFault, Opened, StoreId};
 use tq_table::Sink;
 
-/// Why a session ended before its input did: the first fault of the files (1), or the reader's place was refused (2),
-/// or a read failed or 1,073,741,824 of them were made (3), or the sink failed (4), or a growth was refused before the
-/// first read (5).
+/// Why a session ended before its input did: the first fault of the files (1); a refused place of the reader (2); a
+/// failed read, or 1,073,741,824 reads (3); a failed write (4); a failed allocation before the first read (5).
 #[derive(Clone, Copy, Debug, PartialEq, Eq, Error)]
 pub enum SessionFault {
     #[error(transparent)]
@@ -58,7 +57,7 @@ impl From<LoadFault> for SessionFault {
 }
 
 impl From<OpenFault> for SessionFault {
-    ghost from_gives = { λ fault given. given ≡ unopened fault };
+    ghost from_gives = { λ fault given. given ≡ open_refusal fault };
 
     fn from(fault: OpenFault) -> SessionFault {
         match fault {
@@ -68,18 +67,18 @@ impl From<OpenFault> for SessionFault {
     }
 }
 
-// Takes the next line, and replies to it: the reply, and whether the line is the last one. None where the input ended.
-fn next_reply<J: Naming, R: Threads + Wait + Sync, I: Read>(
+// Takes the next line and executes it. Returns the reply, and whether the line is the last one; `None` at the end.
+fn next_reply<J: StoreId, R: Threads + Wait + Sync, I: Read>(
     rt: &R,
     alloc: Global,
-    desk: &mut Desk<J>,
+    session_state: &mut SessionState<J>,
     input: &mut Input,
     source: &mut Source<I>,
     form: Form,
 ) -> Result<Option<(Reply, bool)>, SessionFault>
-    ensures replied { IfOk result (λ next. MatchOption next (IsEnd desk.old desk.new input.old (I.remaining source.old.reader) (I.remaining source.new.reader))
-        (λ r. IsReply form J.catalogue desk.old desk.new input.old input.new (I.remaining source.old.reader) (I.remaining source.new.reader) r.0 r.1)) }
-    ensures broken { OnErr result (IsBroken desk.old desk.new input.old (I.remaining source.old.reader) (I.remaining source.new.reader)) }
+    ensures replied { IfOk result (λ next. MatchOption next (IsEnd session_state.old session_state.new input.old (I.remaining source.old.reader) (I.remaining source.new.reader))
+        (λ r. IsReply form J.catalogue session_state.old session_state.new input.old input.new (I.remaining source.old.reader) (I.remaining source.new.reader) r.0 r.1)) }
+    ensures broken { OnErr result (IsBroken session_state.old session_state.new input.old (I.remaining source.old.reader) (I.remaining source.new.reader)) }
     ensures fault { IfErr result (λ fault. fault ≡ SessionFault.Read) }
     ensures unfailed { OnOk result (source.new.failed ≡ source.old.failed) }
     ensures failed { OnErr result ((source.new.failed ≡ one_more source.old.failed)
@@ -88,28 +87,31 @@ fn next_reply<J: Naming, R: Threads + Wait + Sync, I: Read>(
     ensures left { input.new.left ≤ input.old.left }
 {
     match input.next(source) {
-        Ok(Found::Line(last)) => Ok(Some((desk.reply(rt, alloc, input.line(), form), last))),
+        Ok(Found::Line(last)) => Ok(Some((
+            session_state.reply(rt, alloc, input.line(), form),
+            last,
+        ))),
         Ok(Found::TooLong(last)) => Ok(Some((Reply::Refused(Refusal::BadLine), last))),
         Ok(Found::End) => Ok(None),
         Err(_) => Err(SessionFault::Read),
     }
 }
 
-// Answers line after line until the input ends.
-fn answer_lines<J: Naming, R: Threads + Wait + Sync, I: Read, W: Write>(
+// Replies to all lines until the input ends.
+fn reply_to_lines<J: StoreId, R: Threads + Wait + Sync, I: Read, W: Write>(
     rt: &R,
     alloc: Global,
-    desk: &mut Desk<J>,
+    session_state: &mut SessionState<J>,
     input: &mut Input,
     source: &mut Source<I>,
     sink: &mut Sink<W>,
     form: Form,
 ) -> Result<(), SessionFault>
-    requires { input.old.unread ≡ [] }
-    ensures all { OnOk result (AnswersAll form J.catalogue desk.old (streams (I.remaining source.old.reader) (W.contents sink.old.writer)) (streams (I.remaining source.new.reader) (W.contents sink.new.writer))) }
+    requires { input.old.unconsumed ≡ [] }
+    ensures all { OnOk result (RepliesToAll form J.catalogue session_state.old (streams (I.remaining source.old.reader) (W.contents sink.old.writer)) (streams (I.remaining source.new.reader) (W.contents sink.new.writer))) }
     ensures unfailed { OnOk result ((source.new.failed ≡ source.old.failed) × (sink.new.failed ≡ sink.old.failed)) }
-    ensures read { result ≡ Err SessionFault.Read → AnswersEnded form J.catalogue desk.old (streams (I.remaining source.old.reader) (W.contents sink.old.writer)) (streams (I.remaining source.new.reader) (W.contents sink.new.writer)) }
-    ensures write { result ≡ Err SessionFault.Write → AnswersPart form J.catalogue desk.old (streams (I.remaining source.old.reader) (W.contents sink.old.writer)) (streams (I.remaining source.new.reader) (W.contents sink.new.writer)) }
+    ensures read { result ≡ Err SessionFault.Read → RepliesToEnded form J.catalogue session_state.old (streams (I.remaining source.old.reader) (W.contents sink.old.writer)) (streams (I.remaining source.new.reader) (W.contents sink.new.writer)) }
+    ensures write { result ≡ Err SessionFault.Write → RepliesToSome form J.catalogue session_state.old (streams (I.remaining source.old.reader) (W.contents sink.old.writer)) (streams (I.remaining source.new.reader) (W.contents sink.new.writer)) }
     ensures fault { IfErr result (λ fault. (fault ≡ SessionFault.Read) ⊎ (fault ≡ SessionFault.Write)) }
     ensures read_failed { result ≡ Err SessionFault.Read → (sink.new.failed ≡ sink.old.failed) × ((source.new.failed ≡ one_more source.old.failed)
         ⊎ ((source.new.failed ≡ source.old.failed) × (input.new.left ≡ 0))) }
@@ -118,7 +120,7 @@ fn answer_lines<J: Naming, R: Threads + Wait + Sync, I: Read, W: Write>(
     ensures left { input.new.left ≤ input.old.left }
 {
     'lines: loop {
-        let Some((reply, last)) = next_reply(rt, alloc, desk, input, source, form)? else {
+        let Some((reply, last)) = next_reply(rt, alloc, session_state, input, source, form)? else {
             return Ok(());
         };
         if reply.send(sink, form).is_err() {
@@ -130,8 +132,8 @@ fn answer_lines<J: Naming, R: Threads + Wait + Sync, I: Read, W: Write>(
     }
 }
 
-// A session over what was loaded.
-fn run<J: Naming, R: Threads + Wait + Sync, I: Read, W: Write>(
+// A session over the loaded history.
+fn run<J: StoreId, R: Threads + Wait + Sync, I: Read, W: Write>(
     rt: &R,
     alloc: Global,
     opened: Opened,
@@ -144,27 +146,36 @@ fn run<J: Naming, R: Threads + Wait + Sync, I: Read, W: Write>(
     requires named { (opened ≡ J.book) × (loaded.catalogue ≡ J.catalogue) }
     requires history { IsHistory loaded.catalogue loaded.events }
     requires few { length loaded.events ≤ 16777216 }
-    requires input { (input.unread ≡ []) × (input.left ≡ 1073741824) }
-    ensures all { OnOk result (AnswersAll form loaded.catalogue (opening loaded.events) (streams (I.remaining source.old.reader) (W.contents sink.old.writer)) (streams (I.remaining source.new.reader) (W.contents sink.new.writer))) }
+    requires input { (input.unconsumed ≡ []) × (input.left ≡ 1073741824) }
+    ensures all { OnOk result (RepliesToAll form loaded.catalogue (opening loaded.events) (streams (I.remaining source.old.reader) (W.contents sink.old.writer)) (streams (I.remaining source.new.reader) (W.contents sink.new.writer))) }
     ensures unfailed { OnOk result ((source.new.failed ≡ source.old.failed) × (sink.new.failed ≡ sink.old.failed)) }
-    ensures read { result ≡ Err SessionFault.Read → AnswersEnded form loaded.catalogue (opening loaded.events) (streams (I.remaining source.old.reader) (W.contents sink.old.writer)) (streams (I.remaining source.new.reader) (W.contents sink.new.writer)) }
-    ensures write { result ≡ Err SessionFault.Write → AnswersPart form loaded.catalogue (opening loaded.events) (streams (I.remaining source.old.reader) (W.contents sink.old.writer)) (streams (I.remaining source.new.reader) (W.contents sink.new.writer)) }
+    ensures read { result ≡ Err SessionFault.Read → RepliesToEnded form loaded.catalogue (opening loaded.events) (streams (I.remaining source.old.reader) (W.contents sink.old.writer)) (streams (I.remaining source.new.reader) (W.contents sink.new.writer)) }
+    ensures write { result ≡ Err SessionFault.Write → RepliesToSome form loaded.catalogue (opening loaded.events) (streams (I.remaining source.old.reader) (W.contents sink.old.writer)) (streams (I.remaining source.new.reader) (W.contents sink.new.writer)) }
     ensures read_failed { result ≡ Err SessionFault.Read → (sink.new.failed ≡ sink.old.failed) × ((source.new.failed ≡ one_more source.old.failed)
         ⊎ ((source.new.failed ≡ source.old.failed) × (source.new.reads ≡ reads_after source.old.reads 1073741824))) }
     ensures write_failed { result ≡ Err SessionFault.Write → (sink.new.failed ≡ one_more sink.old.failed) × (source.new.failed ≡ source.old.failed) }
     ensures start { IfErr result (λ fault. fault ≢ SessionFault.Read → fault ≢ SessionFault.Write → ((fault ≡ SessionFault.NoPlace) ⊎ (fault ≡ SessionFault.OutOfMemory)) × (source.new ≡ source.old) × (sink.new ≡ sink.old)) }
     ensures reads { source.new.reads ≤ source.old.reads + 1073741824 }
 {
-    let mut desk = Desk::<J>::open(alloc, opened, loaded)?;
-    let ended = answer_lines(rt, alloc, &mut desk, &mut input, source, sink, form);
-    desk.close(rt);
+    let mut session_state = SessionState::<J>::open(alloc, opened, loaded)?;
+    let ended = reply_to_lines(
+        rt,
+        alloc,
+        &mut session_state,
+        &mut input,
+        source,
+        sink,
+        form,
+    );
+    session_state.close(rt);
     ended
 }
 
-/// Answers the lines of the source over the tables of the files, one after another, each as soon as its line feed was
-/// read, or the end of the input. A refused line changes nothing, and the lines before a fault stand answered. Files
-/// are loaded, and all memory for reading lines is taken, before the first read; printing takes none but for the text of
-/// an answer. Instants are read and written in the form.
+/// Runs the lines of the source over the tables of the files. Writes each reply to the sink as soon as its line is
+/// complete. A refused line changes nothing. `form` is how instants are read and written.
+///
+/// After a `SessionFault`, the replies to earlier lines have been written. Files are loaded, and the memory for lines
+/// is allocated, before the first read. Replies other than answers allocate nothing.
 pub fn session<R: Threads + Wait + Sync, I: Read, W: Write>(
     rt: &R,
     alloc: Global,
@@ -173,10 +184,10 @@ pub fn session<R: Threads + Wait + Sync, I: Read, W: Write>(
     sink: &mut Sink<W>,
     form: Form,
 ) -> Result<(), SessionFault>
-    ensures all { OnOk result (HasAnsweredAll form files.items (streams (I.remaining source.old.reader) (W.contents sink.old.writer)) (streams (I.remaining source.new.reader) (W.contents sink.new.writer))) }
+    ensures all { OnOk result (HasRepliedToAll form files.items (streams (I.remaining source.old.reader) (W.contents sink.old.writer)) (streams (I.remaining source.new.reader) (W.contents sink.new.writer))) }
     ensures unfailed { OnOk result ((source.new.failed ≡ source.old.failed) × (sink.new.failed ≡ sink.old.failed)) }
-    ensures read { result ≡ Err SessionFault.Read → HasAnsweredEnded form files.items (streams (I.remaining source.old.reader) (W.contents sink.old.writer)) (streams (I.remaining source.new.reader) (W.contents sink.new.writer)) }
-    ensures write { result ≡ Err SessionFault.Write → HasAnsweredPart form files.items (streams (I.remaining source.old.reader) (W.contents sink.old.writer)) (streams (I.remaining source.new.reader) (W.contents sink.new.writer)) }
+    ensures read { result ≡ Err SessionFault.Read → HasRepliedToEnded form files.items (streams (I.remaining source.old.reader) (W.contents sink.old.writer)) (streams (I.remaining source.new.reader) (W.contents sink.new.writer)) }
+    ensures write { result ≡ Err SessionFault.Write → HasRepliedToSome form files.items (streams (I.remaining source.old.reader) (W.contents sink.old.writer)) (streams (I.remaining source.new.reader) (W.contents sink.new.writer)) }
     ensures read_failed { result ≡ Err SessionFault.Read → (sink.new.failed ≡ sink.old.failed) × ((source.new.failed ≡ one_more source.old.failed)
         ⊎ ((source.new.failed ≡ source.old.failed) × (source.new.reads ≡ reads_after source.old.reads 1073741824))) }
     ensures write_failed { result ≡ Err SessionFault.Write → (sink.new.failed ≡ one_more sink.old.failed) × (source.new.failed ≡ source.old.failed) }

@@ -1,14 +1,15 @@
-//! Text from outside as it is shown to a person.
+//! Text from outside, made safe to print.
 //!
-//! A terminal obeys some characters and does not show them: control characters move the cursor or end a line, and
-//! bidirectional controls turn the order of the text around them. `hidden_len` finds such a character, and those that
-//! XML has no place for, in bytes of UTF-8. `push_shown` writes text with a question mark for each of them, and
-//! `write_shown` does the same without memory.
+//! A terminal obeys some characters and does not show them. Control characters move the cursor or end a line, and
+//! bidirectional controls change the order of the text around them. `hidden_len` finds such a character in UTF-8, and
+//! also the characters that XML does not allow. `push_printable` writes a question mark for each of them, and
+//! `write_printable` does the same to a writer, without an allocation. The contracts cite `printable_text` in
+//! `specs/Printable.antt`.
 #![tactic(auto)]
 
 ghost use Rattle.std.specs.Prelude.{◌≡◌, ◌≤◌, ◌++◌, OnOk, length};
 ghost use Rattle.std.specs.Io.KnownBytes.{Appends};
-ghost use Rattle.tq_shown.specs.Shown.{is_hidden_pair, is_hidden_triple, hidden_len, mark_of, shown_text};
+ghost use Rattle.tq_shown.specs.Printable.{is_hidden_pair, is_hidden_triple, hidden_len, mark_of, printable_text};
 
 use std::alloc::AllocError;
 use std::io::{self, Write};
@@ -30,9 +31,9 @@ fn is_hidden_triple(one: u8, two: u8, three: u8) -> bool
         || (one == 0xEF && two == 0xBF && (three == 0xBE || three == 0xBF))
 }
 
-/// How many bytes the character at the front has, where it is one that is hidden: a control character (U+0000 to U+001F,
-/// U+007F to U+009F), a bidirectional control (U+061C, U+200E, U+200F, U+202A to U+202E, U+2066 to U+2069), U+FFFE or
-/// U+FFFF. 0 where another character is at the front, or none.
+/// The length in bytes of the hidden character at the front: a control character (U+0000 to U+001F, U+007F to U+009F),
+/// a bidirectional control (U+061C, U+200E, U+200F, U+202A to U+202E, U+2066 to U+2069), U+FFFE or U+FFFF. 0 if the
+/// bytes do not begin with one.
 pub fn hidden_len(bytes: &[u8]) -> usize
     ensures value { result ≡ hidden_len bytes.now }
     ensures within { result ≤ length bytes.now }
@@ -45,7 +46,7 @@ pub fn hidden_len(bytes: &[u8]) -> usize
     }
 }
 
-// What is shown of the character that begins with the byte. It has `hidden` bytes if it is hidden; else `hidden` is 0.
+// How the character that begins with the byte is shown. `hidden` is its length in bytes if it is hidden, else 0.
 fn mark_of(hidden: usize, byte: u8) -> u8
     ensures { result ≡ mark_of hidden byte }
 {
@@ -56,10 +57,10 @@ fn mark_of(hidden: usize, byte: u8) -> u8
     }
 }
 
-/// Writes the bytes to the end of the text, with a question mark for each hidden character but the tab. `AllocError`
-/// where a growth was refused.
-pub fn push_shown(text: &mut Vec<u8>, bytes: &[u8]) -> Result<(), AllocError>
-    ensures { OnOk result (text.new.items ≡ text.old.items ++ shown_text bytes.now) }
+/// Appends the bytes, with a question mark for each hidden character except the tab. `AllocError` if an allocation
+/// failed.
+pub fn push_printable(text: &mut Vec<u8>, bytes: &[u8]) -> Result<(), AllocError>
+    ensures { OnOk result (text.new.items ≡ text.old.items ++ printable_text bytes.now) }
 {
     let mut hidden = 0;
     'bytes: for (place, byte) in bytes.iter().enumerate() {
@@ -72,10 +73,10 @@ pub fn push_shown(text: &mut Vec<u8>, bytes: &[u8]) -> Result<(), AllocError>
     Ok(())
 }
 
-/// Writes what `push_shown` writes to a writer, character by character. It takes no memory. The error of the first write
-/// that fails ends it; a part of the text was written then.
-pub fn write_shown<W: Write>(writer: &mut W, bytes: &[u8]) -> io::Result<()>
-    ensures { OnOk result (Appends (W.contents writer.old) (W.contents writer.new) (shown_text bytes.now)) }
+/// Writes what `push_printable` appends to a writer, character by character, without an allocation. Returns the error
+/// of the first write that failed; a part of the text has been written then.
+pub fn write_printable<W: Write>(writer: &mut W, bytes: &[u8]) -> io::Result<()>
+    ensures { OnOk result (Appends (W.contents writer.old) (W.contents writer.new) (printable_text bytes.now)) }
 {
     let mut hidden = 0;
     'bytes: for (place, byte) in bytes.iter().enumerate() {

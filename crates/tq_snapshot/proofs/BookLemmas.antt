@@ -6,7 +6,7 @@ use prog.Atomic.{either}
 use Rattle.logbook.specs.Pages.{Cell, Goes, Moves, cell, keeps, no_nib, step}
 use Rattle.tq_event.specs.declared.event.Event.{Event}
 use Rattle.tq_snapshot.specs.Rules.{Appends, IsCounted}
-use Rattle.tq_snapshot.proofs.FrontLemmas.{begins_within, whole_begins}
+use Rattle.tq_snapshot.proofs.PrefixLemmas.{begins_within, whole_begins}
 
 abbrev pub hidden : List Event → List Event
 hidden log = []
@@ -14,7 +14,7 @@ hidden log = []
 abbrev pub unmoved : List Event → List Event → ℕ → Type 0
 unmoved before after answer = Unit {0}
 
--- whatever the word is found to be, the log goes on as the rule says
+-- whatever the word is found to be, the log continues as the rule says
 goes_on : (log seen : List Event) (e : Event) (len : ℕ) → len ≤ length seen → IsPrefix seen log → (b : Bool) → (length log == len) ≡ b
     → Goes IsCounted hidden unmoved 0 (seen, (no_nib, None)) (λ n. either (n == len) (len + 1) n) (Appends (step 0 len (len + 1) e) (seen, (no_nib, None))) ((length log, true) ∷ (0, true) ∷ []) log
 goes_on log seen e len low begins true is =
@@ -41,7 +41,7 @@ goes_on log seen e len low begins false is =
       rw is tt,
     )
 
--- so the exchange of a count for the next one may be made
+-- replacing a count by the next one is allowed
 pub may_append : (seen : List Event) (e : Event) (len : ℕ) → len ≤ length seen
     → Moves IsCounted hidden unmoved 0 (seen, (no_nib, None)) (λ n. either (n == len) (len + 1) n) (Appends (step 0 len (len + 1) e) (seen, (no_nib, None)))
 may_append seen e len low cells log kept begins away =

@@ -23,8 +23,8 @@ use Rattle.tq_snapshot.specs.declared.open_rows.OpenRows.{OpenRows}
 use Rattle.tq_snapshot.specs.Digests.{digest_of}
 use Rattle.tq_store.specs.Keys.{shifted}
 use Rattle.tq_snapshot.specs.OpenIndex.{AreOpenRows, is_open_as, is_open_at, is_open_of}
-use Rattle.tq_snapshot.specs.OpenRows.{IsNear, has, place_key}
-use Rattle.tq_store.proofs.KeyLemmas.{is_least, is_less, not_is_less}
+use Rattle.tq_snapshot.specs.OpenRows.{IsNear, has, index_key}
+use Rattle.tq_store.proofs.SortKeyLemmas.{is_least, is_less, not_is_less}
 use Rattle.tq_store.proofs.LifeLemmas.{and-true}
 use Rattle.tq_snapshot.proofs.OpenLemmas.{IsOpenOf, open_of}
 use Rattle.tq_snapshot.proofs.OpenRowsLemmas.{number_same, place_row, same_number}
@@ -56,26 +56,26 @@ from_between low high k is = (
 
 -- ---- the rows of the keys
 
--- a key that is that of an open row
+-- the key is that of an open row
 pub record IsUnder (es : List Event) (t key : ℕ) : Type 0 where
   pub life : Life
   pub stands : slice_get (row_lives es t) (key % 4294967296) ≡ Some life
   pub none : is_some life.ending ≡ false
-  pub same : place_key life.values (key % 4294967296) ≡ key
+  pub same : index_key life.values (key % 4294967296) ≡ key
 
 -- the keys of the range of the values
 abbrev pub ranged : BTreeSet ℕ → List Value → List ℕ
-ranged set values = filter (between (place_key values 0) (place_key values 0 + 4294967295)) set.keys
+ranged set values = filter (between (index_key values 0) (index_key values 0 + 4294967295)) set.keys
 
 -- the row of the key does not have the values
 abbrev pub IsUnlike : List Event → ℕ → List Value → ℕ → Type 0
 IsUnlike es t values k = (l : Life) → slice_get (row_lives es t) (k % 4294967296) ≡ Some l → eq_by_cmp values_cmp l.values values ≡ false
 
--- nor do those of the first keys of the range
+-- the rows of the first keys of the range do not have the values
 abbrev pub AreUnlike : List Event → ℕ → BTreeSet ℕ → List Value → ℕ → Type 0
 AreUnlike es t set values i = (j k : ℕ) → j < i → slice_get (ranged set values) j ≡ Some k → IsUnlike es t values k
 
--- these keys are left of the range, and the rows of those before do not have the values
+-- these keys of the range are left, and the rows of the keys before them do not have the values
 pub record IsLeft (es : List Event) (t : ℕ) (set : BTreeSet ℕ) (values : List Value) (rest : List ℕ) : Type 0 where
   pub place : ℕ
   pub rest_is : drop place (ranged set values) ≡ rest
@@ -96,7 +96,7 @@ not-true : (b : Bool) → not b ≡ true → b ≡ false
 not-true true is = absurd (cc)
 not-true false is = refl
 
--- all keys of a range differ in the number of the row alone
+-- all keys of a range differ only in the number of the row
 same_upper : (a k : ℕ) → a * 4294967296 ≤ k → k ≤ a * 4294967296 + 4294967295 → k / 4294967296 ≡ (a * 4294967296 + 0) / 4294967296
 same_upper a k from to = omega (arith, from, to)
 
@@ -110,17 +110,17 @@ module _ (es : List Event) (t : ℕ) (rows : OpenRows) (is : AreOpenRows es t ro
       by : (o : Option Life) → slice_get (row_lives es t) (k % 4294967296) ≡ o → option_map_or (is_open_as k) o false ≡ true → IsUnder es t k
       by None stands here = absurd (cc)
       by (Some l) stands here =
-          let both = and-true (not (is_some l.ending)) (eq_by_cmp nat_cmp (place_key l.values (k % 4294967296)) k) here in
-          record { life = l; stands = stands; none = not-true (is_some l.ending) both.0; same = same_number (place_key l.values (k % 4294967296)) k both.1 }
+          let both = and-true (not (is_some l.ending)) (eq_by_cmp nat_cmp (index_key l.values (k % 4294967296)) k) here in
+          record { life = l; stands = stands; none = not-true (is_some l.ending) both.0; same = same_number (index_key l.values (k % 4294967296)) k both.1 }
 
-  -- what stands in the range
-  pub in_range : (i k : ℕ) → slice_get (ranged set values) i ≡ Some k → (between (place_key values 0) (place_key values 0 + 4294967295) k ≡ true) × (has rows k ≡ true)
+  -- the keys in the range
+  pub in_range : (i k : ℕ) → slice_get (ranged set values) i ≡ Some k → (between (index_key values 0) (index_key values 0 + 4294967295) k ≡ true) × (has rows k ≡ true)
   in_range i k here =
       let there = list_any-from_Contains {eq = eq_by_cmp nat_cmp} (eq_by_cmp_equiv nat_cmp_total) k (ranged set values) (i, slice_get_within (ranged set values) i k here, get_or_from_slice_get (ranged set values) i k k here) in
-      let test = between (place_key values 0) (place_key values 0 + 4294967295) in
+      let test = between (index_key values 0) (index_key values 0 + 4294967295) in
       let kept = any-filter_same (is_at (nat_cmp k)) test (test k) (λ q at. sym (ap test (same_number k q at))) set.keys in
       let both = and-true (test k) (list_any (is_at (nat_cmp k)) set.keys) (sym kept ∙ there) in
-      let sides = from_between (place_key values 0) (place_key values 0 + 4294967295) k both.0 in
+      let sides = from_between (index_key values 0) (index_key values 0 + 4294967295) k both.0 in
       let from = sides.0 in
       let to = sides.1 in
       (both.0, near k (same_upper (shifted (key_of values) * 4294967296 + digest_of values) k (omega (arith, from)) (omega (arith, to))) ∙ both.1)
@@ -128,8 +128,8 @@ module _ (es : List Event) (t : ℕ) (rows : OpenRows) (is : AreOpenRows es t ro
   pub under : (i k : ℕ) → slice_get (ranged set values) i ≡ Some k → IsUnder es t k
   under i k here = under_of k (in_range i k here).1
 
-  -- the key of an open row of the values stands in the range
-  key_there : (r : ℕ) → is_open_at (row_lives es t) values r ≡ true → Contains (ranged set values) (place_key values r)
+  -- the key of an open row with the values is in the range
+  key_there : (r : ℕ) → is_open_at (row_lives es t) values r ≡ true → Contains (ranged set values) (index_key values r)
   key_there r so = Contains-from_any {eq = eq_by_cmp nat_cmp} same_number key (ranged set values)
       (kept ∙ sym (near key (same_upper (shifted (key_of values) * 4294967296 + digest_of values) key (omega arith) (omega (arith, small)))) ∙ has_it)
     where
@@ -137,37 +137,37 @@ module _ (es : List Event) (t : ℕ) (rows : OpenRows) (is : AreOpenRows es t ro
       o = open_of es t values r so
 
       key : ℕ
-      key = place_key values r
+      key = index_key values r
 
       small : r < 4294967296
       small = few_rows r o.life o.stands
 
-      own : eq_by_cmp nat_cmp (place_key o.life.values (key % 4294967296)) key ≡ true
+      own : eq_by_cmp nat_cmp (index_key o.life.values (key % 4294967296)) key ≡ true
       own =
-          ap (λ n. eq_by_cmp nat_cmp (place_key o.life.values n) key) (place_row values r small)
-          ∙ ap (λ v. eq_by_cmp nat_cmp (place_key v r) key) (same_from_eq o.life.values values o.like) ∙ number_same key
+          ap (λ n. eq_by_cmp nat_cmp (index_key o.life.values n) key) (place_row values r small)
+          ∙ ap (λ v. eq_by_cmp nat_cmp (index_key v r) key) (same_from_eq o.life.values values o.like) ∙ number_same key
 
       has_it : has rows key ≡ true
       has_it =
           is.opened key ∙ ap (λ n. option_map_or (is_open_as key) (slice_get (row_lives es t) n) false) (place_row values r small)
           ∙ ap (λ x. option_map_or (is_open_as key) x false) o.stands
-          ∙ ap (λ e. not (is_some e) && eq_by_cmp nat_cmp (place_key o.life.values (key % 4294967296)) key) o.none ∙ own
+          ∙ ap (λ e. not (is_some e) && eq_by_cmp nat_cmp (index_key o.life.values (key % 4294967296)) key) o.none ∙ own
 
-      lies : between (place_key values 0) (place_key values 0 + 4294967295) key ≡ true
-      lies = lies_between (place_key values 0) (place_key values 0 + 4294967295) key (omega arith) (omega (arith, small))
+      lies : between (index_key values 0) (index_key values 0 + 4294967295) key ≡ true
+      lies = lies_between (index_key values 0) (index_key values 0 + 4294967295) key (omega arith) (omega (arith, small))
 
       kept : list_any (is_at (nat_cmp key)) (ranged set values) ≡ list_any (is_at (nat_cmp key)) set.keys
-      kept = any-filter_same (is_at (nat_cmp key)) (between (place_key values 0) (place_key values 0 + 4294967295)) true (λ q at. subst (λ n. between (place_key values 0) (place_key values 0 + 4294967295) n ≡ true) (same_number key q at) lies) set.keys
+      kept = any-filter_same (is_at (nat_cmp key)) (between (index_key values 0) (index_key values 0 + 4294967295)) true (λ q at. subst (λ n. between (index_key values 0) (index_key values 0 + 4294967295) n ≡ true) (same_number key q at) lies) set.keys
 
-  -- an open row of the values has a key behind these
-  behind : (i r : ℕ) → AreUnlike es t set values i → is_open_at (row_lives es t) values r ≡ true → (j : ℕ) × (i ≤ j) × (slice_get (ranged set values) j ≡ Some (place_key values r))
+  -- an open row with the values has a key that is not before these
+  behind : (i r : ℕ) → AreUnlike es t set values i → is_open_at (row_lives es t) values r ≡ true → (j : ℕ) × (i ≤ j) × (slice_get (ranged set values) j ≡ Some (index_key values r))
   behind i r before so =
       let there = key_there r so in
-      let at : slice_get (ranged set values) there.0 ≡ Some (place_key values r) = slice_get-get_or (ranged set values) there.0 (place_key values r) there.1 ∙ ap (λ k. Some k) there.2 in
+      let at : slice_get (ranged set values) there.0 ≡ Some (index_key values r) = slice_get-get_or (ranged set values) there.0 (index_key values r) there.1 ∙ ap (λ k. Some k) there.2 in
       elim (cases_lt there.0 i) [
         | inl less ↦
             let o = open_of es t values r so in
-            let unlike = before there.0 (place_key values r) less at o.life (ap (slice_get (row_lives es t)) (place_row values r (few_rows r o.life o.stands)) ∙ o.stands) in
+            let unlike = before there.0 (index_key values r) less at o.life (ap (slice_get (row_lives es t)) (place_row values r (few_rows r o.life o.stands)) ∙ o.stands) in
             absurd (let wrong : true ≡ false = sym o.like ∙ unlike in cc)
         | inr le ↦ (there.0, le, at)
       ]
@@ -180,7 +180,7 @@ module _ (es : List Event) (t : ℕ) (rows : OpenRows) (is : AreOpenRows es t ro
   first_least : (i k : ℕ) → IsOrdered nat_cmp set → slice_get (ranged set values) i ≡ Some k → AreUnlike es t set values i → (r : ℕ) → is_open_at (row_lives es t) values r ≡ true → k % 4294967296 ≤ r
   first_least i k ordered here before r so =
       let late = behind i r before so in
-      let sides = from_between (place_key values 0) (place_key values 0 + 4294967295) k (in_range i k here).0 in
+      let sides = from_between (index_key values 0) (index_key values 0 + 4294967295) k (in_range i k here).0 in
       let from = sides.0 in
       let to = sides.1 in
       let o = open_of es t values r so in
@@ -188,14 +188,14 @@ module _ (es : List Event) (t : ℕ) (rows : OpenRows) (is : AreOpenRows es t ro
       let upper : ℕ = shifted (key_of values) * 4294967296 + digest_of values in
       elim (cases_lt i late.0) [
         | inl less ↦
-            let rise = AllPairs-from_increasing (ranged set values) (IsStrictlyIncreasing-from_sorted (ranged set values) (IsStrictlySortedBy-filter nat_cmp (between (place_key values 0) (place_key values 0 + 4294967295)) set.keys ordered)) i late.0 0 less (slice_get_within (ranged set values) late.0 (place_key values r) late.2) in
+            let rise = AllPairs-from_increasing (ranged set values) (IsStrictlyIncreasing-from_sorted (ranged set values) (IsStrictlySortedBy-filter nat_cmp (between (index_key values 0) (index_key values 0 + 4294967295)) set.keys ordered)) i late.0 0 less (slice_get_within (ranged set values) late.0 (index_key values r) late.2) in
             let low_is = get_or_from_slice_get (ranged set values) i k 0 here in
-            let high_is = get_or_from_slice_get (ranged set values) late.0 (place_key values r) 0 late.2 in
+            let high_is = get_or_from_slice_get (ranged set values) late.0 (index_key values r) 0 late.2 in
             apart upper k r (omega (arith, rise, low_is, high_is)) (omega (arith, from)) (omega (arith, to))
         | inr le ↦
             let at : i ≡ late.0 = let up = late.1 in omega (arith, le, up) in
-            let both : Some k ≡ Some (place_key values r) = sym here ∙ ap (slice_get (ranged set values)) at ∙ late.2 in
-            let same : k ≡ place_key values r = cc in
+            let both : Some k ≡ Some (index_key values r) = sym here ∙ ap (slice_get (ranged set values)) at ∙ late.2 in
+            let same : k ≡ index_key values r = cc in
             apart upper k r (omega (arith, same)) (omega (arith, from)) (omega (arith, to))
       ]
     where
@@ -209,7 +209,7 @@ module _ (es : List Event) (t : ℕ) (rows : OpenRows) (is : AreOpenRows es t ro
       by false so = so
       by true so =
           let late = behind (length (ranged set values)) r before so in
-          let within = slice_get_within (ranged set values) late.0 (place_key values r) late.2 in
+          let within = slice_get_within (ranged set values) late.0 (index_key values r) late.2 in
           let past = late.1 in
           absurd (omega (arith, within, past))
 
@@ -249,7 +249,7 @@ module _ (es : List Event) (t : ℕ) (rows : OpenRows) (is : AreOpenRows es t ro
   none_left rest none left =
       none_open (λ j k less here. left.unlike j k (let past = drop_none (ranged set values) left.place (left.rest_is ∙ none) in omega (arith, less, past)) here)
 
--- where there are no keys, no row is open
+-- if there are no keys, no row is open
 pub none_there : (es : List Event) (t : ℕ) (rows : OpenRows) → AreOpenRows es t rows → length es ≤ 16777216 → (values : List Value) → ((k : ℕ) → has rows k ≡ false) → (r : ℕ) → is_open_at (row_lives es t) values r ≡ false
 none_there es t rows is few values none =
     let empty : BTreeSet ℕ = record { keys = [] } in

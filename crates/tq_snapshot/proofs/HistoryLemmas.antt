@@ -1,4 +1,4 @@
--- The events of a history may follow one another.
+-- Each event of a history may follow the events before it.
 use Rattle.std.proofs.Common.{◌≡◌, ℕ, ◌+◌, ◌<◌, Bool, false, List, [], ◌∷◌, ◌++◌, length, take, drop, get_or, sym, ap, subst, ◌∙◌, arith, append_assoc}
 use Rattle.std.proofs.lemmas.List.{take-append-drop, take_more}
 use Rattle.tq_base.specs.declared.catalogue.Catalogue.{Catalogue}
@@ -14,7 +14,7 @@ history_at c es i e history less at =
     (sym (take-append-drop (i + 1) es)
     ∙ (ap (λ (z : List Event). z ++ drop (i + 1) es) (take_more es i e less ∙ ap (λ (x : Event). take i es ++ x ∷ []) (sym at)) ∙ append_assoc (take i es) (e ∷ []) (drop (i + 1) es)))
 
--- so a store that has the events before it takes it
+-- a store with the events before it takes the event
 pub history_taken : (c : Catalogue) (es : List Event) (i : ℕ) (e : Event) (db : Recorded) (taken : Bool) → IsHistory c es → i < length es → e ≡ get_or es i e → db ≡ record { catalogue = c; events = take i es }
     → (IsTrue taken ↔ IsAdmissible db.catalogue db.events e) → taken ≡ false → ⊥
 history_taken c es i e db taken history less at is takes refused =

@@ -1,6 +1,6 @@
-pub mod FrontLemmas
+pub mod PrefixLemmas
 pub mod BookLemmas
-pub mod HandingLemmas
+pub mod StagingLemmas
 pub mod FindLemmas
 pub mod HistoryLemmas
 pub mod WriterLemmas

@@ -1,4 +1,4 @@
--- The rows of a table after one more event, and those of every table.
+-- The rows of a table after one more event, and the rows of every table.
 use Rattle.std.proofs.Common.{◌≡◌, ◌≢◌, ℕ, zero, suc, ◌+◌, ◌%◌, ◌<◌, ◌==◌, ◌&&◌, not, Bool, true, false, if◌then◌else◌, List, [], ◌∷◌, ◌++◌, Option, Some, None, length, map, take, slice_get, slice_set, refl, sym, ap, subst, ◌∙◌, ◌⊎◌, inl, inr, arith}
 use Rattle.std.specs.Prelude.{◌||◌, IsSomeAnd, FitsSigned, is_some}
 use Rattle.std.specs.Option.{option_map, option_map_or}
@@ -18,14 +18,14 @@ use Rattle.tq_event.specs.Recorded.{table_of}
 use Rattle.tq_event.specs.Versions.{Life, ending_of, row_lives, row_lives_from}
 use Rattle.tq_snapshot.specs.declared.open_index.TableRows.{TableRows}
 use Rattle.tq_store.specs.Index.{AreRowLives, CanTake, IsOpenAt, IsRowLife}
-use Rattle.tq_snapshot.specs.OpenRows.{has, place_key}
+use Rattle.tq_snapshot.specs.OpenRows.{has, index_key}
 use Rattle.tq_snapshot.specs.OpenIndex.{AreTableRows, MayFollow, is_open_as, is_open_under, next_row}
 use Rattle.tq_store.proofs.AdmissibleLemmas.{fit_key, known_table, open_at}
 use Rattle.tq_store.proofs.IndexLemmas.{get_last, get_push, get_set_other, get_set_same, length_push, set_length, start_stands}
 use Rattle.tq_snapshot.proofs.OpenRowsLemmas.{and-false, and-yes, number_other, or-false, place_row}
 use Rattle.tq_store.proofs.LifeLemmas.{ended_at, eqb-other, eqb-same, lives_end, lives_other, lives_start}
 
--- ---- how many rows there are
+-- ---- the number of rows
 
 length-map : {X Y : Type 0} (f : X → Y) (xs : List X) → length (map f xs) ≡ length xs
 length-map f [] = refl
@@ -56,25 +56,25 @@ get_push_other [] y (suc i) other = refl
 get_push_other (x ∷ xs) y zero other = refl
 get_push_other (x ∷ xs) y (suc i) other = get_push_other xs y i (λ same. other (ap suc same))
 
--- whether the rows of a list with one more row are open
-open_push : (ls : List Life) (l : Life) (k : ℕ) → length ls < 4294967296 → is_open_under (ls ++ l ∷ []) k ≡ (is_open_under ls k || (not (is_some l.ending) && eq_by_cmp nat_cmp (place_key l.values (length ls)) k))
+-- which rows of a list are open after one more row
+open_push : (ls : List Life) (l : Life) (k : ℕ) → length ls < 4294967296 → is_open_under (ls ++ l ∷ []) k ≡ (is_open_under ls k || (not (is_some l.ending) && eq_by_cmp nat_cmp (index_key l.values (length ls)) k))
 open_push ls l k small = by (k % 4294967296 == length ls) refl
   where
     last : Bool
-    last = not (is_some l.ending) && eq_by_cmp nat_cmp (place_key l.values (length ls)) k
+    last = not (is_some l.ending) && eq_by_cmp nat_cmp (index_key l.values (length ls)) k
 
-    by : (b : Bool) → (k % 4294967296 == length ls) ≡ b → is_open_under (ls ++ l ∷ []) k ≡ (is_open_under ls k || (not (is_some l.ending) && eq_by_cmp nat_cmp (place_key l.values (length ls)) k))
+    by : (b : Bool) → (k % 4294967296 == length ls) ≡ b → is_open_under (ls ++ l ∷ []) k ≡ (is_open_under ls k || (not (is_some l.ending) && eq_by_cmp nat_cmp (index_key l.values (length ls)) k))
     by true is =
         let at_last : k % 4294967296 ≡ length ls = eqb-true (k % 4294967296) (length ls) is in
         let with_it : is_open_under (ls ++ l ∷ []) k ≡ last =
         ap (λ r. option_map_or (is_open_as k) (slice_get (ls ++ l ∷ []) r) false) at_last ∙ ap (λ o. option_map_or (is_open_as k) o false) (get_last ls l)
-        ∙ ap (λ r. not (is_some l.ending) && eq_by_cmp nat_cmp (place_key l.values r) k) at_last in
+        ∙ ap (λ r. not (is_some l.ending) && eq_by_cmp nat_cmp (index_key l.values r) k) at_last in
         let without : is_open_under ls k ≡ false =
         ap (λ r. option_map_or (is_open_as k) (slice_get ls r) false) at_last ∙ ap (λ o. option_map_or (is_open_as k) o false) (slice_get_past ls (length ls) (omega arith)) in
         with_it ∙ sym (ap (λ b. b || last) without)
     by false is =
         let other : k % 4294967296 ≢ length ls = λ same. let wrong : true ≡ false = sym (eqb-same (k % 4294967296)) ∙ ap (λ n. k % 4294967296 == n) same ∙ is in cc in
-        let away = number_other (place_key l.values (length ls)) k (λ same. other (sym (ap (λ n. n % 4294967296) same) ∙ place_row l.values (length ls) small)) in
+        let away = number_other (index_key l.values (length ls)) k (λ same. other (sym (ap (λ n. n % 4294967296) same) ∙ place_row l.values (length ls) small)) in
         ap (λ o. option_map_or (is_open_as k) o false) (get_push_other ls l (k % 4294967296) other) ∙ sym (or-false (is_open_under ls k))
         ∙ sym (ap (λ b. is_open_under ls k || b) (ap (λ b. not (is_some l.ending) && b) away ∙ and-false (not (is_some l.ending))))
 
@@ -84,25 +84,25 @@ shut true false = refl
 shut false true = refl
 shut false false = refl
 
--- whether the rows of a list are open of which one ended
+-- which rows of a list are open after one row has ended
 open_set : (ls : List Life) (i : ℕ) (l new : Life) (k : ℕ) → i < 4294967296 → slice_get ls i ≡ Some l → is_open_as k new ≡ false
-    → is_open_under (slice_set ls i new) k ≡ (is_open_under ls k && not (eq_by_cmp nat_cmp (place_key l.values i) k))
+    → is_open_under (slice_set ls i new) k ≡ (is_open_under ls k && not (eq_by_cmp nat_cmp (index_key l.values i) k))
 open_set ls i l new k small stands ended = by (k % 4294967296 == i) refl
   where
-    by : (b : Bool) → (k % 4294967296 == i) ≡ b → is_open_under (slice_set ls i new) k ≡ (is_open_under ls k && not (eq_by_cmp nat_cmp (place_key l.values i) k))
+    by : (b : Bool) → (k % 4294967296 == i) ≡ b → is_open_under (slice_set ls i new) k ≡ (is_open_under ls k && not (eq_by_cmp nat_cmp (index_key l.values i) k))
     by true is =
         let at_i : k % 4294967296 ≡ i = eqb-true (k % 4294967296) i is in
-        let test : Bool = eq_by_cmp nat_cmp (place_key l.values i) k in
+        let test : Bool = eq_by_cmp nat_cmp (index_key l.values i) k in
         let old_one : is_open_under ls k ≡ (not (is_some l.ending) && test) =
         ap (λ r. option_map_or (is_open_as k) (slice_get ls r) false) at_i ∙ ap (λ o. option_map_or (is_open_as k) o false) stands
-        ∙ ap (λ r. not (is_some l.ending) && eq_by_cmp nat_cmp (place_key l.values r) k) at_i in
+        ∙ ap (λ r. not (is_some l.ending) && eq_by_cmp nat_cmp (index_key l.values r) k) at_i in
         ap (λ r. option_map_or (is_open_as k) (slice_get (slice_set ls i new) r) false) at_i
         ∙ ap (λ o. option_map_or (is_open_as k) o false) (get_set_same ls i new (slice_get_within ls i l stands)) ∙ ended
         ∙ sym (shut (not (is_some l.ending)) test)
         ∙ sym (ap (λ b. b && not test) old_one)
     by false is =
         let other : k % 4294967296 ≢ i = λ same. let wrong : true ≡ false = sym (eqb-same (k % 4294967296)) ∙ ap (λ n. k % 4294967296 == n) same ∙ is in cc in
-        let away = number_other (place_key l.values i) k (λ same. other (sym (ap (λ n. n % 4294967296) same) ∙ place_row l.values i small)) in
+        let away = number_other (index_key l.values i) k (λ same. other (sym (ap (λ n. n % 4294967296) same) ∙ place_row l.values i small)) in
         ap (λ o. option_map_or (is_open_as k) o false) (get_set_other ls i (k % 4294967296) new other) ∙ sym (and-yes (is_open_under ls k))
         ∙ sym (ap (λ b. is_open_under ls k && not b) away)
 
@@ -110,7 +110,7 @@ open_set ls i l new k small stands ended = by (k % 4294967296 == i) refl
 
 pub rows_start : (es : List Event) (t : ℕ) (v : List Value) (at : ℕ) (old new : TableRows) → length es < 16777216 → AreTableRows es t old → FitsSigned w64 (key_of v) → at < FOREVER
     → new.starts.items ≡ old.starts.items ++ length es ∷ []
-    → ((k : ℕ) → has new.opened k ≡ (has old.opened k || eq_by_cmp nat_cmp (place_key v (length old.starts.items)) k))
+    → ((k : ℕ) → has new.opened k ≡ (has old.opened k || eq_by_cmp nat_cmp (index_key v (length old.starts.items)) k))
     → AreTableRows (es ++ Start t v at ∷ []) t new
 rows_start es t v at old new small is fits less starts opened = record {
   starts = starts ∙ ap (λ r. r ++ length es ∷ []) is.starts ∙ sym (map-append (λ (l : Life). l.start) (row_lives es t) (l ∷ [])) ∙ sym (ap (map (λ (l : Life). l.start)) more);
@@ -121,8 +121,8 @@ rows_start es t v at old new small is fits less starts opened = record {
         let le = is.open_rows.few in
         omega (arith, lives, events, le);
     opened = λ k.
-        opened k ∙ ap (λ b. b || eq_by_cmp nat_cmp (place_key v (length old.starts.items)) k) (is.open_rows.opened k)
-        ∙ ap (λ n. is_open_under (row_lives es t) k || eq_by_cmp nat_cmp (place_key v n) k) (rows_counted es t old is)
+        opened k ∙ ap (λ b. b || eq_by_cmp nat_cmp (index_key v (length old.starts.items)) k) (is.open_rows.opened k)
+        ∙ ap (λ n. is_open_under (row_lives es t) k || eq_by_cmp nat_cmp (index_key v n) k) (rows_counted es t old is)
         ∙ sym (open_push (row_lives es t) l k (let le = is.open_rows.few in omega (arith, le, small))) ∙ sym (ap (λ ls. is_open_under ls k) more);
   };
   good = λ row x stands. elim (get_push (row_lives es t) l row x (sym (ap (λ ls. slice_get ls row) more) ∙ stands)) [
@@ -137,7 +137,7 @@ rows_start es t v at old new small is fits less starts opened = record {
     more : row_lives (es ++ Start t v at ∷ []) t ≡ row_lives es t ++ l ∷ []
     more = lives_start t 0 0 (length es) es v at (omega arith)
 
--- what stands in a list of which one element was changed
+-- an element of a list after one element was changed
 set_case : {X : Type 0} → (xs : List X) (i : ℕ) (v : X) (row : ℕ) (x : X) → i < length xs → slice_get (slice_set xs i v) row ≡ Some x → (x ≡ v) ⊎ (slice_get xs row ≡ Some x)
 set_case xs i v row x less here = by (row == i) refl
   where
@@ -150,7 +150,7 @@ set_case xs i v row x less here = by (row == i) refl
         let away : row ≢ i = λ at_i. let wrong : true ≡ false = sym (eqb-same row) ∙ ap (λ n. row == n) at_i ∙ is in cc in
         inr (sym (get_set_other xs i row v away) ∙ here)
 
--- the same elements, of which one stays as it is seen
+-- a list whose changed element has the same image has the same images
 set_seen : {X Y : Type 0} → (f : X → Y) (xs : List X) (i : ℕ) (old new : X) → slice_get xs i ≡ Some old → f new ≡ f old → map f (slice_set xs i new) ≡ map f xs
 set_seen f [] i old new here same = absurd (cc)
 set_seen f (x ∷ xs) zero old new here same = let first : x ≡ old = cc in ap (λ y. y ∷ map f xs) (same ∙ sym (ap f first))
@@ -159,7 +159,7 @@ set_seen f (x ∷ xs) (suc i) old new here same = ap (λ ys. f x ∷ ys) (set_se
 pub rows_end : (es : List Event) (t row at : ℕ) (old new : TableRows) (l : Life) → length es < 16777216 → AreTableRows es t old → at < FOREVER
     → slice_get (row_lives es t) row ≡ Some l → l.ending ≡ None → l.from < at
     → new.starts.items ≡ old.starts.items
-    → ((k : ℕ) → has new.opened k ≡ (has old.opened k && not (eq_by_cmp nat_cmp (place_key l.values row) k)))
+    → ((k : ℕ) → has new.opened k ≡ (has old.opened k && not (eq_by_cmp nat_cmp (index_key l.values row) k)))
     → AreTableRows (es ++ End t row at ∷ []) t new
 rows_end es t row at old new l small is finite stands none less starts opened = record {
   starts = starts ∙ is.starts ∙ sym (set_seen (λ (l : Life). l.start) (row_lives es t) row l (ended_at (length es) at l) stands refl) ∙ sym (ap (map (λ (l : Life). l.start)) more);
@@ -170,7 +170,7 @@ rows_end es t row at old new l small is finite stands none less starts opened = 
         let le = is.open_rows.few in
         omega (arith, lives, events, le);
     opened = λ k.
-        opened k ∙ ap (λ b. b && not (eq_by_cmp nat_cmp (place_key l.values row) k)) (is.open_rows.opened k)
+        opened k ∙ ap (λ b. b && not (eq_by_cmp nat_cmp (index_key l.values row) k)) (is.open_rows.opened k)
         ∙ sym (open_set (row_lives es t) row l (ended_at (length es) at l) k (let within = slice_get_within (row_lives es t) row l stands in let le = is.open_rows.few in omega (arith, within, le, small)) stands refl)
         ∙ sym (ap (λ ls. is_open_under ls k) more);
   };
@@ -222,7 +222,7 @@ module _ (es : List Event) (tables : List TableRows) (t : ℕ) (new : TableRows)
   pub tables_after : (e : Event) → table_of e ≡ t → AreTableRows (es ++ e ∷ []) t new → (u : ℕ) (rows : TableRows) → slice_get (slice_set tables t new) u ≡ Some rows → AreTableRows (es ++ e ∷ []) u rows
   tables_after e of_table is = set_rows (es ++ e ∷ []) is (λ u rows away old. rows_other es u e rows old (eqb-other (table_of e) u (λ same. away (sym same ∙ of_table))))
 
--- ---- what may follow
+-- ---- events that may follow
 
 pub table_within : (tables : ℕ) (es : List Event) (e : Event) → MayFollow tables es e → table_of e < tables
 table_within tables es e may = let less = known_table may.catalogue es e may.admissible.1 in omega (arith, less, may.same)
@@ -237,7 +237,7 @@ can_follow tables es (End t r at) may good finite = (open_at es t r at good may.
 
 -- ---- the event that starts a row
 
--- this is the number of the event that starts the row
+-- the number is that of the event that starts the row
 pub record IsStarted (es : List Event) (t row number : ℕ) : Type 0 where
   pub life : Life
   pub stands : slice_get (row_lives es t) row ≡ Some life
@@ -278,7 +278,7 @@ open_life es t row at here = by (slice_get (row_lives es t) row) refl here
 pub is_open_there : (es : List Event) (t row at : ℕ) (l : Life) → slice_get (row_lives es t) row ≡ Some l → l.ending ≡ None → l.from < at → IsOpenAt es t row at
 is_open_there es t row at l stands none less = subst (λ o. IsSomeAnd o (λ (l : Life). (l.ending ≡ None) × (l.from < at))) (sym stands) (none, less)
 
--- ---- beginnings of a history
+-- ---- prefixes of a history
 
 split_at : {X : Type 0} → (xs : List X) (i : ℕ) (x : X) → slice_get xs i ≡ Some x → (rest : List X) × (xs ≡ take i xs ++ x ∷ rest)
 split_at [] i x here = absurd (cc)

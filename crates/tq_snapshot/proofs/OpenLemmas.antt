@@ -1,4 +1,4 @@
--- The first open row of some values, by the lives of the rows and by the definition.
+-- The first open row with some values, by the lives of the rows and by the definition.
 use Rattle.std.proofs.Common.{◌≡◌, ℕ, zero, suc, ◌+◌, ◌<◌, ◌≤◌, ◌==◌, ◌&&◌, not, Bool, true, false, cond, if◌then◌else◌, List, [], ◌∷◌, Option, Some, None, length, slice_get, nat_lt, inl, inr, refl, sym, ap, subst, ◌∙◌, arith, rules}
 use Rattle.std.specs.Prelude.{IfSome, IsSomeAnd, is_some, position}
 use Rattle.std.specs.List.{position_or_len}
@@ -24,13 +24,13 @@ use Rattle.tq_snapshot.specs.OpenIndex.{is_open_at, is_open_of}
 
 -- ---- positions
 
-place_of : {X : Type 0} → (X → Bool) → List X → ℕ
-place_of p [] = 0
-place_of p (x ∷ xs) = cond (p x) 0 (1 + place_of p xs)
+set_index_of : {X : Type 0} → (X → Bool) → List X → ℕ
+set_index_of p [] = 0
+set_index_of p (x ∷ xs) = cond (p x) 0 (1 + set_index_of p xs)
 
-place_is : {X : Type 0} (p : X → Bool) (xs : List X) → place_of p xs ≡ position_or_len p xs
-unfolding place_of
-place_is p xs = is_position_or_len (place_of p) p refl (λ x ys. refl) xs
+place_is : {X : Type 0} (p : X → Bool) (xs : List X) → set_index_of p xs ≡ position_or_len p xs
+unfolding set_index_of
+place_is p xs = is_position_or_len (set_index_of p) p refl (λ x ys. refl) xs
 
 abbrev Alike : {X Y : Type 0} → (X → Bool) → (Y → Bool) → List X → List Y → Type 0
 Alike p q xs ys = (i : ℕ) → option_map p (slice_get xs i) ≡ option_map q (slice_get ys i)
@@ -41,15 +41,15 @@ same_length p q [] (y ∷ ys) alike = absurd (let first = alike 0 in cc)
 same_length p q (x ∷ xs) [] alike = absurd (let first = alike 0 in cc)
 same_length p q (x ∷ xs) (y ∷ ys) alike = ap suc (same_length p q xs ys (λ i. alike (suc i)))
 
-same_place : {X Y : Type 0} (p : X → Bool) (q : Y → Bool) (xs : List X) (ys : List Y) → Alike p q xs ys → place_of p xs ≡ place_of q ys
-unfolding place_of
+same_place : {X Y : Type 0} (p : X → Bool) (q : Y → Bool) (xs : List X) (ys : List Y) → Alike p q xs ys → set_index_of p xs ≡ set_index_of q ys
+unfolding set_index_of
 same_place p q [] [] alike = refl
 same_place p q [] (y ∷ ys) alike = absurd (let first = alike 0 in cc)
 same_place p q (x ∷ xs) [] alike = absurd (let first = alike 0 in cc)
 same_place p q (x ∷ xs) (y ∷ ys) alike =
     let first : Some (p x) ≡ Some (q y) = alike 0 in
     let head : p x ≡ q y = cc in
-    ap (λ b. cond b 0 (1 + place_of p xs)) head ∙ ap (λ n. cond (q y) 0 (1 + n)) (same_place p q xs ys (λ i. alike (suc i)))
+    ap (λ b. cond b 0 (1 + set_index_of p xs)) head ∙ ap (λ n. cond (q y) 0 (1 + n)) (same_place p q xs ys (λ i. alike (suc i)))
 
 same_position : {X Y : Type 0} (p : X → Bool) (q : Y → Bool) (xs : List X) (ys : List Y) → Alike p q xs ys → position p xs ≡ position q ys
 same_position p q xs ys alike =
@@ -61,7 +61,7 @@ same_position p q xs ys alike =
 less_is : (a b : ℕ) → a < b → nat_lt a b ≡ true
 less_is a b less = search (rules, nat_tests, less)
 
--- whether a row of this life is open, started before the instant, and has these values
+-- whether a row with this life is open, started before the instant, and has these values
 abbrev open_like : List Value → ℕ → Life → Bool
 open_like values at l = not (is_some l.ending) && (nat_lt l.from at && eq_by_cmp values_cmp l.values values)
 
@@ -93,27 +93,27 @@ module _ (es : List Event) (t : ℕ) (good : AreRowLives es t) (values : List Va
 
 -- ---- the first position
 
-place_first : {X : Type 0} (p : X → Bool) (xs : List X) (i : ℕ) (x : X) → slice_get xs i ≡ Some x → p x ≡ true → ((k : ℕ) (y : X) → k < i → slice_get xs k ≡ Some y → p y ≡ false) → place_of p xs ≡ i
-unfolding place_of
+place_first : {X : Type 0} (p : X → Bool) (xs : List X) (i : ℕ) (x : X) → slice_get xs i ≡ Some x → p x ≡ true → ((k : ℕ) (y : X) → k < i → slice_get xs k ≡ Some y → p y ≡ false) → set_index_of p xs ≡ i
+unfolding set_index_of
 place_first p [] i x here passes before = absurd (cc)
 place_first p (y ∷ ys) zero x here passes before =
     let some : Some y ≡ Some x = here in
     let same : y ≡ x = cc in
-    ap (λ b. cond b 0 (1 + place_of p ys)) (ap p same ∙ passes)
+    ap (λ b. cond b 0 (1 + set_index_of p ys)) (ap p same ∙ passes)
 place_first p (y ∷ ys) (suc i) x here passes before =
     let first : p y ≡ false = before 0 y (omega arith) refl in
-    let later : place_of p ys ≡ i = place_first p ys i x here passes (λ k z less there. before (suc k) z (omega (arith, less)) there) in
+    let later : set_index_of p ys ≡ i = place_first p ys i x here passes (λ k z less there. before (suc k) z (omega (arith, less)) there) in
     let more : 1 + i ≡ suc i = omega arith in
-    ap (λ b. cond b 0 (1 + place_of p ys)) first ∙ ap (λ n. 1 + n) later ∙ more
+    ap (λ b. cond b 0 (1 + set_index_of p ys)) first ∙ ap (λ n. 1 + n) later ∙ more
 
-place_none : {X : Type 0} (p : X → Bool) (xs : List X) → ((k : ℕ) (y : X) → slice_get xs k ≡ Some y → p y ≡ false) → place_of p xs ≡ length xs
-unfolding place_of
+place_none : {X : Type 0} (p : X → Bool) (xs : List X) → ((k : ℕ) (y : X) → slice_get xs k ≡ Some y → p y ≡ false) → set_index_of p xs ≡ length xs
+unfolding set_index_of
 place_none p [] none = refl
 place_none p (y ∷ ys) none =
     let first : p y ≡ false = none 0 y refl in
-    let later : place_of p ys ≡ length ys = place_none p ys (λ k z there. none (suc k) z there) in
+    let later : set_index_of p ys ≡ length ys = place_none p ys (λ k z there. none (suc k) z there) in
     let more : 1 + length ys ≡ suc (length ys) = omega arith in
-    ap (λ b. cond b 0 (1 + place_of p ys)) first ∙ ap (λ n. 1 + n) later ∙ more
+    ap (λ b. cond b 0 (1 + set_index_of p ys)) first ∙ ap (λ n. 1 + n) later ∙ more
 
 not_less : (a b : ℕ) → b ≤ a → nat_lt a b ≡ false
 not_less a b le = search (rules, nat_tests, le)
@@ -134,7 +134,7 @@ not_ended : (o : Option Ending) → not (is_some o) ≡ true → o ≡ None
 not_ended None is = refl
 not_ended (Some e) is = absurd (cc)
 
--- the row is open, and has these values
+-- the row is open and has these values
 pub record IsOpenOf (es : List Event) (t row : ℕ) (values : List Value) : Type 0 where
   pub life : Life
   pub stands : slice_get (row_lives es t) row ≡ Some life

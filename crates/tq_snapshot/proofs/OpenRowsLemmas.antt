@@ -8,8 +8,8 @@ use Rattle.tq_base.specs.declared.value.Value.{Value}
 use Rattle.tq_base.specs.KeyRanges.{key_of}
 use Rattle.tq_snapshot.specs.Digests.{digest_of}
 use Rattle.tq_store.specs.Keys.{shifted}
-use Rattle.tq_snapshot.specs.OpenRows.{place_key}
-use Rattle.tq_store.proofs.KeyLemmas.{key_row}
+use Rattle.tq_snapshot.specs.OpenRows.{index_key}
+use Rattle.tq_store.proofs.SortKeyLemmas.{key_row}
 
 pub or-false : (b : Bool) → (b || false) ≡ b
 or-false true = refl
@@ -48,6 +48,6 @@ number_other a b other = by (eq_by_cmp nat_cmp a b) refl
     by true is = absurd (other (same_number a b is))
     by false is = is
 
--- a key has the number of its row
-pub place_row : (v : List Value) (r : ℕ) → r < 4294967296 → place_key v r % 4294967296 ≡ r
+-- an index key has the number of its row
+pub place_row : (v : List Value) (r : ℕ) → r < 4294967296 → index_key v r % 4294967296 ≡ r
 place_row v r less = key_row (shifted (key_of v) * 4294967296 + digest_of v) r less

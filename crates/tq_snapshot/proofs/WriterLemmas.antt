@@ -1,4 +1,4 @@
--- What holds of a writer, as events are appended and published.
+-- The soundness of a writer as events are appended and published.
 use Rattle.std.proofs.Common.{◌≡◌, ℕ, ◌<◌, ◌≤◌, List, [], ◌∷◌, ◌++◌, length, ap, sym, subst, ◌∙◌, arith, append-nil, append_assoc}
 use Rattle.std.proofs.lemmas.List.{length_push, take-append-le}
 use Rattle.tq_base.specs.declared.catalogue.Catalogue.{Catalogue}
@@ -6,17 +6,17 @@ use Rattle.tq_event.specs.declared.event.Event.{Event}
 use Rattle.tq_event.specs.History.{IsAdmissible, IsHistory}
 use Rattle.tq_store.proofs.AdmissibleLemmas.{history_push}
 use Rattle.logbook.specs.Pages.{Book}
-use Rattle.tq_snapshot.specs.Held.{Arrival, Held, Known, arrivals, held}
+use Rattle.tq_snapshot.specs.StoreValue.{Arrival, StoreValue, PrefixValue, arrivals, store_value}
 use Rattle.tq_snapshot.specs.Sound.{IsSound}
-use Rattle.tq_snapshot.proofs.HandingLemmas.{of_book}
+use Rattle.tq_snapshot.proofs.StagingLemmas.{of_book}
 
 -- one more event is pending
-pub sound_grows : (c : Catalogue) (b : Book) (shown : Held) (waiting : List Arrival) (pending : List Event) (sent : ℕ) (front : Known) (limit : ℕ) (pending' : List Event) (e : Event)
-    → IsSound c b shown waiting pending sent front limit → pending' ≡ pending ++ e ∷ [] → IsAdmissible c (shown.events ++ pending) e → length (shown.events ++ pending) < limit
-    → IsSound c b shown waiting pending' sent front limit
-sound_grows c b shown waiting pending sent front limit pending' e s is may room =
+pub sound_grows : (c : Catalogue) (b : Book) (shown : StoreValue) (waiting : List Arrival) (pending : List Event) (sent : ℕ) (prefix : PrefixValue) (limit : ℕ) (pending' : List Event) (e : Event)
+    → IsSound c b shown waiting pending sent prefix limit → pending' ≡ pending ++ e ∷ [] → IsAdmissible c (shown.events ++ pending) e → length (shown.events ++ pending) < limit
+    → IsSound c b shown waiting pending' sent prefix limit
+sound_grows c b shown waiting pending sent prefix limit pending' e s is may room =
     let more : (shown.events ++ pending) ++ e ∷ [] ≡ shown.events ++ (pending ++ e ∷ []) = append_assoc shown.events pending (e ∷ []) in
-    let next : IsSound c b shown waiting (pending ++ e ∷ []) sent front limit = record {
+    let next : IsSound c b shown waiting (pending ++ e ∷ []) sent prefix limit = record {
       shows = s.shows;
       handed = record {
         within = let len = length_push pending e in let le = s.handed.within in omega (arith, len, le);
@@ -31,16 +31,16 @@ sound_grows c b shown waiting pending sent front limit pending' e s is may room 
       history = subst (IsHistory c) more (history_push c (shown.events ++ pending) e s.history may);
       room = let len = sym (ap length more) ∙ length_push (shown.events ++ pending) e in omega (arith, len, room);
       small = s.small;
-    } in subst (λ (z : List Event). IsSound c b shown waiting z sent front limit) (sym is) next
+    } in subst (λ (z : List Event). IsSound c b shown waiting z sent prefix limit) (sym is) next
 
 -- all events are published
-pub sound_shown : (c : Catalogue) (b : Book) (all : List Event) (y : Held) (rest : List Arrival) (pending : List Event) (front : Known) (limit : ℕ)
-    → y ≡ held c b all → rest ≡ [] → pending ≡ [] → front.book ≡ b → front.list ≡ all → IsHistory c all → length all ≤ limit → limit ≤ 16777216
-    → IsSound c b y rest pending 0 front limit
-sound_shown c b all y rest pending front limit is none empty named written history room small =
-    let events : y.events ≡ all = ap (λ (z : Held). z.events) is in
+pub sound_shown : (c : Catalogue) (b : Book) (all : List Event) (y : StoreValue) (rest : List Arrival) (pending : List Event) (prefix : PrefixValue) (limit : ℕ)
+    → y ≡ store_value c b all → rest ≡ [] → pending ≡ [] → prefix.book ≡ b → prefix.list ≡ all → IsHistory c all → length all ≤ limit → limit ≤ 16777216
+    → IsSound c b y rest pending 0 prefix limit
+sound_shown c b all y rest pending prefix limit is none empty named written history room small =
+    let events : y.events ≡ all = ap (λ (z : StoreValue). z.events) is in
     let every : all ≡ y.events ++ [] = sym events ∙ sym (append-nil y.events) in
-    let now : IsSound c b y rest [] 0 front limit = record {
+    let now : IsSound c b y rest [] 0 prefix limit = record {
       shows = of_book c b y all is;
       handed = record { within = omega arith; waits = none };
       named = named;
@@ -48,4 +48,4 @@ sound_shown c b all y rest pending front limit is none empty named written histo
       history = subst (IsHistory c) every history;
       room = let len = ap length every in omega (arith, len, room);
       small = small;
-    } in subst (λ (z : List Event). IsSound c b y rest z 0 front limit) (sym empty) now
+    } in subst (λ (z : List Event). IsSound c b y rest z 0 prefix limit) (sym empty) now

@@ -1,5 +1,5 @@
--- Digests of lists of values: multiplied by a factor word by word, in 64 bits, of which the upper half tells most lists
--- apart. What is proved of rows holds whatever a digest is. This project's own.
+-- Digests of lists of values: each word is added and multiplied by a factor, in 64 bits. The upper half differs for
+-- most lists. What is proved of rows holds for any digest. This project's own.
 use Rattle.std.specs.Prelude.{ℕ, ◌+◌, ◌*◌, ◌/◌, ◌%◌, ◌^◌, List, [], ◌∷◌}
 use Rattle.tq_base.specs.declared.value.Value.{Value}
 use Rattle.tq_base.specs.Contents.{Int, Text}

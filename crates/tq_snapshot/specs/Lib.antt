@@ -1,4 +1,4 @@
-pub mod Held
+pub mod StoreValue
 pub mod Rules
 pub mod Sound
 pub mod Calls

@@ -1,9 +1,9 @@
-// The history of a store as proofs know it, and the beginnings of it that were seen. A book keeps every event for
-// proofs alone; what stands in memory of it is one word, how many there are.
+// The history of a store, for proofs, and the prefixes of it that were seen. A book keeps every event for proofs alone.
+// In memory it is one word: the number of events.
 
 ghost use Rattle.std.specs.Prelude.{◌≡◌, ◌+◌, ◌<◌, ◌≤◌, ◌^◌, ◌++◌, ◌∷◌, [], length, take, MatchBool};
 ghost use mathlib.Core.List.{IsPrefix};
-ghost use Rattle.tq_snapshot.specs.Held.{known};
+ghost use Rattle.tq_snapshot.specs.StoreValue.{known};
 ghost use Rattle.tq_snapshot.specs.Rules.{count_word};
 
 use logbook::{Gain, Offer, Plain, Play, Rule, Seen, Start, Word};
@@ -31,7 +31,7 @@ impl Rule<Event, u64> for Counted {
     ghost moves = { λ ask before after answer. Unit {0} };
 }
 
-/// A step that leaves its caller with nothing more.
+/// The gain of a step that gives its caller no further fact.
 pub struct NoGain;
 
 impl Gain<Event, u64> for NoGain {
@@ -40,7 +40,7 @@ impl Gain<Event, u64> for NoGain {
     ghost after = { λ names about answer. ftrue };
 }
 
-/// The step that puts an event behind all others.
+/// The step that appends an event.
 pub struct Append;
 
 impl Play<Event, u64> for Append {
@@ -49,7 +49,7 @@ impl Play<Event, u64> for Append {
     ghost then = { Appends };
 }
 
-/// What the step asks for is the event.
+/// The step's argument is the event.
 impl Plain<Event, Event, u64> for Append {
     ghost use Rattle.std.specs.Prelude.{None};
 
@@ -58,8 +58,8 @@ impl Plain<Event, Event, u64> for Append {
     ghost state = { λ event. None };
 }
 
-/// Which store it is, for proofs alone: the book of its history, and its catalogue.
-pub trait Naming {
+/// The identity of a store, for proofs alone: the book of its history, and its catalogue.
+pub trait StoreId {
     ghost use Rattle.logbook.specs.Pages.{Book};
     ghost use Rattle.tq_base.specs.declared.catalogue.Catalogue.{Catalogue};
 
@@ -68,102 +68,102 @@ pub trait Naming {
     ghost catalogue: { Catalogue };
 }
 
-impl Naming for Brand {
-    ghost use Rattle.tq_snapshot.specs.Held.{no_tables};
+impl StoreId for Brand {
+    ghost use Rattle.tq_snapshot.specs.StoreValue.{no_tables};
 
     ghost book = { record { number = 0; log_name = 0; cells_name = 0 } };
 
     ghost catalogue = { no_tables };
 }
 
-/// How many events the history has, in one word.
+/// The number of events of the history, in one word.
 #[derive(Drop)]
 pub struct Book {
     count: Word<Event, u64, Counted>,
     ghost count_is: { count ≡ count_word count.book },
 }
 
-/// A history that has just begun, with no event, for one store to be opened over. Contracts see it as its book.
+/// A history without events, over which one store is opened. Contracts see it as its book.
 #[derive(Drop)]
 pub struct Opened {
     pub(crate) book: Book,
-    pub(crate) front: Front,
+    pub(crate) prefix: Prefix,
 }
 
 impl Model for Opened {
     ghost use Rattle.std.specs.Prelude.{◌≡◌, []};
     ghost use Rattle.logbook.specs.Pages.{Book as Pages};
-    ghost use Rattle.tq_snapshot.specs.Held.{known};
+    ghost use Rattle.tq_snapshot.specs.StoreValue.{known};
 
     ghost Value = { Pages };
 
     ghost view = { λ o. o.book.count.book };
 
-    ghost invariant = { λ o. o.front ≡ known o.book.count.book [] };
+    ghost invariant = { λ o. o.prefix ≡ known o.book.count.book [] };
 }
 
 impl Opened {
-    /// One more, of its own.
+    /// A new history, with a book of its own.
     pub fn new() -> Opened {
         let (seen, mut first, _second) = Seen::open(Start::alone(), 0, 0);
         Opened {
             book: Book {
                 count: Word::tracked(0, &mut first),
             },
-            front: Front { len: 0, seen },
+            prefix: Prefix { len: 0, seen },
         }
     }
 }
 
-/// A beginning of a book's history. Contracts see it as the book and the events.
+/// A prefix of a book's history. Contracts see it as the book and the events.
 #[derive(Drop)]
-pub struct Front {
+pub struct Prefix {
     len: u64,
     seen: Seen<Event, u64, Counted>,
 }
 
-impl Model for Front {
+impl Model for Prefix {
     ghost use Rattle.std.specs.Prelude.{◌≤◌, length, take};
-    ghost use Rattle.tq_snapshot.specs.Held.{Known, known};
+    ghost use Rattle.tq_snapshot.specs.StoreValue.{PrefixValue, known};
 
-    ghost Value = { Known };
+    ghost Value = { PrefixValue };
 
     ghost view = { λ f. known f.seen.book (take f.len f.seen.log) };
 
     ghost invariant = { λ f. f.len ≤ length f.seen.log };
 }
 
-impl Front {
-    /// How many events it has.
+impl Prefix {
+    /// The number of events.
     pub fn len(&self) -> u64
         ensures { result ≡ length self.now.list }
     {
         self.len
     }
 
-    /// The same beginning.
-    pub fn copy(&self) -> Front
+    /// The same prefix.
+    pub fn copy(&self) -> Prefix
         ensures { result ≡ self.now }
     {
-        Front {
+        Prefix {
             len: self.len,
             seen: self.seen.again(),
         }
     }
 
-    /// Its first so many events.
-    pub fn first(&self, len: u64) -> Front
+    /// The prefix of its first `len` events.
+    pub fn first(&self, len: u64) -> Prefix
         requires { len ≤ length self.now.list }
         ensures { result ≡ known self.now.book (take len self.now.list) }
     {
-        Front {
+        Prefix {
             len,
             seen: self.seen.again(),
         }
     }
 
-    /// Whether the other begins with it. Of two beginnings of one history the shorter begins the longer.
-    pub fn begins(&self, other: &Front) -> bool
+    /// Whether the other prefix begins with this one. Of two prefixes of one history, the shorter begins the longer.
+    pub fn begins(&self, other: &Prefix) -> bool
         requires { other.now.book ≡ self.now.book }
         ensures { MatchBool result (IsPrefix self.now.list other.now.list) (IsPrefix other.now.list self.now.list × (length other.now.list < length self.now.list)) }
     {
@@ -172,7 +172,8 @@ impl Front {
         self.len <= other.len
     }
 
-    /// Puts the event behind these, and tells whether it did. It did not where the history has more than these.
+    /// Appends the event after these and returns `true`. Returns `false`, and appends nothing, if the history has more
+    /// events than these.
     pub fn append(&mut self, book: &Book, event: &Event) -> bool
         requires book { self.old.book ≡ book.now.count.book }
         requires room { length self.old.list < 2 ^ 62 }

@@ -1,25 +1,23 @@
-//! Digests of lists of values: numbers by which most of them are told apart.
+//! Digests of lists of values. Different lists mostly have different digests.
 
 ghost use Rattle.std.specs.Prelude.{◌≡◌};
 ghost use Rattle.tq_snapshot.specs.Digests.{bytes_mixed, digest_of, mixed, value_mixed};
 
-use tq_base::{Seen, Value, Values};
+use tq_base::{Value, ValueRef, Values};
 use tq_store::shift;
 
-/// 2^64 over the golden ratio, whose multiples lie far apart.
+/// 2^64 divided by the golden ratio; its multiples are spread evenly.
 const FACTOR: u64 = 0x9E37_79B9_7F4A_7C15;
 
-/// What is mixed in where a text ends. No byte is as great.
+/// The word that is mixed in at the end of a text; it is larger than every byte.
 const END_OF_TEXT: u64 = 256;
 
-// The state after the word.
 fn mix(state: u64, word: u64) -> u64
     ensures { result ≡ mixed state word }
 {
     state.wrapping_add(word).wrapping_mul(FACTOR)
 }
 
-// The state after the bytes.
 fn mix_bytes(state: u64, bytes: &[u8]) -> u64
     ensures { result ≡ bytes_mixed state bytes.now }
 {
@@ -30,13 +28,12 @@ fn mix_bytes(state: u64, bytes: &[u8]) -> u64
     mixed
 }
 
-// The state after the value.
 fn mix_value(state: u64, value: &Value) -> u64
     ensures { result ≡ value_mixed state value.now }
 {
-    match value.seen() {
-        Seen::Int(number) => mix(state, shift(number) as u64),
-        Seen::Text(text) => mix(mix_bytes(state, text.as_bytes()), END_OF_TEXT),
+    match value.as_ref() {
+        ValueRef::Int(number) => mix(state, shift(number) as u64),
+        ValueRef::Text(text) => mix(mix_bytes(state, text.as_bytes()), END_OF_TEXT),
     }
 }
 

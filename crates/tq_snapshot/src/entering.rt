@@ -1,19 +1,19 @@
-// A reader's steps on the shared value.
+// The steps of a reader on the shared value.
 
 ghost use Rattle.std.specs.Prelude.{◌≡◌, ◌<◌, ◌≤◌, length, IfErr, IfOk, MatchBool, MatchResult};
 ghost use mathlib.Core.List.{IsPrefix};
 ghost use Rattle.left_right.specs.Sides.{view};
 ghost use Rattle.tq_event.specs.History.{IsHistory};
-ghost use Rattle.tq_plan.specs.Standing.{IsPlanOver};
+ghost use Rattle.tq_plan.specs.ValidPlans.{IsPlanOver};
 ghost use Rattle.tq_eval.specs.Answers.{IsPlanAnswer};
 ghost use Rattle.tq_snapshot.specs.Calls.{Entered, FitsFault};
-ghost use Rattle.tq_snapshot.specs.Held.{IsOf};
+ghost use Rattle.tq_snapshot.specs.StoreValue.{IsOf};
 ghost use Rattle.tq_snapshot.specs.Sound.{FindsOwn};
 
-use crate::book::{Front, Naming};
+use crate::book::{Prefix, StoreId};
 use crate::faults::{AskFault, Missed};
 use crate::published::{LastFind, Published};
-use crate::shared::Shared;
+use crate::shared::SharedStore;
 use left_right::reader::{Reader, Reading};
 use std::alloc::Global;
 use std::sync::Wait;
@@ -22,133 +22,134 @@ use tq_plan::Plan;
 use tq_run::Gate;
 use tq_table::Table;
 
-pub(crate) type SharedReader<J> = Reader<Shared, LastFind, Published<J>>;
+pub(crate) type SharedReader<J> = Reader<SharedStore, LastFind, Published<J>>;
 
-type SharedReading<J> = Reading<Shared, LastFind, Published<J>>;
+type StoreGuard<J> = Reading<SharedStore, LastFind, Published<J>>;
 
-/// What was found, and what was answered there.
-pub(crate) type Found<'b> = Result<(Front, Result<Table<'b>, AskFault>), Missed>;
+/// What was found, and the result of the query there.
+pub(crate) type Found<'b> = Result<(Prefix, Result<Table<'b>, AskFault>), Missed>;
 
-// Whether what is shown begins with what the reader knows. It begins with the first `own` of these events, which the
-// reader found itself. Both are compared only if a note has more events: no proof knows whether the note was made before
-// the reader entered.
-fn reaches(shared: &Shared, told: &Front, own: u64) -> bool
-    requires book { shared.now.front.book ≡ told.now.book }
-    requires own { FindsOwn told.now.list own shared.now.front.list }
-    ensures { MatchBool result (IsPrefix told.now.list shared.now.front.list) (own < length told.now.list) }
+// Whether the shown value begins with the events that the reader knows. It does begin with the first `own` of them,
+// which the reader found itself. They are compared only if a note has more events: no proof knows whether the note was
+// made before the reader entered.
+fn reaches(shared: &SharedStore, observed: &Prefix, own: u64) -> bool
+    requires book { shared.now.prefix.book ≡ observed.now.book }
+    requires own { FindsOwn observed.now.list own shared.now.prefix.list }
+    ensures { MatchBool result (IsPrefix observed.now.list shared.now.prefix.list) (own < length observed.now.list) }
 {
-    if told.len() <= own {
+    if observed.len() <= own {
         return true;
     }
-    told.begins(shared.front())
+    observed.begins(shared.prefix())
 }
 
-// What is found, unless a note has more events.
-fn found_in(shared: &Shared, told: &Front, own: u64) -> Result<Front, Missed>
-    requires book { shared.now.front.book ≡ told.now.book }
-    requires own { FindsOwn told.now.list own shared.now.front.list }
-    ensures front { IfOk result (λ f. f ≡ shared.now.front) }
-    ensures later { IfOk result (λ f. IsPrefix told.now.list f.list) }
-    ensures stale { IfErr result (λ _. own < length told.now.list) }
+// The events found, unless a note has more events.
+fn found_in(shared: &SharedStore, observed: &Prefix, own: u64) -> Result<Prefix, Missed>
+    requires book { shared.now.prefix.book ≡ observed.now.book }
+    requires own { FindsOwn observed.now.list own shared.now.prefix.list }
+    ensures prefix { IfOk result (λ f. f ≡ shared.now.prefix) }
+    ensures later { IfOk result (λ f. IsPrefix observed.now.list f.list) }
+    ensures stale { IfErr result (λ _. own < length observed.now.list) }
     ensures history { IsHistory shared.now.catalogue shared.now.events }
     ensures few { length shared.now.events ≤ 16777216 }
 {
     let _count = shared.count();
-    if reaches(shared, told, own) {
-        Ok(shared.front().copy())
+    if reaches(shared, observed, own) {
+        Ok(shared.prefix().copy())
     } else {
         Err(Missed::Stale)
     }
 }
 
-// The shared value with what is found in it. If nothing is found the reader comes back.
-fn begin<J: Naming>(
+// Enters the shared value; returns it with the events found, or returns the reader if nothing is found.
+fn begin<J: StoreId>(
     reader: SharedReader<J>,
-    told: &Front,
+    observed: &Prefix,
     own: u64,
-) -> Result<(SharedReading<J>, Front), (SharedReader<J>, Missed)>
-    requires book { told.now.book ≡ J.book }
-    requires own { FindsOwn told.now.list own (view reader.place) }
-    ensures shown { IfOk result (λ r. IsOf J.catalogue J.book r.0.part.value × (r.1 ≡ r.0.part.value.front)) }
-    ensures found { IfOk result (λ r. Entered J.catalogue told.now.list r.1.list × (length r.1.list ≤ 16777216) × (view r.0.place ≡ r.1.list)) }
-    ensures kept { IfErr result (λ r. FindsOwn told.now.list own (view r.0.place)) }
-    ensures stale { IfErr result (λ r. r.1 ≡ Missed.Stale → own < length told.now.list) }
+) -> Result<(StoreGuard<J>, Prefix), (SharedReader<J>, Missed)>
+    requires book { observed.now.book ≡ J.book }
+    requires own { FindsOwn observed.now.list own (view reader.place) }
+    ensures shown { IfOk result (λ r. IsOf J.catalogue J.book r.0.part.value × (r.1 ≡ r.0.part.value.prefix)) }
+    ensures found { IfOk result (λ r. Entered J.catalogue observed.now.list r.1.list × (length r.1.list ≤ 16777216) × (view r.0.place ≡ r.1.list)) }
+    ensures kept { IfErr result (λ r. FindsOwn observed.now.list own (view r.0.place)) }
+    ensures stale { IfErr result (λ r. r.1 ≡ Missed.Stale → own < length observed.now.list) }
 {
     match reader.enter_as::<Published<J>>() {
-        Ok(reading) => match found_in(reading.get(), told, own) {
-            Ok(front) => Ok((reading, front)),
+        Ok(reading) => match found_in(reading.get(), observed, own) {
+            Ok(prefix) => Ok((reading, prefix)),
             Err(missed) => Err((reading.leave(), missed)),
         },
         Err(reader) => Err((reader, Missed::Shut)),
     }
 }
 
-/// What is found. It begins with the reader's last find by the rule of the shared value, so Stale is answered only if
-/// a note has more events.
-pub(crate) fn enter<J: Naming>(
+/// Enters and leaves the shared value, and returns the events found. By the rule of the shared value they begin with
+/// the reader's last find, so `Stale` is returned only if a note has more events.
+pub(crate) fn enter<J: StoreId>(
     reader: SharedReader<J>,
-    told: &Front,
+    observed: &Prefix,
     own: u64,
-) -> (SharedReader<J>, Result<Front, Missed>)
-    requires book { told.now.book ≡ J.book }
-    requires own { FindsOwn told.now.list own (view reader.place) }
-    ensures found { IfOk result.1 (λ f. (f.book ≡ J.book) × (Entered J.catalogue told.now.list f.list) × (length f.list ≤ 16777216) × (view result.0.place ≡ f.list)) }
-    ensures kept { IfErr result.1 (λ _. FindsOwn told.now.list own (view result.0.place)) }
-    ensures stale { IfErr result.1 (λ missed. missed ≡ Missed.Stale → own < length told.now.list) }
+) -> (SharedReader<J>, Result<Prefix, Missed>)
+    requires book { observed.now.book ≡ J.book }
+    requires own { FindsOwn observed.now.list own (view reader.place) }
+    ensures found { IfOk result.1 (λ f. (f.book ≡ J.book) × (Entered J.catalogue observed.now.list f.list) × (length f.list ≤ 16777216) × (view result.0.place ≡ f.list)) }
+    ensures kept { IfErr result.1 (λ _. FindsOwn observed.now.list own (view result.0.place)) }
+    ensures stale { IfErr result.1 (λ missed. missed ≡ Missed.Stale → own < length observed.now.list) }
 {
-    match begin(reader, told, own) {
-        Ok((reading, front)) => (reading.leave(), Ok(front)),
+    match begin(reader, observed, own) {
+        Ok((reading, prefix)) => (reading.leave(), Ok(prefix)),
         Err((reader, missed)) => (reader, Err(missed)),
     }
 }
 
-/// The first entering of a reader that knows these events, and how many of them it found itself: all of them, unless
-/// nothing is shown any more.
-pub(crate) fn enter_first<J: Naming>(
+/// The first entry of a reader that knows these events. The number is how many of them it found itself: all, or 0 if no
+/// value is shown any more.
+pub(crate) fn enter_first<J: StoreId>(
     reader: SharedReader<J>,
-    told: &Front,
+    observed: &Prefix,
 ) -> (SharedReader<J>, u64)
-    requires { told.now.book ≡ J.book }
-    ensures { FindsOwn told.now.list result.1 (view result.0.place) }
+    requires { observed.now.book ≡ J.book }
+    ensures { FindsOwn observed.now.list result.1 (view result.0.place) }
 {
-    let (reader, found) = enter(reader, told, 0);
+    let (reader, found) = enter(reader, observed, 0);
     match found {
-        Ok(_) => (reader, told.len()),
+        Ok(_) => (reader, observed.len()),
         Err(_) => (reader, 0),
     }
 }
 
-/// What is found, and the answer as of the first `n` of these events. The reading is held no longer than that.
-pub(crate) fn ask<'b, J: Naming>(
+/// Enters the shared value and executes the plan as of the first `n` events found. The value is held only during this
+/// call.
+pub(crate) fn ask<'b, J: StoreId>(
     reader: SharedReader<J>,
-    told: &Front,
+    observed: &Prefix,
     own: u64,
     alloc: Global,
     n: u32,
     plan: &Plan,
 ) -> (SharedReader<J>, Found<'b>)
-    requires book { told.now.book ≡ J.book }
-    requires own { FindsOwn told.now.list own (view reader.place) }
+    requires book { observed.now.book ≡ J.book }
+    requires own { FindsOwn observed.now.list own (view reader.place) }
     requires plan { IsPlanOver J.catalogue plan.now }
-    ensures found { IfOk result.1 (λ r. (r.0.book ≡ J.book) × Entered J.catalogue told.now.list r.0.list × MatchResult r.1 (λ table. (n ≤ length r.0.list) × IsPlanAnswer r.0.list n plan.now table) (λ f. FitsFault (length r.0.list) n f)) }
+    ensures found { IfOk result.1 (λ r. (r.0.book ≡ J.book) × Entered J.catalogue observed.now.list r.0.list × MatchResult r.1 (λ table. (n ≤ length r.0.list) × IsPlanAnswer r.0.list n plan.now table) (λ f. FitsFault (length r.0.list) n f)) }
     ensures own { IfOk result.1 (λ r. view result.0.place ≡ r.0.list) }
-    ensures kept { IfErr result.1 (λ _. FindsOwn told.now.list own (view result.0.place)) }
-    ensures stale { IfErr result.1 (λ missed. missed ≡ Missed.Stale → own < length told.now.list) }
+    ensures kept { IfErr result.1 (λ _. FindsOwn observed.now.list own (view result.0.place)) }
+    ensures stale { IfErr result.1 (λ missed. missed ≡ Missed.Stale → own < length observed.now.list) }
 {
-    match begin(reader, told, own) {
-        Ok((reading, front)) => {
+    match begin(reader, observed, own) {
+        Ok((reading, prefix)) => {
             let answer = reading.get().ask(alloc, n, plan);
-            (reading.leave(), Ok((front, answer)))
+            (reading.leave(), Ok((prefix, answer)))
         }
         Err((reader, missed)) => (reader, Err(missed)),
     }
 }
 
-/// The same, worked out by so many workers, which share what was found.
-pub(crate) fn ask_with<'b, J: Naming, R: Threads + Wait + Sync, G: Gate + Sync>(
+/// Does what `ask` does, with `workers` workers that share the events found.
+pub(crate) fn ask_with<'b, J: StoreId, R: Threads + Wait + Sync, G: Gate + Sync>(
     rt: &R,
     reader: SharedReader<J>,
-    told: &Front,
+    observed: &Prefix,
     own: u64,
     alloc: Global,
     n: u32,
@@ -156,20 +157,20 @@ pub(crate) fn ask_with<'b, J: Naming, R: Threads + Wait + Sync, G: Gate + Sync>(
     workers: u32,
     gate: &G,
 ) -> (SharedReader<J>, Found<'b>)
-    requires book { told.now.book ≡ J.book }
-    requires own { FindsOwn told.now.list own (view reader.place) }
+    requires book { observed.now.book ≡ J.book }
+    requires own { FindsOwn observed.now.list own (view reader.place) }
     requires plan { IsPlanOver J.catalogue plan.now }
     requires some { 1 ≤ workers }
     requires at_most { workers ≤ 16 }
-    ensures found { IfOk result.1 (λ r. (r.0.book ≡ J.book) × Entered J.catalogue told.now.list r.0.list × MatchResult r.1 (λ table. (n ≤ length r.0.list) × IsPlanAnswer r.0.list n plan.now table) (λ f. FitsFault (length r.0.list) n f)) }
+    ensures found { IfOk result.1 (λ r. (r.0.book ≡ J.book) × Entered J.catalogue observed.now.list r.0.list × MatchResult r.1 (λ table. (n ≤ length r.0.list) × IsPlanAnswer r.0.list n plan.now table) (λ f. FitsFault (length r.0.list) n f)) }
     ensures own { IfOk result.1 (λ r. view result.0.place ≡ r.0.list) }
-    ensures kept { IfErr result.1 (λ _. FindsOwn told.now.list own (view result.0.place)) }
-    ensures stale { IfErr result.1 (λ missed. missed ≡ Missed.Stale → own < length told.now.list) }
+    ensures kept { IfErr result.1 (λ _. FindsOwn observed.now.list own (view result.0.place)) }
+    ensures stale { IfErr result.1 (λ missed. missed ≡ Missed.Stale → own < length observed.now.list) }
 {
-    match begin(reader, told, own) {
-        Ok((reading, front)) => {
+    match begin(reader, observed, own) {
+        Ok((reading, prefix)) => {
             let answer = reading.get().ask_with(rt, alloc, n, plan, workers, gate);
-            (reading.leave(), Ok((front, answer)))
+            (reading.leave(), Ok((prefix, answer)))
         }
         Err((reader, missed)) => (reader, Err(missed)),
     }

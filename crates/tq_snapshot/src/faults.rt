@@ -1,4 +1,4 @@
-// Why a call was refused.
+// Why a call failed.
 
 use std::alloc::AllocError;
 use thiserror::Error;
@@ -7,10 +7,10 @@ use tq_base::Instant;
 /// Why no store was opened.
 #[derive(Clone, Copy, Debug, PartialEq, Eq, Error)]
 pub enum OpenFault {
-    /// A reader's place was refused.
+    /// A place for a reader was refused.
     #[error("NoPlace")]
     NoPlace = 1,
-    /// A growth was refused.
+    /// An allocation failed.
     #[error("OutOfMemory")]
     OutOfMemory = 2,
 }
@@ -18,55 +18,55 @@ pub enum OpenFault {
 /// Why an event was not appended: the first of these that applies.
 #[derive(Clone, Copy, Debug, PartialEq, Eq, Error)]
 pub enum AppendFault {
-    /// The catalogue has no table of this number.
+    /// The catalogue has no table with this number.
     #[error("UnknownTable")]
     UnknownTable,
-    /// The values are no row of the table.
+    /// The values are not a row of the table.
     #[error("BadValues")]
     BadValues,
-    /// The last event, published or pending, is later.
+    /// The last event, published or pending, has a later time.
     #[error("TooEarly: the last event is at {last:?}")]
     TooEarly { last: Instant },
-    /// No row of these values is open that started before the instant.
+    /// No row with these values is open and started before the instant.
     #[error("NoOpenRow")]
     NoOpenRow,
-    /// There are as many events as there may be.
+    /// The limit on events is reached.
     #[error("TooManyEvents")]
     TooManyEvents,
-    /// A growth was refused.
+    /// An allocation failed.
     #[error("OutOfMemory")]
     OutOfMemory,
 }
 
-/// Why a question was not answered.
+/// Why a query has no answer.
 #[derive(Clone, Copy, Debug, PartialEq, Eq, Error)]
 pub enum AskFault {
-    /// Only so many events were found.
+    /// Fewer events than requested were found.
     #[error("TooNew: {seen} events were seen")]
     TooNew { seen: u32 },
     /// The store was not entered.
     #[error("Closed")]
     Closed,
-    /// A growth was refused.
+    /// An allocation failed.
     #[error("OutOfMemory")]
     OutOfMemory,
 }
 
-/// The store was not entered, as when the writer has closed it.
+/// The store was not entered, for example because the writer has closed it.
 #[derive(Clone, Copy, Debug, PartialEq, Eq, Error)]
 #[error("Closed")]
 pub struct Closed;
 
-/// Why a reader found nothing, or less than it knows.
+/// Why a reader found no events, or fewer than it knows.
 #[derive(Drop)]
 pub(crate) enum Missed {
-    /// Nothing is shown any more.
+    /// No value is shown any more.
     Shut,
     /// A note has more events than were found.
     Stale,
 }
 
-/// A reader's place was refused.
+/// A place for a reader was refused.
 #[derive(Drop)]
 pub(crate) struct PlaceRefused;
 

@@ -1,25 +1,25 @@
-//! The keys under which open rows stand.
+//! The index keys of open rows.
 
 ghost use Rattle.std.specs.Prelude.{◌≡◌, ◌+◌, ◌*◌};
-ghost use Rattle.tq_snapshot.specs.OpenRows.{place_key};
+ghost use Rattle.tq_snapshot.specs.OpenRows.{index_key};
 
 use crate::digest::digest;
 use tq_base::Values;
 use tq_store::first_key;
 
-/// How many keys there are for each digest, one for each number that a row can have; and how many digests.
+/// The number of index keys with one digest: one for each possible row number. It is also the number of digests.
 pub(crate) const ROWS: u128 = 4_294_967_296;
 
-// The key under which the open row of this number stands, with a key from 0 on and a digest of its values.
+// The index key of the row's key (shifted to be 0 or more), the digest of its values, and its number.
 fn place(key: u64, digest: u32, row: u32) -> u128
     ensures { result ≡ (key * 4294967296 + digest) * 4294967296 + row }
 {
     (u128::from(key) * ROWS + u128::from(digest)) * ROWS + u128::from(row)
 }
 
-// The key under which the open row of these values and this number stands.
+// The index key of an open row with these values and this number.
 pub(crate) fn open_key(values: &Values, row: u32) -> u128
-    ensures { result ≡ place_key values.now row }
+    ensures { result ≡ index_key values.now row }
 {
     place(first_key(values.get()), digest(values), row)
 }

@@ -1,13 +1,13 @@
-//! Laws of asking.
+//! Laws of answers to readers.
 
 ghost use Rattle.std.specs.Prelude.{◌≡◌, ◌≤◌, IfOk, IfSome, length};
 ghost use mathlib.Core.List.{IsPrefix};
 ghost use Rattle.tq_event.specs.History.{IsHistory};
-ghost use Rattle.tq_plan.specs.Standing.{IsPlanOver};
+ghost use Rattle.tq_plan.specs.ValidPlans.{IsPlanOver};
 ghost use Rattle.tq_eval.specs.Answers.{IsPlanAnswer};
-ghost use Rattle.tq_snapshot.specs.Laws.{EqualAsksAgree, ToldAnswers};
+ghost use Rattle.tq_snapshot.specs.Laws.{EqualAsksAgree, ObservedAnswers};
 
-use crate::book::{Naming, Opened};
+use crate::book::{Opened, StoreId};
 use crate::faults::AskFault;
 use crate::opening::open;
 use crate::reader::Reader;
@@ -22,23 +22,24 @@ use tq_event::{Loaded, MAX_EVENTS};
 use tq_plan::Plan;
 use tq_table::Table;
 
-/// An answer as of events that a reader was told already is that of the told events.
-pub fn told_answers()
-    ensures { ToldAnswers }
+/// An answer as of events that a reader has observed before is the answer over the observed events.
+pub fn observed_answers()
+    ensures { ObservedAnswers }
 {
     prefixes_agree();
 }
 
-/// Two answers of a plan as of equal counts are equal, where the reader was told as many events before.
+/// Two answers of a plan as of the same count are equal if the reader had observed that many events before each.
 pub fn equal_asks_agree()
     ensures { EqualAsksAgree }
 {
-    told_answers();
+    observed_answers();
     answers_are_unique();
 }
 
-/// The answer as of no more events than the reader was told before: the told events alone fix it.
-pub fn ask_known<'b, J: Naming>(
+/// Executes the plan as of at most as many events as the reader has observed. The observed events alone determine the
+/// answer.
+pub fn ask_observed<'b, J: StoreId>(
     reader: &mut Reader<J>,
     alloc: Global,
     n: u32,
@@ -47,15 +48,15 @@ pub fn ask_known<'b, J: Naming>(
     requires known { n ≤ length reader.old }
     requires plan { IsPlanOver J.catalogue plan.now }
     ensures answer { IfOk result (IsPlanAnswer reader.old n plan.now) }
-    ensures told { IsPrefix reader.old reader.new }
+    ensures observed { IsPrefix reader.old reader.new }
 {
-    told_answers();
+    observed_answers();
     reader.ask(alloc, n, plan)
 }
 
-// Asks as of the first `n` events before and after a row of these values was started and published, and the reader
-// was told of it.
-fn ask_around<'b, J: Naming, R: Wait>(
+// Executes the plan as of the first `n` events twice: before a row is started, and after it is published and the reader
+// has learnt of it. `None` if a call failed.
+fn ask_before_and_after<'b, J: StoreId, R: Wait>(
     rt: &R,
     alloc: Global,
     writer: &mut Writer<J>,
@@ -72,20 +73,20 @@ fn ask_around<'b, J: Naming, R: Wait>(
     ensures same { IfSome result (λ answers. answers.0 ≡ answers.1) }
 {
     equal_asks_agree();
-    let Ok(before) = ask_known(reader, alloc, n, plan) else {
+    let Ok(before) = ask_observed(reader, alloc, n, plan) else {
         return None;
     };
     if writer.start(table, values, at).is_err() || writer.publish(rt).is_err() {
         return None;
     }
     reader.learn(writer.note());
-    match ask_known(reader, alloc, n, plan) {
+    match ask_observed(reader, alloc, n, plan) {
         Ok(after) => Some((before, after)),
         Err(_) => None,
     }
 }
 
-fn ask_around_in<'b, J: Naming, R: Wait>(
+fn ask_before_and_after_in<'b, J: StoreId, R: Wait>(
     rt: &R,
     alloc: Global,
     opened: Opened,
@@ -109,7 +110,7 @@ fn ask_around_in<'b, J: Naming, R: Wait>(
     match open::<J>(alloc, opened, catalogue, events, 1, MAX_EVENTS) {
         Ok((mut writer, mut readers)) => {
             let mut reader = readers.pop()?;
-            ask_around(
+            ask_before_and_after(
                 rt,
                 alloc,
                 &mut writer,
@@ -125,10 +126,10 @@ fn ask_around_in<'b, J: Naming, R: Wait>(
     }
 }
 
-/// The answers of a reader of a store over the loaded events, as of the first `n` of these, before a row of the given
-/// table and values was started and published, and once the reader was told of that: both are that of the loaded
-/// events. None where a call was refused.
-pub fn ask_around_a_start<'b, R: Wait>(
+/// Opens a store over the loaded events and executes the plan as of its first `n` events twice: before a row is
+/// started, and after it is published and the reader has learnt of it. Both answers are those of the loaded events.
+/// `None` if a call failed.
+pub fn ask_before_and_after_start<'b, R: Wait>(
     rt: &R,
     alloc: Global,
     loaded: Loaded,
@@ -145,5 +146,15 @@ pub fn ask_around_a_start<'b, R: Wait>(
     ensures answer { IfSome result (λ answers. IsPlanAnswer loaded.events n plan.now answers.0) }
     ensures same { IfSome result (λ answers. answers.0 ≡ answers.1) }
 {
-    ask_around_in::<Brand, R>(rt, alloc, Opened::new(), loaded, table, values, at, n, plan)
+    ask_before_and_after_in::<Brand, R>(
+        rt,
+        alloc,
+        Opened::new(),
+        loaded,
+        table,
+        values,
+        at,
+        n,
+        plan,
+    )
 }

@@ -1,16 +1,18 @@
 //! One writer and up to eight readers of a history that grows.
 //!
-//! The writer appends events and publishes them; each reader asks plans as of any count of events, beside it, and
-//! gets answers that no later event changes. What a reader finds is a history of which all that it was told
-//! before is a beginning. Contracts see a writer as its published and its pending events, a reader as the longest
-//! list of events that it was told, and a note as the published events of the moment when it was made.
+//! The writer appends events and publishes them. Each reader executes plans as of any count of events, concurrently with
+//! the writer, and no later event changes an answer. Contracts see a writer as its published and its pending events. They
+//! see a reader as the longest list of events that it has observed, and a note as its events.
+//!
+//! The contract of a query is that of `Reader::ask`, with `Answers` in `specs/Calls.antt`. The events found are a history
+//! that continues the observed ones. The answer is that of the plan as of its first `n` events. Open `src/opening.rt`
+//! first, then `src/writer.rt` and `src/reader.rt`.
 #![tactic(auto)]
 
 mod book;
 mod digest;
 mod entering;
 mod faults;
-mod handing;
 mod key;
 pub mod laws;
 mod note;
@@ -20,9 +22,10 @@ mod opening;
 mod published;
 mod reader;
 mod shared;
+mod staging;
 mod writer;
 
-pub use book::{Naming, Opened};
+pub use book::{Opened, StoreId};
 pub use faults::{AppendFault, AskFault, Closed, OpenFault};
 pub use note::Note;
 pub use opening::open;

@@ -1,22 +1,23 @@
-// Notes of what was published.
+// Notes of published events.
 
-use crate::book::{Front, Naming};
+use crate::book::{Prefix, StoreId};
 use std::marker::{Model, PhantomData};
 
-/// What was published when the note was made, for a reader to learn, on whatever thread. Contracts see it as these events.
+/// A note of the events that were published when it was made. Readers on any thread can learn it. Contracts see it as
+/// these events.
 #[derive(Drop)]
-pub struct Note<J: Naming> {
-    pub(crate) front: Front,
+pub struct Note<J: StoreId> {
+    pub(crate) prefix: Prefix,
     pub(crate) store: PhantomData<J>,
 }
 
-impl<J: Naming> Model for Note<J> {
+impl<J: StoreId> Model for Note<J> {
     ghost use Rattle.std.specs.Prelude.{◌≡◌, List};
     ghost use Rattle.tq_event.specs.declared.event.Event.{Event};
 
     ghost Value = { List Event };
 
-    ghost view = { λ n. n.front.list };
+    ghost view = { λ n. n.prefix.list };
 
-    ghost invariant = { λ n. n.front.book ≡ J.book };
+    ghost invariant = { λ n. n.prefix.book ≡ J.book };
 }

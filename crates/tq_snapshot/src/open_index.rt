@@ -1,5 +1,5 @@
-//! The open rows of every table by their values. Their events are in two lists, published and pending, which each call
-//! borrows.
+//! The open rows of every table, found by their values. Their events are in two lists, published and pending, which
+//! each call borrows.
 
 ghost use Rattle.std.specs.Prelude.{All, ◌≡◌, ◌↔◌, ℕ, ◌+◌, ◌<◌, ◌≤◌, ◌&&◌, ◌||◌, ◌∷◌, ◌++◌, [], true, false, not, length, slice_get, Some, IsSomeAnd, IsTrue, IfOk, IfSome, MatchOption, OnOk, OnErr};
 ghost use Rattle.std.specs.List.Sorted.{IsNonDecreasingBy};
@@ -12,7 +12,7 @@ ghost use Rattle.tq_event.specs.Recorded.{table_of};
 ghost use Rattle.tq_event.specs.Versions.{Life, row_lives};
 ghost use Rattle.tq_store.specs.Index.{CanTake, IsOpenAt};
 ghost use Rattle.tq_snapshot.specs.OpenIndex.{AreTableRows, IsOpenIndex, MayFollow, is_open_at, next_row, table_count};
-ghost use Rattle.tq_snapshot.specs.OpenRows.{HasSame, IsNear, has, place_key};
+ghost use Rattle.tq_snapshot.specs.OpenRows.{HasSame, IsNear, has, index_key};
 ghost use Rattle.tq_store.specs.Stored.{IsStart, values_in};
 
 use crate::key::{ROWS, open_key};
@@ -29,7 +29,7 @@ pub struct TableRows {
     pub opened: OpenRows,
 }
 
-// The event of this number, of both lists.
+// The event with this number in both lists together.
 fn event_of<'a>(published: &'a [Event], pending: &'a [Event], number: u32) -> &'a Event
     requires { number < length (published.now ++ pending.now) }
     ensures { slice_get (published.now ++ pending.now) number ≡ Some result.now }
@@ -42,7 +42,6 @@ fn event_of<'a>(published: &'a [Event], pending: &'a [Event], number: u32) -> &'
     }
 }
 
-// The values of the row that the event starts.
 fn values_of(event: &Event) -> &Values
     requires { IsStart event.now }
     ensures { result.now ≡ values_in event.now }
@@ -54,7 +53,6 @@ fn values_of(event: &Event) -> &Values
 }
 
 impl TableRows {
-    // No rows.
     fn new(alloc: Global) -> TableRows
         ensures { (table : ℕ) → AreTableRows [] table result }
     {
@@ -64,11 +62,11 @@ impl TableRows {
         }
     }
 
-    // A row of these values starts by the event of this number. Out of memory: all is as before.
+    // Adds a row with these values, started by the event with this number. Unchanged after an error.
     fn start(&mut self, number: u32, values: &Values) -> Result<(), AllocError>
         requires { length self.old.starts.items < 4294967296 }
         ensures starts { OnOk result (self.new.starts.items ≡ self.old.starts.items ++ number ∷ []) }
-        ensures opened { OnOk result ((k : ℕ) → has self.new.opened k ≡ (has self.old.opened k || eq_by_cmp nat_cmp (place_key values.now (length self.old.starts.items)) k)) }
+        ensures opened { OnOk result ((k : ℕ) → has self.new.opened k ≡ (has self.old.opened k || eq_by_cmp nat_cmp (index_key values.now (length self.old.starts.items)) k)) }
         ensures same_starts { OnErr result (self.new.starts.items ≡ self.old.starts.items) }
         ensures same_opened { OnErr result (HasSame self.old.opened self.new.opened) }
     {
@@ -79,7 +77,7 @@ impl TableRows {
         Ok(())
     }
 
-    // The event that starts the row, which is one of the table.
+    // The event that starts the row, which must be one of the table.
     fn start_of<'a>(
         &self,
         published: &'a [Event],
@@ -95,7 +93,7 @@ impl TableRows {
         event_of(published, pending, self.starts[row as usize])
     }
 
-    // The event starts or ends a row of the table. Out of memory: all is as before.
+    // Takes an event that starts or ends a row of the table. Unchanged after an error.
     fn take(
         &mut self,
         published: &[Event],
@@ -121,7 +119,7 @@ impl TableRows {
         }
     }
 
-    // Whether the row, which is one of the table, has these values.
+    // Whether the row, which must be one of the table, has these values.
     fn is_like(
         &self,
         published: &[Event],
@@ -137,8 +135,8 @@ impl TableRows {
         values_of(self.start_of(published, pending, table, row)) == wanted
     }
 
-    // The number of the first open row of these values, which stands among these keys if there is one.
-    fn first_among(
+    // The number of the first open row with these values, if its key is among `keys`.
+    fn find_first_in(
         &self,
         published: &[Event],
         pending: &[Event],
@@ -162,7 +160,7 @@ impl TableRows {
         None
     }
 
-    // The number of the first open row of these values.
+    // The number of the first open row with these values.
     fn first_like(
         &self,
         published: &[Event],
@@ -176,12 +174,12 @@ impl TableRows {
         ensures least { MatchOption result ((r : ℕ) → is_open_at (row_lives (published.now ++ pending.now) table) wanted.now r ≡ false) (λ first. (r : ℕ) → is_open_at (row_lives (published.now ++ pending.now) table) wanted.now r ≡ true → first ≤ r) }
     {
         match self.opened.near(open_key(wanted, 0)) {
-            Some(keys) => self.first_among(published, pending, table, wanted, keys),
+            Some(keys) => self.find_first_in(published, pending, table, wanted, keys),
             None => None,
         }
     }
 
-    // Whether the row, which is open, started before the instant.
+    // Whether the open row started before the instant.
     fn is_before(
         &self,
         published: &[Event],
@@ -198,7 +196,7 @@ impl TableRows {
         self.start_of(published, pending, table, row).at() < at
     }
 
-    // The number of the first open row of these values, if it started before the instant.
+    // The number of the first open row with these values, if it started before the instant.
     fn first_open(
         &self,
         published: &[Event],
@@ -226,14 +224,13 @@ impl TableRows {
     }
 }
 
-/// The open rows of every table by their values. The events that start them lie elsewhere, in two lists, one behind
-/// the other, which are lent to each call.
+/// The open rows of every table, found by their values. The events that start them are in two consecutive lists, which
+/// each call borrows.
 #[derive(Drop)]
 pub struct OpenIndex {
     tables: Vec<TableRows>,
 }
 
-// No rows of so many tables.
 fn no_tables(alloc: Global, tables: usize) -> Result<Vec<TableRows>, AllocError>
     ensures len { IfOk result (λ none. length none.items ≡ tables) }
     ensures rows { IfOk result (λ none. All (λ rows. (table : ℕ) → AreTableRows [] table rows) none.items) }
@@ -246,7 +243,6 @@ fn no_tables(alloc: Global, tables: usize) -> Result<Vec<TableRows>, AllocError>
 }
 
 impl OpenIndex {
-    // No rows of so many tables.
     fn new(alloc: Global, tables: usize) -> Result<OpenIndex, AllocError>
         ensures tables { IfOk result (λ index. table_count index ≡ tables) }
         ensures index { IfOk result (IsOpenIndex []) }
@@ -256,7 +252,7 @@ impl OpenIndex {
         })
     }
 
-    /// Those of the events, which are a history over the catalogue. `AllocError` where a growth was refused.
+    /// The open rows by the events, which are a history over the catalogue. `AllocError` if an allocation failed.
     pub fn of(
         alloc: Global,
         catalogue: &Catalogue,
@@ -274,7 +270,7 @@ impl OpenIndex {
         Ok(index)
     }
 
-    /// Takes in an event that may follow the events. Out of memory: all is as before.
+    /// Takes an event that may follow the other events. Unchanged after an `AllocError`.
     pub fn take(
         &mut self,
         published: &[Event],
@@ -293,7 +289,7 @@ impl OpenIndex {
         rows.take(published, pending, event)
     }
 
-    /// The number that the table's next row will have: how many of its rows the events start.
+    /// The number of the table's next row: the number of its rows that the events start.
     pub fn next_row(&self, published: &[Event], pending: &[Event], table: u32) -> u32
         requires index { IsOpenIndex (published.now ++ pending.now) self.now }
         requires table { table < table_count self.now }
@@ -303,8 +299,8 @@ impl OpenIndex {
         self.tables[table as usize].starts.len() as u32
     }
 
-    /// The number of the table's first row of these values that is open and started before the instant, in
-    /// O(log n) and a look at each open row before it with the same key and digest.
+    /// The number of the table's first open row with these values, if it started before the instant. Takes O(log n),
+    /// and one comparison for each earlier open row with the same key and digest.
     pub fn open_row(
         &self,
         published: &[Event],

@@ -1,22 +1,22 @@
-// How a store is opened.
+// Opening of a store.
 
 ghost use Rattle.std.specs.Prelude.{◌≡◌, ◌<◌, ◌≤◌, [], length, All, IfOk, vec_capacity, vec_len};
 ghost use Rattle.tq_event.specs.History.{IsHistory};
 
-use crate::book::{Naming, Opened};
+use crate::book::{Opened, StoreId};
 use crate::entering::enter_first;
 use crate::faults::{OpenFault, PlaceRefused};
-use crate::handing::{SharedWriter, commit};
 use crate::open_index::OpenIndex;
 use crate::reader::Reader;
-use crate::shared::Shared;
+use crate::shared::SharedStore;
+use crate::staging::{SharedWriter, commit};
 use crate::writer::Writer;
 use std::alloc::{AllocError, Global};
 use tq_base::Catalogue;
 use tq_event::Event;
 
-impl<J: Naming> Writer<J> {
-    // The writer of a store that holds these events.
+impl<J: StoreId> Writer<J> {
+    // The writer of a store with these events.
     fn opened(
         alloc: Global,
         opened: Opened,
@@ -33,14 +33,19 @@ impl<J: Naming> Writer<J> {
     {
         let Opened {
             book,
-            front: mut written,
+            prefix: mut written,
         } = opened;
         if !commit(&book, &mut written, &[], &events) {
             return Err(AllocError);
         }
         let rows = OpenIndex::of(alloc, &catalogue, &events)?;
-        let first = Shared::filled(alloc, catalogue.try_copy(alloc)?, &events, written.copy())?;
-        let second = Shared::filled(alloc, catalogue, &events, written.copy())?;
+        let first = SharedStore::filled(
+            alloc,
+            catalogue.try_copy(alloc)?,
+            &events,
+            written.copy(),
+        )?;
+        let second = SharedStore::filled(alloc, catalogue, &events, written.copy())?;
         let inner = SharedWriter::new(alloc, first, second, places)?;
         Ok(Writer {
             inner,
@@ -53,23 +58,23 @@ impl<J: Naming> Writer<J> {
         })
     }
 
-    // A reader that knows what is published. It enters, so that these events are its own find.
+    // A reader that has observed the published events. It enters once, so that it has found these events itself.
     fn admit(&self) -> Result<Reader<J>, PlaceRefused>
         ensures { IfOk result (λ r. r ≡ self.now.published) }
     {
-        let told = self.inner.published().front().copy();
+        let observed = self.inner.published().prefix().copy();
         let Ok(inner) = self.inner.factory().reader() else {
             return Err(PlaceRefused);
         };
-        let (inner, own) = enter_first(inner, &told);
+        let (inner, own) = enter_first(inner, &observed);
         Ok(Reader {
             inner: Some(inner),
-            told,
+            observed,
             own,
         })
     }
 
-    // So many of them, for which there is room. It takes no memory.
+    // Makes `count` readers, for which `room` has space. Allocates nothing.
     fn admit_all(&self, room: Vec<Reader<J>>, count: u32) -> Result<Vec<Reader<J>>, PlaceRefused>
         requires none { (room.items ≡ []) × (vec_len room ≡ 0) }
         requires room { count ≤ vec_capacity room }
@@ -84,10 +89,12 @@ impl<J: Naming> Writer<J> {
     }
 }
 
-/// A writer and n readers, 1 to 8, of a store that holds these events, a history over the catalogue, and may hold
-/// `limit` events in all, at most 16,777,216. `opened` is `Opened::new()`, one for each store. OutOfMemory if an
-/// allocation failed. NoPlace if the places were made and one of them was refused to a reader, which takes no memory.
-pub fn open<J: Naming>(
+/// Opens a store with these events, a history over the catalogue, and returns a writer and 1 to 8 readers. The store
+/// takes at most `limit` events in all, at most 16,777,216. `opened` is `Opened::new()`, a new one for each store.
+///
+/// `OutOfMemory` if an allocation failed. `NoPlace` if all places exist and one was refused to a reader; giving a place
+/// allocates nothing.
+pub fn open<J: StoreId>(
     alloc: Global,
     opened: Opened,
     catalogue: Catalogue,

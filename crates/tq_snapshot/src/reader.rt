@@ -1,10 +1,10 @@
 // Readers.
 
 ghost use Rattle.std.specs.Prelude.{◌≡◌, ◌≤◌, length, MatchResult};
-ghost use Rattle.tq_plan.specs.Standing.{IsPlanOver};
-ghost use Rattle.tq_snapshot.specs.Calls.{Answers, Entered, Learns, Refuses};
+ghost use Rattle.tq_plan.specs.ValidPlans.{IsPlanOver};
+ghost use Rattle.tq_snapshot.specs.Calls.{Answers, Entered, IsLearned, Refuses};
 
-use crate::book::{Front, Naming};
+use crate::book::{Prefix, StoreId};
 use crate::entering::{SharedReader, ask, ask_with, enter};
 use crate::faults::{AskFault, Closed};
 use crate::note::Note;
@@ -16,18 +16,18 @@ use tq_plan::Plan;
 use tq_run::Gate;
 use tq_table::Table;
 
-/// A reader of the store, on whatever thread. Contracts see it as the longest list of events that it was told: those
-/// that the store was opened with, those that it found, and those of notes that it learnt.
+/// A reader of the store, for use on any thread. Contracts see it as the longest list of events that it has observed:
+/// those that the store was opened with, those that it found, and those of notes that it learnt.
 #[derive(Drop)]
-pub struct Reader<J: Naming> {
-    // It is taken out while it enters, and is put back then.
+pub struct Reader<J: StoreId> {
+    // Taken out while the reader enters, and put back afterwards.
     pub(crate) inner: Option<SharedReader<J>>,
-    pub(crate) told: Front,
-    // The first `own` of these events are its own find; the others came by a note.
+    pub(crate) observed: Prefix,
+    // The reader found the first `own` of the observed events itself; the others came with a note.
     pub(crate) own: u64,
 }
 
-impl<J: Naming> Model for Reader<J> {
+impl<J: StoreId> Model for Reader<J> {
     ghost use Rattle.std.specs.Prelude.{◌≡◌, IsSomeAnd, List};
     ghost use Rattle.left_right.specs.Sides.{view as last_find};
     ghost use Rattle.tq_event.specs.declared.event.Event.{Event};
@@ -35,51 +35,51 @@ impl<J: Naming> Model for Reader<J> {
 
     ghost Value = { List Event };
 
-    ghost view = { λ r. r.told.list };
+    ghost view = { λ r. r.observed.list };
 
-    ghost invariant = { λ r. (r.told.book ≡ J.book) × IsSomeAnd r.inner (λ inner. FindsOwn r.told.list r.own (last_find inner.place)) };
+    ghost invariant = { λ r. (r.observed.book ≡ J.book) × IsSomeAnd r.inner (λ inner. FindsOwn r.observed.list r.own (last_find inner.place)) };
 }
 
-impl<J: Naming> Reader<J> {
-    /// How many events are found. It waits for nobody.
+impl<J: StoreId> Reader<J> {
+    /// Returns the number of events found, which are then observed. `Closed` if the store was not entered. Never waits.
     pub fn snapshot(&mut self) -> Result<u32, Closed>
         ensures { MatchResult result (λ n. Entered J.catalogue self.old self.new × (n ≡ length self.new)) (λ _. self.new ≡ self.old) }
     {
         let inner = self.inner.take().unwrap();
-        let (inner, found) = enter(inner, &self.told, self.own);
+        let (inner, found) = enter(inner, &self.observed, self.own);
         self.inner = Some(inner);
         match found {
-            Ok(front) => {
-                self.own = front.len();
-                self.told = front;
+            Ok(prefix) => {
+                self.own = prefix.len();
+                self.observed = prefix;
                 Ok(self.own as u32)
             }
             Err(_) => Err(Closed),
         }
     }
 
-    /// The answer of the plan as of the first `n` events, which owns its rows. It is owed that the plan is one that
-    /// `plan` gave over the store's catalogue. TooNew where fewer events are found; Closed where nothing is;
-    /// OutOfMemory where a growth was refused. It waits for nobody.
+    /// Returns the answer of the plan as of the first `n` events; the table owns its rows. Requires that `plan` made
+    /// the plan over the store's catalogue. `TooNew` if fewer than `n` events are found, `Closed` if the store was not
+    /// entered, `OutOfMemory` if an allocation failed. Never waits.
     pub fn ask<'b>(&mut self, alloc: Global, n: u32, plan: &Plan) -> Result<Table<'b>, AskFault>
         requires { IsPlanOver J.catalogue plan.now }
         ensures { MatchResult result (λ table. Answers J.catalogue self.old n plan.now self.new table) (Refuses J.catalogue self.old n self.new) }
     {
         let inner = self.inner.take().unwrap();
-        let (inner, found) = ask(inner, &self.told, self.own, alloc, n, plan);
+        let (inner, found) = ask(inner, &self.observed, self.own, alloc, n, plan);
         self.inner = Some(inner);
         match found {
-            Ok((front, answer)) => {
-                self.own = front.len();
-                self.told = front;
+            Ok((prefix, answer)) => {
+                self.own = prefix.len();
+                self.observed = prefix;
                 answer
             }
             Err(_) => Err(AskFault::Closed),
         }
     }
 
-    /// The same answer as `ask`, worked out by 1 to 16 workers, the calling thread among them. The gate is told of
-    /// each piece of work before it is done.
+    /// Returns the same answer as `ask`, computed by 1 to 16 workers including the calling thread. The gate gets each
+    /// piece of work before it is done.
     pub fn ask_with<'b, R: Threads + Wait + Sync, G: Gate + Sync>(
         &mut self,
         rt: &R,
@@ -96,26 +96,34 @@ impl<J: Naming> Reader<J> {
     {
         let inner = self.inner.take().unwrap();
         let (inner, found) = ask_with(
-            rt, inner, &self.told, self.own, alloc, n, plan, workers, gate,
+            rt,
+            inner,
+            &self.observed,
+            self.own,
+            alloc,
+            n,
+            plan,
+            workers,
+            gate,
         );
         self.inner = Some(inner);
         match found {
-            Ok((front, answer)) => {
-                self.own = front.len();
-                self.told = front;
+            Ok((prefix, answer)) => {
+                self.own = prefix.len();
+                self.observed = prefix;
                 answer
             }
             Err(_) => Err(AskFault::Closed),
         }
     }
 
-    /// The events of the note are told too.
+    /// Adds the events of the note to the observed ones. Allocates nothing.
     pub fn learn(&mut self, note: Note<J>)
-        ensures { Learns self.old note self.new }
+        ensures { IsLearned self.old note self.new }
     {
-        let Note { front, store: _ } = note;
-        if self.told.begins(&front) {
-            self.told = front;
+        let Note { prefix, store: _ } = note;
+        if self.observed.begins(&prefix) {
+            self.observed = prefix;
         }
     }
 }

@@ -1,13 +1,13 @@
-// The value that the threads share, and what changes it.
+// The value that the threads share, and its changes.
 
 ghost use Rattle.std.specs.Prelude.{◌≡◌, ◌≤◌, ◌∷◌, [], ◌++◌, length, take, IfOk, OnOk, OnErr, MatchResult};
 ghost use Rattle.tq_event.specs.History.{IsHistory};
-ghost use Rattle.tq_plan.specs.Standing.{IsPlanOver};
+ghost use Rattle.tq_plan.specs.ValidPlans.{IsPlanOver};
 ghost use Rattle.tq_eval.specs.Answers.{IsPlanAnswer};
-ghost use Rattle.tq_snapshot.specs.Held.{absorbed};
+ghost use Rattle.tq_snapshot.specs.StoreValue.{absorbed};
 ghost use Rattle.tq_snapshot.specs.Calls.{FitsFault};
 
-use crate::book::Front;
+use crate::book::Prefix;
 use crate::faults::AskFault;
 use left_right::Absorb;
 use std::alloc::{AllocError, Global};
@@ -22,83 +22,82 @@ use tq_store::Db;
 use tq_table::Table;
 use tq_workers::answer_with;
 
-/// An event, beside the beginning of the history that ends with it.
+/// An event, with the prefix of the history that ends with it.
 #[derive(Drop)]
 pub struct Entry {
     event: Event,
-    front: Front,
+    prefix: Prefix,
 }
 
 impl Model for Entry {
-    ghost use Rattle.tq_snapshot.specs.Held.{Arrival};
+    ghost use Rattle.tq_snapshot.specs.StoreValue.{Arrival};
 
     ghost Value = { Arrival };
 
-    ghost view = { λ e. record { event = e.event; front = e.front } };
+    ghost view = { λ e. record { event = e.event; prefix = e.prefix } };
 }
 
 impl Entry {
-    /// A copy of the event. `AllocError` where a growth was refused.
-    pub fn of(event: &Event, front: Front) -> Result<Entry, AllocError>
-        ensures { IfOk result (λ e. e ≡ record { event = event.now; front = front }) }
+    /// A copy of the event, with the prefix. `AllocError` if an allocation failed.
+    pub fn of(event: &Event, prefix: Prefix) -> Result<Entry, AllocError>
+        ensures { IfOk result (λ e. e ≡ record { event = event.now; prefix = prefix }) }
     {
         Ok(Entry {
             event: event.try_copy()?,
-            front,
+            prefix,
         })
     }
 }
 
-/// Tables as of any count of events, beside the beginning of the history that these events are.
+/// The tables as of any count of events, with the prefix of the history that these events are.
 #[derive(Drop)]
-pub struct Shared {
+pub struct SharedStore {
     db: Db,
-    front: Front,
+    prefix: Prefix,
 }
 
-impl Model for Shared {
-    ghost use Rattle.tq_snapshot.specs.Held.{Held};
+impl Model for SharedStore {
+    ghost use Rattle.tq_snapshot.specs.StoreValue.{StoreValue};
 
-    ghost Value = { Held };
+    ghost Value = { StoreValue };
 
-    ghost view = { λ s. record { catalogue = s.db.catalogue; events = s.db.events; front = s.front } };
+    ghost view = { λ s. record { catalogue = s.db.catalogue; events = s.db.events; prefix = s.prefix } };
 }
 
-impl Shared {
-    /// With these events, a history over the catalogue, which the front has. `AllocError` only if an allocation failed.
+impl SharedStore {
+    /// A value with these events, which are a history over the catalogue and the events of the prefix. `AllocError` if
+    /// an allocation failed.
     pub fn filled(
         alloc: Global,
         catalogue: Catalogue,
         events: &[Event],
-        front: Front,
-    ) -> Result<Shared, AllocError>
+        prefix: Prefix,
+    ) -> Result<SharedStore, AllocError>
         requires few { length events.now ≤ 16777216 }
         requires history { IsHistory catalogue events.now }
-        ensures { IfOk result (λ s. s ≡ record { catalogue = catalogue; events = events.now; front = front }) }
+        ensures { IfOk result (λ s. s ≡ record { catalogue = catalogue; events = events.now; prefix = prefix }) }
     {
         let mut db = Db::new(alloc, catalogue)?;
         for event in events {
             let taken = db.apply(event)?;
             prove!(taken);
         }
-        Ok(Shared { db, front })
+        Ok(SharedStore { db, prefix })
     }
 
-    /// The catalogue, lent.
     pub fn catalogue(&self) -> &Catalogue
         ensures { result.now ≡ self.now.catalogue }
     {
         self.db.catalogue()
     }
 
-    /// The events, lent.
     pub fn events(&self) -> &[Event]
         ensures { result.now ≡ self.now.events }
     {
         self.db.events()
     }
 
-    /// How many events there are.
+    /// The number of events.
     pub fn count(&self) -> u32
         ensures count { result ≡ length self.now.events }
         ensures few { result ≤ 16777216 }
@@ -107,14 +106,14 @@ impl Shared {
         self.db.count()
     }
 
-    /// The beginning of the history, lent.
-    pub fn front(&self) -> &Front
-        ensures { result.now ≡ self.now.front }
+    /// The prefix of the history that the events are.
+    pub fn prefix(&self) -> &Prefix
+        ensures { result.now ≡ self.now.prefix }
     {
-        &self.front
+        &self.prefix
     }
 
-    /// The answer as of the first `n` events.
+    /// Executes the plan as of the first `n` events.
     pub fn ask<'b>(&self, alloc: Global, n: u32, plan: &Plan) -> Result<Table<'b>, AskFault>
         requires { IsPlanOver self.now.catalogue plan.now }
         ensures { MatchResult result (λ table. (n ≤ length self.now.events) × IsPlanAnswer self.now.events n plan.now table) (λ f. FitsFault (length self.now.events) n f) }
@@ -129,7 +128,7 @@ impl Shared {
         }
     }
 
-    /// The same answer, worked out by so many workers.
+    /// Does what `ask` does, with `workers` workers.
     pub fn ask_with<'b, R: Threads + Sync, G: Gate + Sync>(
         &self,
         rt: &R,
@@ -154,8 +153,8 @@ impl Shared {
         }
     }
 
-    /// Takes an event in. `AllocError`, and all as before, where a growth was refused, and where the event is not
-    /// admissible or there is no room, as the writer hands over none such.
+    /// Takes an event. After an `AllocError` the value is unchanged: an allocation failed, the event is not admissible,
+    /// or there is no room. The writer stages no event of the last two kinds.
     pub fn take(&mut self, entry: &Entry) -> Result<(), AllocError>
         ensures ok { OnOk result (self.new ≡ absorbed self.old entry.now) }
         ensures err { OnErr result (self.new ≡ self.old) }
@@ -166,19 +165,19 @@ impl Shared {
         if !self.db.apply(&entry.event)? {
             return Err(AllocError);
         }
-        self.front = entry.front.copy();
+        self.prefix = entry.prefix.copy();
         Ok(())
     }
 }
 
-impl Absorb<Entry> for Shared {
-    type State = Shared;
+impl Absorb<Entry> for SharedStore {
+    type State = SharedStore;
 
     ghost state = { λ s. s };
 
     ghost applied = { absorbed };
 
-    fn absorb_first(&mut self, operation: &Entry, _other: &Shared) -> Result<(), AllocError> {
+    fn absorb_first(&mut self, operation: &Entry, _other: &SharedStore) -> Result<(), AllocError> {
         self.take(operation)
     }
 }

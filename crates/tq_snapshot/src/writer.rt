@@ -6,13 +6,13 @@ ghost use Rattle.tq_event.specs.History.{IsAdmissible, IsHistory, IsNotBefore, I
 ghost use Rattle.tq_event.specs.Opening.{open_row};
 ghost use Rattle.tq_event.specs.Recorded.{HasTable};
 ghost use Rattle.tq_snapshot.specs.OpenIndex.{next_row};
-ghost use Rattle.tq_snapshot.specs.Calls.{IsLater, MayEnd, MayStart, Precludes, RefusesEnd, RefusesStart, RefusesTable, Shown, all_of};
+ghost use Rattle.tq_snapshot.specs.Calls.{IsLater, CanEndRow, CanStart, IsPrecluded, IsEndRefusal, IsStartRefusal, IsTableRefusal, WriterState, all_of};
 
-use crate::book::{Book, Front, Naming};
+use crate::book::{Book, Prefix, StoreId};
 use crate::faults::AppendFault;
-use crate::handing::{SharedWriter, commit, hand_over, show};
 use crate::note::Note;
 use crate::open_index::OpenIndex;
+use crate::staging::{SharedWriter, commit, show, stage};
 use core::mem::ManuallyDrop;
 use std::alloc::AllocError;
 use std::marker::{Model, PhantomData};
@@ -20,33 +20,33 @@ use std::sync::Wait;
 use tq_base::{Catalogue, Instant, Values};
 use tq_event::Event;
 
-/// The writer of the store: it appends events, which are pending until it publishes them. Contracts see it as its
-/// published events, its pending ones, and how many there may be in all.
-pub struct Writer<J: Naming> {
+/// The writer of the store. It appends events, which are pending until it publishes them. Contracts see it as its
+/// published events, its pending events and its limit.
+pub struct Writer<J: StoreId> {
     pub(crate) inner: SharedWriter<J>,
     pub(crate) book: Book,
-    pub(crate) written: Front,
+    pub(crate) written: Prefix,
     pub(crate) pending: Vec<Event>,
     pub(crate) sent: usize,
     pub(crate) rows: OpenIndex,
     pub(crate) limit: usize,
 }
 
-impl<J: Naming> Model for Writer<J> {
+impl<J: StoreId> Model for Writer<J> {
     ghost use Rattle.std.specs.Prelude.{◌≡◌, ◌++◌, drop, length};
     ghost use Rattle.tq_snapshot.specs.OpenIndex.{IsOpenIndex, table_count};
-    ghost use Rattle.tq_snapshot.specs.Calls.{Shown};
+    ghost use Rattle.tq_snapshot.specs.Calls.{WriterState};
     ghost use Rattle.tq_snapshot.specs.Sound.{IsSound};
 
-    ghost Value = { Shown };
+    ghost Value = { WriterState };
 
     ghost view = { λ w. record { published = w.inner.desk.shown.value.events; pending = w.pending.items; limit = w.limit } };
 
     ghost invariant = { λ w. (w.book.count.book ≡ J.book) × IsSound J.catalogue J.book w.inner.desk.shown.value (drop w.inner.behind w.inner.log.items) w.pending.items w.sent w.written w.limit × IsOpenIndex (w.inner.desk.shown.value.events ++ w.pending.items) w.rows × (table_count w.rows ≡ length J.catalogue.tables) };
 }
 
-impl<J: Naming> Drop for Writer<J> {
-    // No reader is waited for, so both copies of the shared value stay in memory.
+impl<J: StoreId> Drop for Writer<J> {
+    // Dropping waits for no reader, so both copies of the shared value stay in memory.
     fn drop(self) {
         let Self {
             inner,
@@ -61,9 +61,9 @@ impl<J: Naming> Drop for Writer<J> {
     }
 }
 
-// That the table takes the values, or why not.
+// Fails if the table does not take the values.
 fn fits(catalogue: &Catalogue, table: u32, values: &Values) -> Result<(), AppendFault>
-    ensures { MatchResult result (λ _. HasTable catalogue.now table values.now) (RefusesTable catalogue.now table values.now) }
+    ensures { MatchResult result (λ _. HasTable catalogue.now table values.now) (IsTableRefusal catalogue.now table values.now) }
 {
     match catalogue.tables.get().get(table as usize) {
         None => Err(AppendFault::UnknownTable),
@@ -77,7 +77,7 @@ fn fits(catalogue: &Catalogue, table: u32, values: &Values) -> Result<(), Append
     }
 }
 
-// The time of the last event of both lists, where it is later than the instant.
+// The time of the last event of both lists if it is later than the instant.
 fn later(published: &[Event], pending: &[Event], at: Instant) -> Option<Instant>
     ensures { MatchOption result (IsNotBefore (published.now ++ pending.now) at) (λ last. IsLater (published.now ++ pending.now) at last) }
 {
@@ -88,7 +88,7 @@ fn later(published: &[Event], pending: &[Event], at: Instant) -> Option<Instant>
     if at < last { Some(last) } else { None }
 }
 
-impl<J: Naming> Writer<J> {
+impl<J: StoreId> Writer<J> {
     /// The store's catalogue.
     pub fn catalogue(&self) -> &Catalogue
         ensures { result.now ≡ J.catalogue }
@@ -96,17 +96,18 @@ impl<J: Naming> Writer<J> {
         self.inner.published().catalogue()
     }
 
-    /// How many events are published.
+    /// The number of published events.
     pub fn published(&self) -> u32
         ensures { result ≡ length self.now.published }
     {
         self.inner.published().count() as u32
     }
 
-    /// Starts a row of these values, and answers its number in the table. The first of these that applies refuses
-    /// it, and changes nothing: UnknownTable, BadValues, TooEarly, TooManyEvents, OutOfMemory. It waits for nobody.
+    /// Starts a row with these values and returns its number in the table. The first of these errors that applies is
+    /// returned, and changes nothing: `UnknownTable`, `BadValues`, `TooEarly`, `TooManyEvents`, `OutOfMemory`. Never
+    /// waits.
     pub fn start(&mut self, table: u32, values: &Values, at: Instant) -> Result<u32, AppendFault>
-        ensures { MatchResult result (λ row. MayStart J.catalogue self.old table values.now at × (row ≡ next_row (all_of self.old) table) × (self.new ≡ record self.old { pending = self.old.pending ++ Event.Start table values.now at ∷ [] })) (λ fault. (self.new ≡ self.old) × RefusesStart J.catalogue self.old table values.now at fault) }
+        ensures { MatchResult result (λ row. CanStart J.catalogue self.old table values.now at × (row ≡ next_row (all_of self.old) table) × (self.new ≡ record self.old { pending = self.old.pending ++ Event.Start table values.now at ∷ [] })) (λ fault. (self.new ≡ self.old) × IsStartRefusal J.catalogue self.old table values.now at fault) }
     {
         self.may_append(table, values, at)?;
         if !self.has_room() {
@@ -122,11 +123,11 @@ impl<J: Naming> Writer<J> {
         }
     }
 
-    /// Ends the first row of these values that is open by the published and pending events and started before the
-    /// instant, and answers its number in the table. The first of these that applies refuses it, and changes
-    /// nothing: UnknownTable, BadValues, TooEarly, NoOpenRow, TooManyEvents, OutOfMemory. It waits for nobody.
+    /// Ends the first row with these values that is open by the published and pending events and started before the
+    /// instant. Returns its number in the table. The first of these errors that applies is returned, and changes
+    /// nothing: `UnknownTable`, `BadValues`, `TooEarly`, `NoOpenRow`, `TooManyEvents`, `OutOfMemory`. Never waits.
     pub fn end(&mut self, table: u32, values: &Values, at: Instant) -> Result<u32, AppendFault>
-        ensures { MatchResult result (λ row. MayEnd J.catalogue self.old table values.now at row × (self.new ≡ record self.old { pending = self.old.pending ++ Event.End table row at ∷ [] })) (λ fault. (self.new ≡ self.old) × RefusesEnd J.catalogue self.old table values.now at fault) }
+        ensures { MatchResult result (λ row. CanEndRow J.catalogue self.old table values.now at row × (self.new ≡ record self.old { pending = self.old.pending ++ Event.End table row at ∷ [] })) (λ fault. (self.new ≡ self.old) × IsEndRefusal J.catalogue self.old table values.now at fault) }
     {
         self.may_append(table, values, at)?;
         let Some(row) = self.open_row(table, values, at) else {
@@ -141,9 +142,9 @@ impl<J: Naming> Writer<J> {
         }
     }
 
-    // That the table takes the values and no event is later, or why not.
+    // Fails if the table does not take the values, or an event is later than the instant.
     fn may_append(&self, table: u32, values: &Values, at: Instant) -> Result<(), AppendFault>
-        ensures { MatchResult result (λ _. HasTable J.catalogue table values.now × IsNotBefore (all_of self.now) at) (Precludes J.catalogue (all_of self.now) table values.now at) }
+        ensures { MatchResult result (λ _. HasTable J.catalogue table values.now × IsNotBefore (all_of self.now) at) (IsPrecluded J.catalogue (all_of self.now) table values.now at) }
     {
         fits(self.inner.published().catalogue(), table, values)?;
         match later(self.inner.published().events(), &self.pending, at) {
@@ -152,14 +153,13 @@ impl<J: Naming> Writer<J> {
         }
     }
 
-    // Whether there may be one more event.
+    // Whether the limit allows one more event.
     fn has_room(&self) -> bool
         ensures { MatchBool result (length (all_of self.now) < self.now.limit) (length (all_of self.now) ≡ self.now.limit) }
     {
         self.inner.published().events().len() + self.pending.len() < self.limit
     }
 
-    // The number of the table's next row.
     fn next_row(&self, table: u32) -> u32
         requires { table < length J.catalogue.tables }
         ensures { result ≡ next_row (all_of self.now) table }
@@ -168,7 +168,7 @@ impl<J: Naming> Writer<J> {
         self.rows.next_row(published, &self.pending, table)
     }
 
-    // The table's first open row of these values.
+    // The number of the table's first open row with these values, if it started before the instant.
     fn open_row(&self, table: u32, values: &Values, at: Instant) -> Option<u32>
         requires { table < length J.catalogue.tables }
         ensures row { result ≡ open_row (all_of self.now) table values.now at }
@@ -179,7 +179,7 @@ impl<J: Naming> Writer<J> {
             .open_row(published, &self.pending, table, values, at)
     }
 
-    // Appends an event that may follow. Out of memory: all is as before.
+    // Appends an event that may follow the others. Unchanged after an error.
     fn append(&mut self, event: Event) -> Result<(), AllocError>
         requires admissible { IsAdmissible J.catalogue (all_of self.old) event }
         requires room { length (all_of self.old) < self.old.limit }
@@ -193,9 +193,9 @@ impl<J: Naming> Writer<J> {
         Ok(())
     }
 
-    /// Shows readers all pending events, and answers how many are published. `AllocError` where a growth was
-    /// refused: published and pending events are as before, and the next publishing goes on from there. It waits for
-    /// readers that are still at an older value.
+    /// Shows all pending events to readers and returns the number of published events. `AllocError` if an allocation
+    /// failed: published and pending events are unchanged, and the next publishing continues from there. Waits for
+    /// readers that are still in the older copy of the value.
     pub fn publish<R: Wait>(&mut self, rt: &R) -> Result<u32, AllocError>
         ensures { MatchResult result (λ n. (self.new ≡ record self.old { published = all_of self.old; pending = [] }) × (n ≡ length self.new.published)) (λ _. self.new ≡ self.old) }
     {
@@ -203,7 +203,7 @@ impl<J: Naming> Writer<J> {
         if !commit(&self.book, &mut self.written, published, &self.pending) {
             return Err(AllocError);
         }
-        let (sent, handed) = hand_over(&mut self.inner, &self.written, &self.pending, self.sent);
+        let (sent, handed) = stage(&mut self.inner, &self.written, &self.pending, self.sent);
         self.sent = sent;
         handed?;
         show(rt, &mut self.inner, &self.pending)?;
@@ -212,17 +212,17 @@ impl<J: Naming> Writer<J> {
         Ok(self.written.len() as u32)
     }
 
-    /// A note of what is published now. It takes no memory.
+    /// A note of the events that are published now. Allocates nothing.
     pub fn note(&self) -> Note<J>
         ensures { result ≡ self.now.published }
     {
         Note {
-            front: self.inner.published().front().copy(),
+            prefix: self.inner.published().prefix().copy(),
             store: PhantomData,
         }
     }
 
-    /// Closes the store: it waits for the readers, and frees both copies of the shared value.
+    /// Closes the store: waits for the readers, then frees both copies of the shared value.
     pub fn close<R: Wait>(self, rt: &R) {
         let Self {
             inner,

@@ -7,7 +7,7 @@ use Rattle.tq_sql.specs.declared.statement.ColumnRef.{ColumnRef}
 use Rattle.tq_base.specs.Names.{folded_name}
 use Rattle.tq_sql.specs.Tokens.{Token, same_kind}
 use Rattle.tq_sql.specs.Grammar.{After, Optional, IsName, IsColumnOf, IsColumn}
-use Rattle.tq_sql.specs.Descent.{Outcome, pure, given, kind_at, next, sees, after, look, taken, name_at, optional, column_of, column_at, ◌>>=◌}
+use Rattle.tq_sql.specs.Descent.{Outcome, pure, given, kind_at, next, sees, after, peek_bytes, taken, name_at, optional, column_of, column_at, ◌>>=◌}
 use Rattle.tq_sql.proofs.ReaderLemmas.{IsReader, by_test, bind_ok, ok_pair, given_some, kind_seen, seen_here, next_of, after_seen, after_unseen, or_false, same_itself}
 use Rattle.tq_sql.proofs.KindLemmas.{is_same}
 use Rattle.tq_sql.proofs.ConditionLemmas.{or_mark, dot, sees_kind}
@@ -15,22 +15,22 @@ use Rattle.tq_sql.proofs.ConditionLemmas.{or_mark, dot, sees_kind}
 abbrev pub nothing : TokenKind → Bool
 nothing kind = false
 
-pub look_some : (kind : TokenKind) (ts mid : List Token) (w : List ℕ) → look kind ts ≡ Ok (w, mid) → (t : Token) × (ts ≡ t ∷ next mid) × (t.kind ≡ kind) × (w ≡ t.text)
-unfolding look
+pub look_some : (kind : TokenKind) (ts mid : List Token) (w : List ℕ) → peek_bytes kind ts ≡ Ok (w, mid) → (t : Token) × (ts ≡ t ∷ next mid) × (t.kind ≡ kind) × (w ≡ t.text)
+unfolding peek_bytes
 look_some kind [] mid w e = cc
 look_some kind (t ∷ ts) mid w e = elim (by_test (same_kind t.kind kind) e) [
   | inl s ↦ (let same = ok_pair t.text w (t ∷ ts) mid s.1 in (t, ap (λ z. t ∷ z) (sym (next_of t ts) ∙ ap next same.1), is_same t.kind kind s.0, sym same.0))
   | inr s ↦ cc
 ]
 
-pub look_here : (kind : TokenKind) (t : Token) (ts : List Token) → t.kind ≡ kind → look kind (t ∷ ts) ≡ Ok (t.text, t ∷ ts)
-unfolding look
+pub look_here : (kind : TokenKind) (t : Token) (ts : List Token) → t.kind ≡ kind → peek_bytes kind (t ∷ ts) ≡ Ok (t.text, t ∷ ts)
+unfolding peek_bytes
 look_here kind t ts e = rw (same_itself t.kind kind e) refl
 
 pub name_sound : (ts rest : List Token) (n : List ℕ) → name_at ts ≡ Ok (n, rest) → (front : List Token) × (ts ≡ front ++ rest) × IsName front n
 unfolding name_at
 name_sound ts rest n e =
-    let step = bind_ok (look k.Name ts) (λ w. given (folded_name w) >>= (λ x. taken x)) (n, rest) e in
+    let step = bind_ok (peek_bytes k.Name ts) (λ w. given (folded_name w) >>= (λ x. taken x)) (n, rest) e in
     let value = bind_ok (given (folded_name step.0) step.1) (λ x. taken x) (n, rest) step.3 in
     let is = given_some (folded_name step.0) value.0 step.1 value.1 value.2 in
     let same = ok_pair value.0 n (next value.1) rest value.3 in
@@ -46,7 +46,7 @@ name_complete front rest n is stop =
 pub name_reader : IsReader IsName nothing name_at
 name_reader = record { sound = name_sound; complete = name_complete }
 
--- ---- what may stand behind a token of a kind
+-- ---- what can follow a token of a kind
 
 module _ {A : Type 0} (kind : TokenKind) (real : kind ≢ k.End) (R : List Token → A → Type 0) (goes : TokenKind → Bool) (p : List Token → Outcome A) (reader : IsReader R goes p) where
   abbrev OptionalRead : List Token → List Token → Option A → Type 0

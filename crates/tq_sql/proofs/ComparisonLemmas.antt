@@ -14,7 +14,7 @@ use Rattle.tq_sql.specs.declared.statement.Cond.{Cond}
 use Rattle.tq_sql.specs.declared.statement.Cond.TheVariants as c
 use Rattle.tq_sql.specs.Tokens.{Token, same_kind, unquoted}
 use Rattle.tq_sql.specs.Grammar.{After, IsName, IsColumnOf, IsText, IsOperand, IsComparison, kind_of, IsOr, IsNot}
-use Rattle.tq_sql.specs.Descent.{pure, stop, given, kind_at, next, sees, look, taken, number_at, text_at, column_at, operand_at, sign_of, signed, sign_at, comparison_at, or_at, and_at, not_at, ◌>>=◌}
+use Rattle.tq_sql.specs.Descent.{pure, stop, given, kind_at, next, sees, peek_bytes, taken, number_at, text_at, column_at, operand_at, sign_of, signed, sign_at, comparison_at, or_at, and_at, not_at, ◌>>=◌}
 use Rattle.tq_sql.proofs.ReaderLemmas.{IsReader, by_test, bind_ok, ok_pair, given_some, next_of, kind_of_first, same_itself}
 use Rattle.tq_sql.proofs.ConditionLemmas.{dot, or_goes, not_reader, or_reader_of}
 use Rattle.tq_sql.proofs.ColumnLemmas.{look_some, look_here, column_reader}
@@ -26,7 +26,7 @@ seen_kind t ts a b r e d = ap (λ z. same_kind z b) e ∙ d
 number_sound : (ts rest : List Token) (n : ℤ) → number_at ts ≡ Ok (n, rest) → (front : List Token) × (ts ≡ front ++ rest) × IsOperand front (term.Int n)
 unfolding number_at
 number_sound ts rest n e =
-    let step = bind_ok (look k.Number ts) (λ w. given (int_of w) >>= (λ x. taken x)) (n, rest) e in
+    let step = bind_ok (peek_bytes k.Number ts) (λ w. given (int_of w) >>= (λ x. taken x)) (n, rest) e in
     let value = bind_ok (given (int_of step.0) step.1) (λ x. taken x) (n, rest) step.3 in
     let is = given_some (int_of step.0) value.0 step.1 value.1 value.2 in
     let same = ok_pair value.0 n (next value.1) rest value.3 in
@@ -46,7 +46,7 @@ text_some false s x ts rest e = cc
 pub text_sound : (ts rest : List Token) (s : List ℕ) → text_at ts ≡ Ok (s, rest) → (front : List Token) × (ts ≡ front ++ rest) × IsText front s
 unfolding text_at
 text_sound ts rest s e =
-    let step = bind_ok (look k.Text ts) (λ w. cond (is_utf8 (unquoted w)) (taken (unquoted w)) (stop Unexpected)) (s, rest) e in
+    let step = bind_ok (peek_bytes k.Text ts) (λ w. cond (is_utf8 (unquoted w)) (taken (unquoted w)) (stop Unexpected)) (s, rest) e in
     let value = text_some (is_utf8 (unquoted step.0)) (unquoted step.0) s step.1 rest step.3 in
     let word = look_some k.Text ts step.1 step.0 step.2 in
     let valid : is_utf8 s ≡ true = ap is_utf8 (sym value.1) ∙ value.0 in
@@ -237,7 +237,7 @@ starts ts rest x is =
       ap (sees k.Open) regrouped ∙ begins_sees (starter is.left) k.Open (is.spelled.0 ++ (is.spelled.1 ++ rest)) false first apart.1,
     )
 
--- the whole condition: what is read is spelled so, and what is spelled so is read
+-- the whole condition: the reader reads exactly the lists of tokens that the grammar allows
 pub condition_reader : (n : ℕ) → IsReader (IsOr (IsNot n)) or_goes (or_at n)
 unfolding or_at and_at
 condition_reader n = or_reader_of comparison_reader starts (IsNot n) (not_at n) (not_reader comparison_reader starts n)

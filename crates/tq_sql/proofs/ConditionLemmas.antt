@@ -16,7 +16,7 @@ added_join : (both : Cond → Cond → Cond) (xs : List Cond) (x : Cond) → add
 added_join both [] x = refl
 added_join both (y ∷ xs) x = added_join both xs (both x y)
 
--- what goes on where a chain could
+-- the kinds with which a chain could continue
 abbrev pub or_mark : TokenKind → (TokenKind → Bool) → TokenKind → Bool
 or_mark mark goes kind = goes kind || same_kind kind mark
 
@@ -114,9 +114,9 @@ closed_some p ts rest x e =
     let step = bind_ok (p ts) (λ y. expect k.Close >>= (λ _. pure y)) (x, rest) e in
     let last = bind_ok (expect k.Close step.1) (λ _. pure step.0) (x, rest) step.3 in
     let same = ok_pair step.0 x last.1 rest last.3 in
-    let behind = expect_some k.Close step.1 last.1 close_real last.2 in
-    let here : step.1 ≡ behind.0 ∷ rest = behind.1 ∙ ap (λ z. behind.0 ∷ z) same.1 in
-    (behind.0, rw (same.0, here) at step.2, behind.2)
+    let preceded = expect_some k.Close step.1 last.1 close_real last.2 in
+    let here : step.1 ≡ preceded.0 ∷ rest = preceded.1 ∙ ap (λ z. preceded.0 ∷ z) same.1 in
+    (preceded.0, rw (same.0, here) at step.2, preceded.2)
 
 closed_here : (p : List Token → Outcome Cond) (ts rest : List Token) (x : Cond) (t : Token) → p ts ≡ Ok (x, t ∷ rest) → t.kind ≡ k.Close → closed p ts ≡ Ok (x, rest)
 unfolding closed

@@ -1,4 +1,4 @@
--- Reading with one level more gives the same, but goes past the token that opens a level too many.
+-- Reading with one more level gives the same, but goes past the token that opens one level too many.
 use Rattle.std.proofs.Common.{◌≡◌, ◌≢◌, ◌≤◌, ◌<◌, ◌⊎◌, inl, inr, ℕ, zero, suc, Bool, true, false, cond, List, [], ◌∷◌, ◌++◌, length, refl, ap, sym, ◌∙◌, subst, arith, append-nil, length-append}
 use Rattle.std.specs.Prelude.{Option, Some, None, Ok, Err}
 use Rattle.tq_sql.specs.declared.cursor.Refusal.{Refusal}
@@ -12,9 +12,9 @@ use Rattle.tq_sql.specs.declared.statement.Statement.{Statement}
 use Rattle.tq_sql.specs.declared.token.TokenKind.{TokenKind}
 use Rattle.tq_sql.specs.declared.token.TokenKind.TheVariants as k
 use Rattle.tq_sql.specs.Tokens.{Token}
-use Rattle.tq_sql.specs.Descent.{Outcome, Reader, and_then, pure, stop, next, sees, eat, expect, more_from, chain, optional, behind, comparison_at, closed, not_at, and_at, or_at, condition_at, items_at, sources_at, group_at, query_at, window_at, right_at, end_at, body_at, statement_at, ◌>>=◌}
+use Rattle.tq_sql.specs.Descent.{Outcome, Reader, and_then, pure, stop, next, sees, eat, expect, more_from, chain, optional, preceded, comparison_at, closed, not_at, and_at, or_at, condition_at, items_at, sources_at, group_at, query_at, window_at, right_at, end_at, body_at, statement_at, ◌>>=◌}
 use Rattle.tq_sql.specs.Grammar.{IsStatementWithin}
-use Rattle.tq_sql.specs.Reading.{GoesOn}
+use Rattle.tq_sql.specs.Reading.{CanContinue}
 use Rattle.tq_sql.proofs.ReaderLemmas.{kind_seen}
 use Rattle.tq_sql.proofs.ConditionLemmas.{open_real, not_real}
 use Rattle.tq_sql.proofs.SteadyLemmas.{AgreeingTo, IsSteady, Says, tail_of, shorter, bind_steady, pure_steady, eat_steady, expect_steady}
@@ -27,7 +27,7 @@ use Rattle.tq_sql.proofs.ViableLemmas.{statement_open}
 abbrev pub Deepens : {A : Type 0} → Outcome A → Outcome A → Type 0
 Deepens r s = ((r ≡ s) × Says false r) ⊎ ((rest : List Token) × (r ≡ Err (TooDeep, rest)) × (length (tail_of s) < length rest))
 
--- q reads with a level more than p
+-- q reads as p does, with one more level
 record IsDeeper {A : Type 0} (p q : List Token → Outcome A) : Type 0 where
   short : (ts : List Token) → length (tail_of (q ts)) ≤ length ts
   deepens : (ts : List Token) → Deepens (p ts) (q ts)
@@ -81,7 +81,7 @@ if_deeper kind p q u v one two = record { short = λ ts. short ts (sees kind ts)
     deepens ts true = one.deepens ts
     deepens ts false = two.deepens ts
 
--- a token that opens a level: the one reader stops before it, the other goes past it
+-- a token that opens a level: the first reader stops before it, the second goes past it
 open_deeper : {A : Type 0} (kind : TokenKind) → kind ≢ k.End → (q u v : List Token → Outcome A) → IsSteady true q → IsDeeper u v → IsDeeper (λ ts. cond (sees kind ts) (stop TooDeep ts) (u ts)) (λ ts. cond (sees kind ts) (q (next ts)) (v ts))
 open_deeper {A} kind real q u v steady two = record { short = λ ts. short ts (sees kind ts); deepens = λ ts. deepens ts (sees kind ts) refl }
   where
@@ -160,7 +160,7 @@ optional_deeper kind p q one =
     by true = bind_deeper p q (λ x. pure (Some x)) (λ x. pure (Some x)) one (λ x. flat (pure (Some x)) (pure_steady (Some x)))
     by false = flat (pure None) (pure_steady None)
 
-behind_deeper : {A : Type 0} (kind : TokenKind) (p q : List Token → Outcome A) → IsDeeper p q → IsDeeper (behind kind p) (behind kind q)
+behind_deeper : {A : Type 0} (kind : TokenKind) (p q : List Token → Outcome A) → IsDeeper p q → IsDeeper (preceded kind p) (preceded kind q)
 behind_deeper kind p q one = then_deeper (expect kind) (λ _. p) (λ _. q) (expect_steady kind) (λ _. one)
 
 condition_deeper : (levels : ℕ) → IsDeeper (condition_at levels) (condition_at (suc levels))
@@ -192,7 +192,7 @@ query_deeper levels =
 
 right_deeper : (levels : ℕ) → IsDeeper (right_at levels) (right_at (suc levels))
 unfolding right_at
-right_deeper levels = optional_deeper k.Except (behind k.All (query_at levels)) (behind k.All (query_at (suc levels))) (behind_deeper k.All (query_at levels) (query_at (suc levels)) (query_deeper levels))
+right_deeper levels = optional_deeper k.Except (preceded k.All (query_at levels)) (preceded k.All (query_at (suc levels))) (behind_deeper k.All (query_at levels) (query_at (suc levels)) (query_deeper levels))
 
 abbrev queries : ℕ → Option (List ℕ) → Reader Statement
 queries levels w = query_at levels >>= (λ l. right_at levels >>= (λ r. pure (made w l r)))
@@ -216,7 +216,8 @@ statement_deeper levels =
 
 -- ---- where reading stops
 
--- reading stops at an unexpected token or the end, also with a level more, or before a token that opens a level too many
+-- reading stops at an unexpected token or the end, with one more level too; or before a token that opens one level too
+-- many
 pub why_stopped : (levels : ℕ) (ts rest : List Token) (why : Refusal) → statement_at levels ts ≡ Err (why, rest)
     → ((why ≡ Unexpected) × (statement_at (suc levels) ts ≡ Err (Unexpected, rest))) ⊎ ((why ≡ TooDeep) × (statement_at levels ts ≡ Err (TooDeep, rest)) × (length (tail_of (statement_at (suc levels) ts)) < length rest))
 why_stopped levels ts rest why e = elim ((statement_deeper levels).deepens ts) [
@@ -244,15 +245,15 @@ none_left [] none = refl
 none_left (t ∷ ts) none = absurd (omega arith)
 
 -- a statement begins with the tokens if reading takes all of them
-all_taken : (levels : ℕ) (ts : List Token) (r : Outcome Statement) → statement_at levels ts ≡ r → length (tail_of r) ≤ 0 → GoesOn levels ts
+all_taken : (levels : ℕ) (ts : List Token) (r : Outcome Statement) → statement_at levels ts ≡ r → length (tail_of r) ≤ 0 → CanContinue levels ts
 all_taken levels ts (Ok r) e none = let P : List Token → Type 0 = λ z. IsStatementWithin levels z r.0 in ([], r.0, subst P (sym (append-nil ts)) (statement_sound levels ts r.1 r.0 e))
 all_taken levels ts (Err r) e none =
     let o = (statement_open levels).open_at ts r.1 r.0 e in
-    let P : List Token → Type 0 = λ z. GoesOn levels z in
+    let P : List Token → Type 0 = λ z. CanContinue levels z in
     subst P (sym (o.1 ∙ ap (λ z. o.0 ++ z) (none_left r.1 none) ∙ append-nil o.0)) o.2
 
--- a statement of a level more goes on with the token that opens a level too many
-pub level_more : (levels : ℕ) (front : List Token) (t : Token) (rest : List Token) → statement_at levels (front ++ t ∷ rest) ≡ Err (TooDeep, t ∷ rest) → GoesOn (suc levels) (front ++ t ∷ [])
+-- a statement of one more level continues with the token that opens one level too many
+pub level_more : (levels : ℕ) (front : List Token) (t : Token) (rest : List Token) → statement_at levels (front ++ t ∷ rest) ≡ Err (TooDeep, t ∷ rest) → CanContinue (suc levels) (front ++ t ∷ [])
 level_more levels front t rest e =
     let u = front ++ t ∷ rest in
     let v = front ++ t ∷ [] in

@@ -1,4 +1,4 @@
--- The fault of a text that makes no statement: its place and its kind.
+-- The fault of a text that is not a statement: its byte and its kind.
 use Rattle.std.proofs.Common.{◌≡◌, ◌≢◌, ◌<◌, ◌≤◌, ◌⊎◌, inl, inr, ℕ, zero, suc, ◌+◌, ◌-◌, Bool, true, false, cond, List, [], ◌∷◌, ◌++◌, length, refl, ap, sym, ◌∙◌, subst, arith, append_assoc, append-nil}
 use Rattle.std.specs.Prelude.{Result, Ok, Err, slice_get, option_map, unwrap_or, nat_lt}
 use Rattle.std.proofs.lemmas.Bool.Decides.{nat_tests}
@@ -13,7 +13,7 @@ use Rattle.tq_sql.specs.declared.token.TokenKind.{TokenKind}
 use Rattle.tq_sql.specs.Descent.{Outcome, statement_at, stopped_at}
 use Rattle.tq_sql.specs.Faults.{out_of_memory}
 use Rattle.tq_sql.specs.Grammar.{IsStatement, IsStatementWithin}
-use Rattle.tq_sql.specs.Reading.{GoesOn, IsFaultBefore, IsSqlFault, IsStop, Makes, StopsBefore, place_of}
+use Rattle.tq_sql.specs.Reading.{CanContinue, IsFaultBefore, IsSqlFault, IsStop, ParsesTo, StopsBefore, token_offset}
 use Rattle.tq_sql.specs.Tokens.{Token, fault, is_space, then_rest, token_at, tokens_from, tokens_of, with_token}
 use Rattle.tq_sql.specs.Laws.{FaultsAreRefusals, FaultsAreUnique, TextsAreDecided}
 use Rattle.tq_sql.proofs.DeeperLemmas.{level_more, why_stopped}
@@ -53,7 +53,7 @@ back_within : (n : ℕ) (front rest : List Token) → Within n (front ++ rest) �
 back_within n [] rest w = w
 back_within n (t ∷ front) rest w = back_within n front rest w.1
 
--- a text that has tokens is no longer than a statement may be
+-- a text that has tokens is at most as long as a statement can be
 text_within : (bytes : List ℕ) (ts : List Token) → tokens_of bytes ≡ Ok ts → (length bytes ≤ 65536) × Within (length bytes) ts
 text_within bytes ts is = by (nat_lt 65536 (length bytes)) refl is
   where
@@ -61,21 +61,21 @@ text_within bytes ts is = by (nat_lt 65536 (length bytes)) refl is
     by true test e = cc
     by false test e = (grind (arith, nat_tests), tokens_within (length bytes) 0 0 bytes ts (omega arith) e)
 
-pub place_within : (bytes : List ℕ) (front rest : List Token) → tokens_of bytes ≡ Ok (front ++ rest) → place_of bytes rest ≤ 65536
+pub place_within : (bytes : List ℕ) (front rest : List Token) → tokens_of bytes ≡ Ok (front ++ rest) → token_offset bytes rest ≤ 65536
 place_within bytes front [] is = (text_within bytes (front ++ []) is).0
 place_within bytes front (t ∷ rest) is = let w = text_within bytes (front ++ t ∷ rest) is in omega (arith, w.0, (back_within (length bytes) front (t ∷ rest) w.1).0)
 
-pub place_is : (bytes : List ℕ) (rest : List Token) → place_of bytes rest ≡ unwrap_or (option_map (λ t. t.at) (slice_get rest 0)) (length bytes)
+pub place_is : (bytes : List ℕ) (rest : List Token) → token_offset bytes rest ≡ unwrap_or (option_map (λ t. t.at) (slice_get rest 0)) (length bytes)
 place_is bytes [] = refl
 place_is bytes (t ∷ rest) = refl
 
 -- ---- where the descent stops
 
-pub stopped : (ts rest : List Token) (why : Refusal) → statement_at 32 ts ≡ Err (why, rest) → (front : List Token) × (ts ≡ front ++ rest) × GoesOn 32 front
+pub stopped : (ts rest : List Token) (why : Refusal) → statement_at 32 ts ≡ Err (why, rest) → (front : List Token) × (ts ≡ front ++ rest) × CanContinue 32 front
 stopped ts rest why is = (statement_open 32).open_at ts rest why is
 
--- no statement goes on with the token
-goes_on_never : (levels : ℕ) (front : List Token) (t : Token) (rest : List Token) (why : Refusal) → statement_at levels (front ++ t ∷ rest) ≡ Err (why, t ∷ rest) → GoesOn levels (front ++ t ∷ []) → ⊥
+-- no statement continues with the token
+goes_on_never : (levels : ℕ) (front : List Token) (t : Token) (rest : List Token) (why : Refusal) → statement_at levels (front ++ t ∷ rest) ≡ Err (why, t ∷ rest) → CanContinue levels (front ++ t ∷ []) → ⊥
 goes_on_never levels front t rest why is on =
     let P : List Token → Type 0 = λ z. IsStatementWithin levels z on.1 in
     no_more levels front t rest on.0 why is on.1 (subst P (append_assoc front (t ∷ []) on.0) on.2)
@@ -102,22 +102,22 @@ fault_before front rest why at is = elim (why_stopped 32 (front ++ rest) rest wh
     too_deep [] e some = absurd (omega arith)
     too_deep (t ∷ ts) e some = inl (refl, level_more 32 front t ts e)
 
--- what reading that stops says of the text
-pub stop_is : (bytes : List ℕ) (ts rest : List Token) (why : Refusal) → tokens_of bytes ≡ Ok ts → statement_at 32 ts ≡ Err (why, rest) → IsStop bytes (stopped_at why (place_of bytes rest))
+-- what it means for the text that reading stops
+pub stop_is : (bytes : List ℕ) (ts rest : List Token) (why : Refusal) → tokens_of bytes ≡ Ok ts → statement_at 32 ts ≡ Err (why, rest) → IsStop bytes (stopped_at why (token_offset bytes rest))
 stop_is bytes ts rest why whole e =
     let s = stopped ts rest why e in
     let P : List Token → Type 0 = λ z. statement_at 32 z ≡ Err (why, rest) in
     let here = subst P s.1 e in
-    let before = fault_before s.0 rest why (place_of bytes rest) here in
+    let before = fault_before s.0 rest why (token_offset bytes rest) here in
     (s.0, rest, whole ∙ ap (λ z. Ok z) s.1, s.2, stops_before s.0 rest why here, before.0, before.1)
 
--- .. where memory was not refused
-pub stop_told : (bytes : List ℕ) (ts rest : List Token) (why : Refusal) (f : SqlFault) → tokens_of bytes ≡ Ok ts → (why ≢ Memory → statement_at 32 ts ≡ Err (why, rest)) → f ≡ stopped_at why (place_of bytes rest) → f ≢ out_of_memory → IsStop bytes f
+-- .. if no allocation failed
+pub stop_told : (bytes : List ℕ) (ts rest : List Token) (why : Refusal) (f : SqlFault) → tokens_of bytes ≡ Ok ts → (why ≢ Memory → statement_at 32 ts ≡ Err (why, rest)) → f ≡ stopped_at why (token_offset bytes rest) → f ≢ out_of_memory → IsStop bytes f
 stop_told bytes ts rest why f whole stops is other =
     let P : SqlFault → Type 0 = λ z. IsStop bytes z in
-    subst P (sym is) (stop_is bytes ts rest why whole (stops (λ same. other (is ∙ ap (λ z. stopped_at z (place_of bytes rest)) same))))
+    subst P (sym is) (stop_is bytes ts rest why whole (stops (λ same. other (is ∙ ap (λ z. stopped_at z (token_offset bytes rest)) same))))
 
-pub fault_within : (bytes : List ℕ) (ts rest : List Token) (why : Refusal) → tokens_of bytes ≡ Ok ts → statement_at 32 ts ≡ Err (why, rest) → place_of bytes rest ≤ 65536
+pub fault_within : (bytes : List ℕ) (ts rest : List Token) (why : Refusal) → tokens_of bytes ≡ Ok ts → statement_at 32 ts ≡ Err (why, rest) → token_offset bytes rest ≤ 65536
 fault_within bytes ts rest why whole e = let s = stopped ts rest why e in place_within bytes s.0 rest (whole ∙ ap (λ z. Ok z) s.1)
 
 -- ---- laws
@@ -137,10 +137,10 @@ refusals bytes f s (inr is) makes =
     let P : List Token → Type 0 = λ z. IsStatement z s in
     no_whole is.0 is.1 s is.4 (subst P same makes.2)
 
-goes_on_before : (a b : List Token) → GoesOn 32 (a ++ b) → GoesOn 32 a
+goes_on_before : (a b : List Token) → CanContinue 32 (a ++ b) → CanContinue 32 a
 goes_on_before a b on = let P : List Token → Type 0 = λ z. IsStatement z on.1 in (b ++ on.0, on.1, subst P (append_assoc a b on.0) on.2)
 
--- two cuts of one list: at one place, or the one before the other
+-- two splits of one list: at the same position, or one before the other
 cuts : (a b c d : List Token) → a ++ b ≡ c ++ d → ((a ≡ c) × (b ≡ d)) ⊎ ((t : Token) × (us : List Token) × (b ≡ t ∷ us) × (vs : List Token) × (c ≡ (a ++ t ∷ []) ++ vs)) ⊎ ((t : Token) × (us : List Token) × (d ≡ t ∷ us) × (vs : List Token) × (a ≡ (c ++ t ∷ []) ++ vs))
 cuts [] b [] d e = inl (refl, e)
 cuts [] b (t ∷ c) d e = inr (inl (t, c ++ d, e, c, refl))
@@ -156,10 +156,10 @@ cuts (t ∷ a) b (u ∷ c) d e =
       ]
     ]
 
-never_before : (a b c : List Token) (t : Token) (us vs : List Token) → b ≡ t ∷ us → c ≡ (a ++ t ∷ []) ++ vs → StopsBefore a b → GoesOn 32 c → ⊥
+never_before : (a b c : List Token) (t : Token) (us vs : List Token) → b ≡ t ∷ us → c ≡ (a ++ t ∷ []) ++ vs → StopsBefore a b → CanContinue 32 c → ⊥
 never_before a b c t us vs is_b is_c stops on =
     let P : List Token → Type 0 = λ z. StopsBefore a z in
-    let Q : List Token → Type 0 = λ z. GoesOn 32 z in
+    let Q : List Token → Type 0 = λ z. CanContinue 32 z in
     subst P is_b stops (goes_on_before (a ++ t ∷ []) vs (subst Q is_c on))
 
 err_fault : (f g : SqlFault) → ◌≡◌ {A = Result (List Token) SqlFault} (Err f) (Err g) → f ≡ g
@@ -185,18 +185,18 @@ one_fault bytes f g (inr a) (inr b) =
       | inl s ↦
           (let P : List Token → Type 0 = λ z. IsFaultBefore z a.1 f.kind in
           let Q : List Token → Type 0 = λ z. IsFaultBefore b.0 z f.kind in
-          same_fault f g (one_kind b.0 b.1 f.kind g.kind (subst Q s.1 (subst P s.0 a.5)) b.5) (a.6 ∙ ap (λ z. place_of bytes z) s.1 ∙ sym b.6))
+          same_fault f g (one_kind b.0 b.1 f.kind g.kind (subst Q s.1 (subst P s.0 a.5)) b.5) (a.6 ∙ ap (λ z. token_offset bytes z) s.1 ∙ sym b.6))
       | inr s ↦ elim s [
         | inl l ↦ absurd (never_before a.0 a.1 b.0 l.0 l.1 l.3 l.2 l.4 a.4 b.3)
         | inr r ↦ absurd (never_before b.0 b.1 a.0 r.0 r.1 r.3 r.2 r.4 b.4 a.3)
       ]
     ]
 
-read_or_not : (bytes : List ℕ) (ts : List Token) → tokens_of bytes ≡ Ok ts → (r : Outcome Statement) → statement_at 32 ts ≡ r → ((s : Statement) × Makes bytes s) ⊎ ((f : SqlFault) × IsSqlFault bytes f)
+read_or_not : (bytes : List ℕ) (ts : List Token) → tokens_of bytes ≡ Ok ts → (r : Outcome Statement) → statement_at 32 ts ≡ r → ((s : Statement) × ParsesTo bytes s) ⊎ ((f : SqlFault) × IsSqlFault bytes f)
 read_or_not bytes ts whole (Ok r) e = inl (r.0, (ts, whole, statement_sound 32 ts r.1 r.0 e))
-read_or_not bytes ts whole (Err r) e = inr (stopped_at r.0 (place_of bytes r.1), inr (stop_is bytes ts r.1 r.0 whole e))
+read_or_not bytes ts whole (Err r) e = inr (stopped_at r.0 (token_offset bytes r.1), inr (stop_is bytes ts r.1 r.0 whole e))
 
-cut_or_not : (bytes : List ℕ) (r : Result (List Token) SqlFault) → tokens_of bytes ≡ r → ((s : Statement) × Makes bytes s) ⊎ ((f : SqlFault) × IsSqlFault bytes f)
+cut_or_not : (bytes : List ℕ) (r : Result (List Token) SqlFault) → tokens_of bytes ≡ r → ((s : Statement) × ParsesTo bytes s) ⊎ ((f : SqlFault) × IsSqlFault bytes f)
 cut_or_not bytes (Ok ts) e = read_or_not bytes ts e (statement_at 32 ts) refl
 cut_or_not bytes (Err f) e = inr (f, inl e)
 

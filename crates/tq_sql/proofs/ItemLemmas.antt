@@ -38,7 +38,7 @@ by_real e = cc
 pub group_real : k.Group ≢ k.End
 group_real e = cc
 
--- ---- what an item is
+-- ---- the kinds of items
 
 abbrev counted : Reader What
 counted = expect k.Open >>= (λ _. expect k.Star >>= (λ _. expect k.Close >>= (λ _. pure what.Count)))
@@ -210,7 +210,7 @@ source_goes = or_mark k.Name (or_mark k.As nothing)
 abbrev AliasRead : List Token → List Token → Option (List ℕ) → Type 0
 AliasRead ts rest o = (front : List Token) × (ts ≡ front ++ rest) × Optional IsAlias front o
 
--- a name that stands there
+-- a name that comes next
 name_taken : (ts rest : List Token) (o : Option (List ℕ)) → and_then (name_at ts) (λ n. pure (Some n)) ≡ Ok (o, rest) → (n : List ℕ) × (front : List Token) × (ts ≡ front ++ rest) × IsName front n × (Some n ≡ o)
 name_taken ts rest o e =
     let one = bind_ok (name_at ts) (λ n. pure (Some n)) (o, rest) e in

@@ -11,7 +11,7 @@ pub is_same : (a b : TokenKind) → same_kind a b ≡ true → a ≡ b
 unfolding same_kind
 is_same a b e = same_true the_type (search rules) a b e
 
--- a token that is seen is one that is left
+-- a token that is seen is one of the remaining tokens
 pub next-shorter : (kind : TokenKind) (ts : List Token) → sees kind ts ≡ true → kind ≢ k.End → length (next ts) < length ts
 unfolding sees next kind_at
 next-shorter kind [] e n = absurd (n (sym (is_same k.End kind e)))

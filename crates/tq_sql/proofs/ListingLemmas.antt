@@ -1,11 +1,11 @@
--- The readers of lists, of what may stand in front of the rest, and of what stands behind a token.
+-- The readers of lists, of optional values before the rest, and of values after a token.
 use Rattle.std.proofs.Common.{◌≡◌, ◌≢◌, ◌≤◌, ℕ, suc, Bool, false, List, [], ◌∷◌, ◌++◌, length, refl, ap, sym, ◌∙◌, subst, arith, append_assoc, append-nil, length-append}
 use Rattle.std.specs.Prelude.{Option, Some, None, Ok}
 use Rattle.tq_sql.specs.declared.token.TokenKind.{TokenKind}
 use Rattle.tq_sql.specs.declared.token.TokenKind.TheVariants as k
 use Rattle.tq_sql.specs.Tokens.{Token, same_kind}
 use Rattle.tq_sql.specs.Grammar.{After, Optional, More, Listed}
-use Rattle.tq_sql.specs.Descent.{Outcome, kind_at, expect, behind, more_from, listed, listed_up_to}
+use Rattle.tq_sql.specs.Descent.{Outcome, kind_at, expect, preceded, more_from, listed, listed_up_to}
 use Rattle.tq_sql.proofs.ReaderLemmas.{IsReader, bind_ok, kind_of_first, or_false, added, more_length, more_stops, more_complete, more_sound}
 use Rattle.tq_sql.proofs.ConditionLemmas.{or_mark, sees_kind, expect_some, expect_here}
 
@@ -19,7 +19,7 @@ added_snoc [] all = sym (append-nil all)
 added_snoc (x ∷ xs) all = added_snoc xs (all ++ x ∷ []) ∙ append_assoc all (x ∷ []) xs
 
 module _ {A : Type 0} (mark : TokenKind) (real : mark ≢ k.End) (R : List Token → A → Type 0) (goes : TokenKind → Bool) (p : List Token → Outcome A) (reader : IsReader R goes p) (apart : goes mark ≡ false) where
-  -- the first value, and then the further ones, of which there are few enough
+  -- the first value, and then the further ones, of which there are at most n
   others_complete : (n : ℕ) (b rest : List Token) (x : A) (xs : List A) → More mark R b xs → length xs ≤ n → or_mark mark goes (kind_at rest) ≡ false
       → more_from mark p snoc n (x ∷ []) (b ++ rest) ≡ Ok (x ∷ xs, rest)
   others_complete n b rest x xs is few stop =
@@ -77,23 +77,23 @@ module _ {A : Type 0} (mark : TokenKind) (real : mark ≢ k.End) (R : List Token
   pub listed_reader : IsReader (Listed mark R) (or_mark mark goes) (listed mark p)
   listed_reader = record { sound = listed_sound; complete = listed_complete }
 
--- ---- behind a token
+-- ---- after a token
 
-pub behind_reader : {A : Type 0} (kind : TokenKind) (real : kind ≢ k.End) (R : List Token → A → Type 0) (goes : TokenKind → Bool) (p : List Token → Outcome A) → IsReader R goes p → IsReader (After kind R) goes (behind kind p)
+pub behind_reader : {A : Type 0} (kind : TokenKind) (real : kind ≢ k.End) (R : List Token → A → Type 0) (goes : TokenKind → Bool) (p : List Token → Outcome A) → IsReader R goes p → IsReader (After kind R) goes (preceded kind p)
 behind_reader {A} kind real R goes p reader = record { sound = sound; complete = complete }
   where
-    sound : (ts rest : List Token) (x : A) → behind kind p ts ≡ Ok (x, rest) → (front : List Token) × (ts ≡ front ++ rest) × After kind R front x
+    sound : (ts rest : List Token) (x : A) → preceded kind p ts ≡ Ok (x, rest) → (front : List Token) × (ts ≡ front ++ rest) × After kind R front x
     sound ts rest x e =
         let step = bind_ok (expect kind ts) (λ _. p) (x, rest) e in
         let first = expect_some kind ts step.1 real step.2 in
         let inner = reader.sound step.1 rest x step.3 in
         (first.0 ∷ inner.0, first.1 ∙ ap (λ z. first.0 ∷ z) inner.1, (first.2, inner.2))
 
-    complete : (front rest : List Token) (x : A) → After kind R front x → goes (kind_at rest) ≡ false → behind kind p (front ++ rest) ≡ Ok (x, rest)
+    complete : (front rest : List Token) (x : A) → After kind R front x → goes (kind_at rest) ≡ false → preceded kind p (front ++ rest) ≡ Ok (x, rest)
     complete [] rest x is stop = absurd is
     complete (t ∷ front) rest x is stop = rw (expect_here kind t (front ++ rest) is.0) (reader.complete front rest x is.1 stop)
 
--- ---- what stands first in front of the rest
+-- ---- an optional value before the rest
 
 pub after_stops : {A : Type 0} (kind : TokenKind) (R : List Token → A → Type 0) (goes : TokenKind → Bool) → goes kind ≡ false → (b rest : List Token) (x : A) → After kind R b x → goes (kind_at (b ++ rest)) ≡ false
 after_stops kind R goes g [] rest x is = absurd is

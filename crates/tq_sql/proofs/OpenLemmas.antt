@@ -1,4 +1,4 @@
--- Readers that stop before a token only where what they took can still be gone on with.
+-- Readers that stop before a token only if some value continues the tokens that they took.
 use Rattle.std.proofs.Common.{◌≡◌, ◌≢◌, ◌≤◌, ◌⊎◌, inl, inr, ℕ, zero, suc, Bool, true, false, List, [], ◌∷◌, ◌++◌, length, refl, ap, sym, ◌∙◌, arith, append_assoc, append-nil}
 use Rattle.std.specs.Prelude.{Option, Some, None, Ok, Err}
 use Rattle.tq_sql.specs.declared.cursor.Refusal.{Refusal}
@@ -6,7 +6,7 @@ use Rattle.tq_sql.specs.declared.token.TokenKind.{TokenKind}
 use Rattle.tq_sql.specs.declared.token.TokenKind.TheVariants as k
 use Rattle.tq_sql.specs.Tokens.{Token}
 use Rattle.tq_sql.specs.Grammar.{After, Before, Pair, Optional, More}
-use Rattle.tq_sql.specs.Descent.{Outcome, and_then, pure, next, sees, expect, behind, optional, more_from, ◌>>=◌}
+use Rattle.tq_sql.specs.Descent.{Outcome, and_then, pure, next, sees, expect, preceded, optional, more_from, ◌>>=◌}
 use Rattle.tq_sql.proofs.ReaderLemmas.{by_test, kind_seen, after_seen, after_unseen}
 use Rattle.tq_sql.proofs.ConditionLemmas.{expect_some}
 
@@ -14,7 +14,7 @@ use Rattle.tq_sql.proofs.ConditionLemmas.{expect_some}
 abbrev pub GoesOnAs : {A : Type 0} → (List Token → A → Type 0) → List Token → Type 0
 GoesOnAs {A} R front = (more : List Token) × (x : A) × R (front ++ more) x
 
--- where reading stops, a value of the rule begins with the tokens before that place
+-- if reading stops, a value of the rule begins with the tokens before that position
 pub record IsOpen {A B : Type 0} (R : List Token → A → Type 0) (p : List Token → Outcome B) : Type 0 where
   pub open_at : (ts rest : List Token) (why : Refusal) → p ts ≡ Err (why, rest) → (front : List Token) × (ts ≡ front ++ rest) × GoesOnAs R front
 
@@ -48,7 +48,7 @@ err_pair {A} x y ts rest e =
 pub none_taken : {A : Type 0} (R : List Token → A → Type 0) → Example R → (ts rest : List Token) → rest ≡ ts → (front : List Token) × (ts ≡ front ++ rest) × GoesOnAs R front
 none_taken R some ts rest same = ([], sym same, (some.0, some.1, some.2))
 
--- ---- how rules are put together
+-- ---- combinators
 
 -- the same reading under a wider rule
 pub wider : {A B C : Type 0} (R : List Token → A → Type 0) (S : List Token → C → Type 0) (p : List Token → Outcome B) → ((ts : List Token) (x : A) → R ts x → (y : C) × S ts y) → IsOpen R p → IsOpen S p
@@ -59,7 +59,7 @@ wider R S p to opened = record {
 pub pure_open : {A B : Type 0} (R : List Token → A → Type 0) (x : B) → IsOpen R (pure x)
 pure_open R x = record { open_at = λ ts rest why e. cc }
 
--- what only shapes the value
+-- a reader that only changes the value
 pub shaped_open : {A B C : Type 0} (R : List Token → A → Type 0) (p : List Token → Outcome B) (f : B → C) → IsOpen R p → IsOpen R (p >>= (λ x. pure (f x)))
 shaped_open {A} {B} {C} R p f opened = record { open_at = at }
   where
@@ -76,10 +76,10 @@ expect_stops kind ts rest why e = elim (by_test (sees kind ts) e) [
   | inr s ↦ sym (err_pair _ why ts rest s.1).1
 ]
 
-pub behind_open : {A B : Type 0} (kind : TokenKind) (real : kind ≢ k.End) (R : List Token → A → Type 0) (p : List Token → Outcome B) → Example R → IsOpen R p → IsOpen (After kind R) (behind kind p)
+pub behind_open : {A B : Type 0} (kind : TokenKind) (real : kind ≢ k.End) (R : List Token → A → Type 0) (p : List Token → Outcome B) → Example R → IsOpen R p → IsOpen (After kind R) (preceded kind p)
 behind_open {A} {B} kind real R p some opened = record { open_at = at }
   where
-    at : (ts rest : List Token) (why : Refusal) → behind kind p ts ≡ Err (why, rest) → (front : List Token) × (ts ≡ front ++ rest) × GoesOnAs (After kind R) front
+    at : (ts rest : List Token) (why : Refusal) → preceded kind p ts ≡ Err (why, rest) → (front : List Token) × (ts ≡ front ++ rest) × GoesOnAs (After kind R) front
     at ts rest why e = elim (bind_err (expect kind ts) (λ _. p) (why, rest) e) [
       | inl s ↦ none_taken (After kind R) (token_of kind ∷ some.0, some.1, (refl, some.2)) ts rest (expect_stops kind ts rest why s)
       | inr s ↦
@@ -139,7 +139,7 @@ before_open {A} {B} kind R p f sound opened = record { open_at = at }
 
 module _ {A B : Type 0} (mark : TokenKind) (real : mark ≢ k.End) (R : List Token → A → Type 0) (p : List Token → Outcome A) (add : B → A → B)
     (sound : (ts rest : List Token) (x : A) → p ts ≡ Ok (x, rest) → (front : List Token) × (ts ≡ front ++ rest) × R front x) (opened : IsOpen R p) where
-  -- further values begin with the tokens, no more than there were turns
+  -- further values begin with the tokens, at most as many as there were iterations
   abbrev pub MoreGoesOn : ℕ → List Token → List Token → Type 0
   MoreGoesOn n ts rest = (front : List Token) × (ts ≡ front ++ rest) × ((more : List Token) × (xs : List A) × More mark R (front ++ more) xs × (length xs ≤ n))
 
@@ -166,7 +166,7 @@ module _ {A B : Type 0} (mark : TokenKind) (real : mark ≢ k.End) (R : List Tok
   more_open zero all ts rest why e = cc
   more_open (suc n) all ts rest why e = more_turn n all ts rest why (sees mark ts) refl (λ all' mid f. more_open n all' mid rest why f) e
 
-  -- a first value and further ones, no more in all than one and the turns
+  -- a first value and further ones, at most one more in all than there were iterations
   abbrev pub ListGoesOn : ℕ → List Token → List Token → Type 0
   ListGoesOn n ts rest = (front : List Token) × (ts ≡ front ++ rest) × ((more : List Token) × (x : A) × (xs : List A) × Pair R (More mark R) (front ++ more) (x, xs) × (length xs ≤ n))
 

@@ -1,4 +1,4 @@
--- The descent is steady, so that no statement goes on with the token before which it stops.
+-- The descent is steady, so no statement continues with the token before which it stops.
 use Rattle.std.proofs.Common.{◌≡◌, ◌≢◌, inl, inr, ℕ, zero, suc, Bool, true, false, ◌||◌, cond, List, [], ◌∷◌, ◌++◌, length, refl, ap, subst, arith}
 use Rattle.std.specs.Prelude.{Option, Some, None, Ok, Err}
 use Rattle.std.specs.Str.{is_utf8}
@@ -21,7 +21,7 @@ use Rattle.tq_sql.specs.declared.token.TokenKind.{TokenKind}
 use Rattle.tq_sql.specs.declared.token.TokenKind.TheVariants as k
 use Rattle.tq_sql.specs.Tokens.{Token, unquoted}
 use Rattle.tq_sql.specs.Grammar.{IsStatementWithin}
-use Rattle.tq_sql.specs.Descent.{Outcome, Reader, pure, stop, given, kind_at, next, sees, eat, look, taken, expect, name_at, number_at, text_at, more_from, listed, listed_up_to, chain, column_of, optional, column_at, what_at, item_alias_at, item_at, items_at, source_alias_at, source_at, sources_at, columns_at, operand_at, sign_of, signed, sign_at, comparison_at, closed, not_at, and_at, or_at, condition_at, behind, group_at, query_at, window_at, right_at, ended, end_at, body_at, statement_at, ◌>>=◌}
+use Rattle.tq_sql.specs.Descent.{Outcome, Reader, pure, stop, given, kind_at, next, sees, eat, peek_bytes, taken, expect, name_at, number_at, text_at, more_from, listed, listed_up_to, chain, column_of, optional, column_at, what_at, item_alias_at, item_at, items_at, source_alias_at, source_at, sources_at, columns_at, operand_at, sign_of, signed, sign_at, comparison_at, closed, not_at, and_at, or_at, condition_at, preceded, group_at, query_at, window_at, right_at, ended, end_at, body_at, statement_at, ◌>>=◌}
 use Rattle.tq_sql.proofs.StatementLemmas.{statement_complete}
 use Rattle.tq_sql.proofs.SteadyLemmas.{Same, tail_of, Agreeing, AgreeingTo, Says, IsSteady, bind_steady, ok_says, unexpected_says, pure_steady, stop_steady, too_deep_steady, given_steady, either_steady, same_kinds, next_steady, if_steady, eat_steady, expect_steady, taken_steady, look_steady, behind_steady, optional_steady, more_steady, all_steady}
 
@@ -30,19 +30,19 @@ use Rattle.tq_sql.proofs.SteadyLemmas.{Same, tail_of, Agreeing, AgreeingTo, Says
 name_steady : {deep : Bool} → IsSteady deep name_at
 unfolding name_at
 name_steady =
-    bind_steady (look k.Name) (λ w. given (folded_name w) >>= (λ x. taken x)) (look_steady k.Name)
+    bind_steady (peek_bytes k.Name) (λ w. given (folded_name w) >>= (λ x. taken x)) (look_steady k.Name)
     (λ w. bind_steady (given (folded_name w)) (λ x. taken x) (given_steady (folded_name w)) (λ x. taken_steady x))
 
 number_steady : {deep : Bool} → IsSteady deep number_at
 unfolding number_at
 number_steady =
-    bind_steady (look k.Number) (λ w. given (int_of w) >>= (λ x. taken x)) (look_steady k.Number)
+    bind_steady (peek_bytes k.Number) (λ w. given (int_of w) >>= (λ x. taken x)) (look_steady k.Number)
     (λ w. bind_steady (given (int_of w)) (λ x. taken x) (given_steady (int_of w)) (λ x. taken_steady x))
 
 text_steady : {deep : Bool} → IsSteady deep text_at
 unfolding text_at
 text_steady =
-    bind_steady (look k.Text) (λ w. cond (is_utf8 (unquoted w)) (taken (unquoted w)) (stop Unexpected)) (look_steady k.Text)
+    bind_steady (peek_bytes k.Text) (λ w. cond (is_utf8 (unquoted w)) (taken (unquoted w)) (stop Unexpected)) (look_steady k.Text)
     (λ w. either_steady (is_utf8 (unquoted w)) (taken (unquoted w)) (stop Unexpected) (taken_steady (unquoted w)) stop_steady)
 
 -- ---- lists and chains
@@ -216,8 +216,8 @@ condition_steady levels = optional_steady k.Where (or_at levels) (or_steady leve
 pub group_steady : {deep : Bool} → IsSteady deep group_at
 unfolding group_at
 group_steady =
-    bind_steady (eat k.Group) (λ found. cond found (behind k.By columns_at) (pure [])) (eat_steady k.Group)
-    (λ found. either_steady found (behind k.By columns_at) (pure []) (behind_steady k.By columns_at columns_steady) (pure_steady []))
+    bind_steady (eat k.Group) (λ found. cond found (preceded k.By columns_at) (pure [])) (eat_steady k.Group)
+    (λ found. either_steady found (preceded k.By columns_at) (pure []) (behind_steady k.By columns_at columns_steady) (pure_steady []))
 
 abbrev pub of_parts : List Item → List SourceRef → Option Cond → List ColumnRef → Query
 of_parts is ss x g = record { items = is; sources = ss; cond = x; group = g }
@@ -238,7 +238,7 @@ window_steady = optional_steady k.Period text_at text_steady
 
 right_steady : (levels : ℕ) → IsSteady true (right_at levels)
 unfolding right_at
-right_steady levels = optional_steady k.Except (behind k.All (query_at levels)) (behind_steady k.All (query_at levels) (query_steady levels))
+right_steady levels = optional_steady k.Except (preceded k.All (query_at levels)) (behind_steady k.All (query_at levels) (query_steady levels))
 
 abbrev pub made : Option (List ℕ) → Query → Option Query → Statement
 made w l r = record { window = w; left = l; right = r }
@@ -278,7 +278,7 @@ pub statement_steady : (levels : ℕ) → IsSteady true (statement_at levels)
 unfolding statement_at
 statement_steady levels = bind_steady (body_at levels) (λ s. end_at >>= (λ _. pure s)) (body_steady levels) (λ s. bind_steady end_at (λ _. pure s) end_steady (λ _. pure_steady s))
 
--- where the descent stops before a token, no statement goes on with it
+-- if the descent stops before a token, no statement continues with it
 pub no_more : (levels : ℕ) (front : List Token) (t : Token) (rest more : List Token) (why : Refusal) → statement_at levels (front ++ t ∷ rest) ≡ Err (why, t ∷ rest) → (s : Statement) → IsStatementWithin levels (front ++ t ∷ more) s → ⊥
 no_more levels front t rest more why stops s is = by (statement_at levels (front ++ t ∷ rest)) stops ((statement_steady levels).agrees t rest more (front ++ t ∷ rest) (front ++ t ∷ more) (record { back = front; left = refl; right = refl }))
   where

@@ -1,4 +1,4 @@
--- Readers that read just what a rule says.
+-- Readers that read exactly what a rule says.
 use Rattle.std.proofs.Common.{◌≡◌, ◌≢◌, ◌≤◌, ◌⊎◌, inl, inr, ℕ, zero, suc, Bool, true, false, ◌||◌, cond, List, [], ◌∷◌, ◌++◌, length, refl, ap, sym, ◌∙◌, subst, arith, append_assoc, length-append}
 use Rattle.std.specs.Prelude.{Option, Some, None, Result, Ok, Err}
 use Rattle.tq_sql.specs.declared.cursor.Refusal.{Refusal}
@@ -11,7 +11,7 @@ use Rattle.tq_sql.specs.Grammar.{More}
 use Rattle.tq_sql.specs.Descent.{Outcome, and_then, given, kind_at, next, sees, after, more_from}
 use Rattle.tq_sql.proofs.KindLemmas.{is_same}
 
--- p reads from the front what R says, where no token of these kinds follows
+-- p reads from the front what R says, if no token of these kinds follows
 pub record IsReader {A : Type 0} (R : List Token → A → Type 0) (goes : TokenKind → Bool) (p : List Token → Outcome A) : Type 0 where
   pub sound : (ts rest : List Token) (x : A) → p ts ≡ Ok (x, rest) → (front : List Token) × (ts ≡ front ++ rest) × R front x
   pub complete : (front rest : List Token) (x : A) → R front x → goes (kind_at rest) ≡ false → p (front ++ rest) ≡ Ok (x, rest)
@@ -74,7 +74,7 @@ pub given_some : {A : Type 0} (o : Option A) (x : A) (ts rest : List Token) → 
 given_some None x ts rest e = cc
 given_some (Some y) x ts rest e = let same = ok_pair y x ts rest e in (ap Some same.0, same.1)
 
--- ---- further values behind marks
+-- ---- further values after separators
 
 abbrev pub added : {A B : Type 0} → (B → A → B) → List A → B → B
 added add [] all = all
@@ -87,7 +87,7 @@ more_length mark R (x ∷ xs) ts m =
     let below = more_length mark R xs b m.6 in
     omega (arith, below, ap length m.3, length-append a b)
 
--- where further values end, the rest begins; each is behind a mark
+-- where further values end, the rest begins; each comes after a separator
 pub more_stops : {A : Type 0} (mark : TokenKind) (R : List Token → A → Type 0) (goes : TokenKind → Bool) → goes mark ≡ false → (xs : List A) (b rest : List Token) → More mark R b xs
     → goes (kind_at rest) ≡ false → goes (kind_at (b ++ rest)) ≡ false
 more_stops mark R goes g [] b rest m e = let P : List Token → Type 0 = λ c. goes (kind_at (c ++ rest)) ≡ false in subst P (sym m) e

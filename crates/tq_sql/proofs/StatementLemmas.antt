@@ -12,7 +12,7 @@ use Rattle.tq_sql.specs.declared.token.TokenKind.{TokenKind}
 use Rattle.tq_sql.specs.declared.token.TokenKind.TheVariants as k
 use Rattle.tq_sql.specs.Tokens.{Token, same_kind}
 use Rattle.tq_sql.specs.Grammar.{After, Pair, Optional, Listed, IsItem, IsSource, IsText, IsCondition, IsGroup, IsQuery, IsEnd, IsStatementWithin}
-use Rattle.tq_sql.specs.Descent.{Outcome, pure, kind_at, next, sees, expect, behind, text_at, items_at, source_at, sources_at, or_at, condition_at, group_at, query_at, window_at, right_at, ended, end_at, body_at, statement_at, ◌>>=◌}
+use Rattle.tq_sql.specs.Descent.{Outcome, pure, kind_at, next, sees, expect, preceded, text_at, items_at, source_at, sources_at, or_at, condition_at, group_at, query_at, window_at, right_at, ended, end_at, body_at, statement_at, ◌>>=◌}
 use Rattle.tq_sql.specs.Laws.{StatementsAreUnique}
 use Rattle.tq_sql.proofs.ReaderLemmas.{IsReader, bind_ok, ok_pair, kind_seen, seen_here, next_of, after_seen, after_unseen, kind_of_first, or_false}
 use Rattle.tq_sql.proofs.ConditionLemmas.{or_mark, or_goes, expect_some, expect_here}
@@ -48,7 +48,7 @@ validtime_real e = cc
 pub semicolon_real : k.Semicolon ≢ k.End
 semicolon_real e = cc
 
--- ---- conditions behind WHERE
+-- ---- conditions after WHERE
 
 abbrev pub where_goes : TokenKind → Bool
 where_goes = or_mark k.Where or_goes
@@ -76,7 +76,7 @@ sources_complete front rest ss is few stop = few_complete k.Comma comma_real IsS
 
 -- ---- queries
 
--- what may go on with a query
+-- the kinds with which a query can continue
 abbrev pub query_goes : TokenKind → Bool
 query_goes kind = (group_goes kind || where_goes kind) || sources_goes kind
 
@@ -184,7 +184,7 @@ right_goes = or_mark k.Except query_goes
 
 pub right_reader : (levels : ℕ) → IsReader (Optional (After k.Except (After k.All (IsQuery levels)))) right_goes (right_at levels)
 unfolding right_at
-right_reader levels = optional_reader k.Except except_real (After k.All (IsQuery levels)) query_goes (behind k.All (query_at levels)) (behind_reader k.All all_real (IsQuery levels) query_goes (query_at levels) (query_reader levels))
+right_reader levels = optional_reader k.Except except_real (After k.All (IsQuery levels)) query_goes (preceded k.All (query_at levels)) (behind_reader k.All all_real (IsQuery levels) query_goes (query_at levels) (query_reader levels))
 
 -- ---- the end
 
@@ -231,7 +231,7 @@ end_stops goes g h (t ∷ ts) (inr is) = ap goes is.0 ∙ g
 abbrev made : Option (List ℕ) → Query → Option Query → Statement
 made w l r = record { window = w; left = l; right = r }
 
--- a statement but for its end
+-- a statement without its end
 abbrev pub IsBody : ℕ → List Token → Statement → Type 0
 IsBody levels ts s = After k.Validtime (Pair (Optional (After k.Period IsText)) (Pair (IsQuery levels) (Optional (After k.Except (After k.All (IsQuery levels)))))) ts (s.window, (s.left, s.right))
 
@@ -318,7 +318,7 @@ statement_complete levels (v ∷ ts) s is =
     let spelled : v ∷ ts ≡ v ∷ (w ++ (l ++ (r ++ e))) = ap (λ z. v ∷ z) (is.1.2 ∙ ap (λ z. w ++ z) (is.1.4.2 ∙ ap (λ z. l ++ z) is.1.4.4.2)) in
     ap (statement_at levels) spelled ∙ statement_parts levels v w l r e s is.0 is.1.3 is.1.4.3 is.1.4.4.3 is.1.4.4.4
 
--- where the descent stops, the tokens make no statement
+-- if the descent stops, the tokens make no statement
 pub no_statement : (levels : ℕ) (ts : List Token) (e : Refusal × List Token) → statement_at levels ts ≡ Err e → (s : Statement) → IsStatementWithin levels ts s → ⊥
 no_statement levels ts e stops s is = differ (sym (statement_complete levels ts s is) ∙ stops)
   where

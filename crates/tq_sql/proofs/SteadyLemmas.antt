@@ -1,15 +1,15 @@
--- Readers that look no further than the token before which they stop: what they answer there, they
--- answer whatever stands behind that token.
+-- Readers that look no further than the token before which they stop: their result does not depend on the tokens after
+-- it.
 use Rattle.std.proofs.Common.{◌≡◌, ◌≢◌, ◌≤◌, ◌⊎◌, inl, inr, ℕ, zero, suc, ◌+◌, Bool, true, false, cond, List, [], ◌∷◌, ◌++◌, length, refl, ap, sym, ◌∙◌, subst, arith, append_assoc, length-append}
 use Rattle.std.specs.Prelude.{Option, Some, None, Ok, Err}
 use Rattle.tq_sql.specs.declared.cursor.Refusal.TheVariants.{TooDeep, Unexpected}
 use Rattle.tq_sql.specs.declared.token.TokenKind.{TokenKind}
 use Rattle.tq_sql.specs.declared.token.TokenKind.TheVariants as k
 use Rattle.tq_sql.specs.Tokens.{Token, same_kind}
-use Rattle.tq_sql.specs.Descent.{Outcome, and_then, pure, stop, given, kind_at, next, sees, eat, look, taken, expect, more_from, optional, behind, ◌>>=◌}
+use Rattle.tq_sql.specs.Descent.{Outcome, and_then, pure, stop, given, kind_at, next, sees, eat, peek_bytes, taken, expect, more_from, optional, preceded, ◌>>=◌}
 use Rattle.tq_sql.proofs.ReaderLemmas.{after_seen, after_unseen, kind_seen}
 
--- two lists that agree up to a token and with it
+-- two lists that agree up to and including a token
 pub record Same (t : Token) (rest more u v : List Token) : Type 0 where
   pub back : List Token
   pub left : u ≡ back ++ t ∷ rest
@@ -20,7 +20,7 @@ abbrev pub tail_of : {A : Type 0} → Outcome A → List Token
 tail_of (Ok r) = r.1
 tail_of (Err r) = r.1
 
--- the same answers before tokens that agree so
+-- the same results before tokens that agree so
 abbrev pub Agreeing : {A : Type 0} → Token → List Token → List Token → Outcome A → Outcome A → Type 0
 Agreeing t rest more (Ok r) (Ok s) = (r.0 ≡ s.0) × Same t rest more r.1 s.1
 Agreeing t rest more (Err r) (Err s) = (r.0 ≡ s.0) × Same t rest more r.1 s.1
@@ -103,7 +103,7 @@ either_steady false p q one two = two
 
 -- ---- the next token
 
--- both lists begin with one token
+-- both lists begin with the same token
 same_first : (t : Token) (rest more u v : List Token) → Same t rest more u v → (b : Token) × (us : List Token) × (vs : List Token) × (u ≡ b ∷ us) × (v ≡ b ∷ vs)
 same_first t rest more u v same = by same.back same.left same.right
   where
@@ -194,15 +194,15 @@ expect_steady kind = if_steady kind (λ ts. pure tt (next ts)) (stop _) (next_st
 pub taken_steady : {A : Type 0} {deep : Bool} (x : A) → IsSteady deep (taken x)
 taken_steady x = next_steady (pure x) (pure_steady x)
 
-pub look_steady : {deep : Bool} (kind : TokenKind) → IsSteady deep (look kind)
-unfolding look
+pub look_steady : {deep : Bool} (kind : TokenKind) → IsSteady deep (peek_bytes kind)
+unfolding peek_bytes
 look_steady {deep} kind = record { says = says; suffix = suffix; agrees = agrees }
   where
     says_first : (b : Bool) (t : Token) (ts : List Token) → Says deep (cond b (Ok (t.text, t ∷ ts)) (stop {A = List ℕ} Unexpected (t ∷ ts)))
     says_first true t ts = ok_says deep (t.text, t ∷ ts)
     says_first false t ts = unexpected_says (List ℕ) deep (t ∷ ts)
 
-    says : (ts : List Token) → Says deep (look kind ts)
+    says : (ts : List Token) → Says deep (peek_bytes kind ts)
     says [] = unexpected_says (List ℕ) deep []
     says (t ∷ ts) = says_first (same_kind t.kind kind) t ts
 
@@ -210,7 +210,7 @@ look_steady {deep} kind = record { says = says; suffix = suffix; agrees = agrees
     at_first true t ts = refl
     at_first false t ts = refl
 
-    suffix : (ts : List Token) → (front : List Token) × (ts ≡ front ++ tail_of (look kind ts))
+    suffix : (ts : List Token) → (front : List Token) × (ts ≡ front ++ tail_of (peek_bytes kind ts))
     suffix [] = ([], refl)
     suffix (t ∷ ts) = ([], sym (at_first (same_kind t.kind kind) t ts))
 
@@ -219,17 +219,17 @@ look_steady {deep} kind = record { says = says; suffix = suffix; agrees = agrees
     by t rest more x us vs true same = inl (refl, same)
     by t rest more x us vs false same = inl (refl, same)
 
-    agrees : (t : Token) (rest more u v : List Token) → Same t rest more u v → AgreeingTo t rest more (look kind u) (look kind v)
+    agrees : (t : Token) (rest more u v : List Token) → Same t rest more u v → AgreeingTo t rest more (peek_bytes kind u) (peek_bytes kind v)
     agrees t rest more u v same =
         let first = same_first t rest more u v same in
         let same_here : Same t rest more (first.0 ∷ first.1) (first.0 ∷ first.2) = record { back = same.back; left = sym first.3 ∙ same.left; right = sym first.4 ∙ same.right } in
-        let P = λ (z : List Token). AgreeingTo t rest more (look kind z) (look kind v) in
-        let Q = λ (z : List Token). AgreeingTo t rest more (look kind (first.0 ∷ first.1)) (look kind z) in
+        let P = λ (z : List Token). AgreeingTo t rest more (peek_bytes kind z) (peek_bytes kind v) in
+        let Q = λ (z : List Token). AgreeingTo t rest more (peek_bytes kind (first.0 ∷ first.1)) (peek_bytes kind z) in
         subst P (sym first.3) (subst Q (sym first.4) (by t rest more first.0 first.1 first.2 (same_kind first.0.kind kind) same_here))
 
--- ---- what stands behind a token, and lists
+-- ---- values after a token, and lists
 
-pub behind_steady : {A : Type 0} {deep : Bool} (kind : TokenKind) (p : List Token → Outcome A) → IsSteady deep p → IsSteady deep (behind kind p)
+pub behind_steady : {A : Type 0} {deep : Bool} (kind : TokenKind) (p : List Token → Outcome A) → IsSteady deep p → IsSteady deep (preceded kind p)
 behind_steady kind p steady = bind_steady (expect kind) (λ _. p) (expect_steady kind) (λ _. steady)
 
 pub optional_steady : {A : Type 0} {deep : Bool} (kind : TokenKind) (p : List Token → Outcome A) → IsSteady deep p → IsSteady deep (optional kind p)
@@ -243,7 +243,7 @@ more_steady mark p add steady (suc n) all =
     bind_steady (eat mark) (λ found. cond found (p >>= (λ x. more_from mark p add n (add all x))) (pure all)) (eat_steady mark)
     (λ found. either_steady found (p >>= (λ x. more_from mark p add n (add all x))) (pure all) (bind_steady p (λ x. more_from mark p add n (add all x)) steady (λ x. more_steady mark p add steady n (add all x))) (pure_steady all))
 
--- enough turns are enough
+-- more iterations than needed change nothing
 module _ {A B : Type 0} {deep : Bool} (mark : TokenKind) (real : mark ≢ k.End) (p : List Token → Outcome A) (add : B → A → B) (steady : IsSteady deep p) where
   unseen_at_end : (b : Bool) → sees mark [] ≡ b → b ≡ false
   unseen_at_end false e = refl

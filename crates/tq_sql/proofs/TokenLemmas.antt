@@ -5,12 +5,12 @@ use Rattle.tq_sql.specs.declared.token.TokenKind.{TokenKind}
 use Rattle.tq_sql.specs.declared.fault.SqlFault.{SqlFault}
 use Rattle.tq_sql.specs.Tokens.{Token, is_space, token_at, tokens_from, with_token}
 
--- tokens in front of those that are still to come
+-- tokens before those that are still to come
 abbrev pub with_all : List Token → Result (List Token) SqlFault → Result (List Token) SqlFault
 with_all front (Ok ts) = Ok (front ++ ts)
 with_all front (Err e) = Err e
 
--- the bytes that belong to the token before are passed over
+-- the bytes that belong to the previous token are skipped
 skip_all : (n at : ℕ) (bs : List ℕ) → n ≤ length bs → tokens_from n at bs ≡ tokens_from 0 (at + n) (drop n bs)
 skip_all zero at bs le = let same : at ≡ at + 0 = omega arith in ap (λ m. tokens_from 0 m bs) same
 skip_all (suc n) at [] le = absurd (omega arith)
@@ -35,7 +35,7 @@ pub with_all_one : (front : List Token) (t : Token) (r : Result (List Token) Sql
 with_all_one front t (Ok ts) = ap Ok (sym (append_assoc front (t ∷ []) ts))
 with_all_one front t (Err e) = refl
 
--- a token, a fault or a space in front of what is left
+-- a token, a fault or a space before the remaining bytes
 pub token_next : (at size : ℕ) (kind : TokenKind) (rest : List ℕ) → 0 < length rest → is_space (get_or rest 0 0) ≡ false → token_at at rest ≡ Ok (kind, size) → 0 < size → size ≤ length rest
     → tokens_from 0 at rest ≡ with_token (record { at = at; kind = kind; text = take size rest }) (tokens_from 0 (at + size) (drop size rest))
 token_next at size kind [] some s e p le = absurd (omega arith)

@@ -1,4 +1,4 @@
--- Where the readers of conditions stop, a condition begins with what they took.
+-- If the readers of conditions stop, a condition begins with what they took.
 use Rattle.std.proofs.Common.{◌≡◌, inl, inr, ℕ, zero, suc, List, ◌∷◌, ◌++◌, refl, ap, sym, ◌∙◌}
 use Rattle.std.specs.Prelude.{Option, Some, None, Ok, Err}
 use Rattle.tq_sql.specs.declared.cursor.Refusal.{Refusal}
@@ -49,7 +49,7 @@ sign_stops : (ts rest : List Token) (why : Refusal) → sign_at ts ≡ Err (why,
 unfolding sign_at
 sign_stops ts rest why e = signed_stops (sign_of (kind_at ts)) ts rest why e
 
--- a sign and the operand behind it
+-- a sign and the operand after it
 abbrev IsSigned : List Token → Sign × Term → Type 0
 IsSigned ts x = After (kind_of x.0) IsOperand ts x.1
 

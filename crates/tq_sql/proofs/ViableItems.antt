@@ -1,4 +1,4 @@
--- Where the readers of lists, names, columns, items and sources stop, a value begins with what they took.
+-- If the readers of lists, names, columns, items and sources stop, a value begins with what they took.
 use Rattle.std.proofs.Common.{◌≡◌, ◌≢◌, ◌≤◌, inl, inr, ℕ, suc, Bool, true, false, cond, List, [], ◌∷◌, ◌++◌, length, refl, ap, sym, ◌∙◌, subst, arith, append-nil, length-append}
 use Rattle.std.specs.Prelude.{Option, Some, None, Ok, Err, codes}
 use Rattle.std.specs.Str.{is_utf8}
@@ -18,7 +18,7 @@ use Rattle.tq_sql.specs.declared.token.TokenKind.{TokenKind}
 use Rattle.tq_sql.specs.declared.token.TokenKind.TheVariants as k
 use Rattle.tq_sql.specs.Tokens.{Token, same_kind, unquoted}
 use Rattle.tq_sql.specs.Grammar.{After, Before, Pair, Optional, Listed, IsNothing, IsName, IsColumn, IsWhat, IsItem, IsAlias, IsSource, IsText, IsOperand, join, IsChain}
-use Rattle.tq_sql.specs.Descent.{Outcome, Reader, pure, stop, given, next, sees, look, taken, expect, name_at, number_at, text_at, listed, listed_up_to, chain, column_of, optional, column_at, what_at, item_alias_at, item_at, items_at, source_alias_at, source_at, sources_at, columns_at, ◌>>=◌}
+use Rattle.tq_sql.specs.Descent.{Outcome, Reader, pure, stop, given, next, sees, peek_bytes, taken, expect, name_at, number_at, text_at, listed, listed_up_to, chain, column_of, optional, column_at, what_at, item_alias_at, item_at, items_at, source_alias_at, source_at, sources_at, columns_at, ◌>>=◌}
 use Rattle.tq_sql.proofs.ReaderLemmas.{by_test, ok_pair, kind_seen, after_seen, after_unseen}
 use Rattle.tq_sql.proofs.ConditionLemmas.{open_real, close_real}
 use Rattle.tq_sql.proofs.ColumnLemmas.{name_sound, column_parts, column_reader, dot_real}
@@ -55,18 +55,18 @@ chain_begun mark real both R p sound opened = record { open_at = at }
         let o = list_open mark real R p both sound opened (λ mid. length mid) (λ x. x) (length ts) ts rest why (λ x mid f. let s = sound ts mid x f in omega (arith, ap length s.1, length-append s.0 mid)) e in
         (o.0, o.1, (o.2.0, join both o.2.2 o.2.1, record { first = o.2.1; more = o.2.2; value = refl; spelled = o.2.3 }))
 
--- ---- names, numbers and texts: nothing is taken where they stop
+-- ---- names, numbers and texts: nothing is taken if they stop
 
-look_keeps : (kind : TokenKind) (ts mid : List Token) (w : List ℕ) → look kind ts ≡ Ok (w, mid) → mid ≡ ts
-unfolding look
+look_keeps : (kind : TokenKind) (ts mid : List Token) (w : List ℕ) → peek_bytes kind ts ≡ Ok (w, mid) → mid ≡ ts
+unfolding peek_bytes
 look_keeps kind [] mid w e = cc
 look_keeps kind (t ∷ ts) mid w e = elim (by_test (same_kind t.kind kind) e) [
   | inl s ↦ sym (ok_pair t.text w (t ∷ ts) mid s.1).1
   | inr s ↦ cc
 ]
 
-look_stops : (kind : TokenKind) (ts rest : List Token) (why : Refusal) → look kind ts ≡ Err (why, rest) → rest ≡ ts
-unfolding look
+look_stops : (kind : TokenKind) (ts rest : List Token) (why : Refusal) → peek_bytes kind ts ≡ Err (why, rest) → rest ≡ ts
+unfolding peek_bytes
 look_stops kind [] rest why e = sym (err_pair {A = List ℕ} Unexpected why [] rest e).1
 look_stops kind (t ∷ ts) rest why e = elim (by_test (same_kind t.kind kind) e) [
   | inl s ↦ cc
@@ -79,7 +79,7 @@ given_stops (Some x) ts rest why e = cc
 
 name_stops : (ts rest : List Token) (why : Refusal) → name_at ts ≡ Err (why, rest) → rest ≡ ts
 unfolding name_at
-name_stops ts rest why e = elim (bind_err (look k.Name ts) (λ w. given (folded_name w) >>= (λ x. taken x)) (why, rest) e) [
+name_stops ts rest why e = elim (bind_err (peek_bytes k.Name ts) (λ w. given (folded_name w) >>= (λ x. taken x)) (why, rest) e) [
   | inl s ↦ look_stops k.Name ts rest why s
   | inr s ↦ elim (bind_err (given (folded_name s.0) s.1) (λ x. taken x) (why, rest) s.3) [
     | inl g ↦ given_stops (folded_name s.0) s.1 rest why g ∙ look_keeps k.Name ts s.1 s.0 s.2
@@ -89,7 +89,7 @@ name_stops ts rest why e = elim (bind_err (look k.Name ts) (λ w. given (folded_
 
 pub number_stops : (ts rest : List Token) (why : Refusal) → number_at ts ≡ Err (why, rest) → rest ≡ ts
 unfolding number_at
-number_stops ts rest why e = elim (bind_err (look k.Number ts) (λ w. given (int_of w) >>= (λ x. taken x)) (why, rest) e) [
+number_stops ts rest why e = elim (bind_err (peek_bytes k.Number ts) (λ w. given (int_of w) >>= (λ x. taken x)) (why, rest) e) [
   | inl s ↦ look_stops k.Number ts rest why s
   | inr s ↦ elim (bind_err (given (int_of s.0) s.1) (λ x. taken x) (why, rest) s.3) [
     | inl g ↦ given_stops (int_of s.0) s.1 rest why g ∙ look_keeps k.Number ts s.1 s.0 s.2
@@ -103,7 +103,7 @@ valid_stops false s ts rest why e = sym (err_pair {A = List ℕ} Unexpected why 
 
 pub text_stops : (ts rest : List Token) (why : Refusal) → text_at ts ≡ Err (why, rest) → rest ≡ ts
 unfolding text_at
-text_stops ts rest why e = elim (bind_err (look k.Text ts) (λ w. cond (is_utf8 (unquoted w)) (taken (unquoted w)) (stop Unexpected)) (why, rest) e) [
+text_stops ts rest why e = elim (bind_err (peek_bytes k.Text ts) (λ w. cond (is_utf8 (unquoted w)) (taken (unquoted w)) (stop Unexpected)) (why, rest) e) [
   | inl s ↦ look_stops k.Text ts rest why s
   | inr s ↦ valid_stops (is_utf8 (unquoted s.0)) (unquoted s.0) s.1 rest why s.3 ∙ look_keeps k.Text ts s.1 s.0 s.2
 ]

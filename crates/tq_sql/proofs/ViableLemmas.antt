@@ -1,4 +1,4 @@
--- Where the descent stops, a statement begins with the tokens before that place.
+-- If the descent stops, a statement begins with the tokens before that position.
 use Rattle.std.proofs.Common.{◌≡◌, inl, inr, ℕ, Bool, true, false, List, [], ◌∷◌, ◌++◌, refl, ap, sym, ◌∙◌, subst, append-nil, lit≤}
 use Rattle.std.specs.Prelude.{Option, None, Ok, Err}
 use Rattle.tq_sql.specs.declared.cursor.Refusal.{Refusal}
@@ -12,7 +12,7 @@ use Rattle.tq_sql.specs.declared.statement.Statement.{Statement}
 use Rattle.tq_sql.specs.declared.token.TokenKind.TheVariants as k
 use Rattle.tq_sql.specs.Tokens.{Token}
 use Rattle.tq_sql.specs.Grammar.{After, Pair, Optional, Listed, IsColumn, IsItem, IsSource, IsText, IsCondition, IsGroup, IsQuery, IsEnd, IsStatementWithin}
-use Rattle.tq_sql.specs.Descent.{Outcome, pure, next, sees, expect, text_at, items_at, sources_at, columns_at, condition_at, behind, group_at, query_at, window_at, right_at, ended, end_at, body_at, statement_at, ◌>>=◌}
+use Rattle.tq_sql.specs.Descent.{Outcome, pure, next, sees, expect, text_at, items_at, sources_at, columns_at, condition_at, preceded, group_at, query_at, window_at, right_at, ended, end_at, body_at, statement_at, ◌>>=◌}
 use Rattle.tq_sql.proofs.ReaderLemmas.{kind_seen, after_seen, after_unseen}
 use Rattle.tq_sql.proofs.ItemLemmas.{by_real, group_real, items_reader}
 use Rattle.tq_sql.proofs.StatementLemmas.{IsBody, body_ends, body_sound, select_real, from_real, period_real, except_real, all_real, validtime_real, semicolon_real, where_reader, sources_sound, query_reader, window_reader}
@@ -106,7 +106,7 @@ IsRight levels = Optional (After k.Except (After k.All (IsQuery levels)))
 
 right_open : (levels : ℕ) → IsOpen (IsRight levels) (right_at levels)
 unfolding right_at
-right_open levels = optional_open k.Except except_real (After k.All (IsQuery levels)) (behind k.All (query_at levels)) (behind_open k.All all_real (IsQuery levels) (query_at levels) (query_example levels) (query_open levels))
+right_open levels = optional_open k.Except except_real (After k.All (IsQuery levels)) (preceded k.All (query_at levels)) (behind_open k.All all_real (IsQuery levels) (query_at levels) (query_example levels) (query_open levels))
 
 abbrev made : Option (List ℕ) → Query → Option Query → Statement
 made w l r = record { window = w; left = l; right = r }

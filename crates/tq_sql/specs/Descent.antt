@@ -1,7 +1,6 @@
--- Reading from the left: a value and the tokens after it, or why and before which tokens reading
--- stops. A recursive descent over the grammar, with a function for each function of the code. Only
--- contracts of private functions cite it: Grammar.antt and Reading.antt define what `read` and the laws
--- say, without it.
+-- A recursive descent over the grammar: each function returns a value and the tokens after it, or why reading stops and
+-- before which tokens. There is one definition for each function of the code. Only contracts of private functions cite
+-- this file; `read` and the laws are defined by Grammar.antt and Reading.antt.
 use Rattle.std.specs.Prelude.{◌≡◌, ◌≢◌, ℕ, zero, suc, Bool, ◌||◌, if◌then◌else◌, ℤ, List, [], ◌∷◌, ◌++◌, length, drop, Option, Some, None, Result, Ok, Err}
 use Rattle.std.specs.Borrow.{Bor}
 use Rattle.std.specs.Str.{is_utf8}
@@ -72,16 +71,16 @@ sees kind ts = same_kind (kind_at ts) kind
 unfoldable pub after : TokenKind → List Token → List Token
 after kind ts = if sees kind ts then next ts else ts
 
--- takes a token of the kind, if it comes next
+-- takes the next token if it is of the kind
 abbrev pub eat : TokenKind → Reader Bool
 eat kind = λ ts. Ok (sees kind ts, after kind ts)
 
--- the bytes of the next token, which is to be of the kind and stays
-unfoldable pub look : TokenKind → Reader (List ℕ)
-look kind [] = stop Unexpected []
-look kind (t ∷ ts) = if same_kind t.kind kind then Ok (t.text, t ∷ ts) else stop Unexpected (t ∷ ts)
+-- the bytes of the next token, which must be of the kind and is not taken
+unfoldable pub peek_bytes : TokenKind → Reader (List ℕ)
+peek_bytes kind [] = stop Unexpected []
+peek_bytes kind (t ∷ ts) = if same_kind t.kind kind then Ok (t.text, t ∷ ts) else stop Unexpected (t ∷ ts)
 
--- the value, and past the next token
+-- the value, and the rest after the next token
 abbrev pub taken : {A : Type 0} → A → Reader A
 taken x = λ ts. Ok (x, next ts)
 
@@ -90,22 +89,22 @@ expect kind = λ ts. if sees kind ts then Ok (tt, next ts) else stop Unexpected 
 
 unfoldable pub name_at : Reader (List ℕ)
 name_at = do
-  written ← look k.Name
+  written ← peek_bytes k.Name
   name ← given (folded_name written)
   taken name
 
 unfoldable pub number_at : Reader ℤ
 number_at = do
-  written ← look k.Number
+  written ← peek_bytes k.Number
   n ← given (int_of written)
   taken n
 
 unfoldable pub text_at : Reader (List ℕ)
 text_at = do
-  written ← look k.Text
+  written ← peek_bytes k.Text
   if is_utf8 (unquoted written) then taken (unquoted written) else stop Unexpected
 
--- ---- lists and chains: the number bounds the turns, and each turn takes a token
+-- ---- lists and chains: the number bounds the iterations, and each iteration takes a token
 
 abbrev pub more_from : {A B : Type 0} → TokenKind → Reader A → (B → A → B) → ℕ → B → Reader B
 more_from mark p add zero all = pure all
@@ -113,7 +112,7 @@ more_from mark p add (suc n) all = do
   found ← eat mark
   if found then p >>= (λ x. more_from mark p add n (add all x)) else pure all
 
--- one and at most so many more
+-- one value, and at most n more
 abbrev pub listed_up_to : {A : Type 0} → TokenKind → Reader A → ℕ → Reader (List A)
 listed_up_to mark p n = p >>= (λ x. more_from mark p (λ all y. all ++ y ∷ []) n (x ∷ []))
 
@@ -129,7 +128,7 @@ abbrev pub column_of : List ℕ → Option (List ℕ) → ColumnRef
 column_of first None = record { source = None; column = first }
 column_of first (Some second) = record { source = Some first; column = second }
 
--- the value behind a token of the kind, if one comes next
+-- the value after a token of the kind, if that token comes next
 abbrev pub optional : {A : Type 0} → TokenKind → Reader A → Reader (Option A)
 optional kind p = do
   found ← eat kind
@@ -207,14 +206,14 @@ comparison_at = do
   right ← operand_at
   pure (cond.Is left s right)
 
--- a condition and the bracket that closes it
+-- a condition and its closing bracket
 unfoldable pub closed : Reader Cond → Reader Cond
 closed p = do
   c ← p
   expect k.Close
   pure c
 
--- with at most so many levels of NOT and brackets
+-- with at most n levels of NOT and brackets
 unfoldable pub not_at : ℕ → Reader Cond
 not_at zero = λ ts. if sees k.Not ts then stop TooDeep ts else (if sees k.Open ts then stop TooDeep ts else comparison_at ts)
 not_at (suc levels) = λ ts.
@@ -233,16 +232,16 @@ condition_at levels = optional k.Where (or_at levels)
 
 -- ---- statements
 
--- the value behind a token of the kind
-abbrev pub behind : {A : Type 0} → TokenKind → Reader A → Reader A
-behind kind p = do
+-- the value after a token of the kind
+abbrev pub preceded : {A : Type 0} → TokenKind → Reader A → Reader A
+preceded kind p = do
   expect kind
   p
 
 unfoldable pub group_at : Reader (List ColumnRef)
 group_at = do
   found ← eat k.Group
-  if found then behind k.By columns_at else pure []
+  if found then preceded k.By columns_at else pure []
 
 unfoldable pub query_at : ℕ → Reader Query
 query_at levels = do
@@ -258,7 +257,7 @@ unfoldable pub window_at : Reader (Option (List ℕ))
 window_at = optional k.Period text_at
 
 unfoldable pub right_at : ℕ → Reader (Option Query)
-right_at levels = optional k.Except (behind k.All (query_at levels))
+right_at levels = optional k.Except (preceded k.All (query_at levels))
 
 unfoldable pub ended : Reader (Unit {0})
 ended [] = Ok (tt, [])
@@ -283,18 +282,18 @@ statement_at levels = do
   end_at
   pure s
 
--- the fault of reading that stops at a byte
+-- the fault if reading stops at a byte
 abbrev pub stopped_at : Refusal → ℕ → SqlFault
 stopped_at Unexpected at = fault fault_kind.UnexpectedToken at
 stopped_at TooDeep at = fault fault_kind.TooDeep at
 stopped_at Memory at = out_of_memory
 
--- ---- what a function that reads ensures: this outcome, unless memory was refused
+-- ---- what a reading function ensures: this outcome, unless an allocation failed
 
 abbrev pub Reads : {A : Type 0} → Outcome A → Result A Refusal → List Token → Type 0
 Reads outcome (Ok x) new = outcome ≡ Ok (x, new)
 Reads outcome (Err e) new = e ≢ Memory → outcome ≡ Err (e, new)
 
-abbrev pub Looks : Outcome (List ℕ) → Result (Bor (List ℕ)) Refusal → List Token → Type 0
-Looks outcome (Ok x) ts = outcome ≡ Ok (x.now, ts)
-Looks outcome (Err e) ts = (e ≢ Memory) × (outcome ≡ Err (e, ts))
+abbrev pub Peeks : Outcome (List ℕ) → Result (Bor (List ℕ)) Refusal → List Token → Type 0
+Peeks outcome (Ok x) ts = outcome ≡ Ok (x.now, ts)
+Peeks outcome (Err e) ts = (e ≢ Memory) × (outcome ≡ Err (e, ts))

@@ -33,7 +33,7 @@ use Rattle.tq_sql.specs.declared.token.TokenKind.{TokenKind}
 use Rattle.tq_sql.specs.declared.token.TokenKind.TheVariants as k
 use Rattle.tq_sql.specs.Tokens.{Token, unquoted}
 
--- ---- how rules are put together
+-- ---- combinators
 
 -- which lists of tokens make which values
 abbrev pub Rule : Type 0 → Type 1
@@ -57,12 +57,12 @@ abbrev pub Optional : {A : Type 0} → Rule A → Rule (Option A)
 Optional R ts None = ts ≡ []
 Optional R ts (Some x) = R ts x
 
--- further values, each behind a mark
+-- further values, each after a separator
 abbrev pub More : {A : Type 0} → TokenKind → Rule A → Rule (List A)
 More mark R ts [] = ts ≡ []
 More mark R ts (x ∷ xs) = (t : Token) × (a : List Token) × (b : List Token) × (ts ≡ t ∷ (a ++ b)) × (t.kind ≡ mark) × R a x × More mark R b xs
 
--- one value or more, with marks between
+-- one value or more, with separators between
 abbrev pub Listed : {A : Type 0} → TokenKind → Rule A → Rule (List A)
 Listed mark R ts [] = ⊥
 Listed mark R ts (x ∷ xs) = Pair R (More mark R) ts (x, xs)
@@ -130,12 +130,12 @@ pub record IsComparison (ts : List Token) (c : Cond) : Type 0 where
   pub value : c ≡ cond.Is left sign right
   pub spelled : Pair IsOperand (After (kind_of sign) IsOperand) ts (left, right)
 
--- parts joined from the left
+-- parts combined from the left
 abbrev pub join : (Cond → Cond → Cond) → List Cond → Cond → Cond
 join both [] left = left
 join both (c ∷ cs) left = join both cs (both left c)
 
--- one part or more with marks between, joined from the left
+-- one part or more with separators between, combined from the left
 pub record IsChain (mark : TokenKind) (both : Cond → Cond → Cond) (R : Rule Cond) (ts : List Token) (c : Cond) : Type 0 where
   pub first : Cond
   pub more : List Cond
@@ -186,6 +186,6 @@ IsStatementWithin levels ts s =
     After k.Validtime (Pair (Optional (After k.Period IsText)) (Pair (IsQuery levels) (Pair (Optional (After k.Except (After k.All (IsQuery levels)))) IsEnd))) ts
     (s.window, (s.left, (s.right, tt)))
 
--- .. with at most 32 levels
+-- the same with at most 32 levels
 abbrev pub IsStatement : Rule Statement
 IsStatement = IsStatementWithin 32

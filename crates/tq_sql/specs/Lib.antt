@@ -5,4 +5,4 @@ pub mod Grammar
 pub mod Laws
 pub mod Reading
 pub mod Tokens
-pub mod Told
+pub mod TokenViews

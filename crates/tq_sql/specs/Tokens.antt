@@ -1,6 +1,5 @@
--- Tokens: the longest word, number, text or mark at each place, with spaces between them, and the
--- first fault from the left of a text that has none. After the SQL standard's tokens; which there
--- are, and the faults, is this project's own.
+-- Tokens: the longest word, number, text or sign at each position, with spaces between them, or the first fault from
+-- the left. After the SQL standard's tokens; which tokens there are, and the faults, are this project's own.
 use Rattle.std.specs.Prelude.{ℕ, zero, suc, ◌+◌, ◌-◌, ℤ, Bool, ◌&&◌, ◌||◌, not, if◌then◌else◌, ◌==◌, nat_le, nat_lt, List, [], ◌∷◌, length, take, drop, slice_index, Option, Some, None, Result, Ok, Err, codes}
 use Rattle.std.specs.Char.{is_ascii_digit}
 use Rattle.std.specs.List.{prefix_len}
@@ -16,7 +15,7 @@ use Rattle.tq_sql.specs.declared.fault.SqlFault.{SqlFault}
 use Rattle.tq_sql.specs.declared.fault.SqlFaultKind.{SqlFaultKind}
 use Rattle.tq_sql.specs.declared.fault.SqlFaultKind.TheVariants.{TooLong, BadByte, NumberTooLarge, UnclosedText}
 
--- a slice of the source: the byte at which it begins, what it is, and its bytes
+-- a slice of the source: the byte at which it begins, its kind, and its bytes
 pub record Token : Type 0 where
   pub at : ℕ
   pub kind : TokenKind
@@ -28,13 +27,13 @@ same_kind = sameb the_type
 abbrev pub fault : SqlFaultKind → ℕ → SqlFault
 fault what place = record { kind = what; at = place }
 
--- tab, line feed, carriage return and space stand between tokens
+-- tab, line feed, carriage return and space can be between tokens
 abbrev pub is_space : ℕ → Bool
 is_space b = b == 9 || b == 10 || b == 13 || b == 32
 
 -- ---- words
 
--- the words of the language
+-- the keywords
 abbrev pub keywords : List (List ℕ × TokenKind)
 keywords =
     (codes "validtime", k.Validtime) ∷ (codes "period", k.Period) ∷ (codes "select", k.Select) ∷ (codes "from", k.From)
@@ -42,13 +41,13 @@ keywords =
     ∷ (codes "not", k.Not) ∷ (codes "count", k.Count) ∷ (codes "sum", k.Sum) ∷ (codes "as", k.As) ∷ (codes "except", k.Except)
     ∷ (codes "all", k.All) ∷ []
 
--- the kind that a table gives a word, in any ASCII case, else that of a name or of a word too long for one
-abbrev pub kind_among : List (List ℕ × TokenKind) → List ℕ → TokenKind
-kind_among [] word = if nat_le (length word) 64 then k.Name else k.LongWord
-kind_among (row ∷ rows) word = if str_eq_ignore_ascii_case row.0 word then row.1 else kind_among rows word
+-- the kind that a table gives a word, in any ASCII case; else that of a name, or of a word too long for a name
+abbrev pub keyword_kind : List (List ℕ × TokenKind) → List ℕ → TokenKind
+keyword_kind [] word = if nat_le (length word) 64 then k.Name else k.LongWord
+keyword_kind (row ∷ rows) word = if str_eq_ignore_ascii_case row.0 word then row.1 else keyword_kind rows word
 
 unfoldable pub word_kind : List ℕ → TokenKind
-word_kind word = kind_among keywords word
+word_kind word = keyword_kind keywords word
 
 abbrev pub word_at : List ℕ → TokenKind × ℕ
 word_at bytes = let size = prefix_len is_name_byte bytes in (word_kind (take size bytes), size)
@@ -62,13 +61,13 @@ in_range at size (Some n) = Ok (k.Number, size)
 abbrev pub number_at : ℕ → List ℕ → Result (TokenKind × ℕ) SqlFault
 number_at at bytes = let size = 1 + prefix_len is_ascii_digit (drop 1 bytes) in in_range at size (int_of (take size bytes))
 
--- ---- texts in quotes, in which two quotes in a row are one of the text
+-- ---- texts in quotes, in which two quotes in a row stand for one
 
 abbrev pub more : ℕ → Option ℕ → Option ℕ
 more n None = None
 more n (Some m) = Some (n + m)
 
--- how many bytes stand before the closing quote
+-- the number of bytes before the closing quote
 abbrev mutual
   pub text_length : List ℕ → Option ℕ
   text_length [] = None
@@ -78,7 +77,7 @@ abbrev mutual
   behind_quote [] = Some 0
   behind_quote (b ∷ bs) = if b == 39 then more 2 (text_length bs) else Some 0
 
--- each doubled quote made one
+-- each doubled quote replaced by one
 abbrev mutual
   pub undoubled : List ℕ → List ℕ
   undoubled [] = []
@@ -88,11 +87,11 @@ abbrev mutual
   without_second [] = []
   without_second (b ∷ bs) = if b == 39 then undoubled bs else b ∷ undoubled bs
 
--- what stands inside the quotes
+-- the bytes inside the quotes
 abbrev pub unquoted : List ℕ → List ℕ
 unquoted text = undoubled (take (length text - 2) (drop 1 text))
 
--- how many bytes are UTF-8, where not all are
+-- the number of bytes before the first that is not UTF-8, if there is one
 abbrev pub utf8_fault : List ℕ → Option ℕ
 utf8_fault bytes = if is_utf8 bytes then None else Some (utf8_valid_len bytes)
 
@@ -107,7 +106,7 @@ closed at inside (Some size) = checked at size (utf8_fault (take size inside))
 abbrev pub text_at : ℕ → List ℕ → Result (TokenKind × ℕ) SqlFault
 text_at at bytes = closed at (drop 1 bytes) (text_length (drop 1 bytes))
 
--- ---- marks: the longest that the two bytes begin
+-- ---- signs: the longest that the two bytes begin
 
 abbrev pub mark : ℕ → ℕ → Option (TokenKind × ℕ)
 mark b c =
@@ -125,7 +124,7 @@ abbrev pub mark_at : ℕ → Option (TokenKind × ℕ) → Result (TokenKind × 
 mark_at at None = Err (fault BadByte at)
 mark_at at (Some m) = Ok m
 
--- ---- the token at the front of the bytes, which stand at this offset: its kind and its length
+-- ---- the first token of the bytes, which begin at this offset: its kind and its length
 
 unfoldable pub token_at : ℕ → List ℕ → Result (TokenKind × ℕ) SqlFault
 token_at at bytes =
@@ -142,12 +141,12 @@ abbrev pub with_token : Token → Result (List Token) SqlFault → Result (List 
 with_token t (Ok ts) = Ok (t ∷ ts)
 with_token t (Err e) = Err e
 
--- the token at the front of the bytes, and then those of the rest
+-- the first token of the bytes, and then those of the rest
 abbrev pub then_rest : ℕ → List ℕ → (ℕ → Result (List Token) SqlFault) → Result (TokenKind × ℕ) SqlFault → Result (List Token) SqlFault
 then_rest place bytes rest (Err e) = Err e
 then_rest place bytes rest (Ok t) = with_token (record { at = place; kind = t.0; text = take t.1 bytes }) (rest (t.1 - 1))
 
--- The first number counts the bytes that still belong to the token before, the second is the offset.
+-- The first number counts the bytes that still belong to the previous token; the second is the offset.
 abbrev pub tokens_from : ℕ → ℕ → List ℕ → Result (List Token) SqlFault
 tokens_from skip at [] = Ok []
 tokens_from (suc skip) at (b ∷ bs) = tokens_from skip (suc at) bs

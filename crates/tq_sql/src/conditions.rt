@@ -4,8 +4,8 @@ ghost use Rattle.std.specs.Prelude.{◌≡◌, ◌≤◌, ◌<◌, ◌-◌, leng
 ghost use Rattle.tq_sql.specs.Descent as spec;
 ghost use Rattle.tq_sql.specs.Descent.{Reads};
 
-use crate::columns::column;
 use crate::cursor::{Cursor, Refusal};
+use crate::sources::column;
 use crate::statement::{Cond, Sign, Term};
 use crate::token::TokenKind;
 use sqlite_items::Boxed;
@@ -76,7 +76,6 @@ fn either(alloc: Global, left: Cond, right: Cond) -> Result<Cond, AllocError>
     Ok(Cond::Or(Boxed::new(alloc, left)?, Boxed::new(alloc, right)?))
 }
 
-// One level fewer.
 fn deeper(levels: usize) -> Result<usize, Refusal>
     ensures ok { IfOk result (λ n. (n ≡ levels - 1) × (0 < levels)) }
     ensures err { IfErr result (λ e. (e ≡ Refusal.TooDeep) × (levels ≡ 0)) }
@@ -88,7 +87,7 @@ fn deeper(levels: usize) -> Result<usize, Refusal>
     }
 }
 
-// A comparison, a negation or a condition in brackets, with at most so many levels.
+// A comparison, a negation or a condition in brackets, with at most `levels` levels.
 #[cycle(condition)]
 #[tactic(auto, using(crate::proofs::LevelLemmas::levels))]
 fn factor(alloc: Global, cursor: &mut Cursor<'_>, levels: usize) -> Result<Cond, Refusal>
@@ -109,7 +108,7 @@ fn factor(alloc: Global, cursor: &mut Cursor<'_>, levels: usize) -> Result<Cond,
     }
 }
 
-// A condition and the bracket that closes it.
+// A condition and its closing bracket.
 #[cycle(condition)]
 #[tactic(auto, unfolding(crate::specs::Descent::closed))]
 fn closed(alloc: Global, cursor: &mut Cursor<'_>, levels: usize) -> Result<Cond, Refusal>

@@ -1,10 +1,10 @@
-// A cursor over tokens, and why reading stops where it stands.
+// A cursor over tokens, and the reasons to stop reading.
 
 ghost use Rattle.std.specs.Prelude.{◌≡◌, ◌≢◌, ◌≤◌, ◌<◌, ◌++◌, ◌∷◌, [], length, map, option_map, slice_get, true, OnOk};
 ghost use Rattle.tq_sql.specs.Tokens as lexis;
 ghost use Rattle.tq_sql.specs.Descent as spec;
-ghost use Rattle.tq_sql.specs.Descent.{Looks, Reads};
-ghost use Rattle.tq_sql.specs.Told.{told};
+ghost use Rattle.tq_sql.specs.Descent.{Peeks, Reads};
+ghost use Rattle.tq_sql.specs.TokenViews.{token_view};
 
 use crate::texts::unquoted;
 use crate::token::{Token, TokenKind};
@@ -12,14 +12,14 @@ use std::alloc::{AllocError, AllocFailed, Global};
 use std::marker::Model;
 use tq_base::{Name, Text, fold_name, read_int};
 
-/// Why reading stops where it stands.
+/// Why reading stops.
 #[derive(Clone, Copy, PartialEq, Eq, Debug)]
 pub enum Refusal {
-    /// No statement goes on with the next token, or with the end.
+    /// No statement continues with the next token, or no statement ends here.
     Unexpected,
-    /// The next token opens a level too many.
+    /// The next token opens one level too many.
     TooDeep,
-    /// A growth was refused.
+    /// An allocation failed.
     Memory,
 }
 
@@ -45,7 +45,7 @@ impl<T: Drop> From<AllocFailed<T>> for Refusal {
     }
 }
 
-/// One more item at the end.
+/// Appends one item; `AllocError` if an allocation failed.
 pub fn push<T: Drop>(items: &mut Vec<T>, item: T) -> Result<(), AllocError>
     ensures { OnOk result (items.new.items ≡ items.old.items ++ item ∷ []) }
 {
@@ -61,7 +61,7 @@ fn is_same_kind(left: TokenKind, right: TokenKind) -> bool
     left == right
 }
 
-/// The tokens that are left, seen as their list.
+/// The remaining tokens. Contracts see them as a list.
 #[derive(Drop)]
 pub struct Cursor<'a> {
     rest: &'a [Token<'a>],
@@ -80,12 +80,12 @@ impl<'a> Model for Cursor<'a> {
 
 impl<'a> Cursor<'a> {
     pub fn new(rest: &'a [Token<'a>]) -> Cursor<'a>
-        ensures { result ≡ map told rest.now }
+        ensures { result ≡ map token_view rest.now }
     {
         Cursor { rest }
     }
 
-    /// Where the next token begins, if there is one.
+    /// The byte at which the next token begins, if there is one.
     pub fn offset(&self) -> Option<usize>
         ensures { result ≡ option_map (λ t. t.at) (slice_get self.now 0) }
     {
@@ -95,7 +95,7 @@ impl<'a> Cursor<'a> {
         }
     }
 
-    /// What the next token is.
+    /// The kind of the next token, `End` if none remains.
     #[tactic(auto, unfolding(crate::specs::Descent::kind_at))]
     pub fn peek(&self) -> TokenKind
         ensures { result ≡ spec.kind_at self.now }
@@ -106,7 +106,7 @@ impl<'a> Cursor<'a> {
         }
     }
 
-    /// Passes over the next token, if there is one.
+    /// Skips the next token, if there is one.
     #[tactic(auto, unfolding(crate::specs::Descent::next))]
     pub fn skip(&mut self)
         ensures next { self.new ≡ spec.next self.old }
@@ -125,7 +125,7 @@ impl<'a> Cursor<'a> {
         is_same_kind(self.peek(), kind)
     }
 
-    /// Takes the next token if it is of the kind, and says whether it was.
+    /// Takes the next token if it is of the kind, and returns whether it was.
     #[tactic(auto, unfolding(crate::specs::Descent::after))]
     pub fn eat(&mut self, kind: TokenKind) -> bool
         ensures found { result ≡ spec.sees kind self.old }
@@ -140,7 +140,7 @@ impl<'a> Cursor<'a> {
         found
     }
 
-    /// Takes the next token, which is to be of the kind.
+    /// Takes the next token, which must be of the kind.
     #[tactic(auto, unfolding(crate::specs::Descent::expect))]
     pub fn expect(&mut self, kind: TokenKind) -> Result<(), Refusal>
         ensures reads { Reads (spec.expect kind self.old) result self.new }
@@ -154,7 +154,7 @@ impl<'a> Cursor<'a> {
         }
     }
 
-    /// No token is to be left.
+    /// Requires that no token remains.
     #[tactic(auto, unfolding(crate::specs::Descent::ended))]
     pub fn end(&self) -> Result<(), Refusal>
         ensures { Reads (spec.ended self.now) result self.now }
@@ -165,10 +165,10 @@ impl<'a> Cursor<'a> {
         }
     }
 
-    // The bytes of the next token, which is to be of the kind.
-    #[tactic(auto, unfolding(crate::specs::Descent::look))]
-    fn look(&self, kind: TokenKind) -> Result<&'a [u8], Refusal>
-        ensures { Looks (spec.look kind self.now) result self.now }
+    // The bytes of the next token, which must be of the kind.
+    #[tactic(auto, unfolding(crate::specs::Descent::peek_bytes))]
+    fn peek_bytes(&self, kind: TokenKind) -> Result<&'a [u8], Refusal>
+        ensures { Peeks (spec.peek_bytes kind self.now) result self.now }
     {
         match self.rest {
             [token, ..] if is_same_kind(token.kind, kind) => Ok(token.text),
@@ -182,7 +182,7 @@ impl<'a> Cursor<'a> {
         ensures reads { Reads (spec.name_at self.old) result self.new }
         ensures shorter { length self.new ≤ length self.old }
     {
-        let written = self.look(TokenKind::Name)?;
+        let written = self.peek_bytes(TokenKind::Name)?;
         let Some(name) = fold_name(alloc, written)? else {
             return Err(Refusal::Unexpected);
         };
@@ -196,7 +196,7 @@ impl<'a> Cursor<'a> {
         ensures reads { Reads (spec.number_at self.old) result self.new }
         ensures shorter { length self.new ≤ length self.old }
     {
-        let written = self.look(TokenKind::Number)?;
+        let written = self.peek_bytes(TokenKind::Number)?;
         let Some(number) = read_int(written) else {
             return Err(Refusal::Unexpected);
         };
@@ -204,13 +204,13 @@ impl<'a> Cursor<'a> {
         Ok(number)
     }
 
-    /// Takes a text: what stands inside its quotes, with each doubled quote made one.
+    /// Takes a text: the bytes inside its quotes, with each doubled quote as one quote.
     #[tactic(auto, using(crate::proofs::Utf8Lemmas::utf8_tests), unfolding(crate::specs::Descent::text_at))]
     pub fn text(&mut self, alloc: Global) -> Result<Text, Refusal>
         ensures reads { Reads (spec.text_at self.old) result self.new }
         ensures shorter { length self.new ≤ length self.old }
     {
-        let written = self.look(TokenKind::Text)?;
+        let written = self.peek_bytes(TokenKind::Text)?;
         let bytes = unquoted(alloc, written)?;
         match std::str::from_utf8(&bytes) {
             Ok(valid) => {

@@ -1,4 +1,4 @@
-// Why a text is no statement.
+// Why a text is not a valid statement.
 
 use std::alloc::{AllocError, AllocFailed};
 use thiserror::Error;
@@ -9,7 +9,7 @@ pub enum SqlFaultKind {
     /// A byte that begins no token, or at which a quoted text stops being UTF-8.
     #[error("BadByte")]
     BadByte = 1,
-    /// No statement can go on with this token, or with the end.
+    /// No statement can continue with this token, or end here.
     #[error("UnexpectedToken")]
     UnexpectedToken = 2,
     /// A number is not one of 64 signed bits.
@@ -24,12 +24,12 @@ pub enum SqlFaultKind {
     /// The statement has more than 65,536 bytes.
     #[error("TooLong")]
     TooLong = 6,
-    /// A growth was refused.
+    /// An allocation failed.
     #[error("OutOfMemory")]
     OutOfMemory = 7,
 }
 
-/// Why a text is no statement: what is wrong, and at which byte (0 where memory was refused).
+/// Why a text is not a valid statement: the kind of fault and its byte, which is 0 for `OutOfMemory`.
 #[derive(Clone, Copy, Debug, PartialEq, Eq, Error)]
 #[error("{kind} at byte {at}")]
 pub struct SqlFault {

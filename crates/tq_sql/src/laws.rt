@@ -2,7 +2,7 @@
 
 ghost use Rattle.tq_sql.specs.Laws.{FaultsAreRefusals, FaultsAreUnique, StatementsAreUnique, TextsAreDecided};
 
-/// A list of tokens makes one statement at most.
+/// A list of tokens makes at most one statement.
 pub fn statements_are_unique()
     ensures { StatementsAreUnique }
 {}
@@ -12,7 +12,7 @@ pub fn faults_are_refusals()
     ensures { FaultsAreRefusals }
 {}
 
-/// A text has one fault at most.
+/// A text has at most one fault.
 pub fn faults_are_unique()
     ensures { FaultsAreUnique }
 {}

@@ -1,27 +1,28 @@
-//! Statements of the language: the text of one to its parts, or the place where it goes wrong.
+//! The SQL parser: from the bytes of a statement to its parts, or to its first fault and the fault's byte.
 //!
-//! `read` cuts the bytes into tokens and goes down the grammar over them. What a token is, which
-//! fault comes first, and which lists of tokens make which statement, the grammar as a relation,
-//! stands in `specs/`. Names are not looked up here: a statement that reads may still name a table
-//! that is not there.
+//! The contract is that of `read`: the statement is the one that `ParsesTo` defines, and a fault is the one that
+//! `IsSqlFault` defines, both in `specs/Reading.antt`. `specs/Grammar.antt` defines the grammar as a relation. Names
+//! are not resolved here: a statement may name a table that does not exist.
+//!
+//! Open `src/reading.rt` first, then `src/statement.rt`.
 #![tactic(auto)]
 
-mod columns;
 mod conditions;
 mod cursor;
 mod fault;
 pub mod laws;
 mod queries;
 mod reading;
+mod sources;
 mod statement;
 mod texts;
 mod token;
 mod tokens;
 mod words;
 
-pub use columns::MAX_SOURCES;
 pub use conditions::MAX_LEVELS;
 pub use fault::{SqlFault, SqlFaultKind};
 pub use reading::read;
+pub use sources::MAX_SOURCES;
 pub use statement::{ColumnRef, Cond, Item, Query, Sign, SourceRef, Statement, Term, What};
 pub use tokens::MAX_STATEMENT;

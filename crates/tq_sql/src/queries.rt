@@ -4,16 +4,16 @@ ghost use Rattle.std.specs.Prelude.{◌≡◌, ◌≤◌, length};
 ghost use Rattle.tq_sql.specs.Descent as spec;
 ghost use Rattle.tq_sql.specs.Descent.{Reads};
 
-use crate::columns::{columns, items, sources};
 use crate::conditions::{MAX_LEVELS, condition};
 use crate::cursor::{Cursor, Refusal};
+use crate::sources::{columns, items, sources};
 use crate::statement::{ColumnRef, Query, Statement};
 use crate::token::TokenKind;
 use std::alloc::Global;
-use tq_base::{Items, Text};
+use tq_base::{List, Text};
 
 #[tactic(auto, unfolding(crate::specs::Descent::group_at))]
-fn group(alloc: Global, cursor: &mut Cursor<'_>) -> Result<Items<ColumnRef>, Refusal>
+fn group(alloc: Global, cursor: &mut Cursor<'_>) -> Result<List<ColumnRef>, Refusal>
     ensures reads { Reads (spec.group_at cursor.old) result cursor.new }
     ensures shorter { length cursor.new ≤ length cursor.old }
 {
@@ -21,7 +21,7 @@ fn group(alloc: Global, cursor: &mut Cursor<'_>) -> Result<Items<ColumnRef>, Ref
         cursor.expect(TokenKind::By)?;
         columns(alloc, cursor)
     } else {
-        Ok(Items::of(Vec::new(alloc)))
+        Ok(List::of(Vec::new(alloc)))
     }
 }
 

@@ -1,9 +1,9 @@
-// Reads a statement: its tokens first, and then a descent over them.
+// Reads a statement: first its tokens, then a recursive descent over them.
 
 ghost use Rattle.std.specs.Prelude.{◌≡◌, ◌≢◌, ◌≤◌, IfErr, IfOk};
 ghost use Rattle.tq_sql.specs.Descent.{stopped_at};
 ghost use Rattle.tq_sql.specs.Faults.{out_of_memory};
-ghost use Rattle.tq_sql.specs.Reading.{IsSqlFault, Makes};
+ghost use Rattle.tq_sql.specs.Reading.{IsSqlFault, ParsesTo};
 
 use crate::cursor::{Cursor, Refusal};
 use crate::fault::{SqlFault, SqlFaultKind};
@@ -12,7 +12,6 @@ use crate::statement::Statement;
 use crate::tokens::{MAX_STATEMENT, fault, tokens};
 use std::alloc::Global;
 
-// The fault of reading that stops at a byte.
 fn stopped(why: Refusal, at: usize) -> SqlFault
     requires { why ≢ Refusal.Memory → at ≤ MAX_STATEMENT }
     ensures { result ≡ stopped_at why at }
@@ -24,12 +23,12 @@ fn stopped(why: Refusal, at: usize) -> SqlFault
     }
 }
 
-/// The statement that a text makes. Faults: `TooLong` at byte 65,536 if there are more bytes; else
-/// the first token fault from the left, `BadByte`, `NumberTooLarge` or `UnclosedText`; else
-/// `UnexpectedToken` at the first token that no statement goes on with, or at the end, but `TooDeep` if a
-/// statement of one level more goes on with that token.
+/// The statement that a text makes. Faults: `TooLong` at byte 65,536 if there are more bytes; else the first token
+/// fault from the left, `BadByte`, `NumberTooLarge` or `UnclosedText`; else `UnexpectedToken` at the first token with
+/// which no statement continues, or at the end. It is `TooDeep` instead if a statement of one more level continues with
+/// that token.
 pub fn read(alloc: Global, bytes: &[u8]) -> Result<Statement, SqlFault>
-    ensures statement { IfOk result (λ s. Makes bytes.now s) }
+    ensures statement { IfOk result (λ s. ParsesTo bytes.now s) }
     ensures fault { IfErr result (λ f. f ≢ out_of_memory → IsSqlFault bytes.now f) }
 {
     let found = tokens(alloc, bytes)?;

@@ -1,7 +1,7 @@
-// Statements as they are written, without brackets and spaces.
+// The parts of a statement, without brackets and spaces.
 
 use sqlite_items::Boxed;
-use tq_base::{Items, Name, Text};
+use tq_base::{List, Name, Text};
 
 /// A column: `column` or `source.column`. Names are folded.
 #[derive(Drop, Debug)]
@@ -10,7 +10,7 @@ pub struct ColumnRef {
     pub column: Name,
 }
 
-/// What an item is: a column, `COUNT(*)`, or `SUM(column)`.
+/// The kind of an output item: a column, `COUNT(*)`, or `SUM(column)`.
 #[derive(Drop, Debug)]
 pub enum What {
     Column(ColumnRef),
@@ -18,21 +18,21 @@ pub enum What {
     Sum(ColumnRef),
 }
 
-/// An item of the answer, and the name after AS.
+/// An output item, and the name after AS.
 #[derive(Drop, Debug)]
 pub struct Item {
     pub what: What,
     pub alias: Option<Name>,
 }
 
-/// A table after FROM, and its alias.
+/// A table in FROM, and its alias.
 #[derive(Drop, Debug)]
 pub struct SourceRef {
     pub table: Name,
     pub alias: Option<Name>,
 }
 
-/// A sign between two operands: `=`, `<>`, `<`, `<=`, `>` or `>=`.
+/// A comparison operator: `=`, `<>`, `<`, `<=`, `>` or `>=`.
 #[derive(Clone, Copy, PartialEq, Eq, Debug)]
 pub enum Sign {
     Eq,
@@ -43,7 +43,7 @@ pub enum Sign {
     Ge,
 }
 
-/// An operand of a comparison: a column, a number, or a text with `''` made one quote.
+/// An operand of a comparison: a column, a number, or a text in which `''` has become one quote.
 #[derive(Drop, Debug)]
 pub enum Term {
     Column(ColumnRef),
@@ -51,7 +51,7 @@ pub enum Term {
     Text(Text),
 }
 
-/// A condition. Brackets leave no mark; a chain of AND or of OR nests to the left.
+/// A condition. Brackets are not recorded; a chain of AND or of OR nests to the left.
 #[derive(Debug)]
 pub enum Cond {
     Is { left: Term, sign: Sign, right: Term },
@@ -61,7 +61,7 @@ pub enum Cond {
 }
 
 impl Drop for Cond {
-    // A chain is as deep as it is long, so its left parts go by a loop.
+    // A chain nests as deep as it is long, so a loop drops the left parts.
     fn drop(mut self) {
         loop {
             match self {
@@ -84,17 +84,17 @@ impl Drop for Cond {
     }
 }
 
-/// A query: its items, its sources, the condition after WHERE, and the columns after GROUP BY, none
-/// where there is no GROUP BY.
+/// A query: its items, its sources, the condition after WHERE, and the columns after GROUP BY. `group` is empty if
+/// there is no GROUP BY.
 #[derive(Drop, Debug)]
 pub struct Query {
-    pub items: Items<Item>,
-    pub sources: Items<SourceRef>,
+    pub items: List<Item>,
+    pub sources: List<SourceRef>,
     pub cond: Option<Cond>,
-    pub group: Items<ColumnRef>,
+    pub group: List<ColumnRef>,
 }
 
-/// A statement: the text after PERIOD, the query, and the one after EXCEPT ALL.
+/// A statement: the text after PERIOD, the query, and the query after EXCEPT ALL.
 #[derive(Drop, Debug)]
 pub struct Statement {
     pub window: Option<Text>,

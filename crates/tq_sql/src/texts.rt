@@ -1,11 +1,12 @@
-// Quoted texts, in which two quotes in a row are one of the text.
+// Quoted texts, in which two quotes in a row stand for one.
 
 ghost use Rattle.std.specs.Prelude.{◌≡◌, ◌<◌, ◌≤◌, ◌^◌, length, IfOk, IfSome};
 ghost use Rattle.tq_sql.specs.Tokens as spec;
 
 use std::alloc::{AllocError, Global};
 
-/// How many bytes stand before the closing quote, where the bytes begin behind the opening one.
+/// The number of bytes before the closing quote; `rest` begins after the opening one. `None` if there is no closing
+/// quote.
 pub fn text_length(mut rest: &[u8]) -> Option<usize>
     requires { length rest.now < 2 ^ 63 }
     ensures value { result ≡ spec.text_length rest.entry.now }
@@ -26,7 +27,7 @@ pub fn text_length(mut rest: &[u8]) -> Option<usize>
     None
 }
 
-/// How many bytes are UTF-8, where not all are.
+/// The number of bytes before the first that is not UTF-8, or `None` if all are.
 pub fn utf8_fault(bytes: &[u8]) -> Option<usize>
     ensures value { result ≡ spec.utf8_fault bytes.now }
     ensures within { IfSome result (λ n. n ≤ length bytes.now) }
@@ -37,7 +38,7 @@ pub fn utf8_fault(bytes: &[u8]) -> Option<usize>
     }
 }
 
-// Each doubled quote made one.
+// Replaces each doubled quote by one.
 fn undoubled(alloc: Global, inside: &[u8]) -> Result<Vec<u8>, AllocError>
     ensures { IfOk result (λ bytes. bytes.items ≡ spec.undoubled inside.now) }
 {
@@ -54,7 +55,7 @@ fn undoubled(alloc: Global, inside: &[u8]) -> Result<Vec<u8>, AllocError>
     Ok(bytes)
 }
 
-/// What stands inside the quotes.
+/// The bytes inside the quotes, with each doubled quote as one; `AllocError` if an allocation failed.
 pub fn unquoted(alloc: Global, written: &[u8]) -> Result<Vec<u8>, AllocError>
     ensures { IfOk result (λ bytes. bytes.items ≡ spec.unquoted written.now) }
 {

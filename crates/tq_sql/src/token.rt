@@ -1,9 +1,9 @@
 // Tokens, the smallest parts of a statement's text.
 
-/// What a token is.
+/// The kind of a token.
 #[derive(Clone, Copy, PartialEq, Eq, Debug)]
 pub enum TokenKind {
-    /// No token: what stands after the last one.
+    /// No token: the end of the text.
     End,
     Validtime,
     Period,
@@ -20,9 +20,9 @@ pub enum TokenKind {
     As,
     Except,
     All,
-    /// A word of at most 64 bytes that is none of the language.
+    /// A word of at most 64 bytes that is not a keyword.
     Name,
-    /// A longer word.
+    /// A longer word that is not a keyword.
     LongWord,
     Number,
     Text,
@@ -40,7 +40,7 @@ pub enum TokenKind {
     Ge,
 }
 
-/// A slice of the source: the byte at which it begins, what it is, and its bytes.
+/// A slice of the source: the byte at which it begins, its kind, and its bytes.
 #[derive(Clone, Copy, Debug)]
 pub struct Token<'a> {
     pub at: usize,

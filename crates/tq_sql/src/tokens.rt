@@ -5,7 +5,7 @@ ghost use Rattle.std.specs.List.{prefix_len};
 ghost use Rattle.std.specs.Char.{is_ascii_digit};
 ghost use Rattle.tq_sql.specs.Faults.{out_of_memory};
 ghost use Rattle.tq_sql.specs.Tokens as spec;
-ghost use Rattle.tq_sql.specs.Told.{told};
+ghost use Rattle.tq_sql.specs.TokenViews.{token_view};
 
 use crate::fault::{SqlFault, SqlFaultKind};
 use crate::texts::{text_length, utf8_fault};
@@ -23,7 +23,7 @@ fn is_space(byte: u8) -> bool
     byte == b'\t' || byte == b'\n' || byte == b'\r' || byte == b' '
 }
 
-// The byte at the place, or 0 past the end.
+// The byte at `place`, or 0 after the end.
 fn byte_at(bytes: &[u8], place: usize) -> u8
     ensures value { result ≡ slice_index bytes.now place }
     ensures within { result ≢ 0 → place < length bytes.now }
@@ -31,7 +31,7 @@ fn byte_at(bytes: &[u8], place: usize) -> u8
     if place < bytes.len() { bytes[place] } else { 0 }
 }
 
-// How many bytes from the front on are digits.
+// The number of leading digits.
 fn digits_length(bytes: &[u8]) -> usize
     ensures value { result ≡ prefix_len is_ascii_digit bytes.now }
     ensures within { result ≤ length bytes.now }
@@ -44,7 +44,6 @@ fn digits_length(bytes: &[u8]) -> usize
     bytes.len()
 }
 
-/// A fault at a byte of a statement.
 pub fn fault(kind: SqlFaultKind, at: usize) -> SqlFault
     requires { at ≤ MAX_STATEMENT }
     ensures { result ≡ spec.fault kind at }
@@ -55,7 +54,7 @@ pub fn fault(kind: SqlFaultKind, at: usize) -> SqlFault
     }
 }
 
-// The mark at the front: its kind and its length.
+// The leading sign: its kind and its length.
 fn mark(bytes: &[u8]) -> Option<(TokenKind, usize)>
     ensures value { result ≡ spec.mark (slice_index bytes.now 0) (slice_index bytes.now 1) }
     ensures within { IfSome result (λ r. (0 < r.1) × (r.1 ≤ length bytes.now)) }
@@ -79,7 +78,7 @@ fn mark(bytes: &[u8]) -> Option<(TokenKind, usize)>
     }
 }
 
-// The number at the front, which begins with a digit or a sign before one.
+// The leading number: a digit, or a `-` before a digit, and the digits after it.
 fn number(bytes: &[u8], at: usize) -> Result<(TokenKind, usize), SqlFault>
     requires some { 0 < length bytes.now }
     requires room { at + length bytes.now ≤ MAX_STATEMENT }
@@ -93,7 +92,7 @@ fn number(bytes: &[u8], at: usize) -> Result<(TokenKind, usize), SqlFault>
     }
 }
 
-// The quoted text at the front.
+// The leading quoted text.
 fn text(bytes: &[u8], at: usize) -> Result<(TokenKind, usize), SqlFault>
     requires some { 0 < length bytes.now }
     requires room { at + length bytes.now ≤ MAX_STATEMENT }
@@ -110,7 +109,7 @@ fn text(bytes: &[u8], at: usize) -> Result<(TokenKind, usize), SqlFault>
     }
 }
 
-// The kind and the length of the token at the front.
+// The kind and the length of the first token.
 #[tactic(auto, unfolding(crate::specs::Tokens::token_at))]
 fn token_at(bytes: &[u8], at: usize) -> Result<(TokenKind, usize), SqlFault>
     requires some { 0 < length bytes.now }
@@ -134,10 +133,10 @@ fn token_at(bytes: &[u8], at: usize) -> Result<(TokenKind, usize), SqlFault>
     }
 }
 
-/// The tokens of a text, or the first fault from the left that leaves it without.
+/// The tokens of a text, or its first token fault from the left.
 #[tactic(auto, using(crate::proofs::TokenLemmas::steps))]
 pub fn tokens(alloc: Global, bytes: &[u8]) -> Result<Vec<Token<'_>>, SqlFault>
-    ensures tokens { IfOk result (λ found. spec.tokens_of bytes.now ≡ Ok (map told found.items)) }
+    ensures tokens { IfOk result (λ found. spec.tokens_of bytes.now ≡ Ok (map token_view found.items)) }
     ensures fault { IfErr result (λ e. e ≢ out_of_memory → spec.tokens_of bytes.now ≡ Err e) }
 {
     if bytes.len() > MAX_STATEMENT {

@@ -1,4 +1,4 @@
-// Words: those of the language in any ASCII case, and names.
+// Words: the keywords in any ASCII case, and names.
 
 ghost use Rattle.std.specs.Prelude.{◌≡◌, ◌≤◌, length, map};
 ghost use Rattle.std.specs.List.{prefix_len};
@@ -26,14 +26,14 @@ const KEYWORDS: [(&[u8], TokenKind); 15] = [
     (b"all", TokenKind::All),
 ];
 
-/// Whether the byte may stand in a word: an ASCII letter, a digit or `_`.
+/// Whether the byte can be part of a word: an ASCII letter, a digit or `_`.
 pub fn is_word_byte(byte: u8) -> bool
     ensures { result ≡ is_name_byte byte }
 {
     byte.is_ascii_alphanumeric() || byte == b'_'
 }
 
-/// How many bytes from the front on belong to a word.
+/// The number of leading bytes that belong to a word.
 pub fn word_length(bytes: &[u8]) -> usize
     ensures value { result ≡ prefix_len is_name_byte bytes.now }
     ensures within { result ≤ length bytes.now }
@@ -46,9 +46,9 @@ pub fn word_length(bytes: &[u8]) -> usize
     bytes.len()
 }
 
-// What a word is, if it is none that stood in the table before these rows.
-fn kind_among(mut table: &[(&[u8], TokenKind)], word: &[u8]) -> TokenKind
-    ensures { result ≡ spec.kind_among (map (λ row. (row.0.now, row.1)) table.entry.now) word.now }
+// The kind of a word that is not a keyword in an earlier row of the table.
+fn keyword_kind(mut table: &[(&[u8], TokenKind)], word: &[u8]) -> TokenKind
+    ensures { result ≡ spec.keyword_kind (map (λ row. (row.0.now, row.1)) table.entry.now) word.now }
 {
     'table: while let [row, rest @ ..] = table {
         if is_same_word(row.0, word) {
@@ -63,10 +63,10 @@ fn kind_among(mut table: &[(&[u8], TokenKind)], word: &[u8]) -> TokenKind
     }
 }
 
-/// What a word is: one of the language, a name, or a word too long for one.
+/// The kind of a word: a keyword, a name, or a word that is too long for a name.
 #[tactic(auto, unfolding(crate::specs::Tokens::word_kind))]
 pub fn word_kind(word: &[u8]) -> TokenKind
     ensures { result ≡ spec.word_kind word.now }
 {
-    kind_among(&KEYWORDS, word)
+    keyword_kind(&KEYWORDS, word)
 }

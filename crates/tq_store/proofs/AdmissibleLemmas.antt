@@ -1,4 +1,4 @@
--- Which events are admissible, as the indexes tell it.
+-- The indexes decide which events are admissible.
 use Rattle.std.proofs.Common.{◌≡◌, ℕ, ℤ, zero, suc, ◌-◌, ◌<◌, ◌≤◌, Bool, true, false, if◌then◌else◌, List, [], ◌∷◌, ◌++◌, Option, Some, None, length, slice_get, nat_lt, refl, sym, ap, subst, ◌∙◌, ◌⊎◌, inl, inr, arith, rules}
 use Rattle.std.specs.Prelude.{IfSome, IsSomeAnd, FitsSigned}
 use Rattle.std.specs.Int.{w64}
@@ -124,7 +124,7 @@ possible_end c es indexes t r at tables are (less, open_there) =
     let within : t < length indexes = omega (arith, less, tables) in
     (within, at_index es indexes t (IsOpenAt es t r at) are within (λ index is. open_at es t r at is.tree.rows open_there))
 
--- ---- what an admissible event brings
+-- ---- what holds of an admissible event
 
 pub known_table : (c : Catalogue) (es : List Event) (e : Event) → CanHappen c es e → table_of e < length c.tables
 known_table c es (Start t v at) can = by (slice_get c.tables t) refl can
@@ -142,7 +142,7 @@ can_take c es indexes (Start t v at) tables are fits finite = (by (slice_get c.t
     by (Some s) can = fit_key s.columns v can
 can_take c es indexes (End t r at) tables are fits finite = ((possible_end c es indexes t r at tables are fits.1).1, finite)
 
--- a row that starts has as many values as the others of its table
+-- a row that starts has as many values as the other rows of its table
 pub fits_indexes : (c : Catalogue) (es : List Event) (indexes : List Index) (e : Event) → widths_of indexes ≡ columns_of c.tables → IsAdmissible c es e → FitsIndexes indexes e
 fits_indexes c es indexes (Start t v at) widths fits = by (slice_get c.tables t) refl fits.1
   where

@@ -3,7 +3,7 @@ use Rattle.std.proofs.Common.{◌≡◌, ◌≢◌, ℕ, zero, suc, ◌+◌, ◌
 use Rattle.std.specs.Prelude.{filter}
 use Rattle.tq_store.proofs.VersionLemmas.{count_cons, tally}
 
--- how often a test holds in what is made of the elements that pass another one
+-- counting the images of the filtered elements
 pub count_kept : {X Y : Type 0} → (q : Y → Bool) (f : X → Y) (p : X → Bool) (xs : List X) → count_by q (map f (filter p xs)) ≡ count_by (λ x. p x && q (f x)) xs
 count_kept q f p [] = refl
 count_kept q f p (x ∷ xs) = by (p x) (count_kept q f p xs) ∙ sym (count_cons (λ y. p y && q (f y)) x xs)
@@ -77,6 +77,6 @@ module _ {X : Type 0} (key : X → ℕ) where
   apart_pairs (x ∷ xs) pairs =
       ((λ j y here. pairs 0 (suc j) x y (omega arith) refl here), apart_pairs xs (λ i j y z less one other. pairs (suc i) (suc j) y z (omega (arith, less)) one other))
 
-  -- keys that are the elements' places differ
+  -- keys that are the elements' numbers differ
   pub apart_placed : (xs : List X) → ((i : ℕ) (x : X) → slice_get xs i ≡ Some x → key x ≡ i) → AreApart xs
-  apart_placed xs placed = apart_pairs xs (λ i j x y less one other same. let low = placed i x one in let high = placed j y other in omega (arith, less, low, high, same))
+  apart_placed xs take_with_periods = apart_pairs xs (λ i j x y less one other same. let low = take_with_periods i x one in let high = take_with_periods j y other in omega (arith, less, low, high, same))

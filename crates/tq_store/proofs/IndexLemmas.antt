@@ -1,4 +1,4 @@
--- The index of a table after one more event, and which rows are open by it.
+-- The index of a table after one more event, and the rows that are open then.
 use Rattle.std.proofs.Common.{◌≡◌, ◌≢◌, ℕ, zero, suc, ◌+◌, ◌*◌, ◌<◌, ◌≤◌, ◌==◌, Bool, true, false, List, [], ◌∷◌, ◌++◌, Option, Some, None, length, map, slice_get, slice_set, refl, sym, ap, subst, ◌∙◌, ◌⊎◌, inl, inr, arith, rules, length-append}
 use Rattle.std.specs.Prelude.{IfSome, IsSomeAnd, FitsSigned, OnOk, OnErr, Result, Ok, Err, is_some}
 use Rattle.std.specs.Option.{option_map}
@@ -21,7 +21,7 @@ use Rattle.tq_store.specs.declared.index.Index.{Index}
 use Rattle.tq_store.specs.declared.index.RowEvents.{RowEvents}
 use Rattle.tq_base.specs.KeyRanges.{key_of}
 use Rattle.tq_store.specs.Keys.{shifted, tree_key}
-use Rattle.tq_store.specs.Index.{AreIndexes, Begins, Ends, HasRows, IsIndexOf, IsKeyOf, IsOpenAt, IsRowLife, dead_of, ended, events_of, values_kept, values_of, widths_of}
+use Rattle.tq_store.specs.Index.{AreIndexes, Begins, Ends, HasRows, IsIndexOf, IsKeyOf, IsOpenAt, IsRowLife, dead_of, ended, events_of, stored_values, values_of, widths_of}
 use Rattle.tq_store.proofs.LifeLemmas.{IsTold, StandsAt, ended_at, eqb-other, eqb-same, lives_end, lives_other, lives_start, lives_told}
 
 -- ---- lists
@@ -53,7 +53,7 @@ map_set f [] i v = refl
 map_set f (x ∷ xs) zero v = refl
 map_set f (x ∷ xs) (suc i) v = ap (λ l. f x ∷ l) (map_set f xs i v)
 
--- what a push leaves, and what it puts in
+-- an element after a push is an old one or the new one
 pub get_push : {X : Type 0} → (xs : List X) (y : X) (i : ℕ) (x : X) → slice_get (xs ++ y ∷ []) i ≡ Some x → ((i ≡ length xs) × (x ≡ y)) ⊎ (slice_get xs i ≡ Some x)
 get_push [] y zero x is = inl (refl, cc)
 get_push [] y (suc i) x is = absurd (cc)
@@ -214,7 +214,7 @@ ended_rows ls c i at old new l small has stands none ends good = record {
             let other : k ≢ key = λ same. let wrong : true ≡ false = sym (eqb-same k) ∙ ap (λ n. k == n) same ∙ is in cc in
             still k (has.only k v (sym (ends.others k v other) ∙ lives))
 
--- the rows of a tree that stays
+-- the rows of a tree that does not change
 pub same_rows : (ls : List Life) (c version : ℕ) (nodes : List NodeState) → HasRows ls c version nodes → HasRows ls (c + 1) version nodes
 same_rows ls c version nodes has =
     record { each = has.each; only = has.only; begun = has.begun; rows = has.rows; up_to = let le = has.up_to in omega (arith, le); few = let le = has.few in omega (arith, le) }
@@ -259,7 +259,7 @@ pub index_end : (es : List Event) (t row at : ℕ) (old new : Index) (l : Life) 
 index_end es t row at old new l small is finite stands none less rows ends kept = record {
   rows = rows ∙ ap (λ r. slice_set r row (ended (length es) at (events_of l))) is.rows ∙ sym (map_set events_of (row_lives es t) row (ended_at (length es) at l)) ∙ sym (ap (map events_of) more);
   kept = ap (λ (r : RowList). values_of r.items) kept ∙ is.kept
-      ∙ sym (set_same (values_kept es t) row l.values (slice_get-map (λ (x : Life). x.values) (row_lives es t) row ∙ ap (option_map (λ (x : Life). x.values)) stands))
+      ∙ sym (set_same (stored_values es t) row l.values (slice_get-map (λ (x : Life). x.values) (row_lives es t) row ∙ ap (option_map (λ (x : Life). x.values)) stands))
       ∙ sym (map_set (λ (x : Life). x.values) (row_lives es t) row (ended_at (length es) at l)) ∙ sym (ap (map (λ (x : Life). x.values)) more);
   tree = subst (λ ls. HasRows ls (length (es ++ End t row at ∷ [])) new.tree.version new.tree.nodes) (sym more)
       (subst (λ c. HasRows (slice_set (row_lives es t) row (ended_at (length es) at l)) c new.tree.version new.tree.nodes) (sym (length_push es (End t row at)))
@@ -287,7 +287,7 @@ index_other es t e index is other = record {
     same : row_lives (es ++ e ∷ []) t ≡ row_lives es t
     same = lives_other t 0 0 es e other
 
--- an index that is seen as another one
+-- an index that is equal to another one for contracts
 pub index_like : (es : List Event) (t : ℕ) (old new : Index) → new.tree ≡ old.tree → new.rows.items ≡ old.rows.items → new.kept.items ≡ old.kept.items → IsIndexOf es t old → IsIndexOf es t new
 index_like es t old new tree rows kept is = record {
   rows = rows ∙ is.rows;
@@ -319,17 +319,17 @@ indexes_after es e indexes new are less is =
 pub indexes_kept : (es : List Event) (t : ℕ) (indexes : List Index) (new : Index) → AreIndexes es indexes → t < length indexes → IsIndexOf es t new → AreIndexes es (slice_set indexes t new)
 indexes_kept es t indexes new are less is = indexes_set es es indexes t new are less is (λ u index away old. old)
 
--- the width of an index is that of its place
+-- the width of an index by its number
 pub width_at : (indexes : List Index) (t : ℕ) (index : Index) → slice_get indexes t ≡ Some index → slice_get (widths_of indexes) t ≡ Some index.kept.width
 width_at indexes t index here = slice_get-map (λ (i : Index). i.kept.width) indexes t ∙ ap (option_map (λ (i : Index). i.kept.width)) here
 
--- an index that stays as wide
+-- an index that keeps its width
 pub widths_kept : (indexes : List Index) (t : ℕ) (old new : Index) → slice_get indexes t ≡ Some old → new.kept.width ≡ old.kept.width → widths_of (slice_set indexes t new) ≡ widths_of indexes
 widths_kept indexes t old new here same =
     map_set (λ (i : Index). i.kept.width) indexes t new
     ∙ set_same (widths_of indexes) t new.kept.width (width_at indexes t old here ∙ ap (λ w. Some w) (sym same))
 
--- ---- what the events tell of a row
+-- ---- the events of a row
 
 pub row_told : (es : List Event) (t row : ℕ) (l : Life) → slice_get (row_lives es t) row ≡ Some l → IsTold t row 0 es l
 row_told es t row l stands = lives_told t 0 0 row row es l (omega arith) stands
@@ -424,7 +424,7 @@ open_row es t row at index small is open_there = by (slice_get (row_lives es t) 
           alive = (is.tree.each row l stands).lives index.tree.version version ∙ ap (λ o. within (l.start + 1) (dead_of o) index.tree.version) here.0 ∙ alive_now (l.start + 1) index.tree.version (omega (arith, begun)) version;
         }
 
--- ---- what an index tells of an open row
+-- ---- what an index knows of an open row
 
 not_ended : (o : Option Ending) → is_some (option_map (λ (e : Ending). e.event) o) ≡ false → o ≡ None
 not_ended None is = refl

@@ -67,6 +67,6 @@ leaf_at start k v (n ∷ nodes) less one =
         let more = count_cons (region_holds k v) (region_for start n) (regions_from (start + 1) nodes) in
         later (rest (omega (arith, one, more, none)))
 
--- a lesser bound from below
+-- a smaller lower bound
 pub lower : (a b limit n : ℕ) → a ≤ b → min b limit ≤ n → min a limit ≤ n
 lower a b limit n le at_least = omega (arith, le, at_least)

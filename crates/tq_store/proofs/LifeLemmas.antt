@@ -1,4 +1,4 @@
--- The lives of a table's rows: event by event, as of the first n events, and where the events stand that they tell.
+-- The lives of a table's rows: event by event, as of the first n events, and the positions of their events.
 use Rattle.std.proofs.Common.{◌≡◌, ◌≢◌, ℕ, zero, suc, ◌+◌, ◌<◌, ◌≤◌, ◌==◌, ◌&&◌, Bool, true, false, if◌then◌else◌, List, [], ◌∷◌, ◌++◌, Option, Some, None, length, take, slice_get, slice_set, nat_lt, refl, sym, ap, subst, ◌∙◌, arith, rules}
 use Rattle.std.specs.Prelude.{IfSome}
 use Rattle.std.proofs.lemmas.Bool.{eqb-true}
@@ -51,7 +51,7 @@ ending_own t r k n at (End w x a ∷ es) is open_there = by (w == t && x == r) o
 
 -- ---- the lives of a table's rows after one more event
 
--- the life that the event of this number ends
+-- the life that the event with this number ends
 abbrev pub ended_at : ℕ → ℕ → Life → Life
 ended_at n at l = record l { ending = Some (record { event = n; at = at }) }
 
@@ -215,15 +215,15 @@ rows_known t next k (suc m) n number i (Start u v at ∷ es) is numbered =
     by true (suc j) numbered same later = later j (omega (arith, numbered))
     by false j numbered same later = same
 
--- ---- where the events of a life stand
+-- ---- the positions of the events of a life
 
--- the event stands at its number, counted from the given one
+-- the event is at its number, counted from the given one
 pub record StandsAt (es : List Event) (k number : ℕ) (e : Event) : Type 0 where
   pub place : ℕ
   pub number_is : number ≡ k + place
   pub event_is : slice_get es place ≡ Some e
 
--- the life is told by the events that it names
+-- the life agrees with the events that it names
 pub record IsTold (t row k : ℕ) (es : List Event) (l : Life) : Type 0 where
   pub start : StandsAt es k l.start (Start t l.values l.from)
   pub ending : IfSome l.ending (λ e. StandsAt es k e.event (End t row e.at))

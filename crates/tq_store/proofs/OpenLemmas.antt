@@ -1,4 +1,4 @@
--- The first open row of some values, by a walk over the events.
+-- The first open row with given values, by a pass over the events.
 use Rattle.std.proofs.Common.{◌≡◌, ℕ, ◌+◌, ◌==◌, ◌&&◌, Bool, true, false, cond, if◌then◌else◌, List, ◌∷◌, Option, Some, length, nat_lt, refl, ap, ◌∙◌, arith}
 use Rattle.std.specs.Prelude.{position}
 use Rattle.std.specs.List.{position_from}

@@ -1,11 +1,11 @@
--- Each row of a window is one of one part.
+-- Each row of a window is a row of exactly one part.
 use Rattle.std.proofs.Common.{◌≡◌, ℕ, zero, suc, ◌≤◌, Bool, true, false, cond, List, [], ◌∷◌, Some, max, slice_get, refl, sym, ap, ◌∙◌, arith, count_by}
 use Rattle.tq_event.specs.History.{Row}
 use Rattle.tq_event.specs.Versions.{birth_of, version_at}
 use Rattle.tq_scan.specs.declared.window.Part.{Part}
 use Rattle.tq_scan.specs.Windows.{lies_in}
-use Rattle.tq_store.specs.Laws.{IsRowOfOne, RowsComeOnce}
-use Rattle.tq_store.specs.Rows.{IsPartRow, row_key, window_part}
+use Rattle.tq_store.specs.Laws.{IsRowOfOne, RowsAppearOnce}
+use Rattle.tq_store.specs.Rows.{IsPartRow, row_key, whole_window}
 use Rattle.tq_store.proofs.VersionLemmas.{count_cons, tally}
 
 -- an element that passes a test is counted
@@ -17,7 +17,7 @@ counts_one p (y ∷ xs) zero x here pass =
     omega (arith, count_cons p y xs, passes)
 counts_one p (y ∷ xs) (suc i) x here pass = omega (arith, count_cons p y xs, counts_one p xs i x here pass)
 
--- the one element of a list that passes a test
+-- the only element of a list that passes a test
 pub record IsOnly {X : Type 0} (p : X → Bool) (xs : List X) : Type 0 where
   pub place : ℕ
   pub item : X
@@ -45,11 +45,11 @@ only_one {X = X} p (x ∷ xs) one = by (p x) refl (only_one p xs)
         later found zero y here pass = absurd (let same : x ≡ y = cc in let wrong : false ≡ true = sym is ∙ ap p same ∙ pass in cc)
         later found (suc j) y here pass = ap suc (found.only j y here pass)
 
-pub each_once : RowsComeOnce
+pub each_once : RowsAppearOnce
 each_once es n t range period w parts window_is tiles = record { one = one; all = all }
   where
     all_part : Part
-    all_part = window_part es n range period
+    all_part = whole_window es n range period
 
     version : Row → ℕ
     version row = max (birth_of es t row.number) (version_at es n period.start)
@@ -57,20 +57,20 @@ each_once es n t range period w parts window_is tiles = record { one = one; all 
     has : Row → Part → Bool
     has row p = lies_in p (row_key row) (version row)
 
-    counted : (row : Row) → count_by (has row) parts ≡ cond (has row (window_part es n range period)) 1 0
+    counted : (row : Row) → count_by (has row) parts ≡ cond (has row (whole_window es n range period)) 1 0
     counted row = tiles.tiles (row_key row) (version row) ∙ ap (λ q. cond (has row q) 1 0) window_is
 
     in_part : (p q : Part) (row : Row) → IsPartRow es n t range period p row → has row q ≡ true → IsPartRow es n t range period q row
     in_part p q row is there = record { known = is.known; low = is.low; high = is.high; begins = is.begins; lasts = is.lasts; reference = there }
 
-    one : (row : Row) → IsPartRow es n t range period (window_part es n range period) row → IsRowOfOne es n t range period parts row
+    one : (row : Row) → IsPartRow es n t range period (whole_window es n range period) row → IsRowOfOne es n t range period parts row
     one row is =
         let found = only_one (has row) parts (counted row ∙ ap (λ b. cond b 1 0) is.reference) in
-        record { place = found.place; part = found.item; stands = found.stands; is = in_part (window_part es n range period) found.item row is found.passes; only = λ i p here other. found.only i p here other.reference }
+        record { place = found.place; part = found.item; stands = found.stands; is = in_part (whole_window es n range period) found.item row is found.passes; only = λ i p here other. found.only i p here other.reference }
 
-    all : (i : ℕ) (p : Part) (row : Row) → slice_get parts i ≡ Some p → IsPartRow es n t range period p row → IsPartRow es n t range period (window_part es n range period) row
-    all i p row here is = by (has row (window_part es n range period)) refl
+    all : (i : ℕ) (p : Part) (row : Row) → slice_get parts i ≡ Some p → IsPartRow es n t range period p row → IsPartRow es n t range period (whole_window es n range period) row
+    all i p row here is = by (has row (whole_window es n range period)) refl
       where
-        by : (b : Bool) → has row (window_part es n range period) ≡ b → IsPartRow es n t range period (window_part es n range period) row
-        by true there = in_part p (window_part es n range period) row is there
+        by : (b : Bool) → has row (whole_window es n range period) ≡ b → IsPartRow es n t range period (whole_window es n range period) row
+        by true there = in_part p (whole_window es n range period) row is there
         by false there = absurd (let some = counts_one (has row) parts i p here is.reference in let none = counted row ∙ ap (λ b. cond b 1 0) there in omega (arith, some, none))

@@ -24,11 +24,11 @@ use Rattle.tq_scan.specs.Windows.{lies_in, whole_of}
 use Rattle.tq_base.specs.declared.key_range.KeyRange.{KeyRange}
 use Rattle.tq_base.specs.KeyRanges.{key_of}
 use Rattle.tq_store.specs.Keys.{shifted, tree_key}
-use Rattle.tq_store.specs.Index.{HasRows, IsKeyOf, IsRowLife, dead_of, events_of, rows_kept}
-use Rattle.tq_store.specs.Rows.{ArePartRows, HasPartRows, IsPartRow, row_key, window_part}
+use Rattle.tq_store.specs.Index.{HasRows, IsKeyOf, IsRowLife, dead_of, events_of, stored_rows}
+use Rattle.tq_store.specs.Rows.{ArePartRows, HasPartRows, IsPartRow, row_key, whole_window}
 use Rattle.tq_store.specs.Stored.{IsReadable, IsStart, IsStored, end_as_of, row_of_key, stored_row, values_in}
 use Rattle.tq_store.proofs.IndexLemmas.{end_stands, start_stands}
-use Rattle.tq_store.proofs.KeyLemmas.{key_row, shifted-le, unshifted-le}
+use Rattle.tq_store.proofs.SortKeyLemmas.{key_row, shifted-le, unshifted-le}
 use Rattle.tq_store.proofs.LifeLemmas.{and-true, as_of, end_by, known_by, rows_known}
 use Rattle.tq_store.proofs.PartLemmas.{only_one}
 use Rattle.tq_store.proofs.VersionLemmas.{before_version, past_version, version_rises, version_within}
@@ -94,10 +94,10 @@ same_birth nodes k b d c e one other =
         let less : b < now = omega (arith, lived, ends) in
         (within_from c e b (sym (other.lives b less) ∙ one.lives b less ∙ within_is b d b (omega arith) lived)).0
 
--- ---- rows as their events tell them
+-- ---- rows from their events
 
 module _ (es : List Event) (t : ℕ) where
-  -- what is read of the events of a row is the row
+  -- what is read from the events of a row is the row
   stored_end : (n : ℕ) (l : Life) → end_as_of n (events_of l).end (events_of l).to ≡ end_by n l.ending
   stored_end n l = by l.ending
     where
@@ -165,7 +165,7 @@ module _ (es : List Event) (t : ℕ) where
 tree_key_row : (v : List Rattle.tq_base.specs.declared.value.Value.Value) (r : ℕ) → r < 4294967296 → tree_key v r % 4294967296 ≡ r
 tree_key_row v r less = key_row (shifted (key_of v)) r less
 
--- a key that is found, with its row
+-- a found key, with its row
 pub record IsFoundRow (es : List Event) (n t : ℕ) (range : KeyRange) (period : Period) (p : Part) (key : ℕ) : Type 0 where
   pub row : ℕ
   pub life : Life
@@ -177,7 +177,7 @@ pub record IsFoundRow (es : List Event) (n t : ℕ) (range : KeyRange) (period :
 
 module _ (es : List Event) (n t : ℕ) (range : KeyRange) (period : Period) (nodes : List NodeState) (version : ℕ) (w : Window) (p : Part)
     (sorted : IsNonDecreasingBy time_of es) (few : length es ≤ 16777216) (le : n ≤ length es) (has : HasRows (row_lives es t) (length es) version nodes)
-    (window_is : whole_of w ≡ window_part es n range period) (fits_low : FitsSigned w64 range.low) (fits_high : FitsSigned w64 range.high) (finite : period.start < FOREVER) where
+    (window_is : whole_of w ≡ whole_window es n range period) (fits_low : FitsSigned w64 range.low) (fits_high : FitsSigned w64 range.high) (finite : period.start < FOREVER) where
   few_rows : (row : ℕ) (l : Life) → slice_get (row_lives es t) row ≡ Some l → row < 4294967296
   few_rows row l stands = let less = slice_get_within (row_lives es t) row l stands in let rows = has.few in omega (arith, less, rows, few)
 
@@ -186,7 +186,7 @@ module _ (es : List Event) (n t : ℕ) (range : KeyRange) (period : Period) (nod
 
   -- a point of the window
   point_of_window : (key v : ℕ) → lies_in (whole_of w) key v ≡ true → IsPoint (shifted range.low * 4294967296) ((shifted range.high + 1) * 4294967296) (version_at es n period.start) (version_at es n (period.end - 1)) key v
-  point_of_window key v is = point_of (window_part es n range period) key v (subst (λ q. lies_in q key v ≡ true) window_is is)
+  point_of_window key v is = point_of (whole_window es n range period) key v (subst (λ q. lies_in q key v ≡ true) window_is is)
 
   before_end : (row : ℕ) (l : Life) → slice_get (row_lives es t) row ≡ Some l → l.start < n → l.start + 1 ≤ version_at es n (period.end - 1) → l.from < period.end
   before_end row l stands begun known = elim (cases_lt (period.end - 1) l.from) [
@@ -301,7 +301,7 @@ module _ (es : List Event) (n t : ℕ) (range : KeyRange) (period : Period) (nod
     dead = dead_of l.ending;
     life = life;
     version = version_there;
-    in_window = subst (λ q. lies_in q key version_there ≡ true) (sym window_is) (point_in (window_part es n range period) key version_there (record {
+    in_window = subst (λ q. lies_in q key version_there ≡ true) (sym window_is) (point_in (whole_window es n range period) key version_there (record {
       low_is = let low = shifted-le range.low (key_of row.values) is.low in omega (arith, low);
       high_is = let high = shifted-le (key_of row.values) range.high is.high in omega (arith, high, small);
       first_is = omega arith;
@@ -344,31 +344,31 @@ module _ (es : List Event) (n t : ℕ) (range : KeyRange) (period : Period) (nod
 
   -- ---- the list of rows
 
-  kept : (row : ℕ) (l : Life) → slice_get (row_lives es t) row ≡ Some l → slice_get (rows_kept es t) row ≡ Some (events_of l)
+  kept : (row : ℕ) (l : Life) → slice_get (row_lives es t) row ≡ Some l → slice_get (stored_rows es t) row ≡ Some (events_of l)
   kept row l stands = slice_get-map events_of (row_lives es t) row ∙ ap (option_map events_of) stands
 
-  -- what is read of a found key is its row
-  read_is : (key : ℕ) → (found : IsFoundRow es n t range period p key) → row_of_key es (rows_kept es t) n key ≡ as_of n found.row found.life
+  -- what is read for a found key is its row
+  read_is : (key : ℕ) → (found : IsFoundRow es n t range period p key) → row_of_key es (stored_rows es t) n key ≡ as_of n found.row found.life
   read_is key found =
       let at_row : key % 4294967296 ≡ found.row = ap (λ k. k % 4294967296) found.same ∙ tree_key_row found.life.values found.row found.small in
-      ap (λ r. stored_row es n r (get_or (rows_kept es t) r (record { start = 0; end = None; from = 0; to = 0; key = 0 }))) at_row
-      ∙ ap (stored_row es n found.row) (get_or_from_slice_get (rows_kept es t) found.row (events_of found.life) (record { start = 0; end = None; from = 0; to = 0; key = 0 }) (kept found.row found.life found.stands))
+      ap (λ r. stored_row es n r (get_or (stored_rows es t) r (record { start = 0; end = None; from = 0; to = 0; key = 0 }))) at_row
+      ∙ ap (stored_row es n found.row) (get_or_from_slice_get (stored_rows es t) found.row (events_of found.life) (record { start = 0; end = None; from = 0; to = 0; key = 0 }) (kept found.row found.life found.stands))
       ∙ stored_is es t n found.row found.life found.stands
 
-  pub readable : (key : ℕ) → FoundIn nodes w p key → IsReadable es (rows_kept es t) key
+  pub readable : (key : ℕ) → FoundIn nodes w p key → IsReadable es (stored_rows es t) key
   readable key found =
       let one = found_row key found in
       let at_row : key % 4294967296 ≡ one.row = ap (λ k. k % 4294967296) one.same ∙ tree_key_row one.life.values one.row one.small in
-      subst (λ r. IsSomeAnd (slice_get (rows_kept es t) r) (IsStored es)) (sym at_row)
+      subst (λ r. IsSomeAnd (slice_get (stored_rows es t) r) (IsStored es)) (sym at_row)
       (subst (λ o. IsSomeAnd o (IsStored es)) (sym (kept one.row one.life one.stands)) (stored_well es t one.row one.life one.stands one.good))
 
-  key_kept : (key : ℕ) → FoundIn nodes w p key → row_key (row_of_key es (rows_kept es t) n key) ≡ key
+  key_kept : (key : ℕ) → FoundIn nodes w p key → row_key (row_of_key es (stored_rows es t) n key) ≡ key
   key_kept key found = let one = found_row key found in ap row_key (read_is key one) ∙ sym one.same
 
-  keys_kept : (keys : List ℕ) → ((key : ℕ) → Contains keys key → FoundIn nodes w p key) → map row_key (map (row_of_key es (rows_kept es t) n) keys) ≡ keys
+  keys_kept : (keys : List ℕ) → ((key : ℕ) → Contains keys key → FoundIn nodes w p key) → map row_key (map (row_of_key es (stored_rows es t) n) keys) ≡ keys
   keys_kept [] found = refl
   keys_kept (k ∷ keys) found =
-      ap (λ x. x ∷ map row_key (map (row_of_key es (rows_kept es t) n) keys)) (key_kept k (found k (0, omega arith, refl)))
+      ap (λ x. x ∷ map row_key (map (row_of_key es (stored_rows es t) n) keys)) (key_kept k (found k (0, omega arith, refl)))
       ∙ ap (λ l. k ∷ l) (keys_kept keys (λ key there. found key (suc there.0, let less = there.1 in omega (arith, less), there.2)))
 
   has_row : (f : ℕ → Row) (keys : List ℕ) (row : Row) → Contains (map f keys) row → (key : ℕ) × (Contains keys key) × (row ≡ f key)
@@ -382,34 +382,34 @@ module _ (es : List Event) (n t : ℕ) (range : KeyRange) (period : Period) (nod
   row_stands f (k ∷ keys) key (suc i, less, same) = let one = row_stands f keys key (i, omega (arith, less), same) in (suc one.0, let within = one.1 in omega (arith, within), one.2)
 
   -- the row of its own key
-  own_row : (row : Row) → (is : IsPartRow es n t range period p row) → row_of_key es (rows_kept es t) n (row_key row) ≡ row
+  own_row : (row : Row) → (is : IsPartRow es n t range period p row) → row_of_key es (stored_rows es t) n (row_key row) ≡ row
   own_row row is =
       let of_row = life_of_row es t n row is.known in
       let small = few_rows row.number of_row.life of_row.stands in
       let at_row : row_key row % 4294967296 ≡ row.number = tree_key_row row.values row.number small in
-      ap (λ r. stored_row es n r (get_or (rows_kept es t) r (record { start = 0; end = None; from = 0; to = 0; key = 0 }))) at_row
-      ∙ ap (stored_row es n row.number) (get_or_from_slice_get (rows_kept es t) row.number (events_of of_row.life) (record { start = 0; end = None; from = 0; to = 0; key = 0 }) (kept row.number of_row.life of_row.stands))
+      ap (λ r. stored_row es n r (get_or (stored_rows es t) r (record { start = 0; end = None; from = 0; to = 0; key = 0 }))) at_row
+      ∙ ap (stored_row es n row.number) (get_or_from_slice_get (stored_rows es t) row.number (events_of of_row.life) (record { start = 0; end = None; from = 0; to = 0; key = 0 }) (kept row.number of_row.life of_row.stands))
       ∙ stored_is es t n row.number of_row.life of_row.stands
       ∙ sym of_row.same
 
-  -- where the keys are just those that are found, their rows are just those of the part
-  rows_just : (keys : List ℕ) → ((key : ℕ) → Contains keys key ↔ FoundIn nodes w p key) → (row : Row) → Contains (map (row_of_key es (rows_kept es t) n) keys) row ↔ IsPartRow es n t range period p row
+  -- if the keys are exactly those found, their rows are exactly those of the part
+  rows_just : (keys : List ℕ) → ((key : ℕ) → Contains keys key ↔ FoundIn nodes w p key) → (row : Row) → Contains (map (row_of_key es (stored_rows es t) n) keys) row ↔ IsPartRow es n t range period p row
   rows_just keys just row = (
     λ there.
-        let one = has_row (row_of_key es (rows_kept es t) n) keys row there in
+        let one = has_row (row_of_key es (stored_rows es t) n) keys row there in
         let found = found_row one.0 ((just one.0).0 one.1) in
         subst (IsPartRow es n t range period p) (sym (one.2 ∙ read_is one.0 found)) found.part,
-    λ is. subst (Contains (map (row_of_key es (rows_kept es t) n) keys)) (own_row row is)
-        (row_stands (row_of_key es (rows_kept es t) n) keys (row_key row) ((just (row_key row)).1 (row_found row is))),
+    λ is. subst (Contains (map (row_of_key es (stored_rows es t) n) keys)) (own_row row is)
+        (row_stands (row_of_key es (stored_rows es t) n) keys (row_key row) ((just (row_key row)).1 (row_found row is))),
   )
 
-  pub part_rows : (keys : List ℕ) → ListsJust (FoundIn nodes w p) keys → ArePartRows es n t range period p (map (row_of_key es (rows_kept es t) n) keys)
+  pub part_rows : (keys : List ℕ) → ListsJust (FoundIn nodes w p) keys → ArePartRows es n t range period p (map (row_of_key es (stored_rows es t) n) keys)
   part_rows keys just = record {
     ordered = subst IsStrictlyIncreasing (sym (keys_kept keys (λ key there. (just.just key).0 there))) just.ascending;
     just = rows_just keys just.just;
   }
 
-  -- the same of keys in any order
+  -- the same for keys in any order
   module _ (keys : List ℕ) (lists : ListsOnce (FoundIn nodes w p) keys) where
     found_at : (i key : ℕ) → slice_get keys i ≡ Some key → FoundIn nodes w p key
     found_at i key here = subst (FoundIn nodes w p) (get_or_from_slice_get keys i key key here) (lists.all i key (slice_get_within keys i key here))
@@ -423,16 +423,16 @@ module _ (es : List Event) (n t : ℕ) (range : KeyRange) (period : Period) (nod
           (only.place, slice_get_within keys only.place only.item only.stands, get_or_from_slice_get keys only.place only.item key only.stands ∙ same),
     )
 
-    key_at : (i : ℕ) (row : Row) → slice_get (map (row_of_key es (rows_kept es t) n) keys) i ≡ Some row → slice_get keys i ≡ Some (row_key row)
-    key_at i row here = by (slice_get keys i) refl (sym (slice_get-map (row_of_key es (rows_kept es t) n) keys i) ∙ here)
+    key_at : (i : ℕ) (row : Row) → slice_get (map (row_of_key es (stored_rows es t) n) keys) i ≡ Some row → slice_get keys i ≡ Some (row_key row)
+    key_at i row here = by (slice_get keys i) refl (sym (slice_get-map (row_of_key es (stored_rows es t) n) keys i) ∙ here)
       where
-        by : (o : Option ℕ) → slice_get keys i ≡ o → option_map (row_of_key es (rows_kept es t) n) o ≡ Some row → slice_get keys i ≡ Some (row_key row)
+        by : (o : Option ℕ) → slice_get keys i ≡ o → option_map (row_of_key es (stored_rows es t) n) o ≡ Some row → slice_get keys i ≡ Some (row_key row)
         by None stands same = absurd (cc)
         by (Some key) stands same =
-            let is : row_of_key es (rows_kept es t) n key ≡ row = cc in
+            let is : row_of_key es (stored_rows es t) n key ≡ row = cc in
             stands ∙ ap (λ k. Some k) (sym (key_kept key (found_at i key stands)) ∙ ap row_key is)
 
-    pub part_rows_once : HasPartRows es n t range period p (map (row_of_key es (rows_kept es t) n) keys)
+    pub part_rows_once : HasPartRows es n t range period p (map (row_of_key es (stored_rows es t) n) keys)
     part_rows_once = record {
       apart = λ i j one other less here there same.
           let first = key_at i one here in

@@ -1,4 +1,4 @@
--- The rows of all of a window are valid at each instant of the period just as those of the definition are.
+-- The rows of a whole window are valid at each instant of the period exactly as those of the definition are.
 use Rattle.std.proofs.Common.{◌≡◌, ℕ, zero, suc, ◌+◌, ◌-◌, ◌*◌, ◌<◌, ◌≤◌, ◌&&◌, max, Bool, true, false, List, [], ◌∷◌, ◌++◌, Option, Some, None, length, map, take, get_or, slice_get, nat_lt, nat_le, refl, sym, ap, subst, ◌∙◌, append_assoc, append-nil, arith, rules, count_by}
 use Rattle.std.specs.Prelude.{All, Contains, IsSomeAnd, if◌then◌else◌, ◌==◌}
 use Rattle.std.specs.Option.{option_map_or}
@@ -27,12 +27,12 @@ use Rattle.tq_scan.specs.declared.window.Part.{Part}
 use Rattle.tq_scan.specs.declared.window.Window.{Window}
 use Rattle.tq_scan.specs.Windows.{whole_of}
 use Rattle.tq_store.specs.Keys.{shifted}
-use Rattle.tq_store.specs.Rows.{HasPartRows, HasReference, IsPartRow, IsWithin, row_key, window_part, within_window}
-use Rattle.tq_store.specs.Valid.{ArePart, AreValidIn, AreWhole, HasKeyIn, Shown, fragment_at, row_at, width_of}
+use Rattle.tq_store.specs.Rows.{HasPartRows, HasReference, IsPartRow, IsWithin, row_key, whole_window, within_window}
+use Rattle.tq_store.specs.Valid.{ArePart, AreValidIn, AreWholeWindow, HasKeyIn, RowAtInstant, fragment_at, row_at, width_of}
 use Rattle.tq_store.proofs.AdmissibleLemmas.{ordered_push}
 use Rattle.tq_store.proofs.CountLemmas.{IsThere, apart_pairs, apart_placed, at_most, count_kept, count_made}
 use Rattle.tq_store.proofs.IndexLemmas.{start_stands}
-use Rattle.tq_store.proofs.KeyLemmas.{shifted-le}
+use Rattle.tq_store.proofs.SortKeyLemmas.{shifted-le}
 use Rattle.tq_store.proofs.LifeLemmas.{and-true}
 use Rattle.tq_store.proofs.RowLemmas.{HasLifeOf, life_of_row}
 use Rattle.tq_store.proofs.VersionLemmas.{before_version, version_rises}
@@ -45,7 +45,7 @@ rising c before (e ∷ rest) sorted history =
     subst (IsNonDecreasingBy time_of) (append_assoc before (e ∷ []) rest)
     (rising c (before ++ e ∷ []) rest (ordered_push before e sorted (history before e rest refl).0) (subst (IsHistory c) (sym (append_assoc before (e ∷ []) rest)) history))
 
--- a history is in the order of time
+-- a history is ordered by time
 sorted_history : (c : Catalogue) (es : List Event) → IsHistory c es → IsNonDecreasingBy time_of es
 sorted_history c es history = rising c [] es (λ i j d le less. absurd (omega (arith, less))) history
 
@@ -67,7 +67,7 @@ contains_of xs i x here = (i, slice_get_within xs i x here, get_or_from_slice_ge
 
 -- ---- the rows of the definition
 
--- they are numbered by their places
+-- they are numbered by their positions
 numbered : (t next : ℕ) (es : List Event) (i : ℕ) (row : Row) → slice_get (rows_from t next es) i ≡ Some row → row.number ≡ next + i
 numbered t next [] i row here = absurd (cc)
 numbered t next (End u r at ∷ es) i row here = numbered t next es i row here
@@ -126,7 +126,7 @@ both-true false b one other = one
 abbrev counts : ℕ → List Value → Row → Bool
 counts at v row = (nat_le row.from at && nat_lt at row.to) && eq_by_cmp values_cmp row.values v
 
--- ---- the rows of all of a window
+-- ---- the rows of a whole window
 
 module _ (c : Catalogue) (es : List Event) (history : IsHistory c es) (few : length es ≤ 16777216) (n t : ℕ) (le : n ≤ length es) (range : KeyRange) (period : Period) where
   pub small : (row : Row) → Contains (rows_of es n t) row → row.number < 4294967296
@@ -138,8 +138,8 @@ module _ (c : Catalogue) (es : List Event) (history : IsHistory c es) (few : len
       let taken = length-take n es in
       omega (arith, number, less, rows, taken, few)
 
-  -- each row's reference point lies in the whole
-  in_whole : (row : Row) → Contains (rows_of es n t) row → HasKeyIn range row.values → row.from < period.end → HasReference es n t period (window_part es n range period) row
+  -- each row's reference point lies in the whole window
+  in_whole : (row : Row) → Contains (rows_of es n t) row → HasKeyIn range row.values → row.from < period.end → HasReference es n t period (whole_window es n range period) row
   in_whole row there key begins =
       both-true (nat_le (shifted range.low * 4294967296) (row_key row) && nat_lt (row_key row) ((shifted range.high + 1) * 4294967296)) (nat_le first at && nat_le at last)
       (both-true (nat_le (shifted range.low * 4294967296) (row_key row)) (nat_lt (row_key row) ((shifted range.high + 1) * 4294967296))
@@ -174,8 +174,8 @@ module _ (c : Catalogue) (es : List Event) (history : IsHistory c es) (few : len
           let rises = version_rises es n period.start (period.end - 1) (let ordered = period.ordered in omega (arith, ordered)) in
           omega (arith, before, rises, born)
 
-  -- as many rows of these values are valid at the instant
-  same_count : (rows : List Row) → HasPartRows es n t range period (window_part es n range period) rows → (at : ℕ) (v : List Value) → holds period at ≡ true
+  -- equally many rows of these values are valid at the instant
+  same_count : (rows : List Row) → HasPartRows es n t range period (whole_window es n range period) rows → (at : ℕ) (v : List Value) → holds period at ≡ true
       → HasKeyIn range v
       → count_by (counts at v) rows ≡ count_by (counts at v) (rows_of es n t)
   same_count rows are at v inside in_range =
@@ -185,7 +185,7 @@ module _ (c : Catalogue) (es : List Event) (history : IsHistory c es) (few : len
       (λ i row pass here. there_of rows row ((are.just row).1 (part row (contains_of (rows_of es n t) i row here) pass))) in
       omega (arith, one, other)
     where
-      part : (row : Row) → Contains (rows_of es n t) row → counts at v row ≡ true → IsPartRow es n t range period (window_part es n range period) row
+      part : (row : Row) → Contains (rows_of es n t) row → counts at v row ≡ true → IsPartRow es n t range period (whole_window es n range period) row
       part row there pass =
           let sides = and-true (nat_le row.from at && nat_lt at row.to) (eq_by_cmp values_cmp row.values v) pass in
           let times = and-true (nat_le row.from at) (nat_lt at row.to) sides.0 in
@@ -198,8 +198,8 @@ module _ (c : Catalogue) (es : List Event) (history : IsHistory c es) (few : len
           let begins : row.from < period.end = omega (arith, from, end) in
           record { known = there; low = key.low; high = key.high; begins = begins; lasts = omega (arith, start, to); reference = in_whole row there key begins }
 
-  -- of the rows as they are handed out
-  pub valid_in : (fragments : List Fragment) → AreWhole es n t range period fragments → AreValidIn es n t range period fragments
+  -- for the returned rows
+  pub valid_in : (fragments : List Fragment) → AreWholeWindow es n t range period fragments → AreValidIn es n t range period fragments
   valid_in fragments whole at v in_range inside =
       count_kept (λ u. eq_by_cmp values_cmp u v) (λ (f : Fragment). f.values) (λ (f : Fragment). holds f.period at) fragments
       ∙ sym (count_made stands (fragment_at at) fragments)
@@ -208,11 +208,11 @@ module _ (c : Catalogue) (es : List Event) (history : IsHistory c es) (few : len
       ∙ same_count whole.rows whole.are at v inside in_range
       ∙ sym (count_kept (λ u. eq_by_cmp values_cmp u v) (λ (row : Row). row.values) (λ (row : Row). nat_le row.from at && nat_lt at row.to) (rows_of es n t))
     where
-      -- whether what is shown is valid and has these values
-      stands : Shown → Bool
+      -- whether a row at an instant is valid and has these values
+      stands : RowAtInstant → Bool
       stands x = x.valid && eq_by_cmp values_cmp x.values v
 
--- ---- all rows that are handed out
+-- ---- all returned rows
 
 -- their keys lie in the range
 pub keys_in : (es : List Event) (n t : ℕ) (range : KeyRange) (period : Period) (part : Part) (fragments : List Fragment) → ArePart es n t range period part fragments → All (λ (f : Fragment). HasKeyIn range f.values) fragments
@@ -232,9 +232,9 @@ keys_in es n t range period part fragments whole k d less =
     by (Some row) stands same =
         let is = (whole.are.just row).0 (contains_of whole.rows k row stands) in
         let both : row_at first row ≡ fragment_at first (get_or fragments k d) = cc in
-        subst (HasKeyIn range) (ap (λ (x : Shown). x.values) both) (record { low = is.low; high = is.high })
+        subst (HasKeyIn range) (ap (λ (x : RowAtInstant). x.values) both) (record { low = is.low; high = is.high })
 
--- a table that is not there has none
+-- a table that does not exist has none
 pub none_there : (c : Catalogue) (es : List Event) (n t : ℕ) (range : KeyRange) (period : Period) (part : Part) (fragments : List Fragment) → IsHistory c es → length c.tables ≤ t → fragments ≡ [] → ArePart es n t range period part fragments
 none_there c es n t range period part fragments history past none = record {
   rows = [];
@@ -248,7 +248,7 @@ none_there c es n t range period part fragments history past none = record {
 pub no_width : (c : Catalogue) (t : ℕ) → length c.tables ≤ t → 0 ≡ width_of c t
 no_width c t past = ap (λ o. option_map_or (λ (schema : Schema). length schema.columns) o 0) (sym (slice_get_past c.tables t past))
 
--- all of a window is within all of it
+-- a whole window lies in itself
 pub whole_within : (w : Window) (all part : Part) → whole_of w ≡ all → part ≡ whole_of w → IsWithin all part
 whole_within w all part all_is part_is =
     subst (IsWithin all) (sym part_is)

@@ -1,4 +1,4 @@
--- Versions of instants: how many of the first events are no later.
+-- Versions of instants: the number of the first events that are no later.
 use Rattle.std.proofs.Common.{◌≡◌, ℕ, zero, suc, ◌+◌, ◌<◌, ◌≤◌, Bool, true, false, cond, List, [], ◌∷◌, Some, length, take, get_or, slice_get, nat_le, refl, sym, ap, subst, ◌∙◌, inl, inr, arith, rules, count_by}
 use Rattle.std.specs.List.Sorted.{IsNonDecreasingBy}
 use Rattle.std.proofs.lemmas.Bool.{cases_lt}
@@ -16,7 +16,7 @@ tally b = cond b 1 0
 pub count_cons : {X : Type 0} (p : X → Bool) (x : X) (xs : List X) → count_by p (x ∷ xs) ≡ tally (p x) + count_by p xs
 count_cons p x xs = sum_by-cons (λ y. tally (p y)) x xs
 
--- a place below which all pass the test, and from which on none does
+-- a position before which all pass the test, and from which on none does
 pub place_counts : {X : Type 0} (p : X → Bool) (xs : List X) (i : ℕ) → i ≤ length xs → ((k : ℕ) (d : X) → 0 ≤ k → k < i → p (get_or xs k d) ≡ true) → ((k : ℕ) (d : X) → i ≤ k → k < length xs → p (get_or xs k d) ≡ false)
     → i ≡ count_by p xs
 place_counts p [] i le pass fail = omega (arith, le)
@@ -77,7 +77,7 @@ get_take (x ∷ xs) (suc n) zero less = refl
 get_take (x ∷ xs) (suc n) (suc s) less = get_take xs n s (omega (arith, less))
 
 module _ (es : List Event) (sorted : IsNonDecreasingBy time_of es) where
-  -- an event among the first n stands before the version of an instant just where it is no later
+  -- an event among the first n comes before the version of an instant exactly if it is no later
   pub before_version : (n t s : ℕ) (e : Event) → slice_get es s ≡ Some e → s < n → time_of e ≤ t → s < version_at es n t
   before_version n t s e here less le = (counted t (take n es) s e (IsNonDecreasingBy-take time_of n es sorted) (get_take es n s less ∙ here)).0 le
 

@@ -1,4 +1,4 @@
--- The rows of parts that tile a window, one part after the other, are those of all of it.
+-- The rows of parts that tile a window, one part after the other, are those of the whole window.
 use Rattle.std.proofs.Common.{◌≡◌, ◌≢◌, ℕ, zero, suc, ◌+◌, ◌*◌, ◌<◌, ◌≤◌, max, true, List, [], ◌∷◌, ◌++◌, Some, length, map, slice_get, refl, sym, ap, subst, ◌∙◌, arith}
 use Rattle.std.specs.Prelude.{Contains, IsTrue}
 use Rattle.std.specs.List.{flat_map}
@@ -16,8 +16,8 @@ use Rattle.tq_event.specs.Versions.{birth_of, version_at}
 use Rattle.tq_scan.specs.declared.window.Part.{Part}
 use Rattle.tq_scan.specs.Windows.{lies_in}
 use Rattle.tq_store.specs.Laws.{PartsAreValid, TileWindow}
-use Rattle.tq_store.specs.Rows.{HasReference, IsPartRow, row_key, window_part}
-use Rattle.tq_store.specs.Valid.{ArePart, AreParts, AreWhole, fragment_at, row_at}
+use Rattle.tq_store.specs.Rows.{HasReference, IsPartRow, row_key, whole_window}
+use Rattle.tq_store.specs.Valid.{ArePart, AreParts, AreWholeWindow, fragment_at, row_at}
 use Rattle.tq_store.proofs.CountLemmas.{AreApart, IsThere, apart_pairs}
 use Rattle.tq_store.proofs.PartLemmas.{each_once}
 use Rattle.tq_store.proofs.ValidLemmas.{contains_of, keys_in, small, there_of, valid_in}
@@ -105,7 +105,7 @@ module _ (es : List Event) (n t : ℕ) (range : KeyRange) (period : Period) wher
       let there = in_parts parts lists are.1 i p row here is in
       in_rest are.0.rows (rows_in parts lists are.1) there.place row there.stands
 
-  -- rows of two of the parts have other keys
+  -- rows of two of the parts have different keys
   abbrev HaveOthers : List Part → Type 0
   HaveOthers parts =
       (i j : ℕ) (p q : Part) → i < j → slice_get parts i ≡ Some p → slice_get parts j ≡ Some q
@@ -144,7 +144,7 @@ module _ (c : Catalogue) (es : List Event) (history : IsHistory c es) (few : len
           subst (λ k. lies_in q k (max (birth_of es t one.number) (version_at es n period.start)) ≡ true) (sym same)
           (subst (λ m. lies_in q (row_key other) (max (birth_of es t m) (version_at es n period.start)) ≡ true) number is_other.reference)
 
-  whole_of_parts : (lists : List RowList) → AreParts es n t range period parts lists → AreWhole es n t range period (flat_map (λ (r : RowList). r.items) lists)
+  whole_of_parts : (lists : List RowList) → AreParts es n t range period parts lists → AreWholeWindow es n t range period (flat_map (λ (r : RowList). r.items) lists)
   whole_of_parts lists are = record {
     rows = rows_in es n t range period parts lists are;
     are = record {
@@ -167,5 +167,5 @@ pub parts_valid : PartsAreValid
 parts_valid c es n t range period parts lists history few le tile are =
     let whole = whole_of_parts c es history few n t le range period parts tile lists are in (
       valid_in c es history few n t le range period (flat_map (λ (r : RowList). r.items) lists) whole,
-      keys_in es n t range period (window_part es n range period) (flat_map (λ (r : RowList). r.items) lists) whole,
+      keys_in es n t range period (whole_window es n range period) (flat_map (λ (r : RowList). r.items) lists) whole,
     )

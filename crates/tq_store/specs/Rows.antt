@@ -1,4 +1,4 @@
--- Which rows a part of a window has. After van den Bercken and Seeger 1996; the keys are this project's own.
+-- The rows of a part of a window. After van den Bercken and Seeger 1996; the keys are this project's own.
 use Rattle.std.specs.Prelude.{◌≡◌, ◌≢◌, ℕ, ◌+◌, ◌-◌, ◌*◌, ◌<◌, ◌≤◌, ◌≤ℤ◌, ◌↔◌, max, List, Some, map, slice_get, true, Contains}
 use Rattle.std.proofs.Common.{subst}
 use Rattle.std.specs.List.Sorted.{IsStrictlyIncreasing}
@@ -13,17 +13,17 @@ use Rattle.tq_base.specs.declared.key_range.KeyRange.{KeyRange}
 use Rattle.tq_base.specs.KeyRanges.{key_of}
 use Rattle.tq_store.specs.Keys.{shifted, tree_key}
 
--- all of the window of a range of keys and a period: the keys that a tree has for rows of the range, and the
--- versions from that of the period's first instant to that of its last one
-abbrev pub window_part : List Event → ℕ → KeyRange → Period → Part
-window_part history n range period = record {
+-- the whole window of a range of keys and a period: the tree keys of the range, and the versions from that of the
+-- period's first instant to that of its last one
+abbrev pub whole_window : List Event → ℕ → KeyRange → Period → Part
+whole_window history n range period = record {
   low = shifted range.low * 4294967296;
   high = (shifted range.high + 1) * 4294967296;
   first = version_at history n period.start;
   last = version_at history n (period.end - 1);
 }
 
--- the part has keys and versions, all of them in the other one
+-- the part has keys and versions, all of them in the other part
 pub record IsWithin (all part : Part) : Type 0 where
   pub wide : part.low < part.high
   pub long : part.first ≤ part.last
@@ -32,23 +32,23 @@ pub record IsWithin (all part : Part) : Type 0 where
   pub first : all.first ≤ part.first
   pub last : part.last ≤ all.last
 
--- a part inside a window is within all of it
+-- a part inside a window lies in the whole of it
 pub within_window : (w : Window) (all part : Part) → whole_of w ≡ all → IsInside w part → IsWithin all part
 within_window w all part is inside =
     subst (λ a. IsWithin a part) is (record { wide = inside.wide; long = inside.long; low = inside.low; high = inside.high; first = inside.first; last = inside.last })
 
--- the tree's key of a row
+-- the tree key of a row
 abbrev pub row_key : Row → ℕ
 row_key row = tree_key row.values row.number
 
--- a row's reference point in the window lies in the part: the row's key, at the later of the row's first version and
--- the window's
+-- a row's reference point in the window lies in the part: the row's tree key, at the later of the row's first version
+-- and the window's
 abbrev pub HasReference : List Event → ℕ → ℕ → Period → Part → Row → Type 0
 HasReference history n table period part row =
     lies_in part (row_key row) (max (birth_of history table row.number) (version_at history n period.start)) ≡ true
 
--- a row as of the first n events, with a key of the range and a period that overlaps the given one, whose reference
--- point lies in the part
+-- a row as of the first n events: its key lies in the range, its period overlaps the given one, and its reference point
+-- lies in the part
 pub record IsPartRow (history : List Event) (n table : ℕ) (range : KeyRange) (period : Period) (part : Part) (row : Row) : Type 0 where
   pub known : Contains (rows_of history n table) row
   pub low : range.low ≤ℤ key_of row.values
@@ -57,12 +57,12 @@ pub record IsPartRow (history : List Event) (n table : ℕ) (range : KeyRange) (
   pub lasts : period.start < row.to
   pub reference : HasReference history n table period part row
 
--- just these rows, in the order of their keys and numbers
+-- exactly these rows, in the order of their keys and numbers
 pub record ArePartRows (history : List Event) (n table : ℕ) (range : KeyRange) (period : Period) (part : Part) (rows : List Row) : Type 0 where
   pub ordered : IsStrictlyIncreasing (map row_key rows)
   pub just : (row : Row) → Contains rows row ↔ IsPartRow history n table range period part row
 
--- just these rows, each once, in any order
+-- exactly these rows, each once, in any order
 pub record HasPartRows (history : List Event) (n table : ℕ) (range : KeyRange) (period : Period) (part : Part) (rows : List Row) : Type 0 where
   pub apart : (i j : ℕ) (one other : Row) → i < j → slice_get rows i ≡ Some one → slice_get rows j ≡ Some other → row_key one ≢ row_key other
   pub just : (row : Row) → Contains rows row ↔ IsPartRow history n table range period part row

@@ -1,4 +1,4 @@
-//! Tables as of any count of events.
+//! A history that is queried as of any number of its events.
 
 ghost use Rattle.std.specs.Prelude.{ℕ, All, ◌≡◌, ◌↔◌, ◌+◌, ◌*◌, ◌/◌, ◌<◌, ◌≤◌, ◌∷◌, ◌++◌, [], IsTrue, IfOk, OnOk, OnErr, if◌then◌else◌, length, map, min};
 ghost use Rattle.tq_base.specs.declared.period.TheConstants.{FOREVER};
@@ -6,13 +6,13 @@ ghost use Rattle.tq_event.specs.History.{CanHappen, IsAdmissible, IsHistory, IsN
 ghost use Rattle.tq_event.specs.Recorded.{HasTable};
 ghost use Rattle.tq_event.specs.Versions.{version_at};
 ghost use Rattle.tq_scan.specs.Windows.{whole_of};
-ghost use Rattle.tq_store.specs.Index.{AreIndexes, CanEnd, rows_kept};
-ghost use Rattle.tq_store.specs.Rows.{ArePartRows, HasPartRows, IsWithin, window_part};
-ghost use Rattle.tq_store.specs.Stored.{IsReadable, row_of_key, seen};
+ghost use Rattle.tq_store.specs.Index.{AreIndexes, CanEnd, stored_rows};
+ghost use Rattle.tq_store.specs.Rows.{ArePartRows, HasPartRows, IsWithin, whole_window};
+ghost use Rattle.tq_store.specs.Stored.{IsReadable, row_of_key, row_view};
 ghost use Rattle.tq_store.specs.Valid.{ArePart, width_of};
 
 use crate::index::{Index, no_indexes, take};
-use crate::read::{find_version, lines_in, make_window, read_rows};
+use crate::read::{find_version, make_window, read_rows, row_periods_of_keys};
 use crate::row::Row;
 use std::alloc::{AllocError, Global};
 use std::marker::Model;
@@ -22,7 +22,7 @@ use tq_event::{Event, can_start, is_not_before};
 use tq_mvbt::trees_tile;
 use tq_scan::{Found, Part, Window, scan, scan_unsorted};
 
-/// A history that answers as of any count of its events: a catalogue, and the events that it took, in order.
+/// A history: a catalogue, and the events that were applied, in order. It is queried as of its first n events.
 #[derive(Drop)]
 pub struct Db {
     alloc: Global,
@@ -42,7 +42,6 @@ impl Model for Db {
     ghost invariant = { λ d. IsDb d.catalogue d.events.items d.indexes.items };
 }
 
-// Whether the row is open, and started before the instant.
 fn can_end(indexes: &[Index], events: &[Event], table: u32, row: u32, at: Instant) -> bool
     requires { AreIndexes events.now indexes.now }
     ensures { IsTrue result ↔ CanEnd (length indexes.now) events.now table row at }
@@ -53,7 +52,7 @@ fn can_end(indexes: &[Index], events: &[Event], table: u32, row: u32, at: Instan
     }
 }
 
-// Whether the event may follow the events.
+// Whether the event is admissible after the events.
 fn is_admissible(catalogue: &Catalogue, events: &[Event], indexes: &[Index], event: &Event) -> bool
     requires tables { length indexes.now ≡ length catalogue.now.tables }
     requires indexes { AreIndexes events.now indexes.now }
@@ -71,7 +70,7 @@ fn is_admissible(catalogue: &Catalogue, events: &[Event], indexes: &[Index], eve
 }
 
 impl Db {
-    /// A history of no events. It keeps the allocator.
+    /// A history without events. It keeps the allocator.
     pub fn new(alloc: Global, catalogue: Catalogue) -> Result<Db, AllocError>
         ensures { IfOk result (λ db. db ≡ record { catalogue = catalogue; events = [] }) }
     {
@@ -84,7 +83,7 @@ impl Db {
         })
     }
 
-    /// How many events there are, at most 16,777,216.
+    /// The number of events, at most 16,777,216.
     pub fn count(&self) -> u32
         ensures count { result ≡ length self.now.events }
         ensures few { result ≤ 16777216 }
@@ -93,29 +92,27 @@ impl Db {
         self.events.len() as u32
     }
 
-    /// The catalogue, lent.
     pub fn catalogue(&self) -> &Catalogue
         ensures { result.now ≡ self.now.catalogue }
     {
         &self.catalogue
     }
 
-    /// The events, lent.
     pub fn events(&self) -> &[Event]
         ensures { result.now ≡ self.now.events }
     {
         self.events.as_slice()
     }
 
-    /// Whether the event may follow the events.
+    /// Whether the event is admissible after the events of the history.
     pub fn admits(&self, event: &Event) -> bool
         ensures { IsTrue result ↔ IsAdmissible self.now.catalogue self.now.events event.now }
     {
         is_admissible(&self.catalogue, &self.events, &self.indexes, event)
     }
 
-    /// Adds a copy of the event where it is admissible, and tells whether it is.
-    /// Out of memory: the history is as before.
+    /// Appends a copy of the event if it is admissible, and returns whether it is. After `AllocError` the history is
+    /// unchanged.
     pub fn apply(&mut self, event: &Event) -> Result<bool, AllocError>
         requires { length self.old.events < 16777216 }
         ensures admissible { IfOk result (λ taken. IsTrue taken ↔ IsAdmissible self.old.catalogue self.old.events event.now) }
@@ -132,7 +129,7 @@ impl Db {
         Ok(true)
     }
 
-    /// How many of the first n events are no later than the instant: the version of the tables that holds then.
+    /// The version of an instant: the number of the first n events that are no later.
     pub fn version_at(&self, n: u32, at: Instant) -> u32
         requires { n ≤ length self.now.events }
         ensures { result ≡ version_at self.now.events n at }
@@ -140,17 +137,16 @@ impl Db {
         find_version(&self.events, n, at.number())
     }
 
-    /// The keys that a tree has for rows of the range, at the versions of the period as of the first n events.
-    /// It is the same for each table.
+    /// The tree keys of the range, and the versions of the period as of the first n events. They are the same for each
+    /// table.
     pub fn window(&self, n: u32, _table: u32, range: &KeyRange, period: &Period) -> Window
         requires { n ≤ length self.now.events }
-        ensures { whole_of result ≡ window_part self.now.events n range.now period.now }
+        ensures { whole_of result ≡ whole_window self.now.events n range.now period.now }
     {
         make_window(&self.events, n, range, period)
     }
 
-    // The keys that the table's tree has for the rows of the part of the window. The meter counts the reads of nodes,
-    // at least one. Out of memory: nothing is given.
+    // The tree keys of the rows of the part of the window, in order. The meter counts reads of nodes, at least one.
     fn find(
         &self,
         n: u32,
@@ -162,9 +158,9 @@ impl Db {
     ) -> Result<Found, AllocError>
         requires known { n ≤ length self.now.events }
         requires table { table < length self.now.catalogue.tables }
-        requires inside { IsWithin (window_part self.now.events n range.now period.now) part.now }
-        ensures readable { IfOk result (λ found. All (IsReadable self.now.events (rows_kept self.now.events table)) found.keys) }
-        ensures rows { IfOk result (λ found. ArePartRows self.now.events n table range.now period.now part.now (map (row_of_key self.now.events (rows_kept self.now.events table) n) found.keys)) }
+        requires inside { IsWithin (whole_window self.now.events n range.now period.now) part.now }
+        ensures readable { IfOk result (λ found. All (IsReadable self.now.events (stored_rows self.now.events table)) found.keys) }
+        ensures rows { IfOk result (λ found. ArePartRows self.now.events n table range.now period.now part.now (map (row_of_key self.now.events (stored_rows self.now.events table) n) found.keys)) }
         ensures counted { IfOk result (λ found. min (meter.old + 1) u64.MAX ≤ meter.new) }
         ensures reads { IfOk result (λ found. period.now.end ≡ period.now.start + 1 → meter.new ≤ meter.old + 10 * (length found.keys / 5 + 2)) }
     {
@@ -176,10 +172,9 @@ impl Db {
         scan(self.alloc, &index.tree, &window, part, meter)
     }
 
-    /// The rows of the table as of the first n events whose key lies in the range and whose period overlaps the
-    /// given one, as far as their reference point lies in the part of the window; in the order of their keys, and
-    /// of their numbers where these are equal. The meter counts the reads of nodes, at least one.
-    /// Out of memory: nothing is given.
+    /// The rows of the table as of the first n events whose key lies in the range, whose period overlaps the given one,
+    /// and whose reference point lies in the part of the window. They are in the order of their keys, then of their
+    /// numbers. The meter counts reads of nodes, at least one. `AllocError` if an allocation failed.
     pub fn rows_part(
         &self,
         n: u32,
@@ -191,8 +186,8 @@ impl Db {
     ) -> Result<Vec<Row>, AllocError>
         requires known { n ≤ length self.now.events }
         requires table { table < length self.now.catalogue.tables }
-        requires inside { IsWithin (window_part self.now.events n range.now period.now) part.now }
-        ensures rows { IfOk result (λ rows. ArePartRows self.now.events n table range.now period.now part.now (map seen rows.items)) }
+        requires inside { IsWithin (whole_window self.now.events n range.now period.now) part.now }
+        ensures rows { IfOk result (λ rows. ArePartRows self.now.events n table range.now period.now part.now (map row_view rows.items)) }
         ensures counted { IfOk result (λ rows. min (meter.old + 1) u64.MAX ≤ meter.new) }
         ensures reads { IfOk result (λ rows. period.now.end ≡ period.now.start + 1 → meter.new ≤ meter.old + 10 * (length rows.items / 5 + 2)) }
     {
@@ -201,8 +196,7 @@ impl Db {
         read_rows(self.alloc, &self.events, &index.rows, found.keys.get(), n)
     }
 
-    // The keys that the table's tree has for the rows of the part of the window, in any order. Out of memory: nothing
-    // is given.
+    // The tree keys of the rows of the part of the window, in any order.
     fn find_unsorted(
         &self,
         alloc: Global,
@@ -214,18 +208,17 @@ impl Db {
     ) -> Result<Found, AllocError>
         requires known { n ≤ length self.now.events }
         requires table { table < length self.now.catalogue.tables }
-        requires inside { IsWithin (window_part self.now.events n range.now period.now) part.now }
-        ensures readable { IfOk result (λ found. All (IsReadable self.now.events (rows_kept self.now.events table)) found.keys) }
-        ensures rows { IfOk result (λ found. HasPartRows self.now.events n table range.now period.now part.now (map (row_of_key self.now.events (rows_kept self.now.events table) n) found.keys)) }
+        requires inside { IsWithin (whole_window self.now.events n range.now period.now) part.now }
+        ensures readable { IfOk result (λ found. All (IsReadable self.now.events (stored_rows self.now.events table)) found.keys) }
+        ensures rows { IfOk result (λ found. HasPartRows self.now.events n table range.now period.now part.now (map (row_of_key self.now.events (stored_rows self.now.events table) n) found.keys)) }
     {
         let window = make_window(&self.events, n, range, period);
         let index = &self.indexes[table as usize];
         scan_unsorted(alloc, &index.tree, &window, part, &mut Meter::new())
     }
 
-    // The rows of the part of the window of a table that is there, their values borrowed. Out of memory: nothing is
-    // given.
-    pub(crate) fn lines_of_part(
+    // The rows of the part of the window, with borrowed values. The table must exist.
+    pub(crate) fn row_periods_of_part(
         &self,
         alloc: Global,
         n: u32,
@@ -236,13 +229,13 @@ impl Db {
     ) -> Result<Relation<'_>, AllocError>
         requires known { n ≤ length self.now.events }
         requires table { table < length self.now.catalogue.tables }
-        requires inside { IsWithin (window_part self.now.events n range.now period.now) part.now }
+        requires inside { IsWithin (whole_window self.now.events n range.now period.now) part.now }
         ensures rows { IfOk result (λ rows. ArePart self.now.events n table range.now period.now part.now rows.items) }
         ensures width { IfOk result (λ rows. rows.width ≡ width_of self.now.catalogue table) }
     {
         let found = self.find_unsorted(alloc, n, table, range, period, part)?;
         let index = &self.indexes[table as usize];
-        let lines = lines_in(alloc, &index.rows, found.keys.get(), n, period)?;
-        Relation::of(alloc, &index.kept)?.pick(alloc, &lines)
+        let row_periods = row_periods_of_keys(alloc, &index.rows, found.keys.get(), n, period)?;
+        Relation::of(alloc, &index.kept)?.take_row_periods(alloc, &row_periods)
     }
 }

@@ -1,4 +1,4 @@
-//! A table's rows as of every count of events: a tree of their keys, the events that start and end each, and their
+//! A table's rows as of any number of events: a tree of their keys, the events that start and end each row, and their
 //! values in one list.
 
 ghost use Rattle.std.specs.Prelude.{◌≡◌, ℕ, ◌+◌, ◌^◌, ◌<◌, ◌≤◌, ◌++◌, ◌∷◌, [], true, false, length, slice_set, ◌↔◌, IsTrue, IfOk, OnOk, OnErr, None};
@@ -16,9 +16,9 @@ use tq_base::{Bound, FOREVER, Instant, Rows, Schema, Values};
 use tq_event::Event;
 use tq_mvbt::Tree;
 
-/// The numbers and times of the events that start and end a row; no number and `forever` where it has not ended.
-/// And its key, counted from the least key, so that the event that ends the row finds it in the tree without a look at
-/// its values.
+/// The numbers and times of the events that start and end a row; no number and `forever` if the row has not ended.
+/// `key` is the row's key, counted from the least key. With it, the end of the row finds the row in the tree without
+/// reading its values.
 #[derive(Clone, Copy, Debug)]
 pub struct RowEvents {
     pub start: u32,
@@ -28,8 +28,8 @@ pub struct RowEvents {
     pub key: u64,
 }
 
-/// The tree of a table, and the events of its rows and their values by the rows' numbers. The periods that `kept` has
-/// with the values are of no use: by them each row is valid from its start on, whether it ended or not.
+/// The tree of a table; and, by row number, the events of its rows and their values. Nothing reads the periods that
+/// `kept` stores with the values: each begins at the row's start and has no end.
 #[derive(Drop)]
 pub struct Index {
     pub tree: Tree,
@@ -38,7 +38,7 @@ pub struct Index {
 }
 
 impl Index {
-    /// No rows of so many values.
+    /// The index of a table without rows. Its rows have `width` values.
     pub fn new(alloc: Global, width: usize) -> Result<Index, AllocError>
         ensures index { IfOk result (λ index. (table : ℕ) → IsIndexOf [] table index) }
         ensures width { IfOk result (λ index. index.kept.width ≡ width) }
@@ -50,8 +50,8 @@ impl Index {
         })
     }
 
-    // A row of these values begins: they are appended to those of the rows before it, and its key lives from the version
-    // on. Out of memory: all is as before.
+    // Begins a row: its values are appended, and its tree key lives from the version on. After `AllocError` nothing has
+    // changed.
     fn begin(
         &mut self,
         values: &Values,
@@ -82,7 +82,7 @@ impl Index {
         }
     }
 
-    // A row of these values starts by the event of this number and time. Out of memory: all is as before.
+    // Starts a row of these values, by the event with this number and time. After `AllocError` nothing has changed.
     fn start(&mut self, number: u32, values: &Values, at: Instant) -> Result<(), AllocError>
         requires width { length values.now ≡ self.old.kept.width }
         requires later { self.old.tree.version ≤ number }
@@ -111,7 +111,8 @@ impl Index {
         Ok(())
     }
 
-    // The row, of which this is known, ends by the event of this number and time. Out of memory: all is as before.
+    // Ends the row, of which `known` is what is stored, by the event with this number and time. After `AllocError`
+    // nothing has changed.
     fn end(
         &mut self,
         number: u32,
@@ -148,7 +149,7 @@ impl Index {
 }
 
 impl Index {
-    // The event starts or ends a row of the table. Out of memory: all is as before.
+    // Applies an event of the table. After `AllocError` nothing has changed.
     fn take(&mut self, events: &[Event], event: &Event) -> Result<(), AllocError>
         requires index { IsIndexOf events.now (table_of event.now) self.old }
         requires few { length events.now < 16777216 }
@@ -168,7 +169,7 @@ impl Index {
         }
     }
 
-    /// Whether the row is open, and started before the instant.
+    /// Whether the row is open and started before the instant.
     pub fn is_open_before(&self, events: &[Event], table: u32, row: u32, at: Instant) -> bool
         requires { IsIndexOf events.now table self.now }
         ensures { IsTrue result ↔ IsOpenAt events.now table row at }
@@ -180,7 +181,7 @@ impl Index {
     }
 }
 
-// No rows of any of the tables.
+// Indexes of tables without rows.
 pub(crate) fn no_indexes(alloc: Global, tables: &[Schema]) -> Result<Vec<Index>, AllocError>
     ensures indexes { IfOk result (λ indexes. AreIndexes [] indexes.items) }
     ensures len { IfOk result (λ indexes. length indexes.items ≡ length tables.now) }
@@ -193,7 +194,7 @@ pub(crate) fn no_indexes(alloc: Global, tables: &[Schema]) -> Result<Vec<Index>,
     Ok(indexes)
 }
 
-// The rows of each table after the event. Out of memory: all is as before.
+// Applies the event to the index of its table. After `AllocError` nothing has changed.
 pub(crate) fn take(
     indexes: &mut Vec<Index>,
     events: &[Event],

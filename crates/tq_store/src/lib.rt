@@ -1,9 +1,11 @@
-//! Tables as of any count of events.
+//! The store: a history of events, whose tables are queried as of any number of its events.
 //!
-//! A `Db` is a history: a catalogue and the events that it took, each where it was admissible. It answers what
-//! the rows of a table were as of its first n events, over a range of keys and a period of time, without a look
-//! at other rows: for each table it keeps a multiversion tree of its rows' keys, whose versions are the counts
-//! of events, and for each row the events that start and end it.
+//! A `Db` is a catalogue and the admissible events that were applied. For each table it keeps a multiversion tree of
+//! its rows' keys, whose versions are numbers of events, and for each row the events that start and end it. The
+//! contract of `Db::rows_part` is `ArePartRows` in `specs/Rows.antt`; that of `Db::rows_in` is `AreValidIn` in
+//! `specs/Valid.antt`.
+//!
+//! Open `src/db.rt` first, then `src/index.rt`.
 #![tactic(auto)]
 
 mod db;
@@ -18,7 +20,7 @@ mod valid;
 
 pub use db::Db;
 pub use key::{first_key, least_tree_key, shift};
-pub use laws::{parts_are_valid, rows_come_once};
+pub use laws::{parts_are_valid, rows_appear_once};
 pub use opening::open_row;
 pub use row::Row;
 pub use tq_base::KeyRange;

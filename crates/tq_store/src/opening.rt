@@ -1,4 +1,4 @@
-//! The open row of some values in a list of events.
+//! The first open row with given values, found in the events.
 
 ghost use Rattle.std.specs.Prelude.{◌≡◌, ◌≤◌, ◌<◌, ◌==◌, ◌&&◌, length};
 ghost use Rattle.tq_base.specs.declared.period.TheConstants.{FOREVER};
@@ -9,7 +9,6 @@ ghost use Rattle.tq_store.specs.Stored.{ends_row, starts_like, starts_of};
 use tq_base::{Instant, Values};
 use tq_event::Event;
 
-// Whether the event starts a row of the table.
 fn starts(event: &Event, table: u32) -> bool
     ensures { result ≡ starts_of table event.now }
 {
@@ -33,7 +32,6 @@ fn is_like(event: &Event, values: &Values, at: Instant) -> bool
     }
 }
 
-// Whether the event ends the row.
 fn ends(event: &Event, table: u32, row: u32) -> bool
     ensures ends { result ≡ ends_row table row event.now }
     ensures finite { time_of event.now < FOREVER }
@@ -49,7 +47,6 @@ fn ends(event: &Event, table: u32, row: u32) -> bool
     }
 }
 
-// Whether none of the events ends the row.
 fn is_open(events: &[Event], table: u32, row: u32) -> bool
     ensures { result ≡ (end_of table row events.now == FOREVER) }
 {
@@ -61,15 +58,15 @@ fn is_open(events: &[Event], table: u32, row: u32) -> bool
     true
 }
 
-// Whether the event starts a row of these values before the instant, and no later one ends the row.
+// Whether the event starts a row of these values before the instant, and no later event ends it.
 fn opens(event: &Event, later: &[Event], table: u32, row: u32, values: &Values, at: Instant) -> bool
     ensures { result ≡ (starts_like values.now at event.now && end_of table row later.now == FOREVER) }
 {
     is_like(event, values, at) && is_open(later, table, row)
 }
 
-/// The number of the table's first row of these values that is open by all of the events and started before the
-/// instant. It goes through the events, and for each row of these values through those until it ends.
+/// The number of the table's first row with these values that is open after all events and started before the instant.
+/// It reads all events once, and for each row with these values those up to its end.
 pub fn open_row(events: &[Event], table: u32, values: &Values, at: Instant) -> Option<u32>
     requires { length events.now ≤ 16777216 }
     ensures { result ≡ opening.open_row events.now table values.now at }

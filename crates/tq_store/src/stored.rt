@@ -1,10 +1,10 @@
-//! What the events tell of a row whose start and end they are.
+//! What is known of a row from the events that start and end it.
 
 ghost use Rattle.std.specs.Prelude.{◌≡◌, ◌<◌, slice_get, IsSomeAnd, IfOk};
 ghost use Rattle.tq_base.specs.declared.period.TheConstants.{FOREVER};
 ghost use Rattle.tq_event.specs.History.{time_of};
 ghost use Rattle.tq_event.specs.Recorded.{table_of};
-ghost use Rattle.tq_store.specs.Stored.{IsStart, IsStored, end_as_of, seen, stored_row, values_at};
+ghost use Rattle.tq_store.specs.Stored.{IsStart, IsStored, end_as_of, row_view, stored_row, values_at};
 
 use crate::index::RowEvents;
 use crate::row::Row;
@@ -12,7 +12,7 @@ use std::alloc::AllocError;
 use tq_base::{Bound, FOREVER, Instant, Period, Values};
 use tq_event::Event;
 
-// The values of the row that the event of this number starts.
+// The values of the row that the event with this number starts.
 pub(crate) fn values(events: &[Event], start: u32) -> &Values
     requires { IsSomeAnd (slice_get events.now start) IsStart }
     ensures { result.now ≡ values_at events.now start }
@@ -32,7 +32,7 @@ pub(crate) fn from_now_on(start: Instant) -> Period
     Period::new(start, Bound::new(FOREVER).unwrap()).unwrap()
 }
 
-// When the row ends by the first n events, or forever.
+// The end of the row as of the first n events, or forever.
 fn end(row: &RowEvents, n: u32) -> Bound
     ensures { result ≡ end_as_of n row.now.end row.now.to }
 {
@@ -42,7 +42,7 @@ fn end(row: &RowEvents, n: u32) -> Bound
     }
 }
 
-/// When the row is valid as of the first n events.
+/// The period of the row as of the first n events.
 pub(crate) fn period(row: &RowEvents, n: u32) -> Period
     requires { row.now.from < row.now.to }
     ensures start { result.start ≡ row.now.from }
@@ -52,7 +52,7 @@ pub(crate) fn period(row: &RowEvents, n: u32) -> Period
     Period::new(row.from, end(row, n)).unwrap()
 }
 
-// The row of this number as of the first n events.
+// The row with this number as of the first n events.
 pub(crate) fn read_row(
     events: &[Event],
     row: &RowEvents,
@@ -60,7 +60,7 @@ pub(crate) fn read_row(
     n: u32,
 ) -> Result<Row, AllocError>
     requires { IsStored events.now row.now }
-    ensures { IfOk result (λ r. seen r ≡ stored_row events.now n number row.now) }
+    ensures { IfOk result (λ r. row_view r ≡ stored_row events.now n number row.now) }
 {
     Ok(Row {
         row: number,

@@ -1,8 +1,8 @@
-pub mod LineLists
-mod AheadLemmas
-mod LentLemmas
+pub mod RowPeriodLists
+mod PrefetchLemmas
+mod BorrowLemmas
 mod WritingLemmas
-pub mod Apart
+pub mod Disjoint
 pub mod KeyGroups
 pub mod MergeLemmas
 pub mod RangeLemmas

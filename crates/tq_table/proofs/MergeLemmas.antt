@@ -18,25 +18,25 @@ use Rattle.std.proofs.lemmas.List.Sorted.{All-permutation, IsPermutation-map, Is
 use Rattle.std.proofs.lemmas.List.Sums.{sum-map, sum_by-cons}
 use Rattle.itertools.specs.KMerge.{joined_lists, SourcesGive}
 use Rattle.tq_base.specs.declared.fragment.Fragment.{Fragment}
-use Rattle.tq_base.specs.declared.sides.Key.{Key}
+use Rattle.tq_base.specs.declared.sort_input.SortKey.{SortKey}
 use Rattle.tq_base.specs.Fragments.{fragment_cmp}
-use Rattle.tq_base.specs.declared.sides.Mark.TheVariants.{Unknown}
-use Rattle.tq_base.specs.declared.sides.Side.TheVariants as side
-use Rattle.tq_base.specs.KeyLaws.{as_values, rises}
-use Rattle.tq_base.specs.Keys.{held, held_on, key_cmp, key_row, key_values, value_key_cmp, AreMarked, IsFresh, IsKey, SidesState}
+use Rattle.tq_base.specs.declared.sort_input.RunStart.TheVariants.{Unknown}
+use Rattle.tq_base.specs.declared.sort_input.Side.TheVariants as side
+use Rattle.tq_base.specs.SortKeyLaws.{as_values, rises}
+use Rattle.tq_base.specs.Keys.{held, held_on, key_cmp, key_row, key_values, value_key_cmp, HaveRunStarts, IsFresh, IsSortKey, SortInputState}
 use Rattle.tq_base.specs.RowLists.{RowList}
 use Rattle.tq_base.specs.ValueOrder.{values_cmp}
 use Rattle.tq_table.specs.Merging.{all_rows, cut_by, AreInOrder, AreOfWidth}
 use Rattle.tq_table.specs.Groups.{AreByValues}
 use Rattle.tq_table.proofs.KeyGroups.{all_whole, left_moved, rows_kept, rows_moved, AreWhole}
 
--- rows that are so wide and so wide are one width, if there is one
+-- rows that have both widths have one width, if there are rows
 pub one_width : (rows : List Fragment) (a b : ℕ) → All (λ (row : Fragment). length row.values ≡ a) rows → All (λ (row : Fragment). length row.values ≡ b) rows → 0 < length rows → a ≡ b
 one_width [] a b of_a of_b some = absurd (omega (arith, some))
 one_width (row ∷ rows) a b of_a of_b some =
     sym (All-head (λ (r : Fragment). length r.values ≡ a) row rows of_a) ∙ All-head (λ (r : Fragment). length r.values ≡ b) row rows of_b
 
--- what holds of each holds of the one in the middle
+-- what holds of all holds of the one in the middle
 pub middle_holds : {A : Type 0} (P : A → Type 0) (front : List A) (x : A) (rest : List A) → All P (front ++ x ∷ rest) → P x
 middle_holds P [] x rest all = All-head P x rest all
 middle_holds P (y ∷ front) x rest all = middle_holds P front x rest (All-tail P y (front ++ x ∷ rest) all)
@@ -45,7 +45,7 @@ middle_holds P (y ∷ front) x rest all = middle_holds P front x rest (All-tail 
 pub of_same_width : (rows : RowList) (width other : ℕ) → other ≡ width → AreOfWidth width rows → AreOfWidth other rows
 of_same_width rows width other same of = subst (λ w. AreOfWidth w rows) (sym same) of
 
--- the rows of one list more
+-- the rows of one more list
 pub all_and_next : (lists : List RowList) (next : RowList) → all_rows (lists ++ next ∷ []) ≡ all_rows lists ++ next.items
 all_and_next lists next =
     flat_map-append (λ (rows : RowList). rows.items) lists (next ∷ [])
@@ -56,14 +56,14 @@ all_and_next lists next =
 abbrev pub len_of : RowList → ℕ
 len_of rows = length rows.items
 
--- a mapped list is cut into mapped lists
+-- cutting a mapped list gives mapped lists
 pub cut-map : {A B : Type 0} (f : A → B) (lens : List ℕ) (xs : List A) → cut_by lens (map f xs) ≡ map (map f) (cut_by lens xs)
 cut-map f [] xs = refl
 cut-map f (len ∷ lens) xs =
     ap (λ l. l ∷ cut_by lens (drop len (map f xs))) (take-map f len xs)
     ∙ ap (λ l. map f (take len xs) ∷ l) (ap (cut_by lens) (drop-map f len xs) ∙ cut-map f lens (drop len xs))
 
--- one list more is cut off
+-- one more list is cut off
 pub cut_next : {A : Type 0} (made whole : List (List A)) (lens : List ℕ) (xs list : List A) (i start n : ℕ) → i < length lens → n ≡ min (get_or lens i 0) (length xs - start) → list ≡ take (start + n - start) (drop start xs)
     → made ++ cut_by (drop i lens) (drop start xs) ≡ whole → (made ++ list ∷ []) ++ cut_by (drop (i + 1) lens) (drop (start + n) xs) ≡ whole
 cut_next made whole lens xs list i start n less n_is list_is cut =
@@ -82,7 +82,7 @@ cut_next made whole lens xs list i start n less n_is list_is cut =
 sum-cons : (n : ℕ) (ns : List ℕ) → sum (n ∷ ns) ≡ n + sum ns
 sum-cons n ns = ap sum (sym (map-id (n ∷ ns))) ∙ sum-map (λ m. m) (n ∷ ns) ∙ sum_by-cons (λ m. m) n ns ∙ ap (λ m. n + m) (sym (sum-map (λ m. m) ns) ∙ ap sum (map-id ns))
 
--- what is cut, put together
+-- the cut lists, concatenated
 pub cut-joined : {A : Type 0} (lens : List ℕ) (xs : List A) → joined_lists (cut_by lens xs) ≡ take (sum lens) xs
 cut-joined [] xs = refl
 cut-joined (len ∷ lens) xs =
@@ -90,7 +90,7 @@ cut-joined (len ∷ lens) xs =
     ∙ ap (λ l. take len xs ++ l) (cut-joined lens (drop len xs))
     ∙ sym (ap (λ n. take n xs) (sum-cons len lens) ∙ take-add len (sum lens) xs)
 
--- the rows of lists, cut by the lengths of the lists, are the lists
+-- all rows, cut by the lengths of the lists, are the lists
 pub cut_lists : (lists : List RowList) → cut_by (map len_of lists) (all_rows lists) ≡ map (λ (rows : RowList). rows.items) lists
 cut_lists [] = refl
 cut_lists (rows ∷ lists) =
@@ -98,11 +98,11 @@ cut_lists (rows ∷ lists) =
     ∙ ap (λ l. l ∷ cut_by (map len_of lists) (drop (length rows.items) (rows.items ++ all_rows lists))) (take-append_seam rows.items (all_rows lists))
     ∙ ap (λ l. rows.items ∷ l) (ap (cut_by (map len_of lists)) (drop-append_seam rows.items (all_rows lists)) ∙ cut_lists lists)
 
--- the lengths sum up to that of all rows
+-- the sum of the lengths is the number of all rows
 pub lens_sum : (lists : List RowList) → sum (map len_of lists) ≡ length (all_rows lists)
 lens_sum lists = sum-map len_of lists ∙ sym (length-flat_map (λ (rows : RowList). rows.items) lists)
 
--- the lists that are cut are in order where the lists were
+-- the cut lists are in order if the lists are
 pub cut_in_order : (lists : List RowList) → All AreInOrder lists → All (IsSorted fragment_cmp) (cut_by (map len_of lists) (all_rows lists))
 cut_in_order lists are = subst (All (IsSorted fragment_cmp)) (sym (cut_lists lists)) (All-map (IsSorted fragment_cmp) (λ (rows : RowList). rows.items) lists are)
 
@@ -113,8 +113,8 @@ not_less_then Less e not_less = not_less
 not_less_then Equal e not_less = refl
 not_less_then Greater e not_less = refl
 
-module _ (s : SidesState) where
-  not_below : (a b : Key) → IsKey s a → IsKey s b → key_values s a ≡ (key_row s a).values → key_values s b ≡ (key_row s b).values
+module _ (s : SortInputState) where
+  not_below : (a b : SortKey) → IsSortKey s a → IsSortKey s b → key_values s a ≡ (key_row s a).values → key_values s b ≡ (key_row s b).values
       → is_lt (fragment_cmp (key_row s b) (key_row s a)) ≡ false → is_lt (key_cmp s b a) ≡ false
   not_below a b a_is b_is a_whole b_whole not_less =
       let values : value_key_cmp s b a ≡ values_cmp (key_row s b).values (key_row s a).values =
@@ -126,7 +126,7 @@ module _ (s : SidesState) where
       ap is_lt same
       ∙ not_less_then (ordering_then (values_cmp (key_row s b).values (key_row s a).values) (nat_cmp (key_row s b).period.start (key_row s a).period.start)) (nat_cmp (key_row s b).period.end (key_row s a).period.end) not_less
 
-  keys_sorted : (keys : List Key) → All (IsKey s) keys → AreWhole s keys → IsSorted fragment_cmp (map (key_row s) keys) → IsSorted (key_cmp s) keys
+  keys_sorted : (keys : List SortKey) → All (IsSortKey s) keys → AreWhole s keys → IsSorted fragment_cmp (map (key_row s) keys) → IsSorted (key_cmp s) keys
   keys_sorted keys are whole sorted k d low high =
       let long = length-map keys (key_row s) in
       let here = get_or-map (key_row s) keys k d (key_row s d) (omega (arith, high)) in
@@ -134,26 +134,26 @@ module _ (s : SidesState) where
       not_below (get_or keys k d) (get_or keys (k + 1) d) (are k d (omega (arith, high))) (are (k + 1) d high) (whole k d (omega (arith, high))) (whole (k + 1) d high)
       (rw (here, next) at (sorted k (key_row s d) low (omega (arith, long, high))))
 
-  -- keys are cut into lists in order where their rows are
-  pub cut_keys_sorted : (lens : List ℕ) (keys : List Key) → All (IsKey s) keys → AreWhole s keys → All (IsSorted fragment_cmp) (map (map (key_row s)) (cut_by lens keys)) → All (IsSorted (key_cmp s)) (cut_by lens keys)
+  -- the cut lists of keys are in order if those of their rows are
+  pub cut_keys_sorted : (lens : List ℕ) (keys : List SortKey) → All (IsSortKey s) keys → AreWhole s keys → All (IsSorted fragment_cmp) (map (map (key_row s)) (cut_by lens keys)) → All (IsSorted (key_cmp s)) (cut_by lens keys)
   cut_keys_sorted [] keys are whole sorted = All-nil (IsSorted (key_cmp s))
   cut_keys_sorted (len ∷ lens) keys are whole sorted =
-      let Whole : Key → Type 0 = λ k. key_values s k ≡ (key_row s k).values in
+      let Whole : SortKey → Type 0 = λ k. key_values s k ≡ (key_row s k).values in
       let first = All-head (IsSorted fragment_cmp) (map (key_row s) (take len keys)) (map (map (key_row s)) (cut_by lens (drop len keys))) sorted in
       let others = All-tail (IsSorted fragment_cmp) (map (key_row s) (take len keys)) (map (map (key_row s)) (cut_by lens (drop len keys))) sorted in
       All-cons (IsSorted (key_cmp s)) (take len keys) (cut_by lens (drop len keys))
-      (keys_sorted (take len keys) (All-take (IsKey s) len keys are) (All-take Whole len keys whole) first)
-      (cut_keys_sorted lens (drop len keys) (All-drop (IsKey s) len keys are) (All-drop Whole len keys whole) others)
+      (keys_sorted (take len keys) (All-take (IsSortKey s) len keys are) (All-take Whole len keys whole) first)
+      (cut_keys_sorted lens (drop len keys) (All-drop (IsSortKey s) len keys are) (All-drop Whole len keys whole) others)
 
-marked_none : (s : SidesState) (keys : List Key) → All (IsFresh s) keys → AreMarked s keys
+marked_none : (s : SortInputState) (keys : List SortKey) → All (IsFresh s) keys → HaveRunStarts s keys
 marked_none s keys fresh i d less =
-    let unmarked : (get_or keys (i + 1) d).mark ≡ Unknown = (fresh (i + 1) d less).unmarked in
+    let without_run_start : (get_or keys (i + 1) d).run_start ≡ Unknown = (fresh (i + 1) d less).without_run_start in
     (λ begins. cc, λ goes_on. cc)
 
--- what is gathered of rows that are lists in order
-module _ (s : SidesState) (width : ℕ) (keys : List Key) (columns : s.left_columns ≡ range_with_len 0 width) (wide : All (λ (f : Fragment). length f.values ≡ width) s.left)
+-- keys that are collected from rows that are ordered lists
+module _ (s : SortInputState) (width : ℕ) (keys : List SortKey) (columns : s.left_columns ≡ range_with_len 0 width) (wide : All (λ (f : Fragment). length f.values ≡ width) s.left)
     (are : map (held s) keys ≡ held_on side.Left s.left) (fresh : All (IsFresh s) keys) where
-  are_keys : All (IsKey s) keys
+  are_keys : All (IsSortKey s) keys
   are_keys i d less = (fresh i d less).key
 
   are_whole : AreWhole s keys
@@ -165,28 +165,28 @@ module _ (s : SidesState) (width : ℕ) (keys : List Key) (columns : s.left_colu
       cut_keys_sorted s lens keys are_keys are_whole
       (subst (All (IsSorted fragment_cmp)) (ap (cut_by lens) (sym (rows_kept s keys s.left are)) ∙ cut-map (key_row s) lens keys) sorted)
 
-  -- they put together are all keys
+  -- their concatenation is the list of all keys
   pub gathered_joined : (lens : List ℕ) → sum lens ≡ length s.left → joined_lists (cut_by lens keys) ≡ keys
   gathered_joined lens whole =
       let many : length keys ≡ length s.left = sym (length-map keys (key_row s)) ∙ ap length (rows_kept s keys s.left are) in
       cut-joined lens keys ∙ take_all (sum lens) keys (omega (arith, many, whole))
 
-  -- the same keys in order are by values
-  pub gathered_by_values : (merged : List Key) → IsPermutation keys merged → IsSorted (key_cmp s) merged → AreByValues s merged
+  -- a sorted permutation of the keys is ordered by values
+  pub gathered_by_values : (merged : List SortKey) → IsPermutation keys merged → IsSorted (key_cmp s) merged → AreByValues s merged
   gathered_by_values merged same sorted =
       let moved : IsPermutation (held_on side.Left s.left) (map (held s) merged) = subst (λ l. IsPermutation l (map (held s) merged)) are (IsPermutation-map (held s) keys merged same) in
-      let keys_are : All (IsKey s) merged = All-permutation (IsKey s) keys merged same are_keys in
+      let keys_are : All (IsSortKey s) merged = All-permutation (IsSortKey s) keys merged same are_keys in
       record {
         rows = rows_moved s merged s.left moved;
         left = left_moved s merged s.left moved;
         keys_are = keys_are;
-        marks = marked_none s merged (All-permutation (IsFresh s) keys merged same fresh);
+        run_starts = marked_none s merged (All-permutation (IsFresh s) keys merged same fresh);
         rises = rises s merged sorted keys_are;
       }
 
--- ---- what lists give to a merge
+-- ---- the input of a merge
 
--- each list gives its items
+-- each list yields its items
 pub lists_give : {A Z : Type 0} (gives : Vec A → IntoIter A Z → Type 0)
     → ((list : Vec A) (it : IntoIter A Z) → gives list it → (into_iter_items it ≡ list.items) × (into_iter_len it ≡ length list.items))
     → (lists : List (Vec A)) → SourcesGive gives (into_iter_steps {X = A} {Z = Z}) lists (map (λ (list : Vec A). list.items) lists)
@@ -194,11 +194,11 @@ lists_give gives are [] = tt
 lists_give gives are (list ∷ lists) =
     (λ it given. let is = are list it given in (YieldsList-from_vec {s = it} list.items is.0 is.1).runs, lists_give gives are lists)
 
--- what a merge gave is all of it
+-- a merge that has ended yielded everything
 pub all_gave : {A : Type 0} (joined all given rest : List A) → joined ≡ all → rest ≡ [] → IsPermutation joined (given ++ rest) → IsPermutation all given
 all_gave joined all given rest is none same =
     subst (λ l. IsPermutation l given) is (subst (IsPermutation joined) (ap (λ l. given ++ l) none ∙ append-nil given) same)
 
 -- the same keys
-pub is_by_values : (s : SidesState) (keys given : List Key) → keys ≡ given → AreByValues s given → AreByValues s keys
+pub is_by_values : (s : SortInputState) (keys given : List SortKey) → keys ≡ given → AreByValues s given → AreByValues s keys
 is_by_values s keys given is are = subst (AreByValues s) (sym is) are

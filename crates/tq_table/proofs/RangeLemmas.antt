@@ -1,4 +1,4 @@
--- Rows in order, and rows below others.
+-- Rows in order, and rows that are below others.
 use Rattle.std.proofs.Common.{◌≡◌, ◌∙◌, ◌<◌, ◌≤◌, ◌-◌, ◌++◌, ◌∷◌, ℕ, true, false, List, [], ap, arith, get_or, length, refl, subst, sym}
 use Rattle.std.proofs.lemmas.List.{get_or_default}
 use Rattle.std.specs.Prelude.{IsSorted}
@@ -30,12 +30,12 @@ not_above f g not_less greater =
     let is : is_lt (fragment_cmp g f) ≡ true = ap (λ r. is_lt (ordering_then (ordering_then r (nat_cmp g.period.start f.period.start)) (nat_cmp g.period.end f.period.end))) less in
     cc
 
--- of rows in order none is above a later one
+-- in a sorted list no row is above a later one
 rises : (rows : List Fragment) → IsSorted fragment_cmp rows → (i j : ℕ) (d : Fragment) → i ≤ j → j < length rows → NotAbove (get_or rows i d).values (get_or rows j d).values
 rises rows sorted i j d before within =
     not_above (get_or rows i d) (get_or rows j d) (sorted_far (λ x y. is_lt (fragment_cmp x y)) (ranks_by fragment_total (λ x. x)) rows sorted i j d before within)
 
--- where the last row is below the first of the others, all are below all of them
+-- if the last row is below the first of the others, all are below all of them
 pub all_below : (rows others : List Fragment) (d : Fragment) → IsSorted fragment_cmp rows → IsSorted fragment_cmp others → Below (get_or rows (length rows - 1) d).values (get_or others 0 d).values → AreBelow rows others
 all_below rows others d ordered others_ordered below k e less j f within =
     not_above_below (get_or rows k e).values last (get_or others j f).values
@@ -48,7 +48,7 @@ all_below rows others d ordered others_ordered below k e less j f within =
 
 -- ---- values
 
--- lists that begin alike are ordered by what comes first behind that
+-- two lists with the same first values are ordered by the first values after these
 pub below_at : (front xs ys : List Value) (x y : Value) → value_cmp x y ≡ Less → Below (front ++ x ∷ xs) (front ++ y ∷ ys)
 below_at [] xs ys x y less = ap (λ r. ordering_then r (values_cmp xs ys)) less
 below_at (v ∷ front) xs ys x y less =

@@ -1,4 +1,4 @@
--- One more field of a line that is being written.
+-- One more field of a line.
 use Rattle.std.proofs.Common.{◌≡◌, ◌==◌, ◌∙◌, ◌<◌, ◌+◌, ◌++◌, ◌∷◌, [], ℕ, Bool, true, false, List, None, Option, Some, Vec, Global, ap, append_assoc, arith, length, length-append, refl, sym}
 use Rattle.std.proofs.lemmas.List.{append-nil}
 use Rattle.std.proofs.lemmas.Bool.{eq-eqb, eqb-false, eqb-true, ne_eqb}
@@ -10,19 +10,19 @@ use Rattle.csv.proofs.WriteFacts.{blank-more, row-more}
 use Rattle.tq_table.specs.Text.{answer_format}
 use Rattle.tq_table.specs.Writing.{HasWritten, IsWriting}
 
--- a number that is bounded from above is a lesser one just where it was that before
+-- a number with an upper bound is less than another exactly if it was before the bound was applied
 same-number : (n k : ℕ) → k < 18446744073709551615 → (min n 18446744073709551615 == k) ≡ (n == k)
 same-number n k less = go (n == k) refl where
   go : (b : Bool) → (n == k) ≡ b → (min n 18446744073709551615 == k) ≡ b
   go true is = eq-eqb (min n 18446744073709551615) k (omega (arith, eqb-true n k is))
   go false is = ne_eqb (min n 18446744073709551615) k (λ q. eqb-false n k is (omega (arith, q)))
 
--- the bytes that there are
+-- the existing bytes
 held : Option (List ℕ) → List ℕ
 held None = []
 held (Some bytes) = bytes
 
--- behind whole lines no field of a next one is written
+-- after whole lines, no field of the next line is written yet
 pub no-fields : (writer : Writer (Vec ℕ Global)) (text : List ℕ) → HasWritten writer text → IsWriting writer text []
 unfolding is_blank
 no-fields writer text is = record {

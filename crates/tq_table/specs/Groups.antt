@@ -1,25 +1,26 @@
--- Groups of rows of equal values: the keys in whose order they come, and their lines. This project's own.
+-- Groups of rows with equal values: the order of their keys, and the rows with periods that are made of them. This
+-- project's own.
 use Rattle.std.specs.Prelude.{◌≡◌, ℕ, List, [], ◌∷◌, All, IsPermutation, map}
 use Rattle.tq_base.specs.declared.period.Period.{Period}
-use Rattle.tq_base.specs.declared.relation.Line.{Line}
-use Rattle.tq_base.specs.declared.sides.Key.{Key}
-use Rattle.tq_base.specs.declared.sides.Side.TheVariants as side
-use Rattle.tq_base.specs.Keys.{key_row, AreMarked, IsKey, Rises, SidesState}
+use Rattle.tq_base.specs.declared.relation.RowPeriod.{RowPeriod}
+use Rattle.tq_base.specs.declared.sort_input.SortKey.{SortKey}
+use Rattle.tq_base.specs.declared.sort_input.Side.TheVariants as side
+use Rattle.tq_base.specs.Keys.{key_row, HaveRunStarts, IsSortKey, Rises, SortInputState}
 
--- one key for each row of the left, in the order of their values
-pub record AreByValues (s : SidesState) (keys : List Key) : Type 0 where
+-- one key for each row of the left, ordered by their values
+pub record AreByValues (s : SortInputState) (keys : List SortKey) : Type 0 where
   pub rows : IsPermutation s.left (map (key_row s) keys)
   pub left : All (λ k. k.side ≡ side.Left) keys
-  pub keys_are : All (IsKey s) keys
-  pub marks : AreMarked s keys
+  pub keys_are : All (IsSortKey s) keys
+  pub run_starts : HaveRunStarts s keys
   pub rises : Rises s keys
 
--- a line of the row at the period
-abbrev pub line_at : ℕ → Period → Line
-line_at row period = record { row = row; period = period }
+-- the row with this number, valid in the period
+abbrev pub row_period_at : ℕ → Period → RowPeriod
+row_period_at row period = record { row = row; period = period }
 
--- the lines of rows of these numbers, each at the period in its place
-unfoldable pub lines_in : List ℕ → List Period → List Line
-lines_in [] periods = []
-lines_in (row ∷ rows) [] = []
-lines_in (row ∷ rows) (period ∷ periods) = line_at row period ∷ lines_in rows periods
+-- the rows with these numbers, each valid in the period at its place
+unfoldable pub row_periods_in : List ℕ → List Period → List RowPeriod
+row_periods_in [] periods = []
+row_periods_in (row ∷ rows) [] = []
+row_periods_in (row ∷ rows) (period ∷ periods) = row_period_at row period ∷ row_periods_in rows periods

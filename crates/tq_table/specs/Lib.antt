@@ -1,5 +1,5 @@
-pub mod Ahead
-pub mod Apart
+pub mod Prefetching
+pub mod Disjoint
 pub mod Groups
 pub mod Sink
 pub mod Text

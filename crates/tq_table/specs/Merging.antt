@@ -5,7 +5,7 @@ use Rattle.tq_base.specs.declared.fragment.Fragment.{Fragment}
 use Rattle.tq_base.specs.Fragments.{fragment_cmp}
 use Rattle.tq_base.specs.RowLists.{RowList}
 
--- each row has so many values
+-- each row has `width` values
 abbrev pub AreOfWidth : ℕ → RowList → Type 0
 AreOfWidth width rows = All (λ (row : Fragment). length row.values ≡ width) rows.items
 

@@ -1,4 +1,4 @@
--- What a `csv` writer over a vector has written.
+-- What a `csv` writer over a vector has written so far.
 use Rattle.std.specs.Prelude.{◌≡◌, ◌==◌, ◌&&◌, ◌||◌, ◌^◌, ◌-◌, ◌++◌, ℕ, List, false, length, map, min, not, Some}
 use Rattle.std.specs.Borrow.{Bor}
 use Rattle.std.specs.Global.{Vec}
@@ -7,18 +7,18 @@ use Rattle.csv.specs.declared.writer.Writer.{Writer}
 use Rattle.tq_base.specs.declared.value.Value.{Value}
 use Rattle.tq_table.specs.Text.{answer_format}
 
--- the values that are lent
+-- the borrowed values
 abbrev pub borrowed : List (Bor Value) → List Value
 borrowed values = map (λ (v : Bor Value). v.now) values
 
--- the writer has written whole lines, of this text, in the format of answers
+-- the writer has written whole lines in the format of answers, with this text
 pub record HasWritten (writer : Writer (Vec ℕ)) (text : List ℕ) : Type 0 where
   pub written : text_written (λ v. Some v.items) writer ≡ Some text
   pub setup : writer_setup writer ≡ answer_format
   pub fields : fields_written writer ≡ 0
   pub begun : has_written writer ≡ false
 
--- the writer has written whole lines, of this text, and then these fields of a line
+-- the writer has written whole lines with this text, and then these fields of one more line
 pub record IsWriting (writer : Writer (Vec ℕ)) (text : List ℕ) (fields : List (List ℕ)) : Type 0 where
   pub written : text_written (λ v. Some v.items) writer ≡ Some (text ++ row_body answer_format fields)
   pub setup : writer_setup writer ≡ answer_format

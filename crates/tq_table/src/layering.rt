@@ -1,4 +1,4 @@
-// The layering of periods: a sweep over their starts and ends.
+// Layering of periods by a sweep over their starts and ends.
 
 ghost use Rattle.std.specs.Prelude.{◌≡◌, ◌≢◌, ◌<◌, ◌≤◌, length, slice_index, map, IfOk, IsSorted, IsPermutation, vec_len};
 ghost use Rattle.std.specs.Bool.{OnTrue, OnFalse};
@@ -8,7 +8,6 @@ ghost use Rattle.tq_base.specs.Layering.{IsLayering, period_cmp};
 use std::alloc::{AllocError, Global};
 use tq_base::{Bound, Instant, Period};
 
-// The starts of the periods, in order.
 fn starts_of(alloc: Global, periods: &[Period]) -> Result<Vec<Instant>, AllocError>
     ensures same { IfOk result (λ v. IsPermutation (map (λ p. p.start) periods.now) v.items) }
     ensures sorted { IfOk result (λ v. IsSorted nat_cmp v.items) }
@@ -18,7 +17,6 @@ fn starts_of(alloc: Global, periods: &[Period]) -> Result<Vec<Instant>, AllocErr
     Ok(starts)
 }
 
-// The ends of the periods, in order.
 fn ends_of(alloc: Global, periods: &[Period]) -> Result<Vec<Bound>, AllocError>
     ensures same { IfOk result (λ v. IsPermutation (map (λ p. p.end) periods.now) v.items) }
     ensures sorted { IfOk result (λ v. IsSorted nat_cmp v.items) }
@@ -40,7 +38,7 @@ fn begins_before(starts: &[Instant], next: usize, end: Bound) -> bool
     }
 }
 
-// Whether there is a start at the place, and it is the end.
+// Whether there is a start at the place, and it equals the end.
 fn begins_at(starts: &[Instant], next: usize, end: Bound) -> bool
     ensures yes { OnTrue result ((next < length starts.now) × (slice_index starts.now next ≡ end)) }
     ensures no { OnFalse result (next < length starts.now → slice_index starts.now next ≢ end) }
@@ -51,8 +49,8 @@ fn begins_at(starts: &[Instant], next: usize, end: Bound) -> bool
     }
 }
 
-/// The periods, layered: nested and in order, and as many hold each instant. A start and an end at
-/// the same instant cancel each other; an end otherwise closes the newest open start.
+/// The layers of the periods: nested periods, in order, that hold each instant as often. A start and an end at the same
+/// instant cancel each other; every other end closes the newest open start. `AllocError` if an allocation failed.
 pub fn layered(alloc: Global, periods: &[Period]) -> Result<Vec<Period>, AllocError>
     ensures layering { IfOk result (λ made. IsLayering periods.now made.items) }
     ensures in_order { IfOk result (λ made. IsSorted period_cmp made.items) }
@@ -63,7 +61,7 @@ pub fn layered(alloc: Global, periods: &[Period]) -> Result<Vec<Period>, AllocEr
     Ok(made)
 }
 
-// The same, in order of the ends.
+// The same, in the order of the ends.
 fn unordered(alloc: Global, periods: &[Period]) -> Result<Vec<Period>, AllocError>
     ensures layering { IfOk result (λ made. IsLayering periods.now made.items) }
     ensures no_more { IfOk result (λ made. vec_len made ≤ length periods.now) }

@@ -1,27 +1,27 @@
-//! Tables as answers give them: coalescing, the text of a table, and the way out.
+//! Coalescing of rows, the text of a table, and its output.
 //!
-//! `coalesce` makes of any rows the layers of their copies: the one ordered, coalesced table with
-//! the same rows valid, duplicates counted, at each instant. It sorts keys of the rows, and gives
-//! `Lines`: rows by number, each with a period, so that no value is moved. `merge` makes the layers
-//! of several lists that are in order, without sorting their rows again. Bytes go to a writer through
-//! a `Sink`, which counts the calls that failed and never tries one again; after `Sink::send` the writer
-//! has all of the bytes, or a prefix and one more failure.
+//! `coalesce` makes the layers of any rows: the one ordered, coalesced table in which each row is valid as often as in
+//! the input at each instant (`IsLayers` of `tq_base`). `merge` does the same for several ordered lists and does not
+//! sort their rows again. `table_text` writes a table as CSV (`text_of` in `specs/Text.antt`). `Sink::send` writes
+//! bytes to a writer: all of them, or a prefix and one counted failure.
+//!
+//! Open `src/coalescing.rt` first.
 #![tactic(auto)]
 
 mod coalescing;
 mod layering;
-mod line_list;
 mod lines;
 mod merging;
-mod periods_ahead;
+mod prefetched_periods;
 mod ranges;
+mod row_period_list;
 mod sending;
 mod sink;
 mod table;
 mod text;
 
 pub use coalescing::coalesce;
-pub use lines::Lines;
+pub use lines::ResultRows;
 pub use merging::{chained, merge};
 pub use ranges::is_below;
 pub use sink::{Sink, WriteFault};

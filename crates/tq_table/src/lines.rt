@@ -1,4 +1,4 @@
-// Lines: the rows of an answer, in their order.
+// The rows of an answer, in their order.
 
 ghost use Rattle.std.specs.Prelude.{◌≡◌, ◌<◌, All, IfOk, length, slice_index_or};
 ghost use Rattle.tq_base.specs.declared.fragment.Fragment.{Fragment};
@@ -8,13 +8,13 @@ use std::alloc::{AllocError, Global};
 use std::marker::Model;
 use tq_base::{Period, Relation, Row, Rows};
 
-/// Rows with a period each, whose values stand where they stood; seen as their list.
+/// The rows of an answer, as a relation whose values stay where they are stored. Contracts see the list of rows.
 #[derive(Drop, Debug)]
-pub struct Lines<'a> {
+pub struct ResultRows<'a> {
     rows: Relation<'a>,
 }
 
-impl<'a> Model for Lines<'a> {
+impl<'a> Model for ResultRows<'a> {
     ghost use Rattle.std.specs.Prelude.{List};
     ghost use Rattle.tq_base.specs.declared.fragment.Fragment.{Fragment};
 
@@ -23,36 +23,36 @@ impl<'a> Model for Lines<'a> {
     ghost view = { λ l. l.rows.items };
 }
 
-impl<'a> Lines<'a> {
-    /// The rows as they stand.
-    pub fn of(rows: Relation<'a>) -> Lines<'a>
+impl<'a> ResultRows<'a> {
+    /// The rows of the relation.
+    pub fn of(rows: Relation<'a>) -> ResultRows<'a>
         ensures { result ≡ rows.entry.items }
     {
-        Lines { rows }
+        ResultRows { rows }
     }
 
-    /// How many lines there are.
+    /// The number of rows.
     pub fn len(&self) -> usize
         ensures { result ≡ length self.now }
     {
         self.rows.len()
     }
 
-    /// How many values each line has.
+    /// The number of values in each row.
     pub(crate) fn width(&self) -> usize
         ensures { All (λ (row : Fragment). length row.values ≡ result) self.now }
     {
         self.rows.width()
     }
 
-    /// The values of the line, none where there is no such line.
+    /// The values of the row; none if there is no such row.
     pub fn row(&self, line: usize) -> Row<'_>
         ensures { result ≡ values_at_number self.now line }
     {
         self.rows.row(line)
     }
 
-    /// When the line is valid.
+    /// The period of the row.
     pub fn period(&self, line: usize) -> Period
         requires { line < length self.now }
         ensures { (d : Fragment) → result ≡ (slice_index_or self.now line d).period }
@@ -60,19 +60,19 @@ impl<'a> Lines<'a> {
         self.rows.period(line)
     }
 
-    /// The lines as rows of their own, their values copied. `AllocError` where a growth was refused.
+    /// A copy of the rows with their values. `AllocError` if an allocation failed.
     pub fn copied(&self, alloc: Global) -> Result<Rows, AllocError>
         ensures { IfOk result (λ rows. rows.items ≡ self.now) }
     {
         self.rows.copied(alloc)
     }
 
-    /// The same lines, their values copied, so that nothing is lent. `AllocError` where a growth was refused.
-    pub fn detached<'b>(&self, alloc: Global) -> Result<Lines<'b>, AllocError>
+    /// A copy that owns its values. `AllocError` if an allocation failed.
+    pub fn to_owned<'b>(&self, alloc: Global) -> Result<ResultRows<'b>, AllocError>
         ensures { IfOk result (λ lines. lines ≡ self.now) }
     {
-        Ok(Lines {
-            rows: self.rows.detached(alloc)?,
+        Ok(ResultRows {
+            rows: self.rows.to_owned(alloc)?,
         })
     }
 }

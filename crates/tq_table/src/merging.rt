@@ -1,27 +1,27 @@
-// Merging: the layers of several lists of rows together.
+// Merging: the layers of several ordered lists of rows.
 
 ghost use Rattle.std.specs.Prelude.{◌≡◌, ◌<◌, ◌++◌, All, IfOk, IsSorted, List, length, map};
 ghost use Rattle.std.specs.Global.{Vec};
 ghost use Rattle.std.specs.List.{range_with_len, sum};
 ghost use Rattle.tq_base.specs.declared.fragment.Fragment.{Fragment};
-ghost use Rattle.tq_base.specs.declared.sides.Key.{Key};
+ghost use Rattle.tq_base.specs.declared.sort_input.SortKey.{SortKey};
 ghost use Rattle.tq_base.specs.Fragments.{copies, fragment_cmp};
-ghost use Rattle.tq_base.specs.KeySides.{state_of};
+ghost use Rattle.tq_base.specs.SortInputs.{state_of};
 ghost use Rattle.tq_base.specs.Layers.{IsLayers};
-ghost use Rattle.tq_base.specs.Relations.{line_of};
+ghost use Rattle.tq_base.specs.Relations.{row_period_of};
 ghost use Rattle.tq_base.specs.RowLists.{RowList};
 ghost use Rattle.tq_table.specs.Groups.{AreByValues};
 ghost use Rattle.tq_table.specs.Merging.{all_rows, cut_by, AreInOrder, AreOfWidth};
 
-use crate::coalescing::lines_by_group;
-use crate::line_list::LineList;
-use crate::lines::Lines;
+use crate::coalescing::layered_groups;
+use crate::lines::ResultRows;
+use crate::row_period_list::RowPeriodList;
 use itertools::Itertools;
 use std::alloc::{AllocError, Global};
-use tq_base::{Key, Relation, Rows, Side, Sides, all_columns};
+use tq_base::{Relation, Rows, Side, SortInput, SortKey, all_columns};
 
-// The rows of this width, then those of the other list, which has the width unless it is empty.
-fn followed(rows: Rows, other: Rows) -> Result<Rows, AllocError>
+// The rows, then those of `other`, which has the same width unless it is empty.
+fn append_rows(rows: Rows, other: Rows) -> Result<Rows, AllocError>
     requires { All (λ (row : Fragment). length row.values ≡ rows.width) other.items }
     ensures width { IfOk result (λ all. all.width ≡ rows.width) }
     ensures rows { IfOk result (λ all. all.items ≡ rows.items ++ other.items) }
@@ -33,8 +33,8 @@ fn followed(rows: Rows, other: Rows) -> Result<Rows, AllocError>
     rows.followed_by(other)
 }
 
-/// The rows of all lists, one list after the other. It is owed that each row has as many values as `width` says.
-/// No value is copied. `AllocError` where a growth was refused, or where there are 2^32 rows or more.
+/// The rows of all lists, one list after the other. Requires that each row has `width` values. No value is copied.
+/// `AllocError` if an allocation failed or there are 2^32 rows or more.
 pub fn chained(alloc: Global, width: usize, lists: Vec<Rows>) -> Result<Rows, AllocError>
     requires { All (AreOfWidth width) lists.items }
     ensures width { IfOk result (λ rows. rows.width ≡ width) }
@@ -42,12 +42,11 @@ pub fn chained(alloc: Global, width: usize, lists: Vec<Rows>) -> Result<Rows, Al
 {
     let mut all = Rows::new(alloc, width);
     'lists: for rows in lists {
-        all = followed(all, rows)?;
+        all = append_rows(all, rows)?;
     }
     Ok(all)
 }
 
-// How many rows each list has.
 fn lens_of(alloc: Global, lists: &[Rows]) -> Result<Vec<usize>, AllocError>
     ensures { IfOk result (λ lens. lens.items ≡ map (λ (rows : RowList). length rows.items) lists.now) }
 {
@@ -55,8 +54,12 @@ fn lens_of(alloc: Global, lists: &[Rows]) -> Result<Vec<usize>, AllocError>
 }
 
 // The keys, cut into lists of these lengths.
-fn cut_keys(alloc: Global, keys: &[Key], lens: &[usize]) -> Result<Vec<Vec<Key>>, AllocError>
-    ensures { IfOk result (λ lists. map (λ (list : Vec Key). list.items) lists.items ≡ cut_by lens.now keys.now) }
+fn cut_keys(
+    alloc: Global,
+    keys: &[SortKey],
+    lens: &[usize],
+) -> Result<Vec<Vec<SortKey>>, AllocError>
+    ensures { IfOk result (λ lists. map (λ (list : Vec SortKey). list.items) lists.items ≡ cut_by lens.now keys.now) }
 {
     let mut lists = Vec::with_capacity(alloc, lens.len())?;
     let mut start = 0;
@@ -68,53 +71,66 @@ fn cut_keys(alloc: Global, keys: &[Key], lens: &[usize]) -> Result<Vec<Vec<Key>>
     Ok(lists)
 }
 
-// The keys of the left rows, which are rows of ordered lists of these lengths, in the order of their values.
-fn merged_keys(alloc: Global, sides: &Sides<'_>, lens: &[usize]) -> Result<Vec<Key>, AllocError>
-    requires columns { sides.now.left_columns.now ≡ range_with_len 0 sides.now.left.now.width }
-    requires whole { sum lens.now ≡ length sides.now.left.now.items }
-    requires in_order { All (IsSorted fragment_cmp) (cut_by lens.now sides.now.left.now.items) }
-    ensures { IfOk result (λ keys. AreByValues (state_of sides.now) keys.items) }
+// The keys of the left rows, ordered by their values. The left rows are ordered lists of these lengths, one after the
+// other.
+fn merged_keys(
+    alloc: Global,
+    sort_input: &SortInput<'_>,
+    lens: &[usize],
+) -> Result<Vec<SortKey>, AllocError>
+    requires columns { sort_input.now.left_columns.now ≡ range_with_len 0 sort_input.now.left.now.width }
+    requires whole { sum lens.now ≡ length sort_input.now.left.now.items }
+    requires in_order { All (IsSorted fragment_cmp) (cut_by lens.now sort_input.now.left.now.items) }
+    ensures { IfOk result (λ keys. AreByValues (state_of sort_input.now) keys.items) }
 {
-    sides.left.width();
+    sort_input.left.width();
     let mut keys = Vec::new(alloc);
-    sides.add_keys(Side::Left, None, &mut keys)?;
+    sort_input.add_keys(Side::Left, None, &mut keys)?;
     let lists = cut_keys(alloc, &keys, lens)?;
     let merged = lists
         .into_iter()
-        .kmerge_by(alloc, |one: &Key, other: &Key| {
-            sides.compare(one, other).is_lt()
+        .kmerge_by(alloc, |one: &SortKey, other: &SortKey| {
+            sort_input.compare(one, other).is_lt()
         })?;
     merged.collect(alloc)
 }
 
-// The lines of the layers of the rows, which are rows of ordered lists of these lengths.
-fn merged_lines(alloc: Global, rows: &Relation<'_>, lens: &[usize]) -> Result<LineList, AllocError>
+// The layers of the rows, which are ordered lists of these lengths, one after the other.
+fn merged_row_periods(
+    alloc: Global,
+    rows: &Relation<'_>,
+    lens: &[usize],
+) -> Result<RowPeriodList, AllocError>
     requires whole { sum lens.now ≡ length rows.now.items }
     requires in_order { All (IsSorted fragment_cmp) (cut_by lens.now rows.now.items) }
     ensures within { IfOk result (λ lines. All (λ line. line.row < length rows.now.items) lines) }
-    ensures layers { IfOk result (λ lines. IsLayers (copies rows.now.items) (map (line_of rows.now.items) lines)) }
+    ensures layers { IfOk result (λ lines. IsLayers (copies rows.now.items) (map (row_period_of rows.now.items) lines)) }
 {
     let columns = all_columns(alloc, rows.width())?;
-    let sides = Sides {
+    let sort_input = SortInput {
         left: &*rows,
         right: &*rows,
         left_columns: &columns,
         right_columns: &columns,
     };
-    let keys = merged_keys(alloc, &sides, lens)?;
-    lines_by_group(alloc, &sides, &keys)
+    let keys = merged_keys(alloc, &sort_input, lens)?;
+    layered_groups(alloc, &sort_input, &keys)
 }
 
-/// The layers of the copies of all lists together. Requires that each row has `width` values and that each list is
-/// in order: by values, then by start, then by end, as `coalesce` gives it. The lists are merged, and their rows
-/// are never sorted again. `AllocError` where a growth was refused, or where there are 2^32 rows or more.
-pub fn merge<'a>(alloc: Global, width: usize, lists: Vec<Rows>) -> Result<Lines<'a>, AllocError>
+/// The layers of the rows of all lists. Requires that each row has `width` values. Each list must be ordered by values,
+/// then by start, then by end, as the result of `coalesce` is. The lists are merged and not sorted again. `AllocError`
+/// if an allocation failed or there are 2^32 rows or more.
+pub fn merge<'a>(
+    alloc: Global,
+    width: usize,
+    lists: Vec<Rows>,
+) -> Result<ResultRows<'a>, AllocError>
     requires width { All (AreOfWidth width) lists.items }
     requires in_order { All AreInOrder lists.items }
     ensures { IfOk result (IsLayers (copies (all_rows lists.items))) }
 {
     let lens = lens_of(alloc, &lists)?;
-    let rows = Relation::made(alloc, chained(alloc, width, lists)?)?;
-    let lines = merged_lines(alloc, &rows, &lens)?;
-    Ok(Lines::of(lines.pick_from(alloc, rows)?))
+    let rows = Relation::owned(alloc, chained(alloc, width, lists)?)?;
+    let lines = merged_row_periods(alloc, &rows, &lens)?;
+    Ok(ResultRows::of(lines.take_rows_from(alloc, rows)?))
 }

@@ -1,15 +1,15 @@
-// Lines of ranges of values.
+// Rows of ranges of values.
 
 ghost use Rattle.std.specs.Prelude.{◌≡◌, IsSorted, IsTrue};
 ghost use Rattle.tq_base.specs.Fragments.{fragment_cmp};
 ghost use Rattle.tq_base.specs.Groups.{Below};
 ghost use Rattle.tq_base.specs.Ranges.{AreBelow};
 
-use crate::lines::Lines;
+use crate::lines::ResultRows;
 use std::cmp::Ordering;
 use tq_base::Row;
 
-/// Whether the row is below the other, as the first place tells at which their values differ.
+/// Whether the row's values are below the other's, as shown by the first place at which they differ.
 pub fn is_below(row: &Row<'_>, other: &Row<'_>) -> bool
     ensures { IsTrue result → Below row.now other.now }
 {
@@ -23,9 +23,9 @@ pub fn is_below(row: &Row<'_>, other: &Row<'_>) -> bool
     false
 }
 
-impl Lines<'_> {
-    /// Whether the values of each line are below those of every one of the others, both lists being in order.
-    pub fn are_below(&self, others: &Lines<'_>) -> bool
+impl ResultRows<'_> {
+    /// Whether the values of each row are below those of each row of `others`. Requires that both are in order.
+    pub fn are_below(&self, others: &ResultRows<'_>) -> bool
         requires ordered { IsSorted fragment_cmp self.now }
         requires others_ordered { IsSorted fragment_cmp others.now }
         ensures { IsTrue result → AreBelow self.now others.now }

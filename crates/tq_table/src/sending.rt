@@ -1,4 +1,4 @@
-// Bytes whole through a sink: write by write, and a flush at the end.
+// Writing of whole byte strings through a sink.
 
 ghost use Rattle.std.specs.Prelude.{◌≡◌, OnOk, OnErr, IfErr, if◌then◌else◌};
 ghost use Rattle.std.specs.Result.{is_err};
@@ -9,8 +9,8 @@ use crate::sink::{Sink, WriteFault};
 use std::io::Write;
 
 impl<W: Write> Sink<W> {
-    /// Writes the bytes, and leaves them in the writer until a flush. `Write` comes where a write failed, or took none
-    /// of some bytes: that call is counted, no other follows it, and a prefix went out.
+    /// Writes the bytes without a flush. `Write` if a write failed, or accepted none of the remaining bytes. That call
+    /// is counted as a failure, no further one follows, and a prefix was written.
     pub fn put(&mut self, bytes: &[u8]) -> Result<(), WriteFault>
         ensures whole { OnOk result (Appends (W.contents self.old.writer) (W.contents self.new.writer) bytes.now) }
         ensures prefix { OnErr result (AppendsPrefix (W.contents self.old.writer) (W.contents self.new.writer)
@@ -26,8 +26,8 @@ impl<W: Write> Sink<W> {
         Ok(())
     }
 
-    /// Writes the bytes and flushes the writer. `Write` comes where a write or the flush failed, or a
-    /// write took none of some bytes: that call is counted, no other follows it, and a prefix went out.
+    /// Writes the bytes and flushes the writer. `Write` if a write or the flush failed, or a write accepted none of the
+    /// remaining bytes. That call is counted as a failure, no further one follows, and a prefix was written.
     pub fn send(&mut self, bytes: &[u8]) -> Result<(), WriteFault>
         ensures whole { OnOk result (Appends (W.contents self.old.writer) (W.contents self.new.writer) bytes.now) }
         ensures prefix { OnErr result (AppendsPrefix (W.contents self.old.writer) (W.contents self.new.writer)
@@ -39,7 +39,7 @@ impl<W: Write> Sink<W> {
         self.flush()
     }
 
-    /// Writes the parts one after the other, each as `send` does, and none behind one that failed.
+    /// Sends the parts one after the other, as `send` does, and stops after one that failed.
     pub fn send_all(&mut self, parts: &[Vec<u8>]) -> Result<(), WriteFault>
         ensures whole { OnOk result (Appends (W.contents self.old.writer) (W.contents self.new.writer) (bytes_of parts.now)) }
         ensures prefix { OnErr result (AppendsPrefix (W.contents self.old.writer) (W.contents self.new.writer)

@@ -1,5 +1,5 @@
-// A writer, and how many of its calls failed. Nothing else reaches the writer or the count: a failure is
-// counted just where a write or a flush of the writer failed, and each of these is made once.
+// A writer with a count of its failed calls. Nothing else has access to either. A failure is counted exactly if a write
+// or flush of the writer failed, and no call is repeated.
 
 ghost use Rattle.std.specs.Prelude.{◌≡◌, ◌≤◌, ◌<◌, length, take, OnOk, OnErr, IfOk, IfErr, if◌then◌else◌};
 ghost use Rattle.std.specs.Result.{is_err};
@@ -10,7 +10,7 @@ use std::io::Write;
 use std::marker::Model;
 use thiserror::Error;
 
-/// Why a table was not written: the writer failed (1), or the table's text found no memory (2).
+/// Why a table was not written: the writer failed (1), or an allocation for the table's text failed (2).
 #[derive(Clone, Copy, Debug, PartialEq, Eq, Error)]
 pub enum WriteFault {
     #[error("write failed")]
@@ -19,7 +19,7 @@ pub enum WriteFault {
     OutOfMemory = 2,
 }
 
-/// A writer, with a count of its calls that failed.
+/// A writer, with a count of its failed calls.
 #[derive(Drop)]
 pub struct Sink<W> {
     writer: W,
@@ -37,7 +37,7 @@ impl<W> Model for Sink<W> {
 }
 
 impl<W> Sink<W> {
-    /// A sink over a writer, with no failed call yet.
+    /// A sink over a writer, without a failed call.
     pub fn over(writer: W) -> Sink<W>
         ensures writer { result.writer ≡ writer }
         ensures failed { result.failed ≡ 0 }
@@ -45,7 +45,7 @@ impl<W> Sink<W> {
         Sink { writer, failed: 0 }
     }
 
-    /// How many calls of the writer failed; the count stays at `u64::MAX`.
+    /// The number of failed calls of the writer; it stops at `u64::MAX`.
     pub fn failed(&self) -> u64
         ensures { result ≡ self.now.failed }
     {
@@ -54,7 +54,6 @@ impl<W> Sink<W> {
 }
 
 impl<W> Sink<W> {
-    // Counts a call that failed.
     fn count_failure(&mut self) -> WriteFault
         ensures fault { result ≡ WriteFault.Write }
         ensures writer { self.new.writer ≡ self.old.writer }
@@ -66,7 +65,7 @@ impl<W> Sink<W> {
 }
 
 impl<W: Write> Sink<W> {
-    /// One write of the front of the bytes. One that fails, or takes nothing, is counted.
+    /// Writes some of the bytes, from the front, by one call. A call that fails or accepts nothing is counted.
     pub(crate) fn write_some(&mut self, bytes: &[u8]) -> Result<usize, WriteFault>
         requires { 0 < length bytes.now }
         ensures some { IfOk result (λ n. 0 < n) }
@@ -83,7 +82,7 @@ impl<W: Write> Sink<W> {
         }
     }
 
-    /// One flush. A failure is counted.
+    /// Flushes the writer. `Write` if that failed, which is counted.
     pub fn flush(&mut self) -> Result<(), WriteFault>
         ensures kept { Keeps (W.contents self.old.writer) (W.contents self.new.writer) }
         ensures fault { IfErr result (λ e. e ≡ WriteFault.Write) }

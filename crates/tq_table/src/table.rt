@@ -1,11 +1,11 @@
 // A table: the names of its columns, and its rows.
 
-use crate::lines::Lines;
-use tq_base::{Items, Name};
+use crate::lines::ResultRows;
+use tq_base::{List, Name};
 
-/// A table: the names of its columns, and its rows, each with as many values.
+/// A table: the names of its columns, and rows with one value for each.
 #[derive(Drop, Debug)]
 pub struct Table<'a> {
-    pub columns: Items<Name>,
-    pub rows: Lines<'a>,
+    pub columns: List<Name>,
+    pub rows: ResultRows<'a>,
 }

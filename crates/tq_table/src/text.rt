@@ -6,24 +6,24 @@ ghost use Rattle.std.specs.Io.KnownBytes.{Appends};
 ghost use Rattle.csv.specs.Writing.{row_text};
 ghost use Rattle.tq_base.specs.declared.fragment.Fragment.{Fragment};
 ghost use Rattle.tq_base.specs.Numbers.{instant_text};
-ghost use Rattle.tq_base.specs.Values.{value_seen};
+ghost use Rattle.tq_base.specs.Values.{value_ref};
 ghost use Rattle.tq_table.specs.Text.{answer_format, bound_field, header_text, row_fields, rows_text, text_of, value_field};
 ghost use Rattle.tq_table.specs.Sink.{AppendsPrefix, one_more};
 ghost use Rattle.tq_table.specs.Writing.{borrowed, HasWritten, IsWriting};
 
-use crate::lines::Lines;
+use crate::lines::ResultRows;
 use crate::sink::{Sink, WriteFault};
 use crate::table::Table;
 use csv::{Writer, WriterBuilder};
 use itoa::Buffer;
 use std::alloc::{AllocError, Global};
 use std::io::Write;
-use tq_base::{Bound, Form, Instant, Name, Period, Row, Seen, Value, put_instant};
+use tq_base::{Bound, Form, Instant, Name, Period, Row, Value, ValueRef, put_instant};
 
-// Of so many rows the values are looked up before their lines are written.
+// The values of this many rows are read before their lines are written.
 const BLOCK: usize = 64;
 
-// Writes a field behind those of its line. Over a vector only memory can fail.
+// Writes one more field of the line. Over a vector only an allocation can fail.
 fn write_field(writer: &mut Writer<Vec<u8>>, field: &[u8]) -> Result<(), AllocError>
     ensures { (text : List ℕ) (fields : List (List ℕ)) → IsWriting writer.old text fields → OnOk result (IsWriting writer.new text (fields ++ field.now ∷ [])) }
 {
@@ -33,7 +33,6 @@ fn write_field(writer: &mut Writer<Vec<u8>>, field: &[u8]) -> Result<(), AllocEr
     }
 }
 
-// Ends the line.
 fn end_line(writer: &mut Writer<Vec<u8>>) -> Result<(), AllocError>
     ensures { (text : List ℕ) (fields : List (List ℕ)) → IsWriting writer.old text fields → OnOk result (HasWritten writer.new (text ++ row_text answer_format fields)) }
 {
@@ -43,13 +42,13 @@ fn end_line(writer: &mut Writer<Vec<u8>>) -> Result<(), AllocError>
     }
 }
 
-// Writes the field of a value behind those of its line.
-fn write_value(writer: &mut Writer<Vec<u8>>, value: Seen<'_>) -> Result<(), AllocError>
-    ensures { (text : List ℕ) (fields : List (List ℕ)) → IsWriting writer.old text fields → OnOk result (IsWriting writer.new text (fields ++ value_field (value_seen value.entry) ∷ [])) }
+// Writes a value as one more field of the line.
+fn write_value(writer: &mut Writer<Vec<u8>>, value: ValueRef<'_>) -> Result<(), AllocError>
+    ensures { (text : List ℕ) (fields : List (List ℕ)) → IsWriting writer.old text fields → OnOk result (IsWriting writer.new text (fields ++ value_field (value_ref value.entry) ∷ [])) }
 {
     match value {
-        Seen::Int(number) => write_field(writer, Buffer::new().format(number).as_bytes()),
-        Seen::Text(text) => write_field(writer, text.as_bytes()),
+        ValueRef::Int(number) => write_field(writer, Buffer::new().format(number).as_bytes()),
+        ValueRef::Text(text) => write_field(writer, text.as_bytes()),
     }
 }
 
@@ -74,9 +73,9 @@ fn write_bound(writer: &mut Writer<Vec<u8>>, bound: Bound, form: Form) -> Result
     }
 }
 
-// Writes values behind the fields of their line.
-fn write_values(writer: &mut Writer<Vec<u8>>, values: &[Seen<'_>]) -> Result<(), AllocError>
-    ensures { (text : List ℕ) (fields : List (List ℕ)) → IsWriting writer.old text fields → OnOk result (IsWriting writer.new text (fields ++ map value_field (map value_seen values.now))) }
+// Writes values as further fields of the line.
+fn write_values(writer: &mut Writer<Vec<u8>>, values: &[ValueRef<'_>]) -> Result<(), AllocError>
+    ensures { (text : List ℕ) (fields : List (List ℕ)) → IsWriting writer.old text fields → OnOk result (IsWriting writer.new text (fields ++ map value_field (map value_ref values.now))) }
 {
     'values: for value in values {
         write_value(writer, *value)?;
@@ -84,15 +83,15 @@ fn write_values(writer: &mut Writer<Vec<u8>>, values: &[Seen<'_>]) -> Result<(),
     Ok(())
 }
 
-// Writes the line of a row of these values.
+// Writes the line of a row with these values.
 fn write_row(
     writer: &mut Writer<Vec<u8>>,
-    values: &[Seen<'_>],
+    values: &[ValueRef<'_>],
     period: Period,
     form: Form,
 ) -> Result<(), AllocError>
     ensures { (text : List ℕ) → HasWritten writer.old text
-        → OnOk result (HasWritten writer.new (text ++ row_text answer_format (row_fields form (record { values = map value_seen values.now; period = period })))) }
+        → OnOk result (HasWritten writer.new (text ++ row_text answer_format (row_fields form (record { values = map value_ref values.now; period = period })))) }
 {
     write_values(writer, values)?;
     write_instant(writer, period.start, form)?;
@@ -100,66 +99,66 @@ fn write_row(
     end_line(writer)
 }
 
-// The values of a row, lent, go to the end of the list, or some of them where a growth was refused.
-fn lend_row<'r>(row: &Row<'r>, lent: &mut Vec<&'r Value>) -> Result<(), AllocError>
-    ensures { OnOk result (borrowed lent.new.items ≡ borrowed lent.old.items ++ row.now) }
+// Appends references to the values of a row; some of them if an allocation failed.
+fn borrow_row<'r>(row: &Row<'r>, borrows: &mut Vec<&'r Value>) -> Result<(), AllocError>
+    ensures { OnOk result (borrowed borrows.new.items ≡ borrowed borrows.old.items ++ row.now) }
 {
     'values: for place in 0..row.len() {
-        lent.push(row.value(place))?;
+        borrows.push(row.value(place))?;
     }
     Ok(())
 }
 
-// The values of the rows from one to another, lent, row after row, in place of those in the list. No value is looked at.
-fn lend<'r>(
-    rows: &'r Lines<'_>,
+// Replaces the list by references to the values of the rows from `start` to `end`, row after row. Reads no value.
+fn borrow_rows<'r>(
+    rows: &'r ResultRows<'_>,
     start: usize,
     end: usize,
-    lent: &mut Vec<&'r Value>,
+    borrows: &mut Vec<&'r Value>,
 ) -> Result<(), AllocError>
     requires ordered { start ≤ end }
     requires within { end ≤ length rows.now }
-    ensures { OnOk result (borrowed lent.new.items ≡ flat_map (λ (row : Fragment). row.values) (drop start (take end rows.now))) }
+    ensures { OnOk result (borrowed borrows.new.items ≡ flat_map (λ (row : Fragment). row.values) (drop start (take end rows.now))) }
 {
-    lent.clear();
+    borrows.clear();
     'rows: for row in start..end {
-        lend_row(&rows.row(row), lent)?;
+        borrow_row(&rows.row(row), borrows)?;
     }
     Ok(())
 }
 
-// What the values are, in place of those in the list. Values lie anywhere: in a loop that does no more than this, the
-// processor can wait for many of them at once.
-fn see<'r>(lent: &[&'r Value], seen: &mut Vec<Seen<'r>>) -> Result<(), AllocError>
-    ensures { OnOk result (map value_seen seen.new.items ≡ borrowed lent.now) }
+// Replaces the list `seen` by the values of the references. Values lie anywhere in memory; in a loop that does nothing
+// else the processor overlaps many cache misses.
+fn read_refs<'r>(borrows: &[&'r Value], seen: &mut Vec<ValueRef<'r>>) -> Result<(), AllocError>
+    ensures { OnOk result (map value_ref seen.new.items ≡ borrowed borrows.now) }
 {
     seen.clear();
-    seen.reserve(lent.len())?;
-    'values: for value in lent {
-        seen.push_reserved(value.seen());
+    seen.reserve(borrows.len())?;
+    'values: for value in borrows {
+        seen.push_reserved(value.as_ref());
     }
     Ok(())
 }
 
-// Writes a line for each row from one to another, whose values these are.
-fn write_lent(
+// Writes a line for each row from `start` to `end`; `borrows` has the values of these rows.
+fn write_borrowed(
     writer: &mut Writer<Vec<u8>>,
-    rows: &Lines<'_>,
+    rows: &ResultRows<'_>,
     start: usize,
     end: usize,
-    lent: &[Seen<'_>],
+    borrows: &[ValueRef<'_>],
     form: Form,
 ) -> Result<(), AllocError>
     requires ordered { start ≤ end }
     requires within { end ≤ length rows.now }
-    requires lent { map value_seen lent.now ≡ flat_map (λ (row : Fragment). row.values) (drop start (take end rows.now)) }
+    requires borrows { map value_ref borrows.now ≡ flat_map (λ (row : Fragment). row.values) (drop start (take end rows.now)) }
     ensures { (text : List ℕ) → HasWritten writer.old (text ++ rows_text form (take start rows.now)) → OnOk result (HasWritten writer.new (text ++ rows_text form (take end rows.now))) }
 {
     let width = rows.width();
     let mut from = 0;
     'rows: for row in start..end {
         let to = from + width;
-        write_row(writer, &lent[from..to], rows.period(row), form)?;
+        write_row(writer, &borrows[from..to], rows.period(row), form)?;
         from = to;
     }
     Ok(())
@@ -169,25 +168,24 @@ fn write_lent(
 fn write_rows(
     alloc: Global,
     writer: &mut Writer<Vec<u8>>,
-    rows: &Lines<'_>,
+    rows: &ResultRows<'_>,
     form: Form,
 ) -> Result<(), AllocError>
     ensures { (text : List ℕ) → HasWritten writer.old text → OnOk result (HasWritten writer.new (text ++ rows_text form rows.now)) }
 {
-    let mut lent = Vec::new(alloc);
+    let mut borrows = Vec::new(alloc);
     let mut seen = Vec::new(alloc);
     let mut start = 0;
     'blocks: while start < rows.len() {
         let end = start.saturating_add(BLOCK).min(rows.len());
-        lend(rows, start, end, &mut lent)?;
-        see(&lent, &mut seen)?;
-        write_lent(writer, rows, start, end, &seen, form)?;
+        borrow_rows(rows, start, end, &mut borrows)?;
+        read_refs(&borrows, &mut seen)?;
+        write_borrowed(writer, rows, start, end, &seen, form)?;
         start = end;
     }
     Ok(())
 }
 
-// Writes the line of the header.
 fn write_header(writer: &mut Writer<Vec<u8>>, columns: &[Name]) -> Result<(), AllocError>
     ensures { (text : List ℕ) → HasWritten writer.old text → OnOk result (HasWritten writer.new (text ++ header_text columns.now)) }
 {
@@ -199,7 +197,7 @@ fn write_header(writer: &mut Writer<Vec<u8>>, columns: &[Name]) -> Result<(), Al
     end_line(writer)
 }
 
-// A writer of lines, which has written none.
+// A writer of lines that has written none.
 fn line_writer(alloc: Global) -> Writer<Vec<u8>>
     ensures { HasWritten result [] }
 {
@@ -208,7 +206,6 @@ fn line_writer(alloc: Global) -> Writer<Vec<u8>>
         .from_writer(Vec::new(alloc))
 }
 
-// What was written.
 fn text_written(writer: Writer<Vec<u8>>) -> Result<Vec<u8>, AllocError>
     ensures { (text : List ℕ) → HasWritten writer text → IfOk result (λ written. written.items ≡ text) }
 {
@@ -218,7 +215,7 @@ fn text_written(writer: Writer<Vec<u8>>) -> Result<Vec<u8>, AllocError>
     }
 }
 
-/// The line of the column names, `from` and `to`. `AllocError` where a growth was refused.
+/// The header line: the column names, `from` and `to`. `AllocError` if an allocation failed.
 #[inline(never)]
 pub fn header_text(alloc: Global, columns: &[Name]) -> Result<Vec<u8>, AllocError>
     ensures { IfOk result (λ text. text.items ≡ header_text columns.now) }
@@ -228,10 +225,9 @@ pub fn header_text(alloc: Global, columns: &[Name]) -> Result<Vec<u8>, AllocErro
     text_written(writer)
 }
 
-/// A line for each row, its period in the form: what the text of a table with these rows holds after its header. `AllocError` where a
-/// growth was refused.
+/// One line for each row, without a header; `form` says how periods are written. `AllocError` if an allocation failed.
 #[inline(never)]
-pub fn rows_text(alloc: Global, rows: &Lines<'_>, form: Form) -> Result<Vec<u8>, AllocError>
+pub fn rows_text(alloc: Global, rows: &ResultRows<'_>, form: Form) -> Result<Vec<u8>, AllocError>
     ensures { IfOk result (λ text. text.items ≡ rows_text form rows.now) }
 {
     let mut writer = line_writer(alloc);
@@ -239,10 +235,9 @@ pub fn rows_text(alloc: Global, rows: &Lines<'_>, form: Form) -> Result<Vec<u8>,
     text_written(writer)
 }
 
-/// The text of a table: a line of the column names, `from` and `to`, and a line for each row, its
-/// values, start and end, these in the form; CSV after RFC 4180, lines ended by LF, fields quoted where they have to be.
-/// `AllocError` where a growth was refused. Not inlined, so that the writer's buffers leave the stack
-/// with it.
+/// The text of a table as CSV after RFC 4180, with lines ended by LF. The header line has the column names, `from` and
+/// `to`. Each row's line has its values, start and end; `form` says how these are written. `AllocError` if an
+/// allocation failed. Not inlined, so that the writer's buffers leave the stack.
 #[inline(never)]
 pub fn table_text(alloc: Global, table: &Table<'_>, form: Form) -> Result<Vec<u8>, AllocError>
     ensures { IfOk result (λ text. text.items ≡ text_of form table.now) }
@@ -253,8 +248,8 @@ pub fn table_text(alloc: Global, table: &Table<'_>, form: Form) -> Result<Vec<u8
     text_written(writer)
 }
 
-/// Writes the text of a table in the form, made whole first. `Write` comes where the sink's writer failed, and a
-/// prefix then went out; `OutOfMemory` writes nothing.
+/// Writes the text of a table, which is first made as a whole. `Write` if the writer failed: then a prefix was written.
+/// `OutOfMemory` if an allocation failed: then nothing was written.
 pub fn write_table<W: Write>(
     alloc: Global,
     table: &Table<'_>,

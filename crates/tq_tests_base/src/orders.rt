@@ -6,9 +6,9 @@ use std::alloc::{AllocError, Global};
 use std::cmp::Ordering;
 use std::fmt::Write;
 use std::mem;
-use tq_base::{Fragment, Items, Text, Value, Values, rank_of};
+use tq_base::{Fragment, List, Text, Value, Values, normalized_key};
 
-// Whether the two values stand to each other as their places do.
+// Whether the two values compare as their places do.
 fn is_value_placed(one: &Value, other: &Value, places: Ordering) -> bool {
     one.compare(other) == places
         && (one == other) == places.is_eq()
@@ -19,23 +19,23 @@ fn is_row_placed(one: &Values, other: &Values, places: Ordering) -> bool {
     one.compare(other) == places && (one == other) == places.is_eq()
 }
 
-fn tell_misplaced(count: usize, misplaced: u32, out: &mut String) -> Result<(), AllocError> {
+fn print_misplaced(count: usize, misplaced: u32, out: &mut String) -> Result<(), AllocError> {
     writeln!(out, "{count} of them, {misplaced} pairs stand otherwise")
 }
 
-// How many of the values a copy of the one at the place does not stand to as it should.
+// How many of the values do not compare with a copy of the one at the place as their places do.
 fn misplaced_values(values: &[Value], place: usize, one: &Value) -> Result<u32, AllocError> {
     let one = one.try_copy()?;
     let mut misplaced: u32 = 0;
     for (other, against) in values.iter().enumerate() {
-        let placed = is_value_placed(&one, against, place.cmp(&other));
-        misplaced = misplaced.saturating_add(u32::from(!placed));
+        let is_right = is_value_placed(&one, against, place.cmp(&other));
+        misplaced = misplaced.saturating_add(u32::from(!is_right));
     }
     Ok(misplaced)
 }
 
-/// How many pairs of the values stand to each other otherwise than their places do.
-pub(crate) fn tell_order(
+/// Prints how many pairs of the values do not compare as their places do.
+pub(crate) fn print_order(
     alloc: Global,
     words: &[&str],
     out: &mut String,
@@ -48,21 +48,21 @@ pub(crate) fn tell_order(
     for (place, one) in values.iter().enumerate() {
         misplaced = misplaced.saturating_add(misplaced_values(&values, place, one)?);
     }
-    tell_misplaced(values.len(), misplaced, out)
+    print_misplaced(values.len(), misplaced, out)
 }
 
 fn misplaced_rows(rows: &[Values], place: usize, one: &Values) -> Result<u32, AllocError> {
     let one = one.try_copy()?;
     let mut misplaced: u32 = 0;
     for (other, against) in rows.iter().enumerate() {
-        let placed = is_row_placed(&one, against, place.cmp(&other));
-        misplaced = misplaced.saturating_add(u32::from(!placed));
+        let is_right = is_row_placed(&one, against, place.cmp(&other));
+        misplaced = misplaced.saturating_add(u32::from(!is_right));
     }
     Ok(misplaced)
 }
 
-/// How many pairs of rows of values stand to each other otherwise than their places do, and how many values each has.
-pub(crate) fn tell_rows_order(
+/// Prints how many pairs of rows of values do not compare as their places do, and how many values each has.
+pub(crate) fn print_rows_order(
     alloc: Global,
     words: &[&str],
     out: &mut String,
@@ -76,23 +76,23 @@ pub(crate) fn tell_rows_order(
         misplaced = misplaced.saturating_add(misplaced_rows(&rows, place, one)?);
         writeln!(out, "{} values", one.get().len())?;
     }
-    tell_misplaced(rows.len(), misplaced, out)
+    print_misplaced(rows.len(), misplaced, out)
 }
 
-// How a copy of the text stands to it, and the copy's bytes.
-fn tell_copy(text: &Text, out: &mut String) -> Result<(), AllocError> {
+// Prints how a copy of the text compares with it, and the copy's bytes.
+fn print_copy(text: &Text, out: &mut String) -> Result<(), AllocError> {
     let copy = text.try_copy()?;
     writeln!(out, "{:?}", copy.compare(text))?;
     writeln!(out, "{}", copy.get())
 }
 
-// How the first text stands to the second.
-fn tell_compared(first: &Text, second: &Text, out: &mut String) -> Result<(), AllocError> {
+// Prints how the first text compares with the second.
+fn print_compared(first: &Text, second: &Text, out: &mut String) -> Result<(), AllocError> {
     writeln!(out, "{:?}", first.compare(second))
 }
 
-/// How the first text stands to the second, and how a copy of the second stands to it, with its bytes.
-pub(crate) fn tell_texts(
+/// Prints how the first text compares with the second, and how a copy of the second compares with it, with its bytes.
+pub(crate) fn print_texts(
     alloc: Global,
     first: &str,
     second: &str,
@@ -100,8 +100,8 @@ pub(crate) fn tell_texts(
 ) -> Result<(), AllocError> {
     let first = Text::of(text_of(alloc, first)?);
     let second = Text::of(text_of(alloc, second)?);
-    tell_compared(&first, &second, out)?;
-    tell_copy(&second, out)
+    print_compared(&first, &second, out)?;
+    print_copy(&second, out)
 }
 
 fn fragments_of(alloc: Global, words: &[&str]) -> Result<Vec<Fragment>, AllocError> {
@@ -114,7 +114,7 @@ fn fragments_of(alloc: Global, words: &[&str]) -> Result<Vec<Fragment>, AllocErr
     Ok(fragments)
 }
 
-fn tell_fragment(fragment: &Fragment, out: &mut String) -> Result<(), AllocError> {
+fn print_fragment(fragment: &Fragment, out: &mut String) -> Result<(), AllocError> {
     let copy = fragment.try_copy()?;
     for value in copy.values.get() {
         push_value(value, out)?;
@@ -123,28 +123,28 @@ fn tell_fragment(fragment: &Fragment, out: &mut String) -> Result<(), AllocError
     writeln!(out, " {:?}", copy.compare(fragment))
 }
 
-/// The fragments in their order, and how a copy of each stands to it.
-pub(crate) fn tell_fragments(
+/// Prints the fragments in order, and how a copy of each compares with it.
+pub(crate) fn print_fragments(
     alloc: Global,
     words: &[&str],
     out: &mut String,
 ) -> Result<(), AllocError> {
     let mut fragments = fragments_of(alloc, words)?;
     fragments.sort_unstable();
-    let fragments = Items::of(fragments).into_vec();
+    let fragments = List::of(fragments).into_vec();
     for fragment in &fragments {
-        tell_fragment(fragment, out)?;
+        print_fragment(fragment, out)?;
     }
     Ok(())
 }
 
-/// The rank of a value.
-pub(crate) fn tell_rank(alloc: Global, word: &str, out: &mut String) -> Result<(), AllocError> {
-    let rank = rank_of(&value_of(alloc, word)?);
-    writeln!(out, "{rank:#x}")
+/// Prints the normalized key of a value.
+pub(crate) fn print_rank(alloc: Global, word: &str, out: &mut String) -> Result<(), AllocError> {
+    let prefix = normalized_key(&value_of(alloc, word)?);
+    writeln!(out, "{prefix:#x}")
 }
 
-/// How many bytes a value has.
-pub(crate) fn tell_size(out: &mut String) -> Result<(), AllocError> {
+/// Prints how many bytes a value takes.
+pub(crate) fn print_size(out: &mut String) -> Result<(), AllocError> {
     writeln!(out, "{}", mem::size_of::<Value>())
 }

@@ -1,12 +1,13 @@
-//! Periods, and which instants they hold.
+//! Periods, and the instants that they hold.
 
-use crate::words::{instant_of, period_of, push_period, tell_nothing};
+use crate::words::{instant_of, period_of, push_period};
 use std::alloc::AllocError;
 use std::fmt::Write;
 use tq_base::Period;
+use tq_tests_script::print_nothing;
 
-/// Which of the instants the period holds.
-pub(crate) fn tell_holds(
+/// Prints which of the instants the period holds.
+pub(crate) fn print_holds(
     start: &str,
     end: &str,
     instants: &[&str],
@@ -25,8 +26,8 @@ pub(crate) fn tell_holds(
     out.push('\n')
 }
 
-// What both have in common, and whether they meet.
-fn tell_one_way(one: &Period, other: &Period, out: &mut String) -> Result<(), AllocError> {
+// Prints the overlap of both periods, and whether they meet.
+fn print_one_way(one: &Period, other: &Period, out: &mut String) -> Result<(), AllocError> {
     out.push_str("overlap: ")?;
     match one.overlap(other) {
         Some(both) => push_period(&both, out)?,
@@ -35,16 +36,16 @@ fn tell_one_way(one: &Period, other: &Period, out: &mut String) -> Result<(), Al
     writeln!(out, "; meet: {}", one.meets(other))
 }
 
-/// What two periods have in common, and whether they meet, either way round.
-pub(crate) fn tell_both(
+/// Prints the overlap of two periods, and whether they meet, in both orders.
+pub(crate) fn print_both(
     [start, end, other_start, other_end]: [&str; 4],
     out: &mut String,
 ) -> Result<(), AllocError> {
     match (period_of(start, end), period_of(other_start, other_end)) {
         (Some(one), Some(other)) => {
-            tell_one_way(&one, &other, out)?;
-            tell_one_way(&other, &one, out)
+            print_one_way(&one, &other, out)?;
+            print_one_way(&other, &one, out)
         }
-        _ => tell_nothing(out),
+        _ => print_nothing(out),
     }
 }

@@ -1,4 +1,4 @@
-//! Rows that lie side by side.
+//! Rows that are pushed and copied.
 
 use crate::lists::push_row;
 use crate::words::{period_between, push_value, text_of};
@@ -15,7 +15,7 @@ fn numbers(alloc: Global, first: i64) -> Result<Vec<Value>, AllocError> {
     Ok(row)
 }
 
-// Whether a row of numbers from this one on was pushed and its values were taken, and a row of others copied.
+// Pushes a row of numbers from `number` on and copies another row. Whether the values of the first were moved.
 fn push_two(alloc: Global, number: u32, rows: &mut Rows) -> Result<bool, AllocError> {
     let start = u64::from(number);
     let Some(period) = period_between(start, start.saturating_add(9)) else {
@@ -52,9 +52,9 @@ fn differing(alloc: Global, rows: &Rows) -> Result<u32, AllocError> {
     Ok(count)
 }
 
-/// So many rows that were pushed, and as many that were copied: how many there are, how wide they are, whether each was
-/// taken, and how many are other than they were.
-pub(crate) fn tell_pushed(alloc: Global, count: u32, out: &mut String) -> Result<(), AllocError> {
+/// Pushes `count` rows and copies as many. Prints how many rows there are, how wide they are, whether each was moved,
+/// and how many differ.
+pub(crate) fn print_pushed(alloc: Global, count: u32, out: &mut String) -> Result<(), AllocError> {
     let mut rows = Rows::new(alloc, 3);
     let mut all_taken = true;
     for number in 0..count {
@@ -71,8 +71,8 @@ pub(crate) fn tell_pushed(alloc: Global, count: u32, out: &mut String) -> Result
     writeln!(out, "{differing} are others")
 }
 
-/// How many rows without values there are before any and after so many are pushed.
-pub(crate) fn tell_empty(alloc: Global, count: u32, out: &mut String) -> Result<(), AllocError> {
+/// Prints how many rows without values there are before and after `count` are pushed.
+pub(crate) fn print_empty(alloc: Global, count: u32, out: &mut String) -> Result<(), AllocError> {
     let mut rows = Rows::new(alloc, 0);
     writeln!(out, "{} rows", rows.len())?;
     for start in 0..count {
@@ -83,7 +83,7 @@ pub(crate) fn tell_empty(alloc: Global, count: u32, out: &mut String) -> Result<
     writeln!(out, "{} rows", rows.len())
 }
 
-// A row of a copy of the text, which is let go.
+// A row with a copy of the text, which is freed.
 fn copied_text(alloc: Global, word: &str) -> Result<Rows, AllocError> {
     let mut rows = Rows::new(alloc, 1);
     let text = Value::text(alloc, text_of(alloc, word)?.as_str())?;
@@ -93,8 +93,8 @@ fn copied_text(alloc: Global, word: &str) -> Result<Rows, AllocError> {
     Ok(rows)
 }
 
-/// The values of a row whose text was let go.
-pub(crate) fn tell_copied(alloc: Global, word: &str, out: &mut String) -> Result<(), AllocError> {
+/// Prints the values of a row whose text was freed.
+pub(crate) fn print_copied(alloc: Global, word: &str, out: &mut String) -> Result<(), AllocError> {
     let rows = copied_text(alloc, word)?;
     for number in 0..rows.len() {
         if let Some(value) = rows.value(number, 0) {

@@ -1,11 +1,12 @@
 //! Relations: rows by their numbers in other lists of rows.
 
 use crate::lists::rows_of;
-use crate::words::{push_period, push_value, tell_nothing};
+use crate::words::{push_period, push_value};
 use std::alloc::{AllocError, Global};
-use tq_base::{Line, Pair, Period, Relation, Rows};
+use tq_base::{Pair, Period, Relation, RowPeriod, Rows};
+use tq_tests_script::print_nothing;
 
-fn tell_row(relation: &Relation<'_>, number: usize, out: &mut String) -> Result<(), AllocError> {
+fn print_row(relation: &Relation<'_>, number: usize, out: &mut String) -> Result<(), AllocError> {
     if number >= relation.len() {
         return Ok(());
     }
@@ -19,54 +20,57 @@ fn tell_row(relation: &Relation<'_>, number: usize, out: &mut String) -> Result<
     out.push('\n')
 }
 
-// The rows in their order: the values, from and to, divided by commas, a line each.
-fn tell(relation: &Relation<'_>, out: &mut String) -> Result<(), AllocError> {
+// Prints the rows in order: the values, from and to, separated by commas, a line each.
+fn print(relation: &Relation<'_>, out: &mut String) -> Result<(), AllocError> {
     for number in 0..relation.len() {
-        tell_row(relation, number, out)?;
+        print_row(relation, number, out)?;
     }
     Ok(())
 }
 
-/// The rows of a relation to which the list is lent.
-pub(crate) fn tell_lent(alloc: Global, rows: &Rows, out: &mut String) -> Result<(), AllocError> {
-    tell(&Relation::of(alloc, rows)?, out)
+/// Prints the rows of a relation that borrows the list.
+pub(crate) fn print_lent(alloc: Global, rows: &Rows, out: &mut String) -> Result<(), AllocError> {
+    print(&Relation::of(alloc, rows)?, out)
 }
 
-/// The rows of a relation that is made of a list of such rows.
-pub(crate) fn tell_owned(
+/// Prints the rows of a relation that owns a list of such rows.
+pub(crate) fn print_owned(
     alloc: Global,
     width: usize,
     words: &[&str],
     out: &mut String,
 ) -> Result<(), AllocError> {
-    tell(&Relation::made(alloc, rows_of(alloc, width, words)?)?, out)
+    print(&Relation::owned(alloc, rows_of(alloc, width, words)?)?, out)
 }
 
-/// The last of three rows, then the first one twice, in other periods.
-pub(crate) fn tell_picked(
+/// Prints the last of three rows, then the first one twice, with other periods.
+pub(crate) fn print_picked(
     alloc: Global,
     rows: &Rows,
     [one, two, three]: [Period; 3],
     out: &mut String,
 ) -> Result<(), AllocError> {
     if rows.len() < 3 {
-        return tell_nothing(out);
+        return print_nothing(out);
     }
     let lines = [
-        Line {
+        RowPeriod {
             row: 2,
             period: one,
         },
-        Line {
+        RowPeriod {
             row: 0,
             period: two,
         },
-        Line {
+        RowPeriod {
             row: 0,
             period: three,
         },
     ];
-    tell(&Relation::of(alloc, rows)?.pick(alloc, &lines)?, out)
+    print(
+        &Relation::of(alloc, rows)?.take_row_periods(alloc, &lines)?,
+        out,
+    )
 }
 
 // The last row of the left with the second of the right, and the first with the second.
@@ -122,7 +126,7 @@ fn paired_again<'a>(
     Ok(Some(Relation::pair(alloc, both, again, &pairs)?))
 }
 
-// Those pairs, their columns turned round; one that is not there has the number 0.
+// Those pairs with their columns in another order; a missing column has the number 0.
 fn turned<'a>(
     alloc: Global,
     both: Relation<'a>,
@@ -135,9 +139,9 @@ fn turned<'a>(
     }
 }
 
-/// Pairs of rows of two lists, each of these followed by a row of the left, in columns that are turned round; a column
-/// that is not there has the number 0.
-pub(crate) fn tell_pairs(
+/// Prints pairs of rows of two lists, each followed by a row of the left, with columns in another order. A missing
+/// column has the number 0.
+pub(crate) fn print_pairs(
     alloc: Global,
     left: &Rows,
     right: &Rows,
@@ -145,10 +149,10 @@ pub(crate) fn tell_pairs(
     out: &mut String,
 ) -> Result<(), AllocError> {
     let Some(both) = paired(alloc, left, right, at)? else {
-        return tell_nothing(out);
+        return print_nothing(out);
     };
     match turned(alloc, both, left, at)? {
-        Some(turned) => tell(&turned.detached(alloc)?, out),
-        None => tell_nothing(out),
+        Some(turned) => print(&turned.to_owned(alloc)?, out),
+        None => print_nothing(out),
     }
 }

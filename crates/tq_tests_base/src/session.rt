@@ -1,28 +1,21 @@
-//! The lists of rows that a script makes, by their names, and what it asks.
+//! The lists of rows of a script, by their names, and its calls.
 
 ghost use Rattle.std.specs.Thread.{IsSync};
 
-use crate::dates::{tell_date, tell_day, tell_days};
-use crate::keeping::tell_kept;
-use crate::lists::rows_of;
-use crate::names::{
-    tell_count_name, tell_instant, tell_instants, tell_int, tell_name, tell_natural, tell_same,
-    tell_word,
-};
-use crate::orders::{
-    tell_fragments, tell_order, tell_rank, tell_rows_order, tell_size, tell_texts,
-};
-use crate::periods::{tell_both, tell_holds};
-use crate::pushing::{tell_copied, tell_empty, tell_pushed};
-use crate::relations::{tell_lent, tell_owned, tell_pairs, tell_picked};
-use crate::sides::{tell_many, tell_sorted, tell_sorted_list, tell_within};
-use crate::tables::{tell_fits, tell_table, tell_takes};
-use crate::words::{period_of, tell_nothing, text_of};
+use crate::drawing::print_picture;
+use crate::grouping::{count, group};
+use crate::lists::{show, show_counts};
+use crate::output::{print_faults, print_memory, print_text, send, send_bytes, send_short};
+use crate::relations::{print_lent, print_pairs, print_picked};
+use crate::sort_input::{print_sorted, print_sorted_list, print_within};
+use crate::tests::{check, check_chains, may_pass};
+use crate::values::print_of_numbers;
+use crate::words::{columns_of, period_of};
 use std::alloc::{AllocError, Global};
 use std::sync::Wait;
 use std::thread::Threads;
-use tq_base::Rows;
-use tq_tests_script::{Block, Suite};
+use tq_base::{Form, Rows};
+use tq_tests_script::{Block, Suite, print_nothing};
 
 #[derive(Drop)]
 struct List {
@@ -36,91 +29,6 @@ pub(crate) struct Session {
     lists: Vec<List>,
 }
 
-// The columns of a word, which commas divide.
-fn columns_of(alloc: Global, word: &str) -> Result<Vec<u32>, AllocError> {
-    let mut columns = Vec::new(alloc);
-    for column in word.split(',') {
-        if let Ok(column) = column.parse() {
-            columns.push(column)?;
-        }
-    }
-    Ok(columns)
-}
-
-// What a line of this word says of a text.
-fn tell_of_text(
-    alloc: Global,
-    word: &str,
-    written: &str,
-    out: &mut String,
-) -> Result<(), AllocError> {
-    let text = text_of(alloc, written)?;
-    let bytes = text.as_bytes();
-    match word {
-        "int" => tell_int(bytes, out),
-        "instant" => tell_instant(bytes, out),
-        "date" => tell_date(bytes, out),
-        "day" => tell_day(text.as_str().parse().unwrap_or(0), out),
-        "days" => tell_days(text.as_str().parse().unwrap_or(0), out),
-        "instants" => tell_instants(text.as_str().parse().unwrap_or(0), out),
-        "name" => tell_name(alloc, bytes, out),
-        "word" => tell_word(alloc, bytes, out),
-        "count-name" => tell_count_name(alloc, out),
-        "table" => tell_table(alloc, text.as_str(), out),
-        "copied" => tell_copied(alloc, written, out),
-        _ => tell_nothing(out),
-    }
-}
-
-// What a line of this word says of values.
-fn tell_of_values(
-    alloc: Global,
-    word: &str,
-    words: &[&str],
-    out: &mut String,
-) -> Result<(), AllocError> {
-    match (word, words) {
-        ("order", _) => tell_order(alloc, words, out),
-        ("rows-order", _) => tell_rows_order(alloc, words, out),
-        ("fragments", _) => tell_fragments(alloc, words, out),
-        ("texts", [first, second]) => tell_texts(alloc, first, second, out),
-        ("rank", [value]) => tell_rank(alloc, value, out),
-        ("size", []) => tell_size(out),
-        ("takes", [value]) => tell_takes(alloc, value, out),
-        ("fits", [row]) => tell_fits(alloc, row, out),
-        (_, [text]) => tell_of_text(alloc, word, text, out),
-        (_, []) => tell_of_text(alloc, word, "", out),
-        _ => tell_nothing(out),
-    }
-}
-
-// What a line of this word says of numbers and periods.
-fn tell_of_numbers(
-    alloc: Global,
-    word: &str,
-    words: &[&str],
-    out: &mut String,
-) -> Result<(), AllocError> {
-    match (word, words) {
-        ("natural", [most, text]) => {
-            tell_natural(most.parse().unwrap_or(0), text.as_bytes(), out)
-        }
-        ("same", [left, right]) => tell_same(left, right, out),
-        ("holds", [start, end, instants @ ..]) => tell_holds(start, end, instants, out),
-        ("periods", [start, end, other_start, other_end]) => {
-            tell_both([*start, *end, *other_start, *other_end], out)
-        }
-        ("many", [count]) => tell_many(alloc, count.parse().unwrap_or(0), out),
-        ("pushed", [count]) => tell_pushed(alloc, count.parse().unwrap_or(0), out),
-        ("kept", [letters, others, rows @ ..]) => tell_kept(alloc, letters, others, rows, out),
-        ("empty", [count]) => tell_empty(alloc, count.parse().unwrap_or(0), out),
-        ("owned", [width, rows @ ..]) => {
-            tell_owned(alloc, width.parse().unwrap_or(0), rows, out)
-        }
-        _ => tell_of_values(alloc, word, words, out),
-    }
-}
-
 impl Session {
     /// No lists.
     pub(crate) fn new(alloc: Global) -> Session {
@@ -129,8 +37,8 @@ impl Session {
         }
     }
 
-    // The last list of the name.
-    fn find(&self, name: &str) -> Option<&Rows> {
+    /// The last list with the name.
+    pub(crate) fn find(&self, name: &str) -> Option<&Rows> {
         let mut found = None;
         for list in &self.lists {
             if list.name.as_str() == name {
@@ -140,8 +48,8 @@ impl Session {
         found
     }
 
-    // The rows are a list of the name from now on.
-    fn keep(&mut self, alloc: Global, name: &str, rows: Rows) -> Result<(), AllocError> {
+    // Gives the rows this name.
+    fn take_rows(&mut self, alloc: Global, name: &str, rows: Rows) -> Result<(), AllocError> {
         let name = String::from_str(alloc, name)?;
         self.lists.push(List { name, rows })?;
         Ok(())
@@ -157,18 +65,18 @@ impl Session {
         let columns = columns_of(alloc, columns)?;
         match names {
             [list] => match self.find(list) {
-                Some(rows) => tell_sorted_list(alloc, &columns, rows, out),
-                None => tell_nothing(out),
+                Some(rows) => print_sorted_list(alloc, &columns, rows, out),
+                None => print_nothing(out),
             },
             [left, right] => match (self.find(left), self.find(right)) {
-                (Some(left), Some(right)) => tell_sorted(alloc, &columns, left, right, out),
-                _ => tell_nothing(out),
+                (Some(left), Some(right)) => print_sorted(alloc, &columns, left, right, out),
+                _ => print_nothing(out),
             },
-            _ => tell_nothing(out),
+            _ => print_nothing(out),
         }
     }
 
-    // What of the list overlaps the window.
+    // Prints the rows of the list that overlap the window.
     fn within(
         &self,
         alloc: Global,
@@ -176,12 +84,12 @@ impl Session {
         out: &mut String,
     ) -> Result<(), AllocError> {
         match (self.find(name), period_of(start, end)) {
-            (Some(rows), Some(window)) => tell_within(alloc, rows, &window, out),
-            _ => tell_nothing(out),
+            (Some(rows), Some(window)) => print_within(alloc, rows, &window, out),
+            _ => print_nothing(out),
         }
     }
 
-    fn pick(
+    fn take_row_periods(
         &self,
         alloc: Global,
         name: &str,
@@ -193,9 +101,9 @@ impl Session {
         let three = period_of(ends[4], ends[5]);
         match (self.find(name), one, two, three) {
             (Some(rows), Some(one), Some(two), Some(three)) => {
-                tell_picked(alloc, rows, [one, two, three], out)
+                print_picked(alloc, rows, [one, two, three], out)
             }
-            _ => tell_nothing(out),
+            _ => print_nothing(out),
         }
     }
 
@@ -206,13 +114,13 @@ impl Session {
         out: &mut String,
     ) -> Result<(), AllocError> {
         match (self.find(left), self.find(right), period_of(start, end)) {
-            (Some(left), Some(right), Some(at)) => tell_pairs(alloc, left, right, at, out),
-            _ => tell_nothing(out),
+            (Some(left), Some(right), Some(at)) => print_pairs(alloc, left, right, at, out),
+            _ => print_nothing(out),
         }
     }
 
-    // What a line of this word says of lists.
-    fn answer(
+    // Runs a call for several lists, by their names.
+    fn compare(
         &self,
         alloc: Global,
         word: &str,
@@ -223,27 +131,110 @@ impl Session {
             ("sorted", [columns, names @ ..]) => self.sorted(alloc, columns, names, out),
             ("within", [start, end, name]) => self.within(alloc, [*start, *end, *name], out),
             ("lent", [name]) => match self.find(name) {
-                Some(rows) => tell_lent(alloc, rows, out),
-                None => tell_nothing(out),
+                Some(rows) => print_lent(alloc, rows, out),
+                None => print_nothing(out),
             },
             ("pick", [name, a, b, c, d, e, f]) => {
-                self.pick(alloc, name, [*a, *b, *c, *d, *e, *f], out)
+                self.take_row_periods(alloc, name, [*a, *b, *c, *d, *e, *f], out)
             }
             ("pairs", [left, right, start, end]) => {
                 self.pairs(alloc, [*left, *right, *start, *end], out)
             }
-            _ => tell_of_numbers(alloc, word, words, out),
+            _ => print_of_numbers(alloc, word, words, out),
         }
     }
 
-    /// Does what the line says, and writes what it answers.
+    // Runs a call that prints a list.
+    fn print(
+        &self,
+        alloc: Global,
+        word: &str,
+        from: &str,
+        words: &[&str],
+        out: &mut String,
+    ) -> Result<(), AllocError> {
+        let Some(rows) = self.find(from) else {
+            return print_nothing(out);
+        };
+        match (word, words) {
+            ("show", []) => show(alloc, rows, out),
+            ("counts", [count]) => show_counts(rows, count.parse().unwrap_or(0), out),
+            ("coalesce", _) => print_text(alloc, rows, words, true, out),
+            ("write", _) => print_text(alloc, rows, words, false, out),
+            ("draw", [width, names @ ..]) => {
+                print_picture(alloc, rows, names, width, Form::Numbers, out)
+            }
+            ("draw-dates", [width, names @ ..]) => {
+                print_picture(alloc, rows, names, width, Form::Dates, out)
+            }
+            ("send", _) => send(alloc, rows, words, out),
+            ("send-short", _) => send_short(alloc, rows, words, out),
+            _ => print_nothing(out),
+        }
+    }
+
+    // Runs a call for rows.
+    fn answer(
+        &self,
+        alloc: Global,
+        word: &str,
+        words: &[&str],
+        out: &mut String,
+    ) -> Result<(), AllocError> {
+        match (word, words) {
+            ("check", [row, tests @ ..]) => check(alloc, row, tests, out),
+            ("may", [value, place, tests @ ..]) => {
+                may_pass(alloc, value, place.parse().unwrap_or(0), tests, out)
+            }
+            ("chain", [count]) => check_chains(alloc, count.parse().unwrap_or(0), out),
+            ("group", [start, end, keys, sums, rows @ ..]) => {
+                group(alloc, [*start, *end, *keys, *sums], rows, out)
+            }
+            ("count", [start, end, rows @ ..]) => match period_of(start, end) {
+                Some(window) => count(alloc, &window, rows, out),
+                None => print_nothing(out),
+            },
+            ("short", [room, at_end, flushes, text]) => {
+                send_bytes(alloc, [*room, *at_end, *flushes, *text], out)
+            }
+            ("sent", [text]) => print_memory(alloc, text, out),
+            ("faults", []) => print_faults(out),
+            (
+                "show"
+                | "counts"
+                | "coalesce"
+                | "write"
+                | "draw"
+                | "draw-dates"
+                | "send"
+                | "send-short",
+                [from, words @ ..],
+            ) => self.print(alloc, word, from, words, out),
+            _ => self.compare(alloc, word, words, out),
+        }
+    }
+
+    // Runs the call of the line, and writes its output.
     fn call(&mut self, alloc: Global, line: &str, out: &mut String) -> Result<(), AllocError> {
         let words: Vec<&str> = line.split_whitespace().collect(alloc)?;
         match words.as_slice() {
             [] | ["#", ..] => Ok(()),
-            ["rows", name, width, rows @ ..] => {
-                let rows = rows_of(alloc, width.parse().unwrap_or(0), rows)?;
-                self.keep(alloc, name, rows)
+            [
+                word @ ("rows"
+                | "rising"
+                | "project"
+                | "merge"
+                | "select"
+                | "join"
+                | "join-all"
+                | "except"),
+                to,
+                words @ ..,
+            ] => {
+                match self.make(alloc, word, words)? {
+                    Some(rows) => self.take_rows(alloc, to, rows),
+                    None => print_nothing(out),
+                }
             }
             [word, words @ ..] => self.answer(alloc, word, words, out),
         }

@@ -1,13 +1,14 @@
-//! Which rows a table takes, and where a table stands among others.
+//! The rows that a table takes, and the place of a table among others.
 
-use crate::words::{row_of, tell_nothing, value_of};
+use crate::words::{row_of, value_of};
 use std::alloc::{AllocError, Global};
 use std::fmt::Write;
 use std::str;
-use tq_base::{Catalogue, Column, Items, Kind, Name, Schema, fold_name};
+use tq_base::{Catalogue, Column, Kind, List, Name, Schema, fold_name};
+use tq_tests_script::print_nothing;
 
-/// Whether a column of numbers takes the value, and whether one of texts does.
-pub(crate) fn tell_takes(alloc: Global, word: &str, out: &mut String) -> Result<(), AllocError> {
+/// Prints whether a column of numbers takes the value, and whether one of texts does.
+pub(crate) fn print_takes(alloc: Global, word: &str, out: &mut String) -> Result<(), AllocError> {
     let value = value_of(alloc, word)?;
     let number = Kind::Int.takes(&value);
     let text = Kind::Text.takes(&value);
@@ -18,14 +19,14 @@ fn column(alloc: Global, name: &[u8], kind: Kind) -> Result<Option<Column>, Allo
     Ok(fold_name(alloc, name)?.map(|name| Column { name, kind }))
 }
 
-fn columns(alloc: Global) -> Result<Items<Column>, AllocError> {
+fn columns(alloc: Global) -> Result<List<Column>, AllocError> {
     let mut columns = Vec::new(alloc);
     for (name, kind) in [(b"k".as_slice(), Kind::Int), (b"note", Kind::Text)] {
         if let Some(column) = column(alloc, name, kind)? {
             columns.push(column)?;
         }
     }
-    Ok(Items::of(columns))
+    Ok(List::of(columns))
 }
 
 // A table of a number and a text.
@@ -34,12 +35,12 @@ fn table(alloc: Global, name: &[u8]) -> Result<Option<Schema>, AllocError> {
     Ok(fold_name(alloc, name)?.map(|name| Schema { name, columns }))
 }
 
-/// Whether a table of a number and a text takes the row.
-pub(crate) fn tell_fits(alloc: Global, word: &str, out: &mut String) -> Result<(), AllocError> {
+/// Prints whether a table of a number and a text takes the row.
+pub(crate) fn print_fits(alloc: Global, word: &str, out: &mut String) -> Result<(), AllocError> {
     let row = row_of(alloc, word)?;
     match table(alloc, b"emp")? {
         Some(table) => writeln!(out, "{}", table.fits(&row)),
-        None => tell_nothing(out),
+        None => print_nothing(out),
     }
 }
 
@@ -48,7 +49,7 @@ fn catalogue(alloc: Global) -> Result<Option<Catalogue>, AllocError> {
     let (Some(emp), Some(dept)) = (table(alloc, b"Emp")?, table(alloc, b"dept")?) else {
         return Ok(None);
     };
-    let tables = Items::of(vec![in alloc; emp, dept]?);
+    let tables = List::of(vec![in alloc; emp, dept]?);
     Ok(Some(Catalogue { tables }.try_copy(alloc)?))
 }
 
@@ -56,7 +57,7 @@ fn push_name(name: &Name, out: &mut String) -> Result<(), AllocError> {
     out.push_str(str::from_utf8(name.bytes()).unwrap_or("no text"))
 }
 
-fn tell_column(table: &Schema, column: &Column, out: &mut String) -> Result<(), AllocError> {
+fn print_column(table: &Schema, column: &Column, out: &mut String) -> Result<(), AllocError> {
     out.push_str("last column: ")?;
     push_name(&table.name, out)?;
     out.push('.')?;
@@ -64,22 +65,22 @@ fn tell_column(table: &Schema, column: &Column, out: &mut String) -> Result<(), 
     writeln!(out, " {:?}", column.kind)
 }
 
-fn tell_number(number: Option<u32>, out: &mut String) -> Result<(), AllocError> {
+fn print_number(number: Option<u32>, out: &mut String) -> Result<(), AllocError> {
     match number {
         Some(number) => writeln!(out, "{number}"),
         None => out.push_str("none\n"),
     }
 }
 
-/// The number of this table among two, and the last column of the last one.
-pub(crate) fn tell_table(alloc: Global, name: &str, out: &mut String) -> Result<(), AllocError> {
+/// Prints the number of this table among two, and the last column of the last one.
+pub(crate) fn print_table(alloc: Global, name: &str, out: &mut String) -> Result<(), AllocError> {
     let Some(catalogue) = catalogue(alloc)? else {
-        return tell_nothing(out);
+        return print_nothing(out);
     };
-    tell_number(catalogue.table(name.as_bytes()), out)?;
+    print_number(catalogue.table(name.as_bytes()), out)?;
     if let Some(table) = catalogue.tables.get().last() {
         if let Some(column) = table.columns.get().last() {
-            tell_column(table, column, out)?;
+            print_column(table, column, out)?;
         }
     }
     Ok(())

@@ -1,12 +1,11 @@
-//! Statements that are read, planned and answered.
+//! Statements that are parsed, planned and executed.
 
 ghost use Rattle.std.specs.Prelude.{◌≤◌, length};
-ghost use Rattle.tq_plan.specs.Standing.{IsPlanOver};
+ghost use Rattle.tq_plan.specs.ValidPlans.{IsPlanOver};
 
 use crate::changing::history_of;
 use std::alloc::{AllocError, Global};
 use std::fmt::Write;
-use std::str;
 use std::sync::Wait;
 use std::thread::Threads;
 use tq_base::Form;
@@ -15,10 +14,9 @@ use tq_plan::{Plan, PlanFault, plan};
 use tq_sql::{SqlFault, SqlFaultKind, Statement, read};
 use tq_store::Db;
 use tq_table::table_text;
-use tq_tests_help::{Call, Refusal, Tried, attempt};
-use tq_tests_script::TableFiles;
+use tq_tests_script::{Call, Refusal, TableFiles, Tried, attempt, push_lines};
 
-/// What a statement comes to.
+/// The result of a statement.
 #[derive(Drop)]
 pub(crate) enum Answer {
     None,
@@ -27,25 +25,17 @@ pub(crate) enum Answer {
     NotPlanned(PlanFault),
 }
 
-// The lines of the bytes.
-fn tell_lines(bytes: &[u8], out: &mut String) -> Result<(), AllocError> {
-    for line in str::from_utf8(bytes).unwrap_or("no text").lines() {
-        writeln!(out, "{line}")?;
-    }
-    Ok(())
-}
-
-/// The text of the answer, or the fault.
-pub(crate) fn tell_answer(answer: &Answer, out: &mut String) -> Result<(), AllocError> {
+/// Prints the text of the answer, or the fault.
+pub(crate) fn print_answer(answer: &Answer, out: &mut String) -> Result<(), AllocError> {
     match answer {
         Answer::None => Ok(()),
-        Answer::Text(text) => tell_lines(text, out),
+        Answer::Text(text) => push_lines(text, out),
         Answer::NotRead(fault) => writeln!(out, "{fault}"),
         Answer::NotPlanned(fault) => writeln!(out, "{fault}"),
     }
 }
 
-// The text of the plan's answer as of the first events.
+// The text of the plan's answer as of the first `n` events.
 fn text_of(alloc: Global, db: &Db, n: u32, plan: &Plan) -> Result<Answer, AllocError>
     requires within { n ≤ length db.now.events }
     requires plan { IsPlanOver db.now.catalogue plan.now }
@@ -55,7 +45,7 @@ fn text_of(alloc: Global, db: &Db, n: u32, plan: &Plan) -> Result<Answer, AllocE
     Ok(Answer::Text(text))
 }
 
-// The statement's answer as of the first events, of which there are so many.
+// The statement's answer as of the first `n` events, which must exist.
 fn planned(alloc: Global, db: &Db, n: u32, statement: &Statement) -> Result<Answer, AllocError>
     requires { n ≤ length db.now.events }
 {
@@ -66,7 +56,7 @@ fn planned(alloc: Global, db: &Db, n: u32, statement: &Statement) -> Result<Answ
     }
 }
 
-/// The text's answer as of the first events.
+/// The text's answer as of the first `n` events.
 pub(crate) fn answered(alloc: Global, db: &Db, n: u32, text: &str) -> Result<Answer, AllocError> {
     match read(alloc, text.as_bytes()) {
         Ok(statement) => planned(alloc, db, n.min(db.count()), &statement),
@@ -77,7 +67,7 @@ pub(crate) fn answered(alloc: Global, db: &Db, n: u32, text: &str) -> Result<Ans
     }
 }
 
-// The statement's answer as of the first events.
+// The call for a statement's answer as of the first `n` events.
 #[derive(Drop)]
 struct Answering<'a> {
     db: Db,
@@ -92,12 +82,12 @@ impl Call for Answering<'_> {
         Ok(())
     }
 
-    fn tell(&self, _alloc: Global, out: &mut String) -> Result<(), AllocError> {
-        tell_answer(&self.answer, out)
+    fn print(&self, _alloc: Global, out: &mut String) -> Result<(), AllocError> {
+        print_answer(&self.answer, out)
     }
 }
 
-/// The statement's answer as of the first events.
+/// Executes the statement as of the first `n` events, with failing allocations.
 pub(crate) fn try_answer<R: Threads + Wait + Sync>(
     rt: &R,
     alloc: Global,

@@ -1,4 +1,4 @@
-//! The calls that the lines of the script name.
+//! The calls of a script's lines.
 
 use crate::answering::try_answer;
 use crate::changing::try_apply;
@@ -7,8 +7,7 @@ use crate::trees::{try_change, try_leaves, try_scan};
 use std::alloc::{AllocError, Global};
 use std::sync::Wait;
 use std::thread::Threads;
-use tq_tests_help::{Calls, Refusal, Tried};
-use tq_tests_script::{TableFiles, number_and};
+use tq_tests_script::{Calls, Refusal, TableFiles, Tried, number_and};
 
 /// The calls of the libraries below the program.
 #[derive(Drop)]

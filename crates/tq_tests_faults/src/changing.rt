@@ -1,6 +1,6 @@
-//! Histories in which events happen.
+//! Histories to which events are applied.
 
-use crate::answering::{answered, tell_answer};
+use crate::answering::{answered, print_answer};
 use crate::loading::loaded;
 use std::alloc::{AllocError, Global};
 use std::fmt::Write;
@@ -8,10 +8,9 @@ use std::sync::Wait;
 use std::thread::Threads;
 use tq_event::{Event, Loaded, MAX_EVENTS};
 use tq_store::Db;
-use tq_tests_help::{Call, Refusal, Tried, attempt};
-use tq_tests_script::TableFiles;
+use tq_tests_script::{Call, Refusal, TableFiles, Tried, attempt};
 
-// The event happens, if it may: whether it does.
+// Applies the event if it is admissible; whether it was taken.
 fn take(db: &mut Db, event: &Event) -> Result<bool, AllocError> {
     if db.count() >= MAX_EVENTS {
         return Ok(false);
@@ -19,7 +18,7 @@ fn take(db: &mut Db, event: &Event) -> Result<bool, AllocError> {
     db.apply(event)
 }
 
-// The first events happen: the next one, if there is one.
+// Applies the first `n` events; the next one, if there is one.
 fn take_first(db: &mut Db, events: &[Event], n: u32) -> Result<Option<Event>, AllocError> {
     for event in events {
         if db.count() >= n {
@@ -30,8 +29,7 @@ fn take_first(db: &mut Db, events: &[Event], n: u32) -> Result<Option<Event>, Al
     Ok(None)
 }
 
-/// A history in which the first events that the files make have happened, with the next one, if there is one. Files
-/// that are refused end the script.
+/// A history with the first `n` events of the files, and the next event, if there is one. Invalid files end the script.
 pub(crate) fn history_of(
     alloc: Global,
     files: &TableFiles,
@@ -46,7 +44,7 @@ pub(crate) fn history_of(
     Ok((db, next))
 }
 
-// An event that happens; whether it was taken.
+// The call that applies an event, and whether it was taken.
 #[derive(Drop)]
 struct Applying<'a> {
     db: Db,
@@ -65,14 +63,15 @@ impl Call for Applying<'_> {
         Ok(())
     }
 
-    fn tell(&self, alloc: Global, out: &mut String) -> Result<(), AllocError> {
+    fn print(&self, alloc: Global, out: &mut String) -> Result<(), AllocError> {
         let (taken, count) = (self.taken, self.db.count());
         writeln!(out, "{taken}, {count} events")?;
-        tell_answer(&answered(alloc, &self.db, count, self.text)?, out)
+        print_answer(&answered(alloc, &self.db, count, self.text)?, out)
     }
 }
 
-/// The event after so many happens; then the statement's answer as of all so far.
+/// Applies the event after the first `n`, with failing allocations; then executes the statement as of all events so
+/// far.
 pub(crate) fn try_apply<R: Threads + Wait + Sync>(
     rt: &R,
     alloc: Global,

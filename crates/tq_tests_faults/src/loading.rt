@@ -4,37 +4,36 @@ use std::alloc::{AllocError, Global};
 use std::fmt::Write;
 use std::sync::Wait;
 use std::thread::Threads;
-use tq_base::{Form, Rows, Seen, Value};
+use tq_base::{Form, Rows, Value, ValueRef};
 use tq_event::{Event, LoadFault, LoadFaultKind, Loaded, MAX_EVENTS, TableFile, Tables, load};
-use tq_loading::load_tables_by_parts;
+use tq_load::load_tables_by_parts;
 use tq_run::Open;
-use tq_tests_help::{Call, Refusal, Tried, attempt};
-use tq_tests_script::TableFiles;
+use tq_tests_script::{Call, Refusal, TableFiles, Tried, attempt};
 
 /// The events of the files, or the first fault.
 pub(crate) fn loaded(alloc: Global, files: Vec<TableFile>) -> Result<Loaded, LoadFault> {
     load(alloc, files, MAX_EVENTS, Form::Numbers)
 }
 
-// Whether it is that of refused memory.
+// Whether the fault is that of a failed allocation.
 fn is_no_memory(fault: &LoadFault) -> bool {
     matches!(fault.kind, LoadFaultKind::OutOfMemory)
 }
 
-// The value, a comma behind it.
-fn tell_value(value: &Value, out: &mut String) -> Result<(), AllocError> {
-    match value.seen() {
-        Seen::Int(number) => write!(out, "{number},"),
-        Seen::Text(text) => write!(out, "{text},"),
+// Prints the value, followed by a comma.
+fn print_value(value: &Value, out: &mut String) -> Result<(), AllocError> {
+    match value.as_ref() {
+        ValueRef::Int(number) => write!(out, "{number},"),
+        ValueRef::Text(text) => write!(out, "{text},"),
     }
 }
 
-fn tell_event(event: &Event, out: &mut String) -> Result<(), AllocError> {
+fn print_event(event: &Event, out: &mut String) -> Result<(), AllocError> {
     match event {
         Event::Start { table, values, at } => {
             write!(out, "start {table} ")?;
             for value in values.get() {
-                tell_value(value, out)?;
+                print_value(value, out)?;
             }
             writeln!(out, "{}", at.number())
         }
@@ -42,20 +41,20 @@ fn tell_event(event: &Event, out: &mut String) -> Result<(), AllocError> {
     }
 }
 
-fn tell_events(events: &[Event], out: &mut String) -> Result<(), AllocError> {
+fn print_events(events: &[Event], out: &mut String) -> Result<(), AllocError> {
     for event in events {
-        tell_event(event, out)?;
+        print_event(event, out)?;
     }
     Ok(())
 }
 
-fn tell_rows(rows: &Rows, out: &mut String) -> Result<(), AllocError> {
+fn print_rows(rows: &Rows, out: &mut String) -> Result<(), AllocError> {
     let zero = Value::int(0);
     writeln!(out, "{} columns, {} rows", rows.width(), rows.len())?;
     for row in 0..rows.len() {
         for column in 0..rows.width() {
             if let Ok(column) = u32::try_from(column) {
-                tell_value(rows.value(row, column).unwrap_or(&zero), out)?;
+                print_value(rows.value(row, column).unwrap_or(&zero), out)?;
             }
         }
         let period = rows.periods()[row];
@@ -64,14 +63,14 @@ fn tell_rows(rows: &Rows, out: &mut String) -> Result<(), AllocError> {
     Ok(())
 }
 
-fn tell_tables(tables: &Tables, out: &mut String) -> Result<(), AllocError> {
+fn print_tables(tables: &Tables, out: &mut String) -> Result<(), AllocError> {
     for rows in tables.rows.get() {
-        tell_rows(rows, out)?;
+        print_rows(rows, out)?;
     }
     Ok(())
 }
 
-fn tell_fault(fault: Option<LoadFault>, out: &mut String) -> Result<(), AllocError> {
+fn print_fault(fault: Option<LoadFault>, out: &mut String) -> Result<(), AllocError> {
     match fault {
         Some(fault) => writeln!(out, "{fault}"),
         None => Ok(()),
@@ -96,15 +95,15 @@ impl Call for Loading<'_> {
         Ok(())
     }
 
-    fn tell(&self, _alloc: Global, out: &mut String) -> Result<(), AllocError> {
+    fn print(&self, _alloc: Global, out: &mut String) -> Result<(), AllocError> {
         if let Some(loaded) = &self.loaded {
-            tell_events(loaded.events.get(), out)?;
+            print_events(loaded.events.get(), out)?;
         }
-        tell_fault(self.fault, out)
+        print_fault(self.fault, out)
     }
 }
 
-/// The files' events.
+/// Loads the files' events, with failing allocations.
 pub(crate) fn try_load<R: Threads + Wait + Sync>(
     rt: &R,
     alloc: Global,
@@ -119,7 +118,7 @@ pub(crate) fn try_load<R: Threads + Wait + Sync>(
     attempt(rt, alloc, &mut loading, refusal)
 }
 
-// The files' tables, loaded in parts of a few lines by so many workers, or the first fault.
+// The files' tables, loaded in parts of a few lines by `workers` workers, or the first fault.
 #[derive(Drop)]
 struct LoadingAmong<'a> {
     files: &'a TableFiles,
@@ -157,15 +156,15 @@ impl Call for LoadingAmong<'_> {
         Ok(())
     }
 
-    fn tell(&self, _alloc: Global, out: &mut String) -> Result<(), AllocError> {
+    fn print(&self, _alloc: Global, out: &mut String) -> Result<(), AllocError> {
         if let Some(tables) = &self.tables {
-            tell_tables(tables, out)?;
+            print_tables(tables, out)?;
         }
-        tell_fault(self.fault, out)
+        print_fault(self.fault, out)
     }
 }
 
-/// The files' tables, by so many workers.
+/// Loads the files' tables with `workers` workers and failing allocations.
 pub(crate) fn try_load_among<R: Threads + Wait + Sync>(
     rt: &R,
     alloc: Global,

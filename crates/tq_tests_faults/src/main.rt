@@ -1,19 +1,19 @@
-//! Tests of calls for which allocations fail: each block of stdin is a call and what it prints (tq_tests_script). Besides
-//! the calls that make table files there are:
+//! Tests of calls with failing allocations. Each block of stdin is a call and its output (tq_tests_script). In addition
+//! to the calls that make table files there are:
 //!
 //!     load               the files' events
 //!     load-among W       the tables of the files, loaded in small parts by W workers
-//!     answer N S         the statement is read, planned, and answered as of the first N events
-//!     apply N S          the event after the first N happens; then the answer as of all so far
-//!     change V           version V of the tree of 33 keys in a row, of which 29 go
+//!     answer N S         the answer of the statement as of the first N events
+//!     apply N S          the event after the first N is applied; then the answer as of all so far
+//!     change V           version V of the tree of 33 consecutive keys, of which 29 are deleted
 //!     leaves             the leaves of that tree
 //!     scan               a window of that tree that is cut, and what it has in each part
 //!
-//! A call is made with ample memory, and then again and again: its first allocation fails, then the second, and so on up
-//! to a run in which none fails; and once more in the same way with each allocation from that one on failing. A call that
-//! answers that there is no memory is made again with ample memory. What differs from the answer with ample memory is
-//! printed, and what is not as it was before a call that failed. The text of an answer and the copies of files that are
-//! handed over are allocations of these calls too. How many allocations failed is printed on standard error.
+//! A call is made with ample memory, and then repeatedly: its first allocation fails, then the second, and so on until
+//! none fails. This is done once more with all allocations from that one on failing. A call that answers that there is
+//! no memory is repeated with ample memory. A result that differs from the answer with ample memory is printed, and a
+//! state that differs from that before a failed call. The text of an answer and the copies of files that are passed are
+//! allocations of these calls too. The number of failed allocations is printed on standard error.
 #![tactic(auto)]
 
 mod answering;
@@ -24,8 +24,7 @@ mod trees;
 
 use calls::Libraries;
 use std::io;
-use tq_tests_help::Script;
-use tq_tests_script::run_script;
+use tq_tests_script::{Script, run_script};
 
 fn main(rt: HostRuntime) -> io::Result<()> {
     let alloc = rt.alloc();

@@ -1,5 +1,5 @@
-//! The tree of 33 keys in a row, which come at the versions 1 to 33 and of which 29 go at the versions 34 to 62: its
-//! only leaf is full at version 33, and its two leaves are joined at version 45.
+//! The tree of 33 consecutive keys. They are inserted at the versions 1 to 33, and 29 of them are deleted at the
+//! versions 34 to 62. Its only leaf is full at version 33, and its two leaves are joined at version 45.
 
 use std::alloc::{AllocError, Global};
 use std::fmt::Write;
@@ -8,7 +8,7 @@ use std::thread::Threads;
 use tq_arena::{Meter, NodeNo};
 use tq_mvbt::{Region, Tree};
 use tq_scan::{Found, Part, Window, cut, scan};
-use tq_tests_help::{Call, Grower, Refusal, Tried, attempt};
+use tq_tests_script::{Call, Grower, Refusal, Tried, attempt};
 
 const FRONT: u64 = 9223372036854775815;
 
@@ -21,7 +21,7 @@ fn key(row: u32) -> u128 {
     FRONT as u128 * 4294967296 + row as u128
 }
 
-// The key of the version comes or goes; nothing where it is not the next version.
+// Inserts or deletes the key of the version; nothing if it is not the next version.
 fn change(grower: &mut Grower, version: u32) -> Result<(), AllocError> {
     if version <= grower.tree.version() || version > VERSIONS || grower.rows > 33 {
         return Ok(());
@@ -46,7 +46,7 @@ fn grown(alloc: Global, last: u32) -> Result<Grower, AllocError> {
     Ok(grower)
 }
 
-fn tell_region(region: &Region, out: &mut String) -> Result<(), AllocError> {
+fn print_region(region: &Region, out: &mut String) -> Result<(), AllocError> {
     let NodeNo(node) = region.node;
     let born = region.born;
     write!(out, "leaf {node} from version {born}, links to")?;
@@ -56,15 +56,15 @@ fn tell_region(region: &Region, out: &mut String) -> Result<(), AllocError> {
     out.push('\n')
 }
 
-fn tell_regions(regions: &[Region], out: &mut String) -> Result<(), AllocError> {
+fn print_regions(regions: &[Region], out: &mut String) -> Result<(), AllocError> {
     for region in regions {
-        tell_region(region, out)?;
+        print_region(region, out)?;
     }
     Ok(())
 }
 
-// The version, and which of the keys live, a letter each.
-fn tell_keys(tree: &Tree, out: &mut String) -> Result<(), AllocError> {
+// Prints the version and the keys that are alive, a letter each.
+fn print_keys(tree: &Tree, out: &mut String) -> Result<(), AllocError> {
     let version = tree.version();
     write!(out, "version {version}, keys ")?;
     for row in 0..33 {
@@ -73,14 +73,14 @@ fn tell_keys(tree: &Tree, out: &mut String) -> Result<(), AllocError> {
     out.push('\n')
 }
 
-fn tell_root(tree: &Tree, out: &mut String) -> Result<(), AllocError> {
+fn print_root(tree: &Tree, out: &mut String) -> Result<(), AllocError> {
     let version = tree.version();
     let NodeNo(root) = tree.root_at(version);
     let levels = tree.levels(version);
     writeln!(out, "root {root}, {levels} levels")
 }
 
-// A version that comes.
+// The call that changes a version.
 #[derive(Drop)]
 struct Changing {
     grower: Grower,
@@ -96,15 +96,15 @@ impl Call for Changing {
         change(&mut self.grower, self.version)
     }
 
-    fn tell(&self, _alloc: Global, out: &mut String) -> Result<(), AllocError> {
-        tell_keys(&self.grower.tree, out)?;
-        tell_root(&self.grower.tree, out)?;
+    fn print(&self, _alloc: Global, out: &mut String) -> Result<(), AllocError> {
+        print_keys(&self.grower.tree, out)?;
+        print_root(&self.grower.tree, out)?;
         let regions = self.grower.tree.leaf_regions(&mut Meter::new())?;
-        tell_regions(&regions, out)
+        print_regions(&regions, out)
     }
 }
 
-/// The change of the version.
+/// Makes the change of the version, with failing allocations.
 pub(crate) fn try_change<R: Threads + Wait + Sync>(
     rt: &R,
     alloc: Global,
@@ -135,12 +135,12 @@ impl Call for Listing {
         Ok(())
     }
 
-    fn tell(&self, _alloc: Global, out: &mut String) -> Result<(), AllocError> {
-        tell_regions(&self.regions, out)
+    fn print(&self, _alloc: Global, out: &mut String) -> Result<(), AllocError> {
+        print_regions(&self.regions, out)
     }
 }
 
-/// The leaves.
+/// Reads the leaves, with failing allocations.
 pub(crate) fn try_leaves<R: Threads + Wait + Sync>(
     rt: &R,
     alloc: Global,
@@ -163,7 +163,7 @@ fn parts_of(alloc: Global, window: &Window) -> Result<Vec<Part>, AllocError> {
     cut(alloc, window, &key_cuts, &version_cuts)
 }
 
-// What the tree has in the part is put behind what was found.
+// Appends what the tree has in the part.
 fn scan_part(
     alloc: Global,
     tree: &Tree,
@@ -190,7 +190,7 @@ fn scanned(alloc: Global, tree: &Tree) -> Result<Vec<Found>, AllocError> {
     Ok(all)
 }
 
-fn tell_found(found: &Found, out: &mut String) -> Result<(), AllocError> {
+fn print_found(found: &Found, out: &mut String) -> Result<(), AllocError> {
     let keys = found.keys.get().len();
     write!(out, "{keys} keys, from leaves")?;
     for NodeNo(leaf) in found.leaves.get() {
@@ -212,15 +212,15 @@ impl Call for Scanning {
         Ok(())
     }
 
-    fn tell(&self, _alloc: Global, out: &mut String) -> Result<(), AllocError> {
+    fn print(&self, _alloc: Global, out: &mut String) -> Result<(), AllocError> {
         for found in &self.all {
-            tell_found(found, out)?;
+            print_found(found, out)?;
         }
         Ok(())
     }
 }
 
-/// What the tree has in each part of the window.
+/// Scans each part of the window, with failing allocations.
 pub(crate) fn try_scan<R: Threads + Wait + Sync>(
     rt: &R,
     alloc: Global,

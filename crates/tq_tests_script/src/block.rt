@@ -1,6 +1,6 @@
 //! A block of a script.
 
-/// A call, its input and the output that is expected.
+/// A call, its input and the expected output.
 #[derive(Drop)]
 pub struct Block {
     /// The number of the block's first line, counted from 1.
@@ -19,7 +19,7 @@ impl Block {
         self.parts().0
     }
 
-    /// The arguments of the call: all after the first space.
+    /// The arguments of the call: the text after the first space.
     pub fn arguments(&self) -> &str {
         self.parts().1
     }

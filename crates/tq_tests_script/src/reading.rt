@@ -15,7 +15,7 @@ pub(crate) struct Reader {
 }
 
 impl Reader {
-    /// Nothing is read yet.
+    /// A reader of blocks at the start of a script.
     pub(crate) fn new() -> Reader {
         Reader {
             lines: 0,
@@ -24,7 +24,7 @@ impl Reader {
         }
     }
 
-    /// Takes the next line; the block that ends with it, if one does.
+    /// Takes the next line, and returns the block that ends with it, if one does.
     pub(crate) fn take(
         &mut self,
         alloc: Global,

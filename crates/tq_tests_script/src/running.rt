@@ -10,10 +10,10 @@ use std::io;
 use std::sync::Wait;
 use std::thread::Threads;
 
-// How an empty line of output is written in a script.
+// An empty line of output in a script.
 const EMPTY: &str = "(empty)";
 
-/// The calls that a script may name.
+/// The calls of a script.
 pub trait Suite {
     /// Runs the call of a block, and writes its output, each line with a line feed.
     fn run<R: Threads + Wait + Sync>(
@@ -26,19 +26,19 @@ pub trait Suite {
         requires { IsSync R.row };
 }
 
-// How many blocks printed what is expected, and how many did not.
+// The numbers of blocks that printed the expected output, and of those that did not.
 #[derive(Clone, Copy)]
 struct Counts {
     passed: u32,
     failed: u32,
 }
 
-// Whether the line is the one that is expected.
+// Whether the line is the expected one.
 fn is_line(expected: &str, line: &str) -> bool {
     expected == line || (expected == EMPTY && line.is_empty())
 }
 
-// Whether the output has the lines that are expected.
+// Whether the output has the expected lines.
 fn is_expected(expected: &[String], output: &str) -> bool {
     let mut lines = output.lines();
     for line in expected {
@@ -50,7 +50,7 @@ fn is_expected(expected: &[String], output: &str) -> bool {
     lines.next().is_none()
 }
 
-// Where the block is, what is expected and what it printed.
+// The place of the block, the expected output and the output.
 fn describe(block: &Block, output: &str, report: &mut String) -> Result<(), AllocError> {
     writeln!(report, "line {}: {}", block.line, block.call)?;
     for line in &block.expected {

@@ -4,7 +4,7 @@ use crate::block::Block;
 use crate::text::{number_and, unescape};
 use std::alloc::{AllocError, Global};
 use std::fmt::Write;
-use tq_base::Items;
+use tq_base::List;
 use tq_event::{FileBytes, TableFile};
 
 #[derive(Drop)]
@@ -27,7 +27,6 @@ fn add_line(alloc: Global, text: &str, bytes: &mut Vec<u8>) -> Result<(), AllocE
 }
 
 impl TableFiles {
-    /// No tables.
     pub fn new(alloc: Global) -> TableFiles {
         TableFiles {
             tables: Vec::new(alloc),
@@ -39,14 +38,14 @@ impl TableFiles {
         let mut copies = Vec::new(alloc);
         for table in &self.tables {
             copies.push(TableFile {
-                name: Items::of(table.name.as_slice().to_vec(alloc)?),
+                name: List::of(table.name.as_slice().to_vec(alloc)?),
                 bytes: FileBytes::of(table.bytes.as_slice().to_vec(alloc)?),
             })?;
         }
         Ok(copies)
     }
 
-    /// The files, of which none are left.
+    /// The files; none are left.
     pub fn take(&mut self, alloc: Global) -> Result<Vec<TableFile>, AllocError> {
         let files = self.copies(alloc)?;
         self.tables.clear();
@@ -69,7 +68,7 @@ impl TableFiles {
         }
     }
 
-    /// Begins a file of this name with these lines.
+    /// Begins a file with this name and these lines.
     pub fn begin(&mut self, alloc: Global, name: &str, lines: &[String]) -> Result<(), AllocError> {
         let mut bytes = Vec::new(alloc);
         for line in lines {
@@ -92,7 +91,7 @@ impl TableFiles {
         Ok(())
     }
 
-    // Adds n rows: number i, from i for so long.
+    // Adds n rows: number i, from i for the given length.
     fn rise(&mut self, alloc: Global, text: &str) -> Result<(), AllocError> {
         let (count, length) = number_and(text);
         let length: u32 = length.parse().unwrap_or(0);
@@ -113,8 +112,8 @@ impl TableFiles {
     /// Runs the block if it makes tables; whether it does.
     ///
     /// `table NAME` begins a file with the lines of the input. `bytes TEXT` adds the text to the last file, `repeat N
-    /// TEXT` adds it n times, `rising N LENGTH` adds n rows of a number i from i to i + LENGTH, `cut LEN` keeps the first
-    /// bytes, and `clear` leaves no file. Texts are written as `unescape` reads them.
+    /// TEXT` adds it n times, `rising N LENGTH` adds n rows of a number i from i to i + LENGTH, `cut LEN` keeps the
+    /// first bytes, and `clear` removes all files. Texts are written as `unescape` reads them.
     pub fn run(&mut self, alloc: Global, block: &Block) -> Result<bool, AllocError> {
         let text = block.arguments();
         match block.word() {

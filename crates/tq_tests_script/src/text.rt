@@ -1,9 +1,9 @@
-//! Texts of a script, in which a backslash stands before what cannot be written in a line.
+//! Texts of a script, with a backslash before a byte that cannot be written in a line.
 
 use std::alloc::{AllocError, Global};
 use std::str;
 
-// The number that a hexadecimal digit is; 0 for another byte.
+// The number of a hexadecimal digit; 0 for another byte.
 fn digit_of(byte: u8) -> u8 {
     match byte {
         b'0'..=b'9' => byte - b'0',
@@ -12,18 +12,20 @@ fn digit_of(byte: u8) -> u8 {
     }
 }
 
-// The byte that a letter after a backslash stands for; itself if it stands for none.
+// The byte of a letter after a backslash; the letter itself if it has no other meaning.
 fn escaped(letter: u8) -> u8 {
     match letter {
         b'n' => b'\n',
         b'r' => b'\r',
         b't' => b'\t',
         b's' => b' ',
+        b'c' => b',',
+        b'0' => b'\0',
         _ => letter,
     }
 }
 
-// What the next byte of a text is.
+// The meaning of the next byte of a text.
 #[derive(Clone, Copy)]
 enum Place {
     Text,
@@ -32,7 +34,7 @@ enum Place {
     SecondDigit { first: u8 },
 }
 
-// Adds the byte, or the one that ends with it. What the byte after it is.
+// Adds the byte, or the byte whose escape ends with it. Returns the meaning of the next byte.
 fn add(bytes: &mut Vec<u8>, place: Place, byte: u8) -> Result<Place, AllocError> {
     match place {
         Place::Text if byte == b'\\' => return Ok(Place::AfterBackslash),
@@ -51,8 +53,8 @@ fn add(bytes: &mut Vec<u8>, place: Place, byte: u8) -> Result<Place, AllocError>
     Ok(Place::Text)
 }
 
-/// The bytes of a text. `\n`, `\r`, `\t` and `\s` are line feed, carriage return, tab and space, `\xHH` is a byte, and a
-/// backslash before another character is that character.
+/// The bytes of a text. `\n`, `\r`, `\t`, `\s` and `\c` are line feed, carriage return, tab, space and comma, `\0` is
+/// the byte 0, `\xHH` a byte, and a backslash before another character is that character.
 pub fn unescape(alloc: Global, text: &str) -> Result<Vec<u8>, AllocError> {
     let mut bytes = Vec::new(alloc);
     let mut place = Place::Text;
@@ -62,7 +64,7 @@ pub fn unescape(alloc: Global, text: &str) -> Result<Vec<u8>, AllocError> {
     Ok(bytes)
 }
 
-/// The text that `unescape` gives; none if its bytes are not UTF-8.
+/// The text that `unescape` gives; empty if its bytes are not UTF-8.
 pub fn unescape_text(alloc: Global, text: &str) -> Result<String, AllocError> {
     let bytes = unescape(alloc, text)?;
     match str::from_utf8(&bytes) {
@@ -71,7 +73,7 @@ pub fn unescape_text(alloc: Global, text: &str) -> Result<String, AllocError> {
     }
 }
 
-/// The number before the first space, 0 if there is none, and what comes after the space.
+/// The number before the first space, 0 if there is none, and the text after the space.
 pub fn number_and(text: &str) -> (u32, &str) {
     let (number, rest) = text.split_once(' ').unwrap_or((text, ""));
     (number.parse().unwrap_or(0), rest)

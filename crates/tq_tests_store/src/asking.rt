@@ -1,12 +1,12 @@
-//! Questions of a database.
+//! Queries of a database.
 
-use std::alloc::{AllocError, Global};
+use std::alloc::AllocError;
 use tq_arena::Meter;
 use tq_base::{Bound, Instant, KeyRange, Period};
 use tq_scan::Part;
 use tq_store::{Db, Row};
 
-/// A question: as of how many events, which table, which keys, when.
+/// A query: the count of events, the table, the range of keys, and the period.
 #[derive(Clone, Copy)]
 pub(crate) struct Question {
     pub(crate) n: u32,
@@ -26,7 +26,7 @@ pub(crate) fn period_of(start: i64, end: i64) -> Option<Period> {
     Period::new(instant_of(start)?, end)
 }
 
-/// The question of these numbers: as of how many events, which table, the range of keys, the period.
+/// The query of these numbers: the count of events, the table, the range of keys, and the period.
 pub(crate) fn question_of(numbers: &[i64]) -> Option<Question> {
     match numbers {
         [n, table, low, high, start, end] => Some(Question {
@@ -39,7 +39,7 @@ pub(crate) fn question_of(numbers: &[i64]) -> Option<Question> {
     }
 }
 
-/// The rows of the question as far as they lie in the part, if the question and the part are those of some window.
+/// The rows of the query in the part, if query and part are those of some window.
 pub(crate) fn ask_part(
     db: &Db,
     question: &Question,
@@ -62,7 +62,7 @@ pub(crate) fn ask_part(
     Ok(Some(db.rows_part(*n, *table, range, period, part, meter)?))
 }
 
-/// The rows of the question, if there are so many events.
+/// The rows of the query, if there are enough events.
 pub(crate) fn ask(
     db: &Db,
     question: &Question,

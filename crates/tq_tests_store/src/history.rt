@@ -1,14 +1,12 @@
-//! A history beside a plain list of its rows.
-
-ghost use Rattle.std.specs.Prelude.{◌<◌, max};
+//! A history, compared with a plain list of its rows.
 
 use std::alloc::{AllocError, Global};
 use std::fmt::Write;
-use tq_base::{Catalogue, Form, Instant, Items, Value, Values};
+use tq_base::{Catalogue, Form, Instant, List, Value, Values};
 use tq_event::{Event, FileBytes, MAX_EVENTS, TableFile, load};
 use tq_store::Db;
 
-/// A row as its events tell it.
+/// A row by its events.
 #[derive(Drop)]
 pub(crate) struct Plain {
     pub(crate) table: u32,
@@ -19,33 +17,7 @@ pub(crate) struct Plain {
     pub(crate) end: Option<(u32, u64)>,
 }
 
-/// A linear congruential generator.
-#[derive(Drop)]
-pub(crate) struct Draws {
-    state: u64,
-}
-
-impl Draws {
-    /// The draws of this seed.
-    pub(crate) fn new(seed: i64) -> Draws {
-        Draws {
-            state: u64::try_from(seed).unwrap_or(0),
-        }
-    }
-
-    /// The next number below the limit.
-    pub(crate) fn next(&mut self, limit: u64) -> u64
-        ensures { result < max limit 1 }
-    {
-        self.state = self
-            .state
-            .wrapping_mul(6364136223846793005)
-            .wrapping_add(1442695040888963407);
-        (self.state >> 20) % limit.max(1)
-    }
-}
-
-/// A history, its rows, the time of its last event, and whether all went as the rows say.
+/// A history, its rows, the time of its last event, and whether all results were those of the rows.
 #[derive(Drop)]
 pub(crate) struct Known {
     pub(crate) db: Db,
@@ -54,12 +26,12 @@ pub(crate) struct Known {
     is_right: bool,
 }
 
-// Two tables of one column of numbers.
+// Two tables with one column of numbers.
 fn two_tables(alloc: Global) -> Result<Option<Catalogue>, AllocError> {
     let mut files = Vec::new(alloc);
     for name in [b"a", b"b"] {
         files.push(TableFile {
-            name: Items::of(name.to_vec(alloc)?),
+            name: List::of(name.to_vec(alloc)?),
             bytes: FileBytes::of(b"k:int,from,to\n".to_vec(alloc)?),
         })?;
     }
@@ -71,7 +43,7 @@ fn two_tables(alloc: Global) -> Result<Option<Catalogue>, AllocError> {
 }
 
 impl Known {
-    /// Two tables of no rows.
+    /// Two tables without rows.
     pub(crate) fn new(alloc: Global) -> Result<Option<Known>, AllocError> {
         let Some(catalogue) = two_tables(alloc)? else {
             return Ok(None);
@@ -84,12 +56,12 @@ impl Known {
         }))
     }
 
-    /// What is expected here holds or not.
+    /// Notes whether an expectation holds.
     pub(crate) fn expect(&mut self, holds: bool) {
         self.is_right = self.is_right && holds;
     }
 
-    // The event is taken or not, as expected; whether it was taken.
+    // Applies the event, which is taken or not, as expected; whether it was taken.
     fn take(&mut self, event: &Event, expected: bool) -> Result<bool, AllocError> {
         let taken = self.db.count() < MAX_EVENTS && self.db.apply(event)?;
         self.expect(taken == expected);
@@ -102,7 +74,7 @@ impl Known {
         u32::try_from(rows).unwrap_or(u32::MAX)
     }
 
-    /// A row starts: it is taken where the instant is not below that of the last event.
+    /// Starts a row: it is taken if the instant is not before that of the last event.
     pub(crate) fn start(
         &mut self,
         alloc: Global,
@@ -137,7 +109,7 @@ impl Known {
         Ok(())
     }
 
-    /// The row of this place ends: that is taken where it is open, and started before.
+    /// Ends the row at this place: it is taken if the row is open and started before.
     pub(crate) fn end(&mut self, place: usize, at: u64) -> Result<(), AllocError> {
         let (Some(row), Some(instant)) = (self.rows.get(place), Instant::new(at)) else {
             self.expect(false);
@@ -159,8 +131,8 @@ impl Known {
         Ok(())
     }
 
-    /// Whether all was as the rows say, and whether there were a thousand events.
-    pub(crate) fn tell(&self, out: &mut String) -> Result<(), AllocError> {
+    /// Prints whether all results were those of the rows, and whether there were a thousand events.
+    pub(crate) fn print(&self, out: &mut String) -> Result<(), AllocError> {
         let many = self.db.count() >= 1000;
         writeln!(out, "as a list of rows says: {}", self.is_right)?;
         writeln!(out, "a thousand events: {many}")

@@ -1,14 +1,14 @@
 //! The first open row of some values, compared with a plain list of rows.
 
 use crate::asking::instant_of;
-use crate::history::{Draws, Known};
-use crate::telling::tell_nothing;
+use crate::history::Known;
 use std::alloc::{AllocError, Global};
 use std::fmt::Write;
 use tq_base::{Instant, Value, Values};
 use tq_store::{Db, open_row};
+use tq_tests_script::{Draws, print_nothing};
 
-// What a walk over the history's events answers.
+// The row by a walk over the history's events.
 fn open(
     alloc: Global,
     db: &Db,
@@ -22,15 +22,15 @@ fn open(
     Ok(open_row(db.events(), table, &Values::of(values), at))
 }
 
-/// The number of the first open row of the table and the key, which started before the instant.
-pub(crate) fn tell_open(
+/// Prints the number of the first open row of the table and the key that started before the instant.
+pub(crate) fn print_open(
     alloc: Global,
     db: &Db,
     [table, key, at]: [i64; 3],
     out: &mut String,
 ) -> Result<(), AllocError> {
     let (Ok(table), Some(at)) = (u32::try_from(table), instant_of(at)) else {
-        return tell_nothing(out);
+        return print_nothing(out);
     };
     match open(alloc, db, table, key, at)? {
         Some(row) => writeln!(out, "row {row}"),
@@ -38,7 +38,7 @@ pub(crate) fn tell_open(
     }
 }
 
-// What a plain list of rows answers.
+// The row by the plain list of rows.
 fn expected(known: &Known, table: u32, key: i64, at: u64) -> Option<u32> {
     for row in &known.rows {
         let same = row.table == table && row.key == key;
@@ -49,24 +49,24 @@ fn expected(known: &Known, table: u32, key: i64, at: u64) -> Option<u32> {
     None
 }
 
-// A row of one of three keys starts, or one of the rows ends.
+// Starts a row with one of three keys, or ends one of the rows.
 fn step(alloc: Global, known: &mut Known, draws: &mut Draws) -> Result<(), AllocError> {
-    let at = known.last.saturating_add(draws.next(4) / 3);
-    if known.rows.is_empty() || draws.next(16) < 9 {
-        let table = draws.next(2) as u32;
-        let key = draws.next(3) as i64;
+    let at = known.last.saturating_add(draws.below(4) / 3);
+    if known.rows.is_empty() || draws.below(16) < 9 {
+        let table = draws.below(2) as u32;
+        let key = draws.below(3) as i64;
         known.start(alloc, table, key, at)
     } else {
-        let place = draws.next(known.rows.len() as u64) as usize;
+        let place = draws.below(known.rows.len() as u64) as usize;
         known.end(place, at)
     }
 }
 
-// Asks for a random row that started before one of the last instants; how many were found.
+// Searches a random row that started before one of the last instants; how many were found.
 fn ask(alloc: Global, known: &mut Known, draws: &mut Draws, back: u64) -> Result<u32, AllocError> {
     let at = known.last.saturating_add(1).saturating_sub(back);
-    let table = draws.next(2) as u32;
-    let key = draws.next(4) as i64;
+    let table = draws.below(2) as u32;
+    let key = draws.below(4) as i64;
     let row = expected(known, table, key, at);
     let same = match Instant::new(at) {
         Some(at) => open(alloc, &known.db, table, key, at)? == row,
@@ -76,17 +76,17 @@ fn ask(alloc: Global, known: &mut Known, draws: &mut Draws, back: u64) -> Result
     Ok(u32::from(row.is_some()))
 }
 
-/// Random events of few keys, and three random questions after each: whether all answers were those of a list of
-/// rows, whether there were a thousand events, and whether of 6,000 questions 2,000 to 5,000 found a row.
+/// Random events with few keys, and three random searches after each. Prints whether all results were those of a list of
+/// rows, and whether there were a thousand events. Prints also whether 2,000 to 5,000 of 6,000 searches found a row.
 pub(crate) fn random_open(
     alloc: Global,
-    seed: i64,
-    rounds: i64,
+    seed: u64,
+    rounds: u64,
     out: &mut String,
 ) -> Result<(), AllocError> {
     let mut draws = Draws::new(seed);
     let Some(mut known) = Known::new(alloc)? else {
-        return tell_nothing(out);
+        return print_nothing(out);
     };
     let mut found: u32 = 0;
     for _ in 0..rounds {
@@ -95,7 +95,7 @@ pub(crate) fn random_open(
             found = found.saturating_add(ask(alloc, &mut known, &mut draws, back)?);
         }
     }
-    known.tell(out)?;
+    known.print(out)?;
     let some = 2000 < found && found < 5000;
     writeln!(out, "2,000 to 5,000 rows found: {some}")
 }

@@ -1,13 +1,14 @@
 //! The rows of the parts of a window.
 
 use crate::asking::{Question, question_of};
-use crate::telling::{tell_list, tell_nothing};
+use crate::printing::print_list;
 use std::alloc::{AllocError, Global};
 use tq_base::Rows;
 use tq_scan::Part;
 use tq_store::{Db, least_tree_key};
+use tq_tests_script::print_nothing;
 
-// The rows of the part, their values copied, if the question and the part are those of some window.
+// The rows of the part, with copied values, if query and part are those of some window.
 fn list_part(
     alloc: Global,
     db: &Db,
@@ -31,7 +32,7 @@ fn list_part(
     Ok(Some(rows.copied(alloc)?))
 }
 
-// The parts of the question's window, cut at the key and the version, if it can be cut there.
+// The parts of the query's window, cut at the key and the version, if it can be cut there.
 fn parts_of(
     alloc: Global,
     db: &Db,
@@ -56,28 +57,28 @@ fn parts_of(
     tq_scan::cut(alloc, &window, &keys, &versions)
 }
 
-/// Tells the rows of each part of a window of all keys that is cut at a key and at a version.
-pub(crate) fn tell_parts(
+/// Prints the rows of each part of a window of all keys that is cut at a key and at a version.
+pub(crate) fn print_parts(
     alloc: Global,
     db: &Db,
     numbers: &[i64],
     out: &mut String,
 ) -> Result<(), AllocError> {
     let [n, table, key, version, start, end] = numbers else {
-        return tell_nothing(out);
+        return print_nothing(out);
     };
     let Some(question) = question_of(&[*n, *table, i64::MIN, i64::MAX, *start, *end]) else {
-        return tell_nothing(out);
+        return print_nothing(out);
     };
     let version = u32::try_from(*version).unwrap_or(0);
     let parts = parts_of(alloc, db, &question, *key, version)?;
     if parts.is_empty() {
-        return tell_nothing(out);
+        return print_nothing(out);
     }
     for part in &parts {
         match list_part(alloc, db, &question, part)? {
-            Some(rows) => tell_list(&rows, out)?,
-            None => tell_nothing(out)?,
+            Some(rows) => print_list(&rows, out)?,
+            None => print_nothing(out)?,
         }
     }
     Ok(())

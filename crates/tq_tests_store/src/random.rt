@@ -1,21 +1,21 @@
-//! Random events, and random questions as of random counts, beside a plain list of rows.
+//! Random events, and random queries as of random counts, compared with a plain list of rows.
 
 use crate::asking::{Question, ask_part};
-use crate::history::{Draws, Known};
-use crate::telling::tell_nothing;
+use crate::history::Known;
 use std::alloc::{AllocError, Global};
 use tq_arena::Meter;
-use tq_base::{Bound, FOREVER, Instant, KeyRange, Period, Seen};
+use tq_base::{Bound, FOREVER, Instant, KeyRange, Period, ValueRef};
 use tq_scan::{Part, Window, cut};
 use tq_store::Row;
+use tq_tests_script::{Draws, print_nothing};
 
-/// A row as of a count of events: its key, its number, and from when until when it is valid.
+/// A row as of a count of events: its key, its number, and the start and the end of its period.
 type Shown = (i64, u32, u64, u64);
 
 // A number of 64 bits: a small one, the least or the greatest.
 fn draw_key(draws: &mut Draws) -> i64 {
-    let drawn = draws.next(20) as i64;
-    match draws.next(40) {
+    let drawn = draws.below(20) as i64;
+    match draws.below(40) {
         0 => i64::MIN,
         1 => i64::MAX,
         _ => drawn.wrapping_sub(10),
@@ -24,18 +24,18 @@ fn draw_key(draws: &mut Draws) -> i64 {
 
 // A random event.
 fn step(alloc: Global, known: &mut Known, draws: &mut Draws) -> Result<(), AllocError> {
-    let at = known.last.saturating_add(draws.next(5)).saturating_sub(1);
-    if known.rows.is_empty() || draws.next(16) < 9 {
-        let table = draws.next(2) as u32;
+    let at = known.last.saturating_add(draws.below(5)).saturating_sub(1);
+    if known.rows.is_empty() || draws.below(16) < 9 {
+        let table = draws.below(2) as u32;
         let key = draw_key(draws);
         known.start(alloc, table, key, at)
     } else {
-        let place = draws.next(known.rows.len() as u64) as usize;
+        let place = draws.below(known.rows.len() as u64) as usize;
         known.end(place, at)
     }
 }
 
-// What the rows answer, in the order of keys and numbers.
+// The result by the plain list of rows, in the order of keys and numbers.
 fn expected(alloc: Global, known: &Known, question: &Question) -> Result<Vec<Shown>, AllocError> {
     let mut rows = Vec::new(alloc);
     for row in &known.rows {
@@ -54,32 +54,32 @@ fn expected(alloc: Global, known: &Known, question: &Question) -> Result<Vec<Sho
     Ok(rows)
 }
 
-// What the row shows.
+// The key, the number and the period of the row.
 fn shown(row: &Row) -> Shown {
-    let key = match row.values.get().first().map(|value| value.seen()) {
-        Some(Seen::Int(number)) => i64::try_from(number).unwrap_or(0),
+    let key = match row.values.get().first().map(|value| value.as_ref()) {
+        Some(ValueRef::Int(number)) => i64::try_from(number).unwrap_or(0),
         _ => 0,
     };
     let Period { start, end } = row.period;
     (key, row.row, start.number(), end.number())
 }
 
-// A period whose start goes up to the instant after the last one.
+// A period that starts at the latest at the instant after the last one.
 fn draw_period(last: u64, draws: &mut Draws) -> Option<Period> {
-    let start = draws.next(last.saturating_add(2));
-    let length = [1, 1, 7, 60, FOREVER][draws.next(5) as usize];
+    let start = draws.below(last.saturating_add(2));
+    let length = [1, 1, 7, 60, FOREVER][draws.below(5) as usize];
     let end = start.saturating_add(length).min(FOREVER);
     Period::new(Instant::new(start)?, Bound::new(end)?)
 }
 
-// A random question as of a random count.
+// A random query as of a random count.
 fn draw_question(known: &Known, draws: &mut Draws) -> Option<Question> {
     let low = draw_key(draws);
     let high = draw_key(draws);
     let period = draw_period(known.last, draws)?;
     Some(Question {
-        n: draws.next(u64::from(known.db.count()) + 1) as u32,
-        table: draws.next(2) as u32,
+        n: draws.below(u64::from(known.db.count()) + 1) as u32,
+        table: draws.below(2) as u32,
         range: KeyRange::new(low.min(high), low.max(high))?,
         period,
     })
@@ -88,10 +88,10 @@ fn draw_question(known: &Known, draws: &mut Draws) -> Option<Question> {
 // Some versions at which the window can be cut.
 fn draw_cuts(alloc: Global, window: &Window, draws: &mut Draws) -> Result<Vec<u32>, AllocError> {
     let mut cuts = Vec::new(alloc);
-    for _ in 0..draws.next(4) {
+    for _ in 0..draws.below(4) {
         let versions = window.last.wrapping_sub(window.first) as u64;
         if versions > 0 {
-            let versions = draws.next(versions) as u32;
+            let versions = draws.below(versions) as u32;
             cuts.push(window.first.wrapping_add(versions).wrapping_add(1))?;
         }
     }
@@ -100,7 +100,7 @@ fn draw_cuts(alloc: Global, window: &Window, draws: &mut Draws) -> Result<Vec<u3
     Ok(cuts)
 }
 
-// The question's window, cut at random versions, if there are so many events.
+// The query's window, cut at random versions, if there are enough events.
 fn draw_parts(
     alloc: Global,
     known: &Known,
@@ -124,7 +124,7 @@ fn draw_parts(
     Ok(Some(cut(alloc, &window, &[], &cuts)?))
 }
 
-// The rows of the parts, in the order of keys and numbers, if the parts are those of the question.
+// The rows of the parts, in the order of keys and numbers, if the parts are those of the query.
 fn found(
     alloc: Global,
     known: &Known,
@@ -144,7 +144,7 @@ fn found(
     Ok(Some(rows))
 }
 
-// Whether the parts of a random question's window have the rows of the plain list, each once.
+// Whether the parts of a random query's window have the rows of the plain list, each once.
 fn is_answered(alloc: Global, known: &Known, draws: &mut Draws) -> Result<bool, AllocError> {
     let Some(question) = draw_question(known, draws) else {
         return Ok(false);
@@ -156,17 +156,17 @@ fn is_answered(alloc: Global, known: &Known, draws: &mut Draws) -> Result<bool, 
     Ok(rows == Some(expected(alloc, known, &question)?))
 }
 
-/// Random events, and a random question after each fourth: whether all answers were those of a list of rows, and
+/// Random events, and a random query after every fourth. Prints whether all results were those of a list of rows, and
 /// whether there were a thousand events.
 pub(crate) fn random_rows(
     alloc: Global,
-    seed: i64,
-    rounds: i64,
+    seed: u64,
+    rounds: u64,
     out: &mut String,
 ) -> Result<(), AllocError> {
     let mut draws = Draws::new(seed);
     let Some(mut known) = Known::new(alloc)? else {
-        return tell_nothing(out);
+        return print_nothing(out);
     };
     for round in 0..rounds {
         step(alloc, &mut known, &mut draws)?;
@@ -175,5 +175,5 @@ pub(crate) fn random_rows(
             known.expect(answered);
         }
     }
-    known.tell(out)
+    known.print(out)
 }

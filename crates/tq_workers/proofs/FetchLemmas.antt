@@ -21,7 +21,7 @@ use Rattle.tq_base.specs.ValueOrder.{same_from_eq, values_cmp}
 use Rattle.tq_event.specs.declared.event.Event.{Event}
 use Rattle.tq_event.specs.History.{valid_at}
 use Rattle.tq_scan.specs.declared.window.Part.{Part}
-use Rattle.tq_store.specs.Rows.{window_part, within_window}
+use Rattle.tq_store.specs.Rows.{whole_window, within_window}
 use Rattle.tq_store.specs.Valid.{ArePart, AreParts, HasKeyIn, width_of}
 use Rattle.tq_agg.specs.Grouping.{Row}
 use Rattle.tq_table.specs.Merging.{AreOfWidth}
@@ -132,7 +132,7 @@ module _ (c : Catalogue) (es : List Event) (n : ℕ) (window : Period) where
   source_in : (source : Source) → IsCut es n window source → All (IsPieceIn es n window) (source_pieces source)
   source_in source cut =
       All-map (IsPieceIn es n window) (λ (part : Part). record { asked = source.asked; part = part }) source.parts.items
-      (λ k d less. within_window cut.window (window_part es n source.asked.keys window) (get_or source.parts.items k d) cut.whole (cut.tiles.inside k d less))
+      (λ k d less. within_window cut.window (whole_window es n source.asked.keys window) (get_or source.parts.items k d) cut.whole (cut.tiles.inside k d less))
 
   pub pieces_in : (sources : List Source) → All (IsCut es n window) sources → All (IsPieceIn es n window) (all_pieces sources)
   pieces_in [] cut = All-nil (IsPieceIn es n window)

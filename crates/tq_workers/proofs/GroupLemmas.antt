@@ -8,14 +8,14 @@ use Rattle.tq_base.specs.declared.fragment.Fragment.{Fragment}
 use Rattle.tq_base.specs.declared.period.Period.{Period}
 use Rattle.tq_base.specs.Fragments.{at, occurrences}
 use Rattle.tq_base.specs.Periods.{holds}
-use Rattle.tq_base.specs.Ranks.{value_rank}
+use Rattle.tq_base.specs.NormalizedKeys.{normalized_key}
 use Rattle.tq_base.specs.RowLists.{RowList}
 use Rattle.tq_base.specs.RowValues.{value_at}
 use Rattle.tq_ops.specs.Ordinary.{HasInside, IsEmptyOutside}
 use Rattle.tq_agg.specs.Grouping.{Row, first_row}
 use Rattle.tq_plan.specs.declared.plans.QueryPlan.{QueryPlan}
 use Rattle.tq_plan.specs.Plans.{tables_of}
-use Rattle.tq_plan.specs.Standing.{items_stand, no_group}
+use Rattle.tq_plan.specs.ValidPlans.{are_valid_items, no_group}
 use Rattle.tq_run.specs.Results.{IsResultList}
 use Rattle.tq_table.specs.Merging.{all_rows, AreOfWidth}
 use Rattle.tq_table.proofs.MergeLemmas.{all_and_next}
@@ -55,7 +55,7 @@ module _ (query : QueryPlan) (window : Period) (cuts : List ℕ) (rows : List Fr
   groups_outside = none_outside window made (λ k d less. (are.1 k d (omega (arith, less, are.0))).outside)
 
   -- in the window those of the groups of all rows are
-  pub groups_counted : SharesPartGroups → (valid : ValidRows) → no_group query.group ≡ false → items_stand query ≡ true
+  pub groups_counted : SharesPartGroups → (valid : ValidRows) → no_group query.group ≡ false → are_valid_items query ≡ true
       → HasInside window rows (λ t v. occurrences (rows_to_group query (lists_at valid t (tables_of query))) v)
       → HasInside window (all_rows made) (λ t v. times_in valid query v t)
   groups_counted law valid some stand found t v inside =
@@ -71,5 +71,5 @@ module _ (query : QueryPlan) (window : Period) (cuts : List ℕ) (rows : List Fr
       ∙ ap (λ l. occurrences l v) (law (share_of cuts) i query some (at rows t))
       ∙ ap count_of same)
       ∙ ap (λ n. sum_by count_of (range_with_len 0 n)) are.0
-      ∙ each_number make number (length cuts + 1) (λ group. few_left (λ cut. nat_le cut (value_rank (value_at (first_row group) 0))) cuts) v groups
+      ∙ each_number make number (length cuts + 1) (λ group. few_left (λ cut. nat_le cut (normalized_key (value_at (first_row group) 0))) cuts) v groups
       ∙ gathered_answer valid query window rows some stand found t v inside

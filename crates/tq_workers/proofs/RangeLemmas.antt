@@ -17,7 +17,7 @@ use Rattle.tq_base.specs.declared.fragment.Fragment.{Fragment}
 use Rattle.tq_base.specs.declared.value.Value.{Value}
 use Rattle.tq_base.specs.Fragments.{copies}
 use Rattle.tq_base.specs.Keys.{no_row}
-use Rattle.tq_base.specs.Ranges.{layers_of_all, one_after_other, StandInOrder}
+use Rattle.tq_base.specs.Ranges.{layers_of_all, one_after_other, AreAscending}
 use Rattle.tq_base.specs.Relations.{row_at}
 use Rattle.tq_run.specs.Results.{IsResultList}
 use Rattle.tq_table.specs.Sink.{bytes_of}
@@ -136,7 +136,7 @@ lines_at [] i d less = absurd (omega (arith, less))
 lines_at (r ∷ ranges) i d less = (r, get_or-map (λ (s : RangeText). s.lines) (r ∷ ranges) i r d less)
 
 -- where the ranges stand in order, their texts are that of the layers of all rows
-pub have_layers : (form : Form) (rows : List Fragment) (told : List ℕ) (count : ℕ) (ranges : List RangeText) → 1 ≤ count → IsResultList (IsRange form rows told count) count ranges → StandInOrder (map (λ (r : RangeText). r.lines) ranges)
+pub have_layers : (form : Form) (rows : List Fragment) (told : List ℕ) (count : ℕ) (ranges : List RangeText) → 1 ≤ count → IsResultList (IsRange form rows told count) count ranges → AreAscending (map (λ (r : RangeText). r.lines) ranges)
     → HaveLayers form rows (map (λ (r : RangeText). r.text) ranges)
 have_layers form rows told count ranges some are order =
     let lists = map (λ (r : RangeText). r.lines) ranges in

@@ -13,15 +13,15 @@ use Rattle.tq_base.specs.declared.fragment.Fragment.{Fragment}
 use Rattle.tq_base.specs.declared.value.Value.{Value}
 use Rattle.tq_base.specs.Fragments.{at}
 use Rattle.tq_base.specs.Periods.{holds}
-use Rattle.tq_base.specs.Ranks.{value_rank}
+use Rattle.tq_base.specs.NormalizedKeys.{normalized_key}
 use Rattle.tq_base.specs.RowLists.{RowList}
 use Rattle.tq_base.specs.declared.key_range.KeyRange.{KeyRange}
 use Rattle.tq_base.specs.declared.period.Period.{Period}
 use Rattle.tq_event.specs.Tables.{lists_of, rows_in}
-use Rattle.tq_base.specs.Ranges.{layers_of_all, one_after_other, StandInOrder}
+use Rattle.tq_base.specs.Ranges.{layers_of_all, one_after_other, AreAscending}
 use Rattle.tq_base.specs.RowValues.{value_at}
 use Rattle.tq_plan.specs.declared.plans.Plan.{Plan}
-use Rattle.tq_plan.specs.Standing.{AreQueriesOver}
+use Rattle.tq_plan.specs.ValidPlans.{AreQueriesOver}
 use Rattle.tq_eval.specs.Answers.{in_tables, times_at, ValidRows}
 use Rattle.tq_eval.specs.Sources.{AreRowsIn, HasRowsIn}
 use Rattle.tq_eval.proofs.SourceLemmas.{whole_table}
@@ -43,7 +43,7 @@ few_left p (cut ∷ cuts) = by (p cut) (few_left p cuts)
 
 -- where the shares stand in order, their texts are that of the answer
 pub have_answer : SharesPartAnswers → (form : Form) (catalogue : Catalogue) (valid : ValidRows) (plan : Plan) (cuts : List ℕ) (columns : List (Option ℕ)) (shares : List RangeText) → AreFitting catalogue valid → AreQueriesOver catalogue plan
-    → ArePartedBy (columns_in columns) plan → IsResultList (IsShareText form valid plan cuts columns) (length cuts + 1) shares → StandInOrder (map (λ (r : RangeText). r.lines) shares)
+    → ArePartedBy (columns_in columns) plan → IsResultList (IsShareText form valid plan cuts columns) (length cuts + 1) shares → AreAscending (map (λ (r : RangeText). r.lines) shares)
     → HaveAnswer form valid plan (map (λ (r : RangeText). r.text) shares)
 have_answer law form catalogue valid plan cuts columns shares fit over parted are order =
     let lists = map (λ (r : RangeText). r.lines) shares in
@@ -66,7 +66,7 @@ have_answer law form catalogue valid plan cuts columns shares fit over parted ar
             layers.counted v t
             ∙ ap (λ n. sum_by (λ i. count_of i v t) (range_with_len 0 n)) many
             ∙ ap (λ (f : ℕ → ℕ). sum_by f (range_with_len 0 count)) (λ k i. law (share_of cuts) (columns_in columns) i catalogue valid plan fit over parted v t k)
-            ∙ counted_once (share_of cuts (value_at v 0)) (times_at valid plan v t) 0 count (omega arith) (omega (arith, few_left (λ cut. nat_le cut (value_rank (value_at v 0))) cuts));
+            ∙ counted_once (share_of cuts (value_at v 0)) (times_at valid plan v t) 0 count (omega arith) (omega (arith, few_left (λ cut. nat_le cut (normalized_key (value_at v 0))) cuts));
       };
       text = texts_follow form shares (λ k d less. (are.1 k d (omega (arith, less, are.0))).text);
     }

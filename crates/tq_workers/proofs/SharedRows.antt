@@ -7,10 +7,10 @@ use Rattle.std.proofs.Crossing.{crosses}
 use Rattle.std.specs.contracts.option.Option.{the_field as option_field}
 use Rattle.std.proofs.option.Option.TheSendSync.{the_sync as option_sync, the_field_sync as option_field_sync}
 use Rattle.sqlite_items.proofs.boxed.Boxed.TheSendSync.{the_sync as boxed_sync}
-use Rattle.tq_base.specs.contracts.items.Items.{the_row as items_row}
+use Rattle.tq_base.specs.contracts.list.List.{the_row as items_row}
 use Rattle.tq_base.specs.contracts.name.Name.{the_row as name_row}
 use Rattle.tq_base.proofs.form.Form.TheSendSync.{the_sync as form_sync, the_field_sync as form_field_sync}
-use Rattle.tq_base.proofs.items.Items.TheSendSync.{the_sync as items_sync}
+use Rattle.tq_base.proofs.list.List.TheSendSync.{the_sync as items_sync}
 use Rattle.tq_base.proofs.name.Name.TheSendSync.{the_sync as name_sync}
 use Rattle.tq_base.proofs.period.Period.TheSendSync.{the_sync as period_sync, the_field_sync as period_field_sync}
 use Rattle.tq_base.proofs.relation.Relation.TheSendSync.{the_sync as relation_sync}

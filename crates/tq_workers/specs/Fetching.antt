@@ -10,7 +10,7 @@ use Rattle.tq_base.specs.declared.period.Period.{Period}
 use Rattle.tq_base.specs.RowLists.{RowList}
 use Rattle.tq_event.specs.declared.event.Event.{Event}
 use Rattle.tq_store.specs.Laws.{TileWindow}
-use Rattle.tq_store.specs.Rows.{IsWithin, window_part}
+use Rattle.tq_store.specs.Rows.{IsWithin, whole_window}
 use Rattle.tq_store.specs.Valid.{ArePart, AreValidIn, HasKeyIn, width_of}
 use Rattle.tq_table.specs.Merging.{AreOfWidth}
 use Rattle.tq_workers.specs.declared.fetched.Fetched.{Fetched}
@@ -44,7 +44,7 @@ all_pieces sources = flat_map source_pieces sources
 
 -- the piece has keys and versions of the window of its source
 abbrev pub IsPieceIn : List Event → ℕ → Period → Piece → Type 0
-IsPieceIn history n window piece = IsWithin (window_part history n piece.asked.keys window) piece.part
+IsPieceIn history n window piece = IsWithin (whole_window history n piece.asked.keys window) piece.part
 
 -- the rows of a piece, as wide as its table
 pub record IsRead (catalogue : Catalogue) (history : List Event) (n : ℕ) (window : Period) (piece : Piece) (rows : RowList) : Type 0 where

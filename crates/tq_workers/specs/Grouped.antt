@@ -9,7 +9,7 @@ use Rattle.tq_base.specs.RowLists.{RowList}
 use Rattle.tq_base.specs.RowValues.{value_at}
 use Rattle.tq_ops.specs.Ordinary.{HasInside, IsEmptyOutside}
 use Rattle.tq_plan.specs.declared.plans.QueryPlan.{QueryPlan}
-use Rattle.tq_plan.specs.Standing.{items_stand, no_group}
+use Rattle.tq_plan.specs.ValidPlans.{are_valid_items, no_group}
 use Rattle.tq_table.specs.Merging.{all_rows, AreOfWidth}
 use Rattle.tq_eval.specs.Gathering.{group_columns, rows_of_values}
 use Rattle.tq_eval.specs.Running.{AreNumbers}
@@ -26,7 +26,7 @@ IsFirstTold cuts lists place told = (d : RowList) → told ≡ map (first_share 
 -- the lists hold rows from which the query's groups are made, and of each row its share is told
 pub record AreToGroup (query : QueryPlan) (cuts : List ℕ) (lists : List RowList) (told : List (Vec ℕ)) : Type 0 where
   pub grouped : no_group query.group ≡ false
-  pub stand : items_stand query ≡ true
+  pub stand : are_valid_items query ≡ true
   pub wide : All (AreOfWidth (length (group_columns query))) lists
   pub numbers : All (λ (row : Fragment). AreNumbers row.values) (all_rows lists)
   pub many : length told ≡ length lists

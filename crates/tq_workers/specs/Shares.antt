@@ -6,7 +6,7 @@ use Rattle.tq_base.specs.declared.form.Form.{Form}
 use Rattle.tq_base.specs.declared.fragment.Fragment.{Fragment}
 use Rattle.tq_base.specs.declared.value.Value.{Value}
 use Rattle.tq_base.specs.Layers.{IsLayers}
-use Rattle.tq_base.specs.Ranks.{value_rank}
+use Rattle.tq_base.specs.NormalizedKeys.{normalized_key}
 use Rattle.tq_event.specs.Tables.{rows_in}
 use Rattle.tq_base.specs.RowValues.{value_at}
 use Rattle.tq_plan.specs.declared.plans.Plan.{Plan}
@@ -18,7 +18,7 @@ use Rattle.tq_workers.specs.declared.ranges.RangeText.{RangeText}
 
 -- the share of a value: as many of the ranks as are not above its own
 abbrev pub share_of : List ℕ → Value → ℕ
-share_of cuts value = length (filter (λ cut. nat_le cut (value_rank value)) cuts)
+share_of cuts value = length (filter (λ cut. nat_le cut (normalized_key value)) cuts)
 
 -- the column by which the rows of a table are parted, of those of all tables
 abbrev pub columns_in : List (Option ℕ) → Columns

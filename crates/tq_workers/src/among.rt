@@ -6,7 +6,7 @@ ghost use Rattle.tq_base.specs.declared.period.Period.{Period as Span};
 ghost use Rattle.tq_event.specs.Tables.{lists_of};
 ghost use Rattle.tq_eval.specs.Answers.{in_tables, IsTablesAnswer};
 ghost use Rattle.tq_eval.specs.Fitting.{AreAllFitting};
-ghost use Rattle.tq_plan.specs.Standing.{AreQueriesOver, IsPlanOver, queries_prop};
+ghost use Rattle.tq_plan.specs.ValidPlans.{AreQueriesOver, IsPlanOver, queries_prop};
 ghost use Rattle.tq_workers.specs.Pieces.{ArePieces, IsPiece};
 
 use crate::edges::table_edges;
@@ -16,7 +16,7 @@ use std::thread::Threads;
 use tq_base::{Catalogue, Period, Rows};
 use tq_eval::{TablesOfRows, answer_tables};
 use tq_plan::Plan;
-use tq_plan::laws::queries_stand;
+use tq_plan::laws::queries_are_valid;
 use tq_run::{Gate, Work, run_with};
 use tq_table::Table;
 
@@ -99,7 +99,7 @@ pub fn answer_among<'a, R: Threads + Sync, G: Gate + Sync>(
     if workers == 1 {
         return answer_tables(alloc, catalogue, tables, plan);
     }
-    queries_stand();
+    queries_are_valid();
     let edges = table_edges(alloc, tables, plan)?;
     let cuts = plan.cuts(alloc, workers, &edges)?;
     let periods = cuts.as_slice();

@@ -1,7 +1,7 @@
 // Which rows a plan asks for: ranges of keys of tables, and some of the keys that rows have there.
 
 use std::alloc::{AllocError, Global};
-use tq_base::{KeyRange, Seen, Values};
+use tq_base::{KeyRange, ValueRef, Values};
 use tq_event::Event;
 use tq_plan::{Plan, QueryPlan};
 
@@ -36,8 +36,8 @@ fn add_sources(query: &QueryPlan, asked: &mut Vec<Asked>) -> Result<(), AllocErr
 
 // The key of a row of these values.
 fn key(values: &Values) -> i64 {
-    match values.get().first().map(|value| value.seen()) {
-        Some(Seen::Int(number)) => i64::try_from(number).unwrap_or(0),
+    match values.get().first().map(|value| value.as_ref()) {
+        Some(ValueRef::Int(number)) => i64::try_from(number).unwrap_or(0),
         _ => 0,
     }
 }

@@ -5,7 +5,7 @@ ghost use Rattle.std.specs.Prelude.{◌≡◌, ◌≤◌, ◌<◌, ◌+◌, ◌/
 ghost use Rattle.std.proofs.Props.{props};
 ghost use Rattle.tq_agg.specs.Buckets.{AreRanksOf, AreTallies, IsTally, ranks_prop, tallies_prop};
 ghost use Rattle.tq_event.specs.Tables.{lists_of, rows_in};
-ghost use Rattle.tq_plan.specs.Standing.{AreQueriesOver, items_stand};
+ghost use Rattle.tq_plan.specs.ValidPlans.{AreQueriesOver, are_valid_items};
 ghost use Rattle.tq_eval.specs.Answers.{in_tables};
 ghost use Rattle.tq_eval.specs.Gathering.{CountsOne};
 ghost use Rattle.tq_workers.specs.Shares.{columns_in, stretch_start, HaveAnswer, IsShareText};
@@ -68,7 +68,7 @@ struct Values<'p, 'a> {
     ranks: &'p [u128],
     ghost counts: { CountsOne plan.now.left table column } by { Prim.hlevel props },
     ghost alone: { is_some plan.now.right ≡ false },
-    ghost stand: { items_stand plan.now.left ≡ true },
+    ghost stand: { are_valid_items plan.now.left ≡ true },
     ghost parted: { columns_in columns.now table ≡ Some column } by { Prim.hlevel props },
     ghost of: { rows.now.items ≡ rows_in (lists_of all.tables.now) table } by { Prim.hlevel props },
     ghost tallied: { AreTallies rows.now.items plan.now.window column tallies.now } by { Prim.hlevel (props, tallies_prop) },

@@ -3,12 +3,12 @@
 ghost use Rattle.std.specs.Prelude.{◌≡◌, All, IfOk, length};
 ghost use Rattle.tq_eval.specs.Answers.{IsAnswerOver, ValidRows};
 ghost use Rattle.tq_plan.specs.Cuts.{Tile};
-ghost use Rattle.tq_plan.specs.Standing.{AreQueriesOver};
+ghost use Rattle.tq_plan.specs.ValidPlans.{AreQueriesOver};
 ghost use Rattle.tq_table.specs.Merging.{AreInOrder, AreOfWidth};
 ghost use Rattle.tq_workers.specs.Pieces.{ArePieces, IsPiece};
 
 use std::alloc::{AllocError, Global};
-use tq_base::{Items, Period, Rows};
+use tq_base::{List, Period, Rows};
 use tq_eval::{Snapshot, rows_within};
 use tq_plan::{Plan, copy_names};
 use tq_table::{Table, coalesce, merge};
@@ -42,7 +42,7 @@ pub(crate) fn put_together<'a>(
 {
     let rows = merge(alloc, plan.left.outputs.get().len(), pieces)?;
     Ok(Table {
-        columns: Items::of(copy_names(alloc, plan.columns())?),
+        columns: List::of(copy_names(alloc, plan.columns())?),
         rows,
     })
 }

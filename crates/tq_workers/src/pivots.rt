@@ -3,8 +3,8 @@
 ghost use Rattle.std.specs.Prelude.{◌<◌, ◌≤◌, All, IfOk};
 
 use std::alloc::{AllocError, Global};
-use tq_base::{Relation, Row, rank_of};
-use tq_table::{Lines, coalesce, is_below};
+use tq_base::{Relation, Row, normalized_key};
+use tq_table::{ResultRows, coalesce, is_below};
 
 // About as many rows are looked at for each range, so that finding the pivots costs next to nothing.
 const LOOKED_AT: usize = 64;
@@ -15,14 +15,14 @@ const HALVES: usize = 7;
 // A pivot: the rank of its first value, and its place in the list of some rows.
 #[derive(Clone, Copy)]
 struct Pivot {
-    rank: u128,
+    prefix: u128,
     line: usize,
 }
 
 /// Some rows in order, and which of them part ranges that hold about as many rows each.
 #[derive(Drop)]
 pub(crate) struct Pivots<'a> {
-    lines: Lines<'a>,
+    lines: ResultRows<'a>,
     pivots: Vec<Pivot>,
 }
 
@@ -41,8 +41,8 @@ fn some_numbers(alloc: Global, len: usize, wanted: usize) -> Result<Vec<u32>, Al
 }
 
 // The rank of the row's first value.
-fn rank(row: &Row<'_>) -> u128 {
-    rank_of(row.value(0))
+fn prefix(row: &Row<'_>) -> u128 {
+    normalized_key(row.value(0))
 }
 
 /// Pivots of the rows for so many ranges.
@@ -52,12 +52,12 @@ pub(crate) fn pivots_of<'a>(
     ranges: usize,
 ) -> Result<Pivots<'a>, AllocError> {
     let numbers = some_numbers(alloc, rows.len(), ranges.min(64) * LOOKED_AT)?;
-    let lines = coalesce(alloc, rows.picked(alloc, &numbers)?)?;
+    let lines = coalesce(alloc, rows.take_rows_ref(alloc, &numbers)?)?;
     let mut pivots = Vec::with_capacity(alloc, ranges)?;
     'ranges: for range in 1..ranges {
         let line = lines.len() / ranges * range;
         pivots.push(Pivot {
-            rank: rank(&lines.row(line)),
+            prefix: prefix(&lines.row(line)),
             line,
         })?;
     }
@@ -66,13 +66,14 @@ pub(crate) fn pivots_of<'a>(
 
 impl Pivots<'_> {
     // Whether the row, whose first value has the rank, is below the pivot.
-    fn is_above(&self, pivot: &Pivot, rank: u128, row: &Row<'_>) -> bool {
-        rank < pivot.rank || rank == pivot.rank && is_below(row, &self.lines.row(pivot.line))
+    fn is_above(&self, pivot: &Pivot, prefix: u128, row: &Row<'_>) -> bool {
+        prefix < pivot.prefix
+            || prefix == pivot.prefix && is_below(row, &self.lines.row(pivot.line))
     }
 
     /// The range of the row: how many pivots are not above it.
     pub(crate) fn range_of(&self, row: &Row<'_>) -> u8 {
-        let rank = rank(row);
+        let prefix = prefix(row);
         let mut low = 0;
         let mut high = self.pivots.len();
         'halves: for _ in 0..HALVES {
@@ -81,7 +82,7 @@ impl Pivots<'_> {
             }
             let middle = low + (high - low) / 2;
             match self.pivots.get(middle) {
-                Some(pivot) if self.is_above(pivot, rank, row) => high = middle,
+                Some(pivot) if self.is_above(pivot, prefix, row) => high = middle,
                 _ => low = middle + 1,
             }
         }

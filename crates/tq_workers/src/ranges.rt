@@ -2,7 +2,7 @@
 
 ghost use Rattle.std.specs.Prelude.{◌≡◌, ◌≤◌, All, IfOk, IfSome, IsSorted, IsTrue, map};
 ghost use Rattle.tq_base.specs.Fragments.{fragment_cmp};
-ghost use Rattle.tq_base.specs.Ranges.{StandInOrder};
+ghost use Rattle.tq_base.specs.Ranges.{AreAscending};
 ghost use Rattle.tq_workers.specs.Ranges.{numbers_in, range_at, HaveLayers, IsRange};
 ghost use Rattle.tq_workers.specs.declared.ranges.RangeText.{RangeText as AnyRange};
 
@@ -11,7 +11,7 @@ use std::alloc::{AllocError, Global};
 use std::thread::Threads;
 use tq_base::{Form, Relation};
 use tq_run::{Gate, Work, run_with};
-use tq_table::{Lines, coalesce, rows_text};
+use tq_table::{ResultRows, coalesce, rows_text};
 
 // So many ranges a worker, so that nobody waits long for the last one.
 const RANGES_EACH: u32 = 4;
@@ -19,7 +19,7 @@ const RANGES_EACH: u32 = 4;
 /// The lines of a range of values, and their text.
 #[derive(Drop)]
 pub(crate) struct RangeText<'a> {
-    pub(crate) lines: Lines<'a>,
+    pub(crate) lines: ResultRows<'a>,
     pub(crate) text: Vec<u8>,
 }
 
@@ -77,7 +77,7 @@ impl<'p> Work for Ranges<'p, '_> {
 
     fn run(&self, i: u32) -> Result<RangeText<'p>, AllocError> {
         let numbers = numbers_in(self.alloc, self.told, self.count, self.rows.len(), i)?;
-        let lines = coalesce(self.alloc, self.rows.picked(self.alloc, &numbers)?)?;
+        let lines = coalesce(self.alloc, self.rows.take_rows_ref(self.alloc, &numbers)?)?;
         let text = rows_text(self.alloc, &lines, self.form)?;
         Ok(RangeText { lines, text })
     }
@@ -86,7 +86,7 @@ impl<'p> Work for Ranges<'p, '_> {
 /// Whether the lines of each range are below those of every later one.
 pub(crate) fn stand_in_order(ranges: &[RangeText<'_>]) -> bool
     requires { All (λ (range : AnyRange). IsSorted fragment_cmp range.lines) ranges.now }
-    ensures { IsTrue result → StandInOrder (map (λ (range : AnyRange). range.lines) ranges.now) }
+    ensures { IsTrue result → AreAscending (map (λ (range : AnyRange). range.lines) ranges.now) }
 {
     'first: for first in 0..ranges.len() {
         'second: for second in first + 1..ranges.len() {

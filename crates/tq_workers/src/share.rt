@@ -52,7 +52,7 @@ fn rows_in<'a>(
 {
     rows.len();
     let numbers = numbers_in(alloc, told, number)?;
-    Relation::of(alloc, rows)?.keep(alloc, &numbers)
+    Relation::of(alloc, rows)?.take_rows(alloc, &numbers)
 }
 
 // The rows of the table, parted by the column, that go to the share.
@@ -67,7 +67,7 @@ fn share_rows<'a>(
 {
     match share.all.tables.get(table as usize) {
         Some(rows) => rows_in(alloc, rows, &share.told[table as usize], share.number),
-        None => Relation::made(alloc, Rows::new(alloc, 0)),
+        None => Relation::owned(alloc, Rows::new(alloc, 0)),
     }
 }
 

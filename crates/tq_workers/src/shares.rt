@@ -5,7 +5,7 @@ ghost use Rattle.std.proofs.Props.{props};
 ghost use Rattle.tq_event.specs.Tables.{lists_of};
 ghost use Rattle.tq_eval.specs.Answers.{in_tables};
 ghost use Rattle.tq_eval.specs.Shares.{ArePartedBy};
-ghost use Rattle.tq_plan.specs.Standing.{AreQueriesOver, queries_prop};
+ghost use Rattle.tq_plan.specs.ValidPlans.{AreQueriesOver, queries_prop};
 ghost use Rattle.tq_workers.specs.Shares.{columns_in, AreTold, HaveAnswer, IsShareText, are_told_prop};
 
 use crate::columns::{column_in, parting_columns};

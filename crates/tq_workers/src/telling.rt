@@ -10,7 +10,7 @@ ghost use Rattle.tq_workers.specs.Shares.{columns_in, share_of, stretch_start, A
 use crate::columns::column_in;
 use std::alloc::{AllocError, Global};
 use std::thread::Threads;
-use tq_base::{Rows, Value, rank_of};
+use tq_base::{Rows, Value, normalized_key};
 use tq_run::{Gate, Work, run_with};
 
 // The rows of a piece.
@@ -24,10 +24,10 @@ fn share_of(cuts: &[u128], value: &Value) -> u8
     requires { length cuts.now ≤ 63 }
     ensures { result ≡ share_of cuts.now value.now }
 {
-    let rank = rank_of(value);
+    let prefix = normalized_key(value);
     let mut share = 0;
     'cuts: for cut in cuts {
-        share += u8::from(*cut <= rank);
+        share += u8::from(*cut <= prefix);
     }
     share
 }
@@ -197,7 +197,7 @@ fn rank_at(rows: &Rows, row: usize, column: u32) -> u128
     requires { row < length rows.now.items }
 {
     match rows.value(row, column) {
-        Some(value) => rank_of(value),
+        Some(value) => normalized_key(value),
         None => 0,
     }
 }
@@ -234,8 +234,8 @@ pub(crate) fn spaced(alloc: Global, ranks: &[u128], shares: usize) -> Result<Vec
     let mut cuts = Vec::with_capacity(alloc, shares)?;
     'shares: for share in 1..shares {
         match ranks.get(begin_of(ranks.len(), share, shares)) {
-            Some(rank) if cuts.last() == Some(rank) => {}
-            Some(rank) => cuts.push(*rank)?,
+            Some(prefix) if cuts.last() == Some(prefix) => {}
+            Some(prefix) => cuts.push(*prefix)?,
             None => break,
         }
     }

@@ -8,7 +8,7 @@ ghost use Rattle.tq_base.specs.Layers.{IsLayers};
 ghost use Rattle.tq_event.specs.Tables.{lists_of};
 ghost use Rattle.tq_eval.specs.Answers.{in_tables, times_at, IsTablesAnswer};
 ghost use Rattle.tq_eval.specs.Fitting.{AreAllFitting};
-ghost use Rattle.tq_plan.specs.Standing.{AreQueriesOver, IsPlanOver};
+ghost use Rattle.tq_plan.specs.ValidPlans.{AreQueriesOver, IsPlanOver};
 ghost use Rattle.tq_table.specs.Text.{rows_text, IsTextOf};
 ghost use Rattle.tq_table.specs.Sink.{bytes_of};
 ghost use Rattle.tq_workers.specs.Shares.{HaveAnswer};
@@ -24,7 +24,7 @@ use std::marker::Model;
 use std::thread::Threads;
 use tq_base::{Catalogue, Form, Relation, Rows};
 use tq_eval::{TablesOfRows, rows_within};
-use tq_plan::laws::queries_stand;
+use tq_plan::laws::queries_are_valid;
 use tq_plan::{Output, Plan};
 use tq_run::Gate;
 use tq_table::{chained, coalesce, header_text, rows_text};
@@ -97,7 +97,7 @@ fn rows_among<'a, R: Threads + Sync, G: Gate + Sync>(
     let edges = table_edges(alloc, snapshot.tables, plan)?;
     let cuts = plan.cuts(alloc, workers, &edges)?;
     let pieces = pieces_of(rt, alloc, snapshot, plan, cuts.as_slice(), workers, gate)?;
-    Relation::made(
+    Relation::owned(
         alloc,
         chained(alloc, plan.left.outputs.get().len(), pieces)?,
     )
@@ -194,7 +194,7 @@ pub fn text_by_ranges<R: Threads + Sync, G: Gate + Sync>(
     requires at_most { workers ≤ 16 }
     ensures { IfOk result (IsTextOf form (IsTablesAnswer (lists_of tables.now) plan.now)) }
 {
-    queries_stand();
+    queries_are_valid();
     let header = header_text(alloc, plan.columns())?;
     let snapshot = TablesOfRows { catalogue, tables };
     if are_worth_shares(tables, workers, few)

@@ -4,7 +4,7 @@ ghost use Rattle.std.specs.Prelude.{◌≡◌, ◌≤◌, All, IfOk, length, sli
 ghost use Rattle.std.proofs.Props.{props};
 ghost use Rattle.tq_base.specs.declared.period.Period.{Period as Span};
 ghost use Rattle.tq_eval.specs.Answers.{as_of, IsPlanAnswer};
-ghost use Rattle.tq_plan.specs.Standing.{AreQueriesOver, IsPlanOver, queries_prop};
+ghost use Rattle.tq_plan.specs.ValidPlans.{AreQueriesOver, IsPlanOver, queries_prop};
 ghost use Rattle.tq_workers.specs.Fetching.{IsFetched};
 ghost use Rattle.tq_workers.specs.Pieces.{ArePieces, IsPiece};
 
@@ -18,7 +18,7 @@ use std::thread::Threads;
 use tq_base::{Bound, Period, Rows};
 use tq_eval::{AsOf, answer};
 use tq_plan::Plan;
-use tq_plan::laws::queries_stand;
+use tq_plan::laws::queries_are_valid;
 use tq_run::{Gate, Work, run_with};
 use tq_store::Db;
 use tq_table::Table;
@@ -120,7 +120,7 @@ pub fn answer_with<'b, R: Threads + Sync, G: Gate + Sync>(
     if workers == 1 {
         return answer(alloc, db, n, plan);
     }
-    queries_stand();
+    queries_are_valid();
     let fetched = fetch(rt, alloc, db, n, plan, workers, gate)?;
     let edges = edges_of(alloc, &fetched)?;
     let cuts = plan.cuts(alloc, workers, &edges)?;

@@ -31,5 +31,5 @@ returns-clause-refused g c =
       first = λ other. subst (λ (s : List ℕ). IsFault form files s c.in-Err.fault) c.deref-3.ensures.value (c.in-Err.ensures.fault other).0;
       written = λ is.
           let answer = c.in-Err.ensures.write (ap Err is) in (answer.0, subst (λ (s : List ℕ). HasAnswer form files s answer.0) c.deref-3.ensures.value answer.1);
-      told = c.refused-told.ensures.refusal;
+      reported = c.refused-diagnostic.ensures.refusal;
     }

@@ -1,4 +1,4 @@
--- The spans so far tile the places in front of the start.
+-- The spans so far tile the places before the start.
 use Rattle.std.proofs.Common.{◌≤◌}
 use Rattle.tq.specs.Spans.{Tile}
 use Rattle.tq.proofs.pieces.spans_of.Given as goal

@@ -4,8 +4,8 @@ use Rattle.std.specs.Ordering.{nat_cmp}
 use Rattle.std.proofs.lemmas.List.{get_or-map, length-map}
 use Rattle.std.proofs.lemmas.List.Sorted.{length_permutation}
 use Rattle.std.proofs.lemmas.Result.{on_ok_weaker}
-use Rattle.tq_base.specs.declared.sides.Key.{Key}
-use Rattle.tq_base.specs.KeySides.{state_of}
+use Rattle.tq_base.specs.declared.sort_input.SortKey.{SortKey}
+use Rattle.tq_base.specs.SortInputs.{state_of}
 use Rattle.tq_base.specs.Keys.{key_row, no_row}
 use Rattle.tq_base.specs.Periods.{holds}
 use Rattle.tq_base.specs.Fragments.{copies}
@@ -19,7 +19,7 @@ use Rattle.tq_agg.proofs.Maps.{map_same}
 use Rattle.tq_agg.proofs.Moving.{ends_in_order, ends_small, ends_within, keys_small, starts_in_order, upto_held}
 use Rattle.tq_agg.proofs.counting.add_group.Goals as goal
 
-no_keys : (group : List Key) → None ≡ slice_get group 0 → group ≡ []
+no_keys : (group : List SortKey) → None ≡ slice_get group 0 → group ≡ []
 no_keys [] is = refl
 no_keys (k ∷ group) is = cc
 
@@ -28,30 +28,30 @@ sweep-requires-clause-ends c = subst (λ (l : List End). IsSortedByKey (λ (e : 
 
 pub sweep-requires-clause-within : goal.sweep-requires-clause-within
 sweep-requires-clause-within c =
-    let s = state_of c.args.sides.now in
+    let s = state_of c.args.sort_input.now in
     let window = c.args.window.now in
     let keys = c.args.keys.now in
     subst (λ (l : List End). All (λ (e : End). (window.start ≤ e.at) × (e.at ≤ window.end)) l) (sym c.deref.ensures.value) (ends_within s window keys c.fill_ends.new.ends.items c.in_ok-fill_ends.ensures.same)
 
 pub sweep-requires-clause-ends_short : goal.sweep-requires-clause-ends_short
 sweep-requires-clause-ends_short c =
-    let s = state_of c.args.sides.now in
+    let s = state_of c.args.sort_input.now in
     let window = c.args.window.now in
     let keys = c.args.keys.now in
     omega (arith, ap length c.deref.ensures.value, length_permutation (map (end_in s window) keys) c.fill_ends.new.ends.items c.in_ok-fill_ends.ensures.same, length-map keys (end_in s window), c.requires.short)
 
 pub sweep-requires-clause-small : goal.sweep-requires-clause-small
 sweep-requires-clause-small c i d lt =
-    keys_small (state_of c.args.sides.now) c.args.window.now c.args.keys.now c.fill_ends.new.ends.items c.in_ok-fill_ends.ensures.same _ (c.requires.small i d lt)
+    keys_small (state_of c.args.sort_input.now) c.args.window.now c.args.keys.now c.fill_ends.new.ends.items c.in_ok-fill_ends.ensures.same _ (c.requires.small i d lt)
 
 pub sweep-requires-clause-ends_small : goal.sweep-requires-clause-ends_small
 sweep-requires-clause-ends_small c i d lt =
-    rw c.deref.ensures.value (ends_small (state_of c.args.sides.now) c.args.window.now c.args.keys.now c.fill_ends.new.ends.items c.in_ok-fill_ends.ensures.same _ (c.requires.small i d lt))
+    rw c.deref.ensures.value (ends_small (state_of c.args.sort_input.now) c.args.window.now c.args.keys.now c.fill_ends.new.ends.items c.in_ok-fill_ends.ensures.same _ (c.requires.small i d lt))
 
 pub returns-clause-rows : goal.returns-clause-rows
 returns-clause-rows c =
-    let s = state_of c.args.sides.now in
-    let columns = c.args.sides.now.left_columns.now in
+    let s = state_of c.args.sort_input.now in
+    let columns = c.args.sort_input.now.left_columns.now in
     let window = c.args.window.now in
     let keys = c.args.keys.now in
     let summands = c.args.summands.now in
@@ -64,7 +64,7 @@ returns-clause-rows c =
     on_ok_weaker c.sweep.result
     (λ rows k alike t v.
     let of_k : projection columns c.row-row.result ≡ k =
-    ap (projection columns) c.row-row.ensures ∙ ap (λ (x : Key). key_of columns (key_row s x)) (item.3.1 first)
+    ap (projection columns) c.row-row.ensures ∙ ap (λ (x : SortKey). key_of columns (key_row s x)) (item.3.1 first)
     ∙ ap (key_of columns) (sym (get_or-map (key_row s) keys 0 first no_row item.3.0)) ∙ alike 0 no_row (omega (arith, item.3.0, length-map keys (key_row s))) in
     let totals : totals_upto s window summands keys c.deref.result.now t ≡ totals_held summands window (map (key_row s) keys) t =
     ap (λ l. totals_upto s window summands keys l t) c.deref.ensures.value
@@ -76,6 +76,6 @@ returns-clause-rows c =
 
 pub returns-in_default-clause-rows : goal.returns-in_default-clause-rows
 returns-in_default-clause-rows c k alike t v =
-    let s = state_of c.args.sides.now in
+    let s = state_of c.args.sort_input.now in
     let none = ap (λ l. cond (holds c.args.window.now t) (shown_copies k (totals_held c.args.summands.now c.args.window.now (map (key_row s) l) t) v) 0) (no_keys c.args.keys.now c.in_default.ensures.value) in
     omega (arith, none, ap (λ m. cond (holds c.args.window.now t) m 0) (none_shown k c.args.summands.now v), nothing (holds c.args.window.now t))

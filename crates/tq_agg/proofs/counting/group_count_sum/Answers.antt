@@ -7,12 +7,12 @@ use Rattle.std.proofs.lemmas.List.Elements.{All-drop, All-take}
 use Rattle.tq_base.specs.declared.value.Value.{Value}
 use Rattle.tq_base.specs.declared.period.Period.{Period}
 use Rattle.tq_base.specs.declared.fragment.Fragment.{Fragment}
-use Rattle.tq_base.specs.declared.sides.Key.{Key}
+use Rattle.tq_base.specs.declared.sort_input.SortKey.{SortKey}
 use Rattle.tq_base.specs.Periods.{holds}
 use Rattle.tq_base.specs.Fragments.{at, copies, occurrences}
-use Rattle.tq_base.specs.KeyLaws.{marks_rest}
+use Rattle.tq_base.specs.SortKeyLaws.{run_starts_rest}
 use Rattle.tq_base.specs.RowLists.{RowList}
-use Rattle.tq_base.specs.Keys.{key_row, key_values, overlapping, AreMarked, IsKey}
+use Rattle.tq_base.specs.Keys.{key_row, key_values, overlapping, HaveRunStarts, IsSortKey}
 use Rattle.tq_ops.specs.Ordinary.{HasInside}
 use Rattle.tq_agg.specs.declared.summands.Summand.{Summand}
 use Rattle.tq_agg.specs.declared.summands.Summand.TheVariants.{Column, One}
@@ -55,11 +55,11 @@ all_counted window keys sums summands rows sorted start out are_summands same pa
 pub run_len-requires : goal.run_len-requires
 run_len-requires c =
     let sorted = c.sort.new.keys.items in
-    let Is : Key → Type 0 = λ k. IsKey (groups_state c.args.rows.now.items c.args.keys.now) k in
+    let Is : SortKey → Type 0 = λ k. IsSortKey (groups_state c.args.rows.now.items c.args.keys.now) k in
     let s = groups_state c.args.rows.now.items c.args.keys.now in
     record {
       keys = rw c.deref-in-groups.ensures.value (All-take Is (length sorted - c.groups.start) (drop c.groups.start sorted) (All-drop Is c.groups.start sorted c.in_ok-sort.ensures.keys));
-      marks = rw c.deref-in-groups.ensures.value (subst (AreMarked s) (sym (take_rest sorted c.groups.start)) (marks_rest s sorted c.groups.start c.in_ok-sort.ensures.marks));
+      run_starts = rw c.deref-in-groups.ensures.value (subst (HaveRunStarts s) (sym (take_rest sorted c.groups.start)) (run_starts_rest s sorted c.groups.start c.in_ok-sort.ensures.run_starts));
     }
 
 -- the keys that the run_len is asked of
@@ -72,10 +72,10 @@ run c =
     take_rest c.deref-in-groups.result.now c.groups.start ∙ ap (drop c.groups.start) c.deref-in-groups.ensures.value in
     is_run c.args.rows.now.items c.args.keys.now sorted c.groups.start c.run_len.result
     (omega (arith, c.groups-test.true, c.len.ensures, c.sort.new.keys.ok.0))
-    (subst (λ (l : List Key). 0 < length l → 0 < c.run_len.result) part c.run_len.ensures.some)
-    (subst (λ (l : List Key). c.run_len.result ≤ length l) part c.run_len.ensures.within)
-    (subst (λ (l : List Key). (d : Key) → All (λ k. key_values s k ≡ key_values s (get_or l 0 d)) (take c.run_len.result l)) part c.run_len.ensures.alike)
-    (subst (λ (l : List Key). (d : Key) → c.run_len.result < length l → key_values s (get_or l c.run_len.result d) ≢ key_values s (get_or l 0 d)) part c.run_len.ensures.ends)
+    (subst (λ (l : List SortKey). 0 < length l → 0 < c.run_len.result) part c.run_len.ensures.some)
+    (subst (λ (l : List SortKey). c.run_len.result ≤ length l) part c.run_len.ensures.within)
+    (subst (λ (l : List SortKey). (d : SortKey) → All (λ k. key_values s k ≡ key_values s (get_or l 0 d)) (take c.run_len.result l)) part c.run_len.ensures.alike)
+    (subst (λ (l : List SortKey). (d : SortKey) → c.run_len.result < length l → key_values s (get_or l c.run_len.result d) ≢ key_values s (get_or l 0 d)) part c.run_len.ensures.ends)
 
 pub groups-smaller : goal.groups-smaller
 groups-smaller c =
@@ -88,8 +88,8 @@ add_group-requires-clause-keys c =
     let sorted = c.sort.new.keys.items in
     let start = c.groups.start in
     let len = c.groups.start + c.run_len.result - c.groups.start in
-    let Is : Key → Type 0 = λ k. IsKey (groups_state c.args.rows.now.items c.args.keys.now) k in
-    subst (λ (l : List Key). All Is (take len (drop start l))) (sym c.deref-in-groups-2.ensures.value) (All-take Is len (drop start sorted) (All-drop Is start sorted c.in_ok-sort.ensures.keys))
+    let Is : SortKey → Type 0 = λ k. IsSortKey (groups_state c.args.rows.now.items c.args.keys.now) k in
+    subst (λ (l : List SortKey). All Is (take len (drop start l))) (sym c.deref-in-groups-2.ensures.value) (All-take Is len (drop start sorted) (All-drop Is start sorted c.in_ok-sort.ensures.keys))
 
 pub add_group-requires-clause-starts : goal.add_group-requires-clause-starts
 add_group-requires-clause-starts c =
@@ -100,9 +100,9 @@ add_group-requires-clause-starts c =
     let part : take (length c.deref-in-groups.result.now - start) (drop start c.deref-in-groups.result.now) ≡ drop start sorted =
     take_rest c.deref-in-groups.result.now start ∙ ap (drop start) c.deref-in-groups.ensures.value in
     let rise = run_starts c.args.rows.now.items c.args.keys.now sorted start len c.in_ok-sort.ensures.keys c.in_ok-sort.ensures.order
-    (subst (λ (l : List Key). (d : Key) → All (λ k. key_values s k ≡ key_values s (get_or l 0 d)) (take len l)) part c.run_len.ensures.alike) in
-    subst (λ (l : List Key). IsNonDecreasingBy (λ (k : Key). k.start) (take (start + len - start) (drop start l))) (sym c.deref-in-groups-2.ensures.value)
-    (subst (λ n. IsNonDecreasingBy (λ (k : Key). k.start) (take n (drop start sorted))) (let same : len ≡ start + len - start = omega arith in same) rise)
+    (subst (λ (l : List SortKey). (d : SortKey) → All (λ k. key_values s k ≡ key_values s (get_or l 0 d)) (take len l)) part c.run_len.ensures.alike) in
+    subst (λ (l : List SortKey). IsNonDecreasingBy (λ (k : SortKey). k.start) (take (start + len - start) (drop start l))) (sym c.deref-in-groups-2.ensures.value)
+    (subst (λ n. IsNonDecreasingBy (λ (k : SortKey). k.start) (take n (drop start sorted))) (let same : len ≡ start + len - start = omega arith in same) rise)
 
 pub add_group-requires-clause-short : goal.add_group-requires-clause-short
 add_group-requires-clause-short c =
@@ -119,13 +119,13 @@ add_group-requires-clause-small c =
     let start = c.groups.start in
     let len = c.groups.start + c.run_len.result - c.groups.start in
     let same = rows_same rows columns c.args.window.now c.new-sorted.result.items c.add_keys.new.keys.items sorted c.new-sorted.ensures.items c.in_ok-add_keys.ensures.rows c.in_ok-sort.ensures.rows in
-    let row : Key → Fragment = λ k. key_row (groups_state rows columns) k in
+    let row : SortKey → Fragment = λ k. key_row (groups_state rows columns) k in
     let fit = sorted_fit c.args.window.now sums rows (map row sorted) c.requires.summable same in
     let Fit : Fragment → Type 0 = λ r. AreSummable sums r.values in
     let part = All-take Fit len (drop start (map row sorted)) (All-drop Fit start (map row sorted) fit) in
     let Small : List Summand → List Fragment → Type 0 = λ summands l. All (λ s. HaveSmall s l) summands in
     let small = subst (Small (One ∷ map Column sums)) (sym (run_rows rows columns sorted start len)) (have_small sums (take len (drop start (map row sorted))) part) in
-    subst (λ (l : List Key). Small c.deref-in-groups-3.result.now (map row (take len (drop start l)))) (sym c.deref-in-groups-2.ensures.value)
+    subst (λ (l : List SortKey). Small c.deref-in-groups-3.result.now (map row (take len (drop start l)))) (sym c.deref-in-groups-2.ensures.value)
     (subst (λ (summands : List Summand). Small summands (map row (take len (drop start sorted)))) (sym (c.deref-in-groups-3.ensures.value ∙ c.in_ok-summands.ensures)) small)
 
 pub groups-preserved : goal.groups-preserved
@@ -136,7 +136,7 @@ groups-preserved c =
     let start = c.groups.start in
     let len = c.run_len.result in
     let x = first_row rows keys sorted start len in
-    let row : Key → Fragment = λ k. key_row (groups_state rows keys) k in
+    let row : SortKey → Fragment = λ k. key_row (groups_state rows keys) k in
     let r = run c in
     let group : map row (take (start + len - start) (drop start c.deref-in-groups-2.result.now)) ≡ take len (drop start (map row sorted)) =
     ap (λ n. map row (take n (drop start c.deref-in-groups-2.result.now))) (let same : start + len - start ≡ len = omega arith in same)

@@ -1,6 +1,6 @@
 -- The groups before the place are counted; no values wait in the room.
 use Rattle.std.proofs.Common.{◌≡◌, ◌+◌, ◌-◌, [], length, map, vec_len}
-use Rattle.tq_base.specs.KeySides.{state_of}
+use Rattle.tq_base.specs.SortInputs.{state_of}
 use Rattle.tq_base.specs.Keys.{key_row}
 use Rattle.tq_agg.proofs.Grouping.{Grouping}
 use Rattle.tq_agg.proofs.counting.group_count_sum.Given as goal
@@ -9,7 +9,7 @@ abbrev pub invariant-groups : goal.invariant-groups
 invariant-groups l = record {
   empty : l.room.swept.values.items ≡ [];
   width : l.out.width ≡ length l.keys + length l.summands.items;
-  grouping : Grouping l.keys l.summands.items l.window (map (key_row (state_of l.sides)) l.sorted.items) l.start l.out.items;
+  grouping : Grouping l.keys l.summands.items l.window (map (key_row (state_of l.sort_input)) l.sorted.items) l.start l.out.items;
 }
 
 abbrev pub decreases-groups : goal.decreases-groups

@@ -2,27 +2,27 @@ use Rattle.std.proofs.Common.{◌≡◌, ◌≢◌, ◌<◌, List, length, get_o
 use Rattle.std.specs.List.{insert}
 use Rattle.std.proofs.lemmas.List.{get_or_default}
 use Rattle.tq_base.specs.RowValues.{value_at}
-use Rattle.tq_base.specs.Keys.{rank_tells}
-use Rattle.tq_base.specs.Ranks.{value_rank, HasBytes}
+use Rattle.tq_base.specs.Keys.{is_exact}
+use Rattle.tq_base.specs.NormalizedKeys.{normalized_key, HasBytes}
 use Rattle.tq_agg.specs.declared.few.Bucket.{Bucket}
 use Rattle.tq_agg.specs.Buckets.{counted, AreCut, AreRanked, IsTold}
 use Rattle.tq_agg.specs.Changes.{weighed, AreChangesCut}
 use Rattle.tq_agg.proofs.Buckets.{below, empty_adds, empty_is_cut, one_more, value_there}
 use Rattle.tq_agg.proofs.WeighedBuckets.{unchanged_adds, unchanged_is_cut}
 use Rattle.tq_agg.proofs.few.bucket_at.Goals as goal
-use Rattle.tq_agg.proofs.few.bucket_at.Goals.{else-place-len-via-then-place-len+else-index-rank, else-place-len-via-else-place-len}
+use Rattle.tq_agg.proofs.few.bucket_at.Goals.{else-place-len-via-then-place-len+else-index-prefix, else-place-len-via-else-place-len}
 
-pub returns-then-index-rank-clause-value : goal.returns-then-index-rank-clause-value
-returns-then-index-rank-clause-value c d =
+pub returns-then-index-prefix-clause-value : goal.returns-then-index-prefix-clause-value
+returns-then-index-prefix-clause-value c d =
     let column = c.args.column.now in
     let ranks = c.args.buckets.now.ranks.items in
     let buckets = c.args.buckets.now.list.items in
     let place = c.place_of-place.result in
-    let rank = c.rank_of-rank.result in
+    let prefix = c.normalized_key-prefix.result in
     let inside : place < length ranks = omega (arith, c.if-place-len.true, c.len.ensures, c.args.buckets.now.ranks.ok.0) in
-    let is : rank ≡ get_or ranks place rank = subst (λ n. n ≡ get_or ranks place n) c.if-index-rank.true c.index.ensures in
-    value_there column ranks buckets c.requires place inside rank (value_at column c.args.row) is
-    (c.rank_of-rank.ensures.rank ∙ ap value_rank c.at.ensures) (subst HasBytes c.at.ensures c.rank_of-rank.ensures.bytes) d
+    let is : prefix ≡ get_or ranks place prefix = subst (λ n. n ≡ get_or ranks place n) c.if-index-prefix.true c.index.ensures in
+    value_there column ranks buckets c.requires place inside prefix (value_at column c.args.row) is
+    (c.normalized_key-prefix.ensures.prefix ∙ ap normalized_key c.at.ensures) (subst HasBytes c.at.ensures c.normalized_key-prefix.ensures.bytes) d
 
 pub returns-clause-ranked : goal.returns-clause-ranked
 returns-clause-ranked c =
@@ -30,20 +30,20 @@ returns-clause-ranked c =
     let ranks = c.args.buckets.now.ranks.items in
     let buckets = c.args.buckets.now.list.items in
     let place = c.place_of-place.result in
-    let rank = c.rank_of-rank.result in
+    let prefix = c.normalized_key-prefix.result in
     let b : Bucket = record { row = c.args.row; edges = c.none.result; changes = c.none-2.result } in
-    let of : rank ≡ value_rank (value_at column c.args.row) = c.rank_of-rank.ensures.rank ∙ ap value_rank c.at.ensures in
+    let of : prefix ≡ normalized_key (value_at column c.args.row) = c.normalized_key-prefix.ensures.prefix ∙ ap normalized_key c.at.ensures in
     let told : IsTold (value_at column c.args.row) =
-    (subst HasBytes c.at.ensures c.rank_of-rank.ensures.bytes, ap rank_tells (sym of) ∙ sym c.rank_tells.ensures ∙ c.if-not-rank_tells.false) in
-    let there : place ≡ below rank ranks = c.place_of-place.ensures ∙ ap (below rank) c.deref.ensures.value in
-    let differs : place < length ranks → get_or ranks place 0 ≢ rank = λ lt same.
+    (subst HasBytes c.at.ensures c.normalized_key-prefix.ensures.bytes, ap is_exact (sym of) ∙ sym c.is_exact.ensures ∙ c.if-not-is_exact.false) in
+    let there : place ≡ below prefix ranks = c.place_of-place.ensures ∙ ap (below prefix) c.deref.ensures.value in
+    let differs : place < length ranks → get_or ranks place 0 ≢ prefix = λ lt same.
     elim c.else-place-len.branch [
-      | else-place-len-via-then-place-len+else-index-rank w ↦ w.if-index-rank.false (w.index.ensures ∙ get_or_default ranks place w.index.result.now 0 lt ∙ same)
+      | else-place-len-via-then-place-len+else-index-prefix w ↦ w.if-index-prefix.false (w.index.ensures ∙ get_or_default ranks place w.index.result.now 0 lt ∙ same)
       | else-place-len-via-else-place-len w ↦ absurd (omega (arith, lt, w.if-place-len.false, c.len.ensures, c.args.buckets.now.ranks.ok.0))
     ] in
-    let are = one_more column ranks buckets c.requires place rank b there of told differs in
+    let are = one_more column ranks buckets c.requires place prefix b there of told differs in
     subst (λ l. AreRanked column l c.insert-2.new.self.items) (sym c.in_ok-insert.ensures.items)
-    (subst (λ l. AreRanked column (insert ranks place rank) l) (sym c.in_ok-insert-2.ensures.items) are)
+    (subst (λ l. AreRanked column (insert ranks place prefix) l) (sym c.in_ok-insert-2.ensures.items) are)
 
 pub returns-clause-cut : goal.returns-clause-cut
 returns-clause-cut c window cut =

@@ -3,14 +3,14 @@ use Rattle.std.proofs.lemmas.Int.{ints}
 use Rattle.std.proofs.lemmas.List.{get_or_default}
 use Rattle.std.proofs.lemmas.List.Elements.{All-append}
 use Rattle.tq_base.specs.declared.value.Value.{Value}
-use Rattle.tq_base.specs.Ranks.{value_rank}
+use Rattle.tq_base.specs.NormalizedKeys.{normalized_key}
 use Rattle.tq_agg.specs.declared.few.Bucket.{Bucket}
 use Rattle.tq_agg.specs.Buckets.{bucket_count, value_of, AreRanked, IsInside, IsTold}
 use Rattle.tq_agg.specs.Edges.{AreInside}
 use Rattle.tq_agg.proofs.Buckets.{below}
 use Rattle.tq_agg.proofs.OneRank.{both_counted, none_counted_at, one_counted, rank_there}
 use Rattle.tq_agg.proofs.stretches.add_rank.Goals as goal
-use Rattle.tq_agg.proofs.stretches.add_rank.Goals.{else-place-len-via-then-place-len+else-index-rank, else-place-len-via-else-place-len}
+use Rattle.tq_agg.proofs.stretches.add_rank.Goals.{else-place-len-via-then-place-len+else-index-prefix, else-place-len-via-else-place-len}
 
 -- the place is one of a bucket
 module _ (c : goal.In_ok-add_all) where
@@ -35,14 +35,14 @@ module _ (c : goal.In_ok-add_all) where
   pub there : found ≡ get_or buckets place found
   there = c.index-found.ensures
 
-  pub is : get_or ranks place 0 ≡ c.args.rank
-  is = get_or_default ranks place 0 c.index.result.now in_ranks ∙ sym c.index.ensures ∙ c.if-index-rank.true
+  pub is : get_or ranks place 0 ≡ c.args.prefix
+  is = get_or_default ranks place 0 c.index.result.now in_ranks ∙ sym c.index.ensures ∙ c.if-index-prefix.true
 
   pub told : (column : List Value) → AreRanked column ranks buckets → IsTold (value_of column found)
   told column are = subst (λ b. IsTold (value_of column b)) (sym there) (are.2 place found in_list)
 
-  pub of : (column : List Value) → AreRanked column ranks buckets → value_rank (value_of column found) ≡ c.args.rank
-  of column are = ap (λ b. value_rank (value_of column b)) there ∙ rank_there column ranks buckets are c.args.rank place 0 [] in_ranks is found
+  pub of : (column : List Value) → AreRanked column ranks buckets → normalized_key (value_of column found) ≡ c.args.prefix
+  of column are = ap (λ b. normalized_key (value_of column b)) there ∙ rank_there column ranks buckets are c.args.prefix place 0 [] in_ranks is found
 
 pub index-found-requires : goal.index-found-requires
 index-found-requires c = omega (arith, c.if-place-len.true, c.len.ensures, c.args.buckets.now.ranks.ok.0, c.requires, c.args.buckets.now.list.ok.0)
@@ -60,19 +60,19 @@ returns-in_ok-add_all-clause-found c column are _ = inr (told c column are, of c
 pub returns-in_ok-add_all-clause-counts : goal.returns-in_ok-add_all-clause-counts
 returns-in_ok-add_all-clause-counts c column are is_found t key =
     let new : Bucket = record { row = (found c).row; edges = c.add_all.new.self; changes = c.args.bucket.now.changes } in
-    both_counted column c.args.rank t key c.args.bucket.now (found c) new is_found (told c column are) (of c column are) refl c.in_ok-add_all.ensures.starts c.in_ok-add_all.ensures.ends
+    both_counted column c.args.prefix t key c.args.bucket.now (found c) new is_found (told c column are) (of c column are) refl c.in_ok-add_all.ensures.starts c.in_ok-add_all.ensures.ends
     ∙ ap (λ n. bucket_count column t key c.args.bucket.now +ℤ n)
-    (ap (bucket_count column t key) (there c) ∙ sym (one_counted column (ranks c) (buckets c) are c.args.rank (place c) t key (in_ranks c) (is c) (found c)))
+    (ap (bucket_count column t key) (there c) ∙ sym (one_counted column (ranks c) (buckets c) are c.args.prefix (place c) t key (in_ranks c) (is c) (found c)))
 
 pub returns-else-place-len-clause-counts : goal.returns-else-place-len-clause-counts
 returns-else-place-len-clause-counts c column are _ t key =
     let ranks = c.args.buckets.now.ranks.items in
     let place = c.place_of-place.result in
-    let rank = c.args.rank in
-    let at : place ≡ below rank ranks = c.place_of-place.ensures ∙ ap (below rank) c.deref.ensures.value in
-    let differs : place < length ranks → get_or ranks place 0 ≢ rank = λ lt same.
+    let prefix = c.args.prefix in
+    let at : place ≡ below prefix ranks = c.place_of-place.ensures ∙ ap (below prefix) c.deref.ensures.value in
+    let differs : place < length ranks → get_or ranks place 0 ≢ prefix = λ lt same.
     elim c.else-place-len.branch [
-      | else-place-len-via-then-place-len+else-index-rank w ↦ w.if-index-rank.false (w.index.ensures ∙ get_or_default ranks place w.index.result.now 0 lt ∙ same)
+      | else-place-len-via-then-place-len+else-index-prefix w ↦ w.if-index-prefix.false (w.index.ensures ∙ get_or_default ranks place w.index.result.now 0 lt ∙ same)
       | else-place-len-via-else-place-len w ↦ absurd (omega (arith, lt, w.if-place-len.false, c.len.ensures, c.args.buckets.now.ranks.ok.0))
     ] in
-    omega (arith, ints, none_counted_at column ranks c.args.buckets.now.list.items are rank place t key at differs)
+    omega (arith, ints, none_counted_at column ranks c.args.buckets.now.list.items are prefix place t key at differs)

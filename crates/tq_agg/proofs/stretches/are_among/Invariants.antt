@@ -4,4 +4,4 @@ use Rattle.tq_agg.specs.Buckets.{IsAmong}
 use Rattle.tq_agg.proofs.stretches.are_among.Given as goal
 
 abbrev pub invariant-ranks : goal.invariant-ranks
-invariant-ranks l = All (IsAmong l.all) (take l.rank-index l.ranks)
+invariant-ranks l = All (IsAmong l.all) (take l.prefix-index l.ranks)

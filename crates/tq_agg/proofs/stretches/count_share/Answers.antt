@@ -33,10 +33,10 @@ module _ (c : After-drop-bucket-5) where
       ≡ cond (holds c.args.window.now t) (occurrences (grouped_rows (c.args.column ∷ []) [] (at (filter (λ (row : Fragment). rank_share c.args.ranks.now (value_at row.values c.args.column) == c.args.number) rows) t)) v) 0
   shown =
       let column = column_of rows c.args.column in
-      let rank = get_or c.args.ranks.now c.args.number 0 in
+      let prefix = get_or c.args.ranks.now c.args.number 0 in
       let b = c.in_ok-bucket.bucket in
       share_shown rows c.args.window.now c.args.column c.args.tallies.now c.args.ranks.now c.args.number c.requires.tallies c.requires.ranks c.requires.here c.sweep_bucket.new.out.items
-      (value_shown column c.args.window.now rank c.args.tallies.now b (c.in_ok-bucket.ensures.counts column c.requires.tallies.ranked) c.sweep_bucket.new.out.items
+      (value_shown column c.args.window.now prefix c.args.tallies.now b (c.in_ok-bucket.ensures.counts column c.requires.tallies.ranked) c.sweep_bucket.new.out.items
       (λ t v.
       c.in_ok-sweep_bucket.ensures.rows t v
       ∙ ap (λ l. copies l v t + cond (holds c.args.window.now t) (shown_copies (value_of column b ∷ []) (count_upto b.edges.starts.items b.edges.ends.items t ∷ []) v) 0) c.new-out.ensures.rows

@@ -6,7 +6,7 @@ use Rattle.std.proofs.lemmas.List.Kept.{AllPairs-from_increasing}
 use Rattle.tq_agg.proofs.stretches.rise.Goals as goal
 
 -- numbers of which each is below the next
-from_neighbours : (ranks : List ℕ) (r : Bool) → IsAllAdjacentAnswer (λ rank next b. b ≡ nat_lt rank next) ranks r → r ≡ true → AllPairs (λ rank next. rank < next) ranks
+from_neighbours : (ranks : List ℕ) (r : Bool) → IsAllAdjacentAnswer (λ prefix next b. b ≡ nat_lt prefix next) ranks r → r ≡ true → AllPairs (λ prefix next. prefix < next) ranks
 from_neighbours ranks true each is = AllPairs-from_increasing ranks (λ k below. let told = each k 0 below in grind (arith, nat_tests, told))
 from_neighbours ranks false each is = cc
 

@@ -48,10 +48,10 @@ tallies-preserved c =
       found = λ column are. c.in_ok-add_rank.ensures.found column (ranked column are) (c.tallies.invariant.found column are);
       counts = λ column are t key.
           c.in_ok-add_rank.ensures.counts column (ranked column are) (c.tallies.invariant.found column are) t key
-          ∙ ap (λ n. n +ℤ counted_at column c.args.rank t key item.list.items) (c.tallies.invariant.counts column are t key)
-          ∙ sym (added-step (λ (b : Tally). counted_at column c.args.rank t key b.list.items) tallies i item lt c.buckets-item.is);
+          ∙ ap (λ n. n +ℤ counted_at column c.args.prefix t key item.list.items) (c.tallies.invariant.counts column are t key)
+          ∙ sym (added-step (λ (b : Tally). counted_at column c.args.prefix t key b.list.items) tallies i item lt c.buckets-item.is);
     }
 
 pub returns-clause-counts : goal.returns-clause-counts
 returns-clause-counts c column are t key =
-    c.tallies.invariant.counts column are t key ∙ ap (counted_in column c.args.rank t key) (take_all c.tallies.buckets-index c.args.tallies.now c.tallies-test.false)
+    c.tallies.invariant.counts column are t key ∙ ap (counted_in column c.args.prefix t key) (take_all c.tallies.buckets-index c.args.tallies.now c.tallies-test.false)

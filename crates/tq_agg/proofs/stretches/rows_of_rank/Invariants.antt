@@ -10,7 +10,7 @@ use Rattle.tq_agg.proofs.stretches.rows_of_rank.Given as goal
 abbrev pub invariant-tallies : goal.invariant-tallies
 invariant-tallies l = record {
   inside : (window : Period) → All (λ (b : Tally). AreCut window b.list.items) l.tallies → IsInside window l.bucket;
-  found : (column : List Value) → All (λ (b : Tally). AreRanked column b.ranks.items b.list.items) l.tallies → IsFound column l.rank l.bucket;
+  found : (column : List Value) → All (λ (b : Tally). AreRanked column b.ranks.items b.list.items) l.tallies → IsFound column l.prefix l.bucket;
   counts : (column : List Value) → All (λ (b : Tally). AreRanked column b.ranks.items b.list.items) l.tallies
-      → (t : ℕ) (key : List Value) → bucket_count column t key l.bucket ≡ counted_in column l.rank t key (take l.buckets-index l.tallies);
+      → (t : ℕ) (key : List Value) → bucket_count column t key l.bucket ≡ counted_in column l.prefix t key (take l.buckets-index l.tallies);
 }

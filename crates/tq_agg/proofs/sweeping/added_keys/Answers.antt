@@ -1,7 +1,7 @@
 use Rattle.std.proofs.Common.{rules, ◌≡◌, arith, get_or, sym, subst, ◌∙◌}
 use Rattle.std.proofs.lemmas.Int.{ints}
 use Rattle.std.proofs.lemmas.List.{get_or_default}
-use Rattle.tq_base.specs.KeySides.{state_of}
+use Rattle.tq_base.specs.SortInputs.{state_of}
 use Rattle.tq_agg.specs.declared.summands.Summand.{Summand}
 use Rattle.tq_agg.specs.Totals.{added, key_weight}
 use Rattle.tq_agg.proofs.Adding.{added-ones, added-step}
@@ -14,7 +14,7 @@ overflow_add-total c =
     let keys = c.args.keys.now in
     let i = c.keys.key-index in
     let k = get_or keys i no_key in
-    let w = key_weight (state_of c.args.sides.now) c.args.summand in
+    let w = key_weight (state_of c.args.sort_input.now) c.args.summand in
     let lt = c.keys-test.true in
     let fits = more_fits w keys i k c.requires.small lt (omega arith) (get_or_default keys i no_key k lt) in
     let weighs = c.key_weight-total.ensures in
@@ -25,7 +25,7 @@ keys-preserved c =
     let keys = c.args.keys.now in
     let i = c.keys.key-index in
     let k = get_or keys i no_key in
-    let w = key_weight (state_of c.args.sides.now) c.args.summand in
+    let w = key_weight (state_of c.args.sort_input.now) c.args.summand in
     let lt = c.keys-test.true in
     let fits = more_fits w keys i k c.requires.small lt (omega arith) (get_or_default keys i no_key k lt) in
     let step = added-step w keys i k lt (get_or_default keys i no_key k lt) in
@@ -34,6 +34,6 @@ keys-preserved c =
 
 pub returns-then-is_one : goal.returns-then-is_one
 returns-then-is_one c =
-    let known : c.number_of.result ≡ added (key_weight (state_of c.args.sides.now) c.args.summand) c.args.keys.now =
-    subst (λ (summand : Summand). c.number_of.result ≡ added (key_weight (state_of c.args.sides.now) summand) c.args.keys.now) (sym c.if-is_one.ensures) (c.number_of.ensures ∙ sym (added-ones c.args.keys.now)) in
+    let known : c.number_of.result ≡ added (key_weight (state_of c.args.sort_input.now) c.args.summand) c.args.keys.now =
+    subst (λ (summand : Summand). c.number_of.result ≡ added (key_weight (state_of c.args.sort_input.now) summand) c.args.keys.now) (sym c.if-is_one.ensures) (c.number_of.ensures ∙ sym (added-ones c.args.keys.now)) in
     search (rules, known)

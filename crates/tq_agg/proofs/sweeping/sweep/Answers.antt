@@ -3,7 +3,7 @@ use Rattle.std.specs.Cmp.Rules.{signed_items}
 use Rattle.std.proofs.lemmas.List.{drop-map, length-map, take_rest}
 use Rattle.std.proofs.lemmas.Result.{on_ok_weaker}
 use Rattle.tq_base.specs.Fragments.{copies}
-use Rattle.tq_base.specs.KeySides.{state_of}
+use Rattle.tq_base.specs.SortInputs.{state_of}
 use Rattle.tq_ops.specs.Ordinary.{projection}
 use Rattle.tq_agg.specs.declared.bounds.End.{End}
 use Rattle.tq_agg.specs.Bounds.{start_in}
@@ -30,7 +30,7 @@ bounds-init c =
       empty = c.requires.empty;
       width = refl;
       totals = c.in_ok-clear_totals.ensures;
-      counting = rw c.at-since.ensures (begins (totals_shown (state_of c.args.group.now.sides.now) (projection c.args.head.now.keys.now c.args.head.now.row.now) c.args.summands.now keys ends)
+      counting = rw c.at-since.ensures (begins (totals_shown (state_of c.args.group.now.sort_input.now) (projection c.args.head.now.keys.now c.args.head.now.row.now) c.args.summands.now keys ends)
           (map (start_in window) keys) (map (λ (e : End). e.at) ends) window c.args.out.now.items (starts_in_order window keys c.requires.starts) (ends_in_order window ends c.requires.ends c.requires.within));
     }
 
@@ -39,12 +39,12 @@ bounds-smaller c =
     let window = c.args.window.now in
     let keys = c.args.group.now.keys.now in
     let ends = c.args.group.now.ends.now in
-    let sides = state_of c.args.group.now.sides.now in
+    let sort_input = state_of c.args.group.now.sort_input.now in
     let key = projection c.args.head.now.keys.now c.args.head.now.row.now in
     let place = c.bounds.place in
     let at = c.in-Some.at in
     let less =
-    fewer (totals_shown sides key c.args.summands.now keys ends) (map (start_in window) keys) (map (λ (e : End). e.at) ends) window c.args.out.now.items
+    fewer (totals_shown sort_input key c.args.summands.now keys ends) (map (start_in window) keys) (map (λ (e : End). e.at) ends) window c.args.out.now.items
     (starts_in_order window keys c.requires.starts) (ends_in_order window ends c.requires.ends c.requires.within) place.begun place.ended c.bounds.since at c.bounds.out.items c.bounds.invariant.counting
     (front_mapped window at keys ends place.begun place.ended c.in-Some.ensures.first) c.starts_by.result c.ends_by.result
     (within_mapped (start_in window) no_key keys place.begun at c.starts_by.result c.starts_by.ensures.within) (within_mapped (λ (e : End). e.at) no_end ends place.ended at c.ends_by.result c.ends_by.ensures.within)
@@ -59,12 +59,12 @@ bounds-smaller-in_ok-add_shown c =
     let window = c.args.window.now in
     let keys = c.args.group.now.keys.now in
     let ends = c.args.group.now.ends.now in
-    let sides = state_of c.args.group.now.sides.now in
+    let sort_input = state_of c.args.group.now.sort_input.now in
     let key = projection c.args.head.now.keys.now c.args.head.now.row.now in
     let place = c.bounds.place in
     let at = c.in-Some.at in
     let less =
-    fewer (totals_shown sides key c.args.summands.now keys ends) (map (start_in window) keys) (map (λ (e : End). e.at) ends) window c.args.out.now.items
+    fewer (totals_shown sort_input key c.args.summands.now keys ends) (map (start_in window) keys) (map (λ (e : End). e.at) ends) window c.args.out.now.items
     (starts_in_order window keys c.requires.starts) (ends_in_order window ends c.requires.ends c.requires.within) place.begun place.ended c.bounds.since at c.bounds.out.items c.bounds.invariant.counting
     (front_mapped window at keys ends place.begun place.ended c.in-Some.ensures.first) c.starts_by.result c.ends_by.result
     (within_mapped (start_in window) no_key keys place.begun at c.starts_by.result c.starts_by.ensures.within) (within_mapped (λ (e : End). e.at) no_end ends place.ended at c.ends_by.result c.ends_by.ensures.within)
@@ -79,7 +79,7 @@ bounds-preserved c =
     let window = c.args.window.now in
     let keys = c.args.group.now.keys.now in
     let ends = c.args.group.now.ends.now in
-    let sides = state_of c.args.group.now.sides.now in
+    let sort_input = state_of c.args.group.now.sort_input.now in
     let key = projection c.args.head.now.keys.now c.args.head.now.row.now in
     let place = c.bounds.place in
     let at = c.in-Some.at in
@@ -89,7 +89,7 @@ bounds-preserved c =
       width = c.bounds.invariant.width;
       totals = sym same ∙ c.in_ok-fill_totals.ensures;
       counting =
-          passes (totals_shown sides key c.args.summands.now keys ends) (map (start_in window) keys) (map (λ (e : End). e.at) ends) window c.args.out.now.items
+          passes (totals_shown sort_input key c.args.summands.now keys ends) (map (start_in window) keys) (map (λ (e : End). e.at) ends) window c.args.out.now.items
           (starts_in_order window keys c.requires.starts) (ends_in_order window ends c.requires.ends c.requires.within) place.begun place.ended c.bounds.since at c.bounds.out.items c.bounds.invariant.counting
           (front_mapped window at keys ends place.begun place.ended c.in-Some.ensures.first) c.starts_by.result c.ends_by.result
           (within_mapped (start_in window) no_key keys place.begun at c.starts_by.result c.starts_by.ensures.within) (within_mapped (λ (e : End). e.at) no_end ends place.ended at c.ends_by.result c.ends_by.ensures.within)
@@ -103,7 +103,7 @@ bounds-preserved-in_ok-add_shown c =
     let window = c.args.window.now in
     let keys = c.args.group.now.keys.now in
     let ends = c.args.group.now.ends.now in
-    let sides = state_of c.args.group.now.sides.now in
+    let sort_input = state_of c.args.group.now.sort_input.now in
     let key = projection c.args.head.now.keys.now c.args.head.now.row.now in
     let place = c.bounds.place in
     let at = c.in-Some.at in
@@ -112,7 +112,7 @@ bounds-preserved-in_ok-add_shown c =
       width = c.in_ok-add_shown.ensures.width ∙ c.bounds.invariant.width;
       totals = ap (λ l. l.items) c.swap.ensures.x_after ∙ c.in_ok-fill_totals.ensures;
       counting =
-          turns (totals_shown sides key c.args.summands.now keys ends) (map (start_in window) keys) (map (λ (e : End). e.at) ends) window c.args.out.now.items
+          turns (totals_shown sort_input key c.args.summands.now keys ends) (map (start_in window) keys) (map (λ (e : End). e.at) ends) window c.args.out.now.items
           (starts_in_order window keys c.requires.starts) (ends_in_order window ends c.requires.ends c.requires.within) place.begun place.ended c.bounds.since at c.bounds.out.items c.bounds.invariant.counting
           (front_mapped window at keys ends place.begun place.ended c.in-Some.ensures.first) c.starts_by.result c.ends_by.result
           (within_mapped (start_in window) no_key keys place.begun at c.starts_by.result c.starts_by.ensures.within) (within_mapped (λ (e : End). e.at) no_end ends place.ended at c.ends_by.result c.ends_by.ensures.within)
@@ -128,11 +128,11 @@ returns-clause-rows c =
     let window = c.args.window.now in
     let keys = c.args.group.now.keys.now in
     let ends = c.args.group.now.ends.now in
-    let sides = state_of c.args.group.now.sides.now in
+    let sort_input = state_of c.args.group.now.sort_input.now in
     let key = projection c.args.head.now.keys.now c.args.head.now.row.now in
     let none = c.in_default.ensures.none refl in
     on_ok_weaker c.add_shown-2.result
-    (λ more. ends_with (totals_shown sides key c.args.summands.now keys ends) (map (start_in window) keys) (map (λ (e : End). e.at) ends) window c.args.out.now.items
+    (λ more. ends_with (totals_shown sort_input key c.args.summands.now keys ends) (map (start_in window) keys) (map (λ (e : End). e.at) ends) window c.args.out.now.items
     (starts_in_order window keys c.requires.starts) (ends_in_order window ends c.requires.ends c.requires.within) c.bounds.place.begun c.bounds.place.ended c.bounds.since c.bounds.out.items c.add_shown-2.new.out.items c.bounds.invariant.counting
     (none_mapped (start_in window) keys c.bounds.place.begun none.0) (none_mapped (λ (e : End). e.at) ends c.bounds.place.ended none.1)
     (λ t v. more t v

@@ -1,4 +1,4 @@
--- What the digits that are left make of the number so far is what all make.
+-- The remaining digits, after the number so far, make the number that all digits make.
 use Rattle.std.proofs.Common.{◌≡◌, ◌≤◌, drop}
 use Rattle.tq_base.specs.Numbers.{natural_up_to}
 use Rattle.tq_base.proofs.NumberLemmas.{natural_after}

@@ -1,4 +1,4 @@
--- Each key so far lies near the corner.
+-- Each key so far can be packed.
 use Rattle.std.proofs.Common.{take}
 use Rattle.std.specs.Prelude.{All}
 use Rattle.tq_base.specs.Packed.{IsNear}

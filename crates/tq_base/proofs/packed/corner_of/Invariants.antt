@@ -1,4 +1,4 @@
--- None of the keys so far lies below the corner.
+-- No key so far is below the corner.
 use Rattle.std.proofs.Common.{take}
 use Rattle.std.specs.Prelude.{All}
 use Rattle.tq_base.specs.Packed.{IsAbove}

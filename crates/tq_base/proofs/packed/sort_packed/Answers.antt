@@ -10,12 +10,12 @@ use Rattle.std.proofs.lemmas.List.Sorted.{answers_always, All-permutation, IsPer
 use Rattle.std.proofs.lemmas.Map.Keys.{ge_from_not_lt}
 use Rattle.tq_base.specs.declared.packed.Corner.{Corner}
 use Rattle.tq_base.specs.declared.packed.Packed.{Packed}
-use Rattle.tq_base.specs.declared.sides.Key.{Key}
-use Rattle.tq_base.specs.Keys.{told_cmp}
+use Rattle.tq_base.specs.declared.sort_input.SortKey.{SortKey}
+use Rattle.tq_base.specs.Keys.{prefix_start_cmp}
 use Rattle.tq_base.specs.Packed.{pack, unpack, IsNear, IsOfKey}
 use Rattle.tq_base.proofs.packed.sort_packed.Goals as goal
 
--- rank and start come back from the number that they were packed into
+-- prefix and start are recovered from the packed number
 rank_back : (r k s : ℕ) → r ≤ k → s < 2 ^ 32 → r + ((k - r) * 2 ^ 32 + s) / 2 ^ 32 ≡ k
 rank_back r k s above near = omega arith
 
@@ -23,44 +23,44 @@ start_back : (n s k : ℕ) → s ≤ k → k - s < 2 ^ 32 → s + (n * 2 ^ 32 + 
 start_back n s k above near = omega arith
 
 -- a key that is packed and unpacked is the key
-back : (corner : Corner) (k : Key) → IsNear corner k → unpack corner (pack corner k) ≡ k
+back : (corner : Corner) (k : SortKey) → IsNear corner k → unpack corner (pack corner k) ≡ k
 back corner k near =
-    let rank : (unpack corner (pack corner k)).rank ≡ k.rank = rank_back corner.rank k.rank (k.start - corner.start) near.above.rank near.start in
-    let start : (unpack corner (pack corner k)).start ≡ k.start = start_back (k.rank - corner.rank) corner.start k.start near.above.start near.start in
-    ap (λ r. let h : Key = record { rank = r; start = (unpack corner (pack corner k)).start; row = k.row; side = k.side; mark = k.mark } in h) rank
-    ∙ ap (λ s. let h : Key = record { rank = k.rank; start = s; row = k.row; side = k.side; mark = k.mark } in h) start
+    let prefix : (unpack corner (pack corner k)).prefix ≡ k.prefix = rank_back corner.prefix k.prefix (k.start - corner.start) near.above.prefix near.start in
+    let start : (unpack corner (pack corner k)).start ≡ k.start = start_back (k.prefix - corner.prefix) corner.start k.start near.above.start near.start in
+    ap (λ r. let h : SortKey = record { prefix = r; start = (unpack corner (pack corner k)).start; row = k.row; side = k.side; run_start = k.run_start } in h) prefix
+    ∙ ap (λ s. let h : SortKey = record { prefix = k.prefix; start = s; row = k.row; side = k.side; run_start = k.run_start } in h) start
 
--- so are all of them
-all_back : (corner : Corner) (keys : List Key) → All (IsNear corner) keys → map (unpack corner) (map (pack corner) keys) ≡ keys
+-- so are all keys
+all_back : (corner : Corner) (keys : List SortKey) → All (IsNear corner) keys → map (unpack corner) (map (pack corner) keys) ≡ keys
 all_back corner [] near = refl
 all_back corner (k ∷ keys) near =
     ap (λ h. h ∷ map (unpack corner) (map (pack corner) keys)) (back corner k (All-head (IsNear corner) k keys near))
     ∙ ap (λ l. k ∷ l) (all_back corner keys (All-tail (IsNear corner) k keys near))
 
--- they are the same keys in whatever order the packed ones stand
-same_keys : (corner : Corner) (keys : List Key) (sorted : List Packed) → All (IsNear corner) keys → IsPermutation (map (pack corner) keys) sorted → IsPermutation keys (map (unpack corner) sorted)
+-- they are the same keys in any order of the packed ones
+same_keys : (corner : Corner) (keys : List SortKey) (sorted : List Packed) → All (IsNear corner) keys → IsPermutation (map (pack corner) keys) sorted → IsPermutation keys (map (unpack corner) sorted)
 same_keys corner keys sorted near moved =
     subst (λ l. IsPermutation l (map (unpack corner) sorted)) (all_back corner keys near) (IsPermutation-map (unpack corner) (map (pack corner) keys) sorted moved)
 
--- a rank that is no less decides, or where the ranks are equal a start that is no less
+-- a prefix that is not less decides, or if the prefixes are equal a start that is not less
 by_parts : (x y u v : ℕ) → y ≤ x → (x ≡ y → v ≤ u) → is_lt (ordering_then (nat_cmp x y) (nat_cmp u v)) ≡ false
 by_parts x y u v le then = grind (arith, nat_tests)
 
--- a key does not come before one whose number is no greater
-not_below : (corner : Corner) (p q : Packed) → is_lt (nat_cmp q.order p.order) ≡ false → is_lt (told_cmp (unpack corner q) (unpack corner p)) ≡ false
+-- a key does not come before a key with a number that is not greater
+not_below : (corner : Corner) (p q : Packed) → is_lt (nat_cmp q.order p.order) ≡ false → is_lt (prefix_start_cmp (unpack corner q) (unpack corner p)) ≡ false
 not_below corner p q rise =
     let le : p.order ≤ q.order = ge_from_not_lt q.order p.order rise in
-    by_parts (unpack corner q).rank (unpack corner p).rank (unpack corner q).start (unpack corner p).start (omega arith) (λ same. omega arith)
+    by_parts (unpack corner q).prefix (unpack corner p).prefix (unpack corner q).start (unpack corner p).start (omega arith) (λ same. omega arith)
 
--- where the numbers are in order the keys are
-in_order : (corner : Corner) (all : List Packed) → IsSortedByKey (λ (p : Packed). p.order) nat_cmp all → IsSorted told_cmp (map (unpack corner) all)
+-- if the numbers are in order, the keys are
+in_order : (corner : Corner) (all : List Packed) → IsSortedByKey (λ (p : Packed). p.order) nat_cmp all → IsSorted prefix_start_cmp (map (unpack corner) all)
 in_order corner all sorted k d low high =
     let none : Packed = pack corner d in
     let less : k + 1 < length all = omega (arith, high, length-map all (unpack corner)) in
     let p : Packed = get_or all k none in
     let q : Packed = get_or all (k + 1) none in
-    ap (λ x. is_lt (told_cmp x (get_or (map (unpack corner) all) k d))) (get_or-map (unpack corner) all (k + 1) none d less)
-    ∙ ap (λ y. is_lt (told_cmp (unpack corner q) y)) (get_or-map (unpack corner) all k none d (omega (arith, less)))
+    ap (λ x. is_lt (prefix_start_cmp x (get_or (map (unpack corner) all) k d))) (get_or-map (unpack corner) all (k + 1) none d less)
+    ∙ ap (λ y. is_lt (prefix_start_cmp (unpack corner q) y)) (get_or-map (unpack corner) all k none d (omega (arith, less)))
     ∙ not_below corner p q (sorted k none low less)
 
 pub unpack_all-requires-clause-all : goal.unpack_all-requires-clause-all
@@ -69,7 +69,7 @@ unpack_all-requires-clause-all c =
     subst (All (IsOfKey corner)) (sym c.deref-4.ensures.value) (All-permutation (IsOfKey corner) _ _ c.sort_unstable_by_key.ensures.permutation c.in-Some.ensures.of_keys)
 
 -- the list as it is written back
-written : (keys new : List Key) (len : ℕ) → len ≡ length new → take len (new ++ drop (length new) keys) ≡ new
+written : (keys new : List SortKey) (len : ℕ) → len ≡ length new → take len (new ++ drop (length new) keys) ≡ new
 written keys new len is = take_at new (drop (length new) keys) len (sym is)
 
 pub returns-clause-same : goal.returns-clause-same
@@ -89,4 +89,4 @@ returns-clause-order c =
     let len : c.args.keys.now.len ≡ length c.unpack_all.new.keys = sym c.deref_mut.ensures.len ∙ sym c.unpack_all.auto.keys in
     let sorted : IsSortedByKey (λ (p : Packed). p.order) nat_cmp c.deref-4.result.now =
     subst (IsSortedByKey (λ (p : Packed). p.order) nat_cmp) (sym c.deref-4.ensures.value) (c.sort_unstable_by_key.ensures.sorted (λ (p : Packed). p.order) (answers_always _ _ _ (λ f a r g h. search rules))) in
-    subst (IsSorted told_cmp) (sym (written c.args.keys.now.items c.unpack_all.new.keys c.args.keys.now.len len ∙ c.unpack_all.ensures)) (in_order corner c.deref-4.result.now sorted)
+    subst (IsSorted prefix_start_cmp) (sym (written c.args.keys.now.items c.unpack_all.new.keys c.args.keys.now.len len ∙ c.unpack_all.ensures)) (in_order corner c.deref-4.result.now sorted)

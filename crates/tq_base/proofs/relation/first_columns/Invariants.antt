@@ -1,4 +1,4 @@
--- The columns below this one stand in the list.
+-- The columns below this number are in the list.
 use Rattle.std.proofs.Common.{◌≡◌, map}
 use Rattle.std.specs.List.{range_with_len}
 use Rattle.tq_base.specs.Parts.{first_column}

@@ -1,4 +1,4 @@
--- The parts so far have their rows at these places, and the others stand as they were.
+-- The parts so far have their rows at these places, and the others are unchanged.
 use Rattle.std.proofs.Common.{◌≡◌, ◌<◌, ℕ, drop, get_or, length, take}
 use Rattle.tq_base.specs.Parts.{rows_at}
 use Rattle.tq_base.proofs.relation.renumber.Given as goal

@@ -1,5 +1,5 @@
 use Rattle.std.proofs.Common.{◌+◌, ◌++◌, ◌∷◌, [], Bool, cond, subst, sym}
-use Rattle.tq_base.specs.declared.rows.Slot.TheVariants.{Kept, Zero, Empty}
+use Rattle.tq_base.specs.declared.rows.Slot.TheVariants.{Stored, Zero, Empty}
 use Rattle.tq_base.specs.Slots.{AreNumbered}
 use Rattle.tq_base.proofs.SlotLemmas.{numbered-empty, numbered-kept, numbered-zero}
 use Rattle.tq_base.proofs.rows.next_slot.Goals as goal
@@ -7,7 +7,7 @@ use Rattle.tq_base.proofs.rows.next_slot.Goals as goal
 pub returns-in-true-default : goal.returns-in-true-default
 returns-in-true-default c slots are =
     let kept = c.args.kept in
-    subst (λ (b : Bool). AreNumbered 0 (slots ++ Kept kept ∷ []) (cond b (kept + 1) kept)) (sym c.in-true-default.is-0) (numbered-kept 0 slots kept are)
+    subst (λ (b : Bool). AreNumbered 0 (slots ++ Stored kept ∷ []) (cond b (kept + 1) kept)) (sym c.in-true-default.is-0) (numbered-kept 0 slots kept are)
 
 pub returns-in-false-Int : goal.returns-in-false-Int
 returns-in-false-Int c slots are =

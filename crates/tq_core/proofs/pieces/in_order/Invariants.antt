@@ -1,4 +1,4 @@
--- The pieces so far, and those of the claimants that are left, are all.
+-- The pieces so far, followed by those of the workers that are left, are all pieces.
 use Rattle.std.proofs.Common.{◌≡◌, ◌++◌, drop}
 use Rattle.std.specs.List.{enumerate_from}
 use Rattle.tq_core.proofs.pieces.in_order.Given as goal

@@ -13,9 +13,9 @@ columns-preserved c =
     let column = column_at c.args.widths.now values in
     let text = c.args.text.now.items in
     let wide = get_or c.args.widths.now c.columns.column 0 in
-    let shown : c.in_ok-label.label.items ≡ values c.columns.column =
+    let escaped_text : c.in_ok-label.label.items ≡ values c.columns.column =
     c.in_ok-label.ensures ∙ ap (λ (v : Value). label_of (value_field v)) c.value.ensures in
     c.in_ok-push_column.ensures
     ∙ ap (λ (l : List ℕ). l ++ column_text wide c.deref.result.now) c.columns.invariant
-    ∙ ap (λ (l : List ℕ). (text ++ flat_map column (range_with_len 0 c.columns.column)) ++ column_text wide l) (c.deref.ensures.value ∙ shown)
+    ∙ ap (λ (l : List ℕ). (text ++ flat_map column (range_with_len 0 c.columns.column)) ++ column_text wide l) (c.deref.ensures.value ∙ escaped_text)
     ∙ flat_map_step column text c.columns.column

@@ -12,9 +12,9 @@ rows-preserved c =
     let rows = c.args.rows.now in
     let at = c.rows.row in
     let text = c.args.text.now.items in
-    let shown = λ (row : Fragment). values_element c.args.widths.now row.values in
+    let escaped_text = λ (row : Fragment). values_element c.args.widths.now row.values in
     let within : at < length rows = omega (arith, c.rows-test.true, c.len-row-end.ensures) in
     c.in_ok-push_values_line.ensures
     ∙ ap (λ (l : List ℕ). l ++ values_element c.args.widths.now c.row.result) c.rows.invariant
-    ∙ ap (λ (v : List Value). (text ++ flat_map shown (take at rows)) ++ values_element c.args.widths.now v) c.row.ensures
-    ∙ items_step shown text rows at no_row within
+    ∙ ap (λ (v : List Value). (text ++ flat_map escaped_text (take at rows)) ++ values_element c.args.widths.now v) c.row.ensures
+    ∙ items_step escaped_text text rows at no_row within

@@ -4,7 +4,7 @@ use Rattle.std.specs.Result.{is_ok}
 use Rattle.std.proofs.KnownBytes.{Consumes-kept, Consumes-nil, Consumes-trans}
 use Rattle.tq_engine.proofs.file.read_file.Goals as goal
 
--- a read that took no byte left the known ones as they were
+-- a read of no bytes consumes no known bytes
 none_taken : (b c : Option (List ℕ)) (n : ℕ) (buffer : List ℕ) → n ≡ 0 → Consumes b c (take n buffer) → Keeps b c
 none_taken None c n buffer e p = tt
 none_taken (Some x) None n buffer e p = absurd p

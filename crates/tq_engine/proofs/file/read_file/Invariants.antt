@@ -1,4 +1,4 @@
--- The bytes are those that were taken, and each read gave one or more.
+-- The bytes are those that were consumed, and each read gave at least one.
 use Rattle.std.proofs.Common.{◌≡◌, ◌≤◌, ◌+◌, length, vec_len}
 use Rattle.std.specs.Io.KnownBytes.{Consumes}
 use Rattle.tq_engine.proofs.file.read_file.Given as goal

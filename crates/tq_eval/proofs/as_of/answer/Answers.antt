@@ -8,6 +8,6 @@ answer_over-requires c κs = ((refl, tt), c.requires.plan)
 
 pub returns : goal.returns
 returns c =
-    IfOk-weaker c.detached.result _ _
+    IfOk-weaker c.to_owned.result _ _
     (λ copy same. subst (IsPlanAnswer c.args.db.now.events c.args.n c.args.plan.now) (sym same) c.in_ok-table.ensures)
-    c.detached.ensures
+    c.to_owned.ensures

@@ -1,4 +1,4 @@
-use Rattle.tq_event.specs.Keeping.{is_wanted}
+use Rattle.tq_event.specs.Projection.{is_wanted}
 use Rattle.std.proofs.Common.{◌≡◌, ◌+◌, ◌⊎◌, inl, inr, ap, ◌∙◌, subst, arith}
 use Rattle.tq_ops.specs.declared.condition.Test.{Test}
 use Rattle.tq_ops.specs.declared.condition.Test.TheVariants.{And, Or}

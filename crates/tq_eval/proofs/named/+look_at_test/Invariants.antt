@@ -1,5 +1,5 @@
 -- The part weighs no more, and what looks where it does, at more places than so far, looks where the whole does.
-use Rattle.tq_event.specs.Keeping.{is_wanted}
+use Rattle.tq_event.specs.Projection.{is_wanted}
 use Rattle.std.proofs.Common.{◌≤◌, Bool, List}
 use Rattle.tq_ops.proofs.Conditions.{weight}
 use Rattle.tq_eval.specs.Naming.{AreMore, TestLooksAt}

@@ -1,5 +1,5 @@
 -- The query looks at the places so far, and still at each at which it did.
-use Rattle.tq_event.specs.Keeping.{is_wanted}
+use Rattle.tq_event.specs.Projection.{is_wanted}
 use Rattle.std.proofs.Common.{◌≡◌, true, take}
 use Rattle.std.specs.Prelude.{All}
 use Rattle.tq_eval.specs.Naming.{AreMore}

@@ -1,4 +1,4 @@
-use Rattle.tq_event.specs.Keeping.{is_wanted}
+use Rattle.tq_event.specs.Projection.{is_wanted}
 use Rattle.std.proofs.Common.{arith, subst, take}
 use Rattle.std.specs.Prelude.{All}
 use Rattle.std.proofs.lemmas.List.{take_all}

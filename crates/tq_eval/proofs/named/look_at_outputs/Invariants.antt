@@ -1,5 +1,5 @@
 -- The items so far are made of the values at these places, and the query still looks at each at which it did.
-use Rattle.tq_event.specs.Keeping.{is_wanted}
+use Rattle.tq_event.specs.Projection.{is_wanted}
 use Rattle.std.proofs.Common.{take}
 use Rattle.std.specs.Prelude.{All}
 use Rattle.tq_eval.specs.Named.{IsMadeOf}

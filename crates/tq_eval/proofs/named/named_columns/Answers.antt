@@ -1,7 +1,7 @@
 use Rattle.std.proofs.Common.{◌≡◌, ℕ, Bool, length, rules, sym, ap, vec_len, ◌∙◌, subst}
 use Rattle.std.specs.Global.{Vec}
 use Rattle.std.proofs.lemmas.List.{length-map, map_push}
-use Rattle.tq_event.specs.Keeping.{wanted_of, wanted_lists}
+use Rattle.tq_event.specs.Projection.{wanted_of, wanted_lists}
 use Rattle.tq_eval.specs.Naming.{AreNamed, plan_names}
 use Rattle.tq_eval.proofs.NamingLemmas.{tables_more}
 use Rattle.tq_eval.proofs.named.named_columns.Goals as goal

@@ -1,6 +1,6 @@
 -- Of each table so far each column that is named is wanted.
 use Rattle.std.proofs.Common.{ℕ}
-use Rattle.tq_event.specs.Keeping.{wanted_of, wanted_lists}
+use Rattle.tq_event.specs.Projection.{wanted_of, wanted_lists}
 use Rattle.tq_eval.specs.Naming.{AreNamed, plan_names}
 use Rattle.tq_eval.proofs.named.named_columns.Given as goal
 

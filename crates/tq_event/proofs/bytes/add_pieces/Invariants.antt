@@ -1,4 +1,4 @@
--- The lists so far stand behind what was there.
+-- The lists so far were appended.
 use Rattle.std.proofs.Common.{◌≡◌, ◌++◌, take}
 use Rattle.tq_event.specs.FileBytes.{bytes_in}
 use Rattle.tq_event.proofs.bytes.add_pieces.Given as goal

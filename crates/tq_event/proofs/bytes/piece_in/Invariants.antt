@@ -1,4 +1,4 @@
--- What stands behind the place is what stands behind one of the lists that are left.
+-- The bytes from the place on are those of the remaining lists, from the place `rest` on.
 use Rattle.std.proofs.Common.{◌≡◌, drop}
 use Rattle.tq_event.specs.FileBytes.{bytes_in}
 use Rattle.tq_event.proofs.bytes.piece_in.Given as goal

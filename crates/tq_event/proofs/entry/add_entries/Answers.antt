@@ -5,7 +5,7 @@ use Rattle.tq_base.specs.declared.fragment.Fragment.{Fragment}
 use Rattle.tq_base.specs.declared.period.Period.{Period}
 use Rattle.tq_base.specs.declared.value.Value.{Value}
 use Rattle.tq_event.specs.Entries.{Entry, entry_in}
-use Rattle.tq_event.specs.Tables.{told_by}
+use Rattle.tq_event.specs.Tables.{row_entry}
 use Rattle.tq_event.proofs.entry.add_entries.Goals as goal
 
 pub rows-preserved : goal.rows-preserved
@@ -19,15 +19,15 @@ rows-preserved c =
     let values : c.in_ok-values.values ≡ (get_or rows i d).values = c.in_ok-values.ensures d in
     let period : c.period-item.result ≡ (get_or rows i d).period =
     c.period-item.is ∙ ap (λ ps. get_or ps i c.period-item.result) seen ∙ get_or-map (λ (row : Fragment). row.period) rows i d c.period-item.result less in
-    let told : entry_in (c.in_ok-values.values, record { table = table; from = c.period-item.result.start; to = c.period-item.result.end }) ≡ told_by table (get_or rows i d) =
+    let parsed : entry_in (c.in_ok-values.values, record { table = table; from = c.period-item.result.start; to = c.period-item.result.end }) ≡ row_entry table (get_or rows i d) =
     ap (λ (v : List Value). let e : Entry = record { table = table; values = v; from = c.period-item.result.start; to = c.period-item.result.end } in e) values
     ∙ ap (λ (p : Period). let e : Entry = record { table = table; values = (get_or rows i d).values; from = p.start; to = p.end } in e) period in
     let more : take (i + 1) rows ≡ take i rows ++ get_or rows i d ∷ [] = take_more rows i d less in
-    let pushed : map entry_in c.push.new.self.items ≡ map entry_in c.rows.entries.items ++ told_by table (get_or rows i d) ∷ [] =
-    ap (map entry_in) c.in_ok-push.ensures.items ∙ map-append entry_in c.rows.entries.items _ ∙ ap (λ (e : Entry). map entry_in c.rows.entries.items ++ e ∷ []) told in
-    let added : map (told_by table) (take (i + 1) rows) ≡ map (told_by table) (take i rows) ++ told_by table (get_or rows i d) ∷ [] =
-    ap (map (told_by table)) more ∙ map-append (told_by table) (take i rows) (get_or rows i d ∷ []) in
+    let pushed : map entry_in c.push.new.self.items ≡ map entry_in c.rows.entries.items ++ row_entry table (get_or rows i d) ∷ [] =
+    ap (map entry_in) c.in_ok-push.ensures.items ∙ map-append entry_in c.rows.entries.items _ ∙ ap (λ (e : Entry). map entry_in c.rows.entries.items ++ e ∷ []) parsed in
+    let added : map (row_entry table) (take (i + 1) rows) ≡ map (row_entry table) (take i rows) ++ row_entry table (get_or rows i d) ∷ [] =
+    ap (map (row_entry table)) more ∙ map-append (row_entry table) (take i rows) (get_or rows i d ∷ []) in
     pushed
-    ∙ ap (λ es. es ++ told_by table (get_or rows i d) ∷ []) c.rows.invariant
-    ∙ append_assoc (map entry_in c.args.entries.now.items) (map (told_by table) (take i rows)) (told_by table (get_or rows i d) ∷ [])
+    ∙ ap (λ es. es ++ row_entry table (get_or rows i d) ∷ []) c.rows.invariant
+    ∙ append_assoc (map entry_in c.args.entries.now.items) (map (row_entry table) (take i rows)) (row_entry table (get_or rows i d) ∷ [])
     ∙ ap (λ es. map entry_in c.args.entries.now.items ++ es) (sym added)

@@ -1,4 +1,4 @@
--- What the fields that are left make of the columns so far is what all fields make.
+-- The columns so far and the remaining fields make the columns that all fields make.
 use Rattle.std.proofs.Common.{◌≡◌, drop}
 use Rattle.csv.specs.Records.{fields_of}
 use Rattle.tq_event.specs.Loading.{columns_after, header_of, value_fields}

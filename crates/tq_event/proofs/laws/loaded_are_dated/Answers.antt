@@ -2,4 +2,4 @@ use Rattle.tq_event.proofs.DatedLemmas.{loaded_dated}
 use Rattle.tq_event.proofs.laws.loaded_are_dated.Goals as goal
 
 pub returns : goal.returns
-returns c = loaded_dated c.dates_are_told.ensures
+returns c = loaded_dated c.dates_round_trip.ensures

@@ -14,18 +14,18 @@ entries_of-requires c =
 
 pub order_events-requires-clause-few : goal.order_events-requires-clause-few
 order_events-requires-clause-few c =
-    let told : map entry_in c.in_ok-entries.entries.items ≡ entries_from 0 c.in_ok-tables.rows.items = c.in_ok-entries.ensures ∙ ap (entries_from 0) c.deref.ensures.value in
-    omega (arith, c.in_ok-entries.entries.ok.0, length-map c.in_ok-entries.entries.items entry_in, ap length told, entries_within (entries_from 0 c.in_ok-tables.rows.items), c.in_ok-tables.ensures.within, c.requires)
+    let parsed : map entry_in c.in_ok-entries.entries.items ≡ entries_from 0 c.in_ok-tables.rows.items = c.in_ok-entries.ensures ∙ ap (entries_from 0) c.deref.ensures.value in
+    omega (arith, c.in_ok-entries.entries.ok.0, length-map c.in_ok-entries.entries.items entry_in, ap length parsed, entries_within (entries_from 0 c.in_ok-tables.rows.items), c.in_ok-tables.ensures.within, c.requires)
 
 pub order_events-requires-clause-periods : goal.order_events-requires-clause-periods
 order_events-requires-clause-periods c =
-    let told : map entry_in c.in_ok-entries.entries.items ≡ entries_from 0 c.in_ok-tables.rows.items = c.in_ok-entries.ensures ∙ ap (entries_from 0) c.deref.ensures.value in
+    let parsed : map entry_in c.in_ok-entries.entries.items ≡ entries_from 0 c.in_ok-tables.rows.items = c.in_ok-entries.ensures ∙ ap (entries_from 0) c.deref.ensures.value in
     let placed = contents_placeable c.args.form c.args.limit c.args.files.items (record { tables = c.in_ok-tables.tables.items; entries = entries_from 0 c.in_ok-tables.rows.items }) c.in_ok-tables.ensures.ok in
-    subst (All (λ (e : Entry). e.from < e.to)) (sym told) (All-weaker (Placeable (length c.in_ok-tables.tables.items)) (λ (e : Entry). e.from < e.to) (λ e p. p.0) (entries_from 0 c.in_ok-tables.rows.items) placed)
+    subst (All (λ (e : Entry). e.from < e.to)) (sym parsed) (All-weaker (Placeable (length c.in_ok-tables.tables.items)) (λ (e : Entry). e.from < e.to) (λ e p. p.0) (entries_from 0 c.in_ok-tables.rows.items) placed)
 
 pub order_events-requires-clause-tables : goal.order_events-requires-clause-tables
 order_events-requires-clause-tables c =
-    let told : map entry_in c.in_ok-entries.entries.items ≡ entries_from 0 c.in_ok-tables.rows.items = c.in_ok-entries.ensures ∙ ap (entries_from 0) c.deref.ensures.value in
+    let parsed : map entry_in c.in_ok-entries.entries.items ≡ entries_from 0 c.in_ok-tables.rows.items = c.in_ok-entries.ensures ∙ ap (entries_from 0) c.deref.ensures.value in
     let placed = contents_placeable c.args.form c.args.limit c.args.files.items (record { tables = c.in_ok-tables.tables.items; entries = entries_from 0 c.in_ok-tables.rows.items }) c.in_ok-tables.ensures.ok in
     let many : c.len.result ≡ length c.in_ok-tables.tables.items = omega (arith, c.len.ensures, c.in_ok-tables.tables.ok.0) in
-    subst (All (λ (e : Entry). e.table < c.len.result)) (sym told) (All-weaker (Placeable (length c.in_ok-tables.tables.items)) (λ (e : Entry). e.table < c.len.result) (λ e p. omega (arith, many, p.1)) (entries_from 0 c.in_ok-tables.rows.items) placed)
+    subst (All (λ (e : Entry). e.table < c.len.result)) (sym parsed) (All-weaker (Placeable (length c.in_ok-tables.tables.items)) (λ (e : Entry). e.table < c.len.result) (λ e p. omega (arith, many, p.1)) (entries_from 0 c.in_ok-tables.rows.items) placed)

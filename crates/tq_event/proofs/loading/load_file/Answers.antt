@@ -5,10 +5,10 @@ use Rattle.std.proofs.lemmas.List.Sums.{sum_by-append}
 use Rattle.tq_base.specs.RowLists.{RowList}
 use Rattle.tq_base.specs.declared.catalogue.Column.{Column}
 use Rattle.tq_base.specs.declared.catalogue.Schema.{Schema}
-use Rattle.tq_event.specs.Keeping.{kept_row, wanted_lists, wanted_of}
+use Rattle.tq_event.specs.Projection.{projected_row, wanted_lists, wanted_of}
 use Rattle.tq_event.specs.Loading.{event_count, next_name, table_contents}
-use Rattle.tq_event.specs.Tables.{entries_from, told_by}
-use Rattle.tq_event.proofs.KeptLemmas.{events_before, rows_events, table_put, tables_many}
+use Rattle.tq_event.specs.Tables.{entries_from, row_entry}
+use Rattle.tq_event.proofs.ProjectionLemmas.{events_before, rows_events, table_put, tables_many}
 use Rattle.tq_event.proofs.TableLemmas.{as_many_read, entries_put}
 use Rattle.tq_event.proofs.loading.load_file.Goals as goal
 
@@ -39,10 +39,10 @@ returns-clause-ok c whole kept =
     let as_many : length whole ≡ number = omega (arith, many, ap length kept, tables_many wanted 0 whole) in
     let good : is_ok c.push-2.result ≡ true = search rules in
     let pushed : c.push-2.new.self.items ≡ rows ++ read ∷ [] = rw good at c.push-2.ensures.items in
-    let kept_read : read.items ≡ map (kept_row (wanted_of wanted number)) of_file.whole = rw c.wanted_columns-wanted.ensures at of_file.kept in
-    let told : entries_from 0 (whole ++ whole_read ∷ []) ≡ entries ++ map (told_by number) of_file.whole = entries_put whole (whole ++ whole_read ∷ []) whole_read number refl as_many in
-    let contents : table_contents c.args.form c.args.limit number entries c.args.file.now.bytes ≡ Ok (columns, entries ++ map (told_by number) of_file.whole) =
-    of_file.told entries (events_before wanted whole rows c.args.events.now kept c.requires.counted) in
+    let kept_read : read.items ≡ map (projected_row (wanted_of wanted number)) of_file.whole = rw c.wanted_columns-wanted.ensures at of_file.kept in
+    let parsed : entries_from 0 (whole ++ whole_read ∷ []) ≡ entries ++ map (row_entry number) of_file.whole = entries_put whole (whole ++ whole_read ∷ []) whole_read number refl as_many in
+    let contents : table_contents c.args.form c.args.limit number entries c.args.file.now.bytes ≡ Ok (columns, entries ++ map (row_entry number) of_file.whole) =
+    of_file.parsed entries (events_before wanted whole rows c.args.events.now kept c.requires.counted) in
     let named : next_name tables c.args.file.now.name ≡ Ok c.in-Ok.name = rw (c.deref.ensures.value, c.get.ensures) at c.in-Ok.ensures.ok in
     let place : length tables ≡ number = omega (arith, c.len-number.ensures, c.args.tables.now.ok.0) in
     let fits : is_ok c.push.result ≡ true = search rules in
@@ -51,7 +51,7 @@ returns-clause-ok c whole kept =
     record {
       whole = whole ++ whole_read ∷ [];
       kept = table_put wanted whole rows c.push-2.new.self.items read whole_read number kept pushed many refl kept_read;
-      told = rw (told, grown, named, place, contents) refl;
+      parsed = rw (parsed, grown, named, place, contents) refl;
     }
 
 pub returns-clause-counted : goal.returns-clause-counted
@@ -61,11 +61,11 @@ returns-clause-counted c =
     let read = c.in_ok-columns.read in
     let of_file = c.in_ok-columns.ensures.ok in
     let number = c.len-number.result in
-    let told = map (told_by number) read.items in
+    let parsed = map (row_entry number) read.items in
     let many : length rows ≡ number = omega (arith, as_many_read tables rows c.requires.read, c.len-number.ensures, c.args.tables.now.ok.0) in
     let good : is_ok c.push-2.result ≡ true = search rules in
     let pushed : c.push-2.new.self.items ≡ rows ++ read ∷ [] = rw good at c.push-2.ensures.items in
-    let all : entries_from 0 c.push-2.new.self.items ≡ entries_from 0 rows ++ told = entries_put rows c.push-2.new.self.items read number pushed many in
-    let same : sum_by event_count told ≡ sum_by event_count (map (told_by number) of_file.whole) =
-    ap (λ l. sum_by event_count (map (told_by number) l)) of_file.kept ∙ rows_events c.wanted_columns-wanted.result.now number of_file.whole in
-    omega (arith, ap (sum_by event_count) all, sum_by-append event_count (entries_from 0 rows) told, same, of_file.counted, c.requires.counted)
+    let all : entries_from 0 c.push-2.new.self.items ≡ entries_from 0 rows ++ parsed = entries_put rows c.push-2.new.self.items read number pushed many in
+    let same : sum_by event_count parsed ≡ sum_by event_count (map (row_entry number) of_file.whole) =
+    ap (λ l. sum_by event_count (map (row_entry number) l)) of_file.kept ∙ rows_events c.wanted_columns-wanted.result.now number of_file.whole in
+    omega (arith, ap (sum_by event_count) all, sum_by-append event_count (entries_from 0 rows) parsed, same, of_file.counted, c.requires.counted)

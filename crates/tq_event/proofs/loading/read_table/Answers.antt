@@ -8,8 +8,8 @@ use Rattle.tq_event.specs.declared.fault.LoadFaultKind.TheVariants.{BadHeader, O
 use Rattle.tq_event.specs.declared.fault.LoadFaultKind.{LoadFaultKind}
 use Rattle.tq_event.specs.Entries.{Entry}
 use Rattle.tq_event.specs.Loading.{csv_records, entries_after, event_count, next_entries}
-use Rattle.tq_event.specs.Tables.{told_by}
-use Rattle.tq_event.proofs.KeptLemmas.{rows_push}
+use Rattle.tq_event.specs.Tables.{row_entry}
+use Rattle.tq_event.proofs.ProjectionLemmas.{rows_push}
 use Rattle.tq_event.proofs.LoadLemmas.{known_kind, header_fault, columns_first, columns_none, read_ok, read_fault, entry_fault, add_fault, add_ok, makes_events, next_ok, next_many, told_count}
 use Rattle.tq_event.proofs.loading.read_table.Goals as goal
 
@@ -21,7 +21,7 @@ returns-then-not-branch-clause-fault c before same known =
     let bytes = c.args.bytes.now in
     let none = rw c.if-not-branch.true at (c.in_ok-next_record.ensures (csv_records bytes) c.record_reader-reader.ensures) in
     header_fault c.args.form c.args.limit c.args.table before bytes BadHeader c.fault_at-then-not-branch.result
-    (columns_none bytes (sym c.is_marked_twice.ensures ∙ c.if-is_marked_twice.false) none)
+    (columns_none bytes (sym c.has_two_boms.ensures ∙ c.if-has_two_boms.false) none)
     (c.fault_at-then-not-branch.ensures.named bad_header)
 
 pub returns-in-Err-clause-fault : goal.returns-in-Err-clause-fault
@@ -30,7 +30,7 @@ returns-in-Err-clause-fault c before same known =
     let (more, split, has) = rw c.if-not-branch.false at (c.in_ok-next_record.ensures (csv_records bytes) c.record_reader-reader.ensures) in
     let kind = known_kind c.in-Err.kind c.fault_at-in-Err.result c.fault_at-in-Err.ensures.out_of_memory known in
     header_fault c.args.form c.args.limit c.args.table before bytes c.in-Err.kind c.fault_at-in-Err.result
-    (columns_first bytes (fields_of c.next_record.new.record) more (sym c.is_marked_twice.ensures ∙ c.if-is_marked_twice.false) split ∙ c.in-Err.ensures.fault kind)
+    (columns_first bytes (fields_of c.next_record.new.record) more (sym c.has_two_boms.ensures ∙ c.if-has_two_boms.false) split ∙ c.in-Err.ensures.fault kind)
     (c.fault_at-in-Err.ensures.named kind)
 
 pub records-init : goal.records-init
@@ -38,7 +38,7 @@ records-init c =
     let bytes = c.args.bytes.now in
     let (more, split, has) = rw c.if-not-branch.false at (c.in_ok-next_record.ensures (csv_records bytes) c.record_reader-reader.ensures) in
     record {
-      columns = columns_first bytes (fields_of c.next_record.new.record) more (sym c.is_marked_twice.ensures ∙ c.if-is_marked_twice.false) split ∙ c.in-Ok.ensures.ok;
+      columns = columns_first bytes (fields_of c.next_record.new.record) more (sym c.has_two_boms.ensures ∙ c.if-has_two_boms.false) split ∙ c.in-Ok.ensures.ok;
       width = c.in_ok-rows.ensures.width ∙ ap length c.deref.ensures.value;
       whole = [];
       kept = c.in_ok-rows.ensures.rows;
@@ -56,13 +56,13 @@ records-preserved c =
     let i = c.records.invariant in
     let (more, split, has) = rw c.if-not-branch-2.false at (c.in_ok-next_record-2.ensures i.left i.has) in
     let table = c.args.table in
-    let told = map (told_by table) i.whole in
+    let parsed = map (row_entry table) i.whole in
     let of_record = c.in-Ok-read_entry.ensures.ok in
     let row : Fragment = record { values = of_record.whole; period = c.in-Ok-read_entry.period } in
-    let entry : Entry = told_by table row in
-    let grown : map (told_by table) (i.whole ++ row ∷ []) ≡ told ++ entry ∷ [] = map-append (told_by table) i.whole (row ∷ []) in
+    let entry : Entry = row_entry table row in
+    let grown : map (row_entry table) (i.whole ++ row ∷ []) ≡ parsed ++ entry ∷ [] = map-append (row_entry table) i.whole (row ∷ []) in
     let counted : c.add_row.new.events ≡ c.records.events + event_count entry = c.in_default.ensures.events in
-    let pushed : sum_by event_count (told ++ entry ∷ []) ≡ sum_by event_count told + event_count entry = sum_by_push event_count told entry in
+    let pushed : sum_by event_count (parsed ++ entry ∷ []) ≡ sum_by event_count parsed + event_count entry = sum_by_push event_count parsed entry in
     let some : 1 ≤ event_count entry = makes_events entry in
     record {
       columns = i.columns;
@@ -75,10 +75,10 @@ records-preserved c =
       left = more;
       has = has;
       rest = λ before same. i.rest before same
-          ∙ add_ok c.args.form c.args.limit table c.in-Ok.columns.items c.records.number (before ++ told) (fields_of c.next_record-in-records.new.record) more i.left split entry ((before ++ told) ++ entry ∷ [])
-          (rw c.deref-in-records.ensures.value at (of_record.told table))
-          (next_ok c.args.limit (before ++ told) entry c.add_row.new.events (omega (arith, counted, told_count before told c.args.events.now c.records.events same i.counted)) c.in_default.ensures.within)
-          ∙ ap (λ es. entries_after c.args.form c.args.limit table c.in-Ok.columns.items (c.records.number + 1) es more) (append_assoc before told (entry ∷ []) ∙ ap (λ es. before ++ es) (sym grown));
+          ∙ add_ok c.args.form c.args.limit table c.in-Ok.columns.items c.records.number (before ++ parsed) (fields_of c.next_record-in-records.new.record) more i.left split entry ((before ++ parsed) ++ entry ∷ [])
+          (rw c.deref-in-records.ensures.value at (of_record.parsed table))
+          (next_ok c.args.limit (before ++ parsed) entry c.add_row.new.events (omega (arith, counted, told_count before parsed c.args.events.now c.records.events same i.counted)) c.in_default.ensures.within)
+          ∙ ap (λ es. entries_after c.args.form c.args.limit table c.in-Ok.columns.items (c.records.number + 1) es more) (append_assoc before parsed (entry ∷ []) ∙ ap (λ es. before ++ es) (sym grown));
     }
 
 pub returns-then-not-branch-2-clause-ok : goal.returns-then-not-branch-2-clause-ok
@@ -89,8 +89,8 @@ returns-then-not-branch-2-clause-ok c =
       whole = i.whole;
       kept = i.kept;
       counted = i.counted;
-      told = λ before same.
-          read_ok c.args.form c.args.limit c.args.table before c.args.bytes.now c.in-Ok.columns.items (before ++ map (told_by c.args.table) i.whole) i.columns (i.rest before same ∙ rw none refl);
+      parsed = λ before same.
+          read_ok c.args.form c.args.limit c.args.table before c.args.bytes.now c.in-Ok.columns.items (before ++ map (row_entry c.args.table) i.whole) i.columns (i.rest before same ∙ rw none refl);
     }
 
 pub returns-in-Err-read_entry-clause-fault : goal.returns-in-Err-read_entry-clause-fault
@@ -99,7 +99,7 @@ returns-in-Err-read_entry-clause-fault c before same known =
     let (more, split, has) = rw c.if-not-branch-2.false at (c.in_ok-next_record-2.ensures i.left i.has) in
     let kind = known_kind c.in-Err-read_entry.kind c.fault_at-in-Err-read_entry.result c.fault_at-in-Err-read_entry.ensures.out_of_memory known in
     read_fault c.args.form c.args.limit c.args.table before c.args.bytes.now c.in-Ok.columns.items c.fault_at-in-Err-read_entry.result i.columns
-    (i.rest before same ∙ entry_fault c.args.form c.args.limit c.args.table c.in-Ok.columns.items c.records.number (before ++ map (told_by c.args.table) i.whole) (fields_of c.next_record-in-records.new.record) more i.left split
+    (i.rest before same ∙ entry_fault c.args.form c.args.limit c.args.table c.in-Ok.columns.items c.records.number (before ++ map (row_entry c.args.table) i.whole) (fields_of c.next_record-in-records.new.record) more i.left split
     c.in-Err-read_entry.kind c.fault_at-in-Err-read_entry.result (rw c.deref-in-records.ensures.value at (c.in-Err-read_entry.ensures.fault c.args.table kind)) (c.fault_at-in-Err-read_entry.ensures.named kind))
 
 pub returns-in-Err-add_row-clause-fault : goal.returns-in-Err-add_row-clause-fault
@@ -108,15 +108,15 @@ returns-in-Err-add_row-clause-fault c before same known =
     let (more, split, has) = rw c.if-not-branch-2.false at (c.in_ok-next_record-2.ensures i.left i.has) in
     let kind = known_kind c.in-Err-add_row.kind c.fault_at-in-Err-add_row.result c.fault_at-in-Err-add_row.ensures.out_of_memory known in
     let table = c.args.table in
-    let told = map (told_by table) i.whole in
+    let parsed = map (row_entry table) i.whole in
     let of_record = c.in-Ok-read_entry.ensures.ok in
     let row : Fragment = record { values = of_record.whole; period = c.in-Ok-read_entry.period } in
-    let entry : Entry = told_by table row in
-    let many : next_entries c.args.limit (before ++ told) entry ≡ Err TooManyEvents = next_many c.args.limit (before ++ told) entry (c.records.events + event_count entry)
-    (omega (arith, told_count before told c.args.events.now c.records.events same i.counted)) (c.in-Err-add_row.ensures.many kind) in
+    let entry : Entry = row_entry table row in
+    let many : next_entries c.args.limit (before ++ parsed) entry ≡ Err TooManyEvents = next_many c.args.limit (before ++ parsed) entry (c.records.events + event_count entry)
+    (omega (arith, told_count before parsed c.args.events.now c.records.events same i.counted)) (c.in-Err-add_row.ensures.many kind) in
     read_fault c.args.form c.args.limit table before c.args.bytes.now c.in-Ok.columns.items c.fault_at-in-Err-add_row.result i.columns
-    (i.rest before same ∙ add_fault c.args.form c.args.limit table c.in-Ok.columns.items c.records.number (before ++ told) (fields_of c.next_record-in-records.new.record) more i.left split entry
-    c.in-Err-add_row.kind c.fault_at-in-Err-add_row.result (rw c.deref-in-records.ensures.value at (of_record.told table))
+    (i.rest before same ∙ add_fault c.args.form c.args.limit table c.in-Ok.columns.items c.records.number (before ++ parsed) (fields_of c.next_record-in-records.new.record) more i.left split entry
+    c.in-Err-add_row.kind c.fault_at-in-Err-add_row.result (rw c.deref-in-records.ensures.value at (of_record.parsed table))
     (many ∙ ap (λ (k : LoadFaultKind). let r : Result (List Entry) LoadFaultKind = Err k in r) (sym (c.in-Err-add_row.ensures.kind kind))) (c.fault_at-in-Err-add_row.ensures.named kind))
 
 pub returns-in_err-next_record-2-clause-fault : goal.returns-in_err-next_record-2-clause-fault

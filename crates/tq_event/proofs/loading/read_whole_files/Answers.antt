@@ -6,16 +6,16 @@ use Rattle.tq_base.specs.declared.form.Form.{Form}
 use Rattle.tq_base.specs.RowLists.{RowList}
 use Rattle.tq_event.specs.declared.fault.LoadFault.{LoadFault}
 use Rattle.tq_event.specs.declared.file.TableFile.{TableFile}
-use Rattle.tq_event.specs.Keeping.{AreKeptFiles}
+use Rattle.tq_event.specs.Projection.{AreProjectedFiles}
 use Rattle.tq_event.specs.Loading.{Contents, contents_of}
 use Rattle.tq_event.specs.Tables.{entries_from}
-use Rattle.tq_event.proofs.KeptLemmas.{tables_all}
+use Rattle.tq_event.proofs.ProjectionLemmas.{tables_all}
 use Rattle.tq_event.proofs.loading.read_whole_files.Goals as goal
 
-all_kept : (form : Form) (files : List TableFile) (limit : ℕ) (r : Result (Vec Schema × Vec RowList) LoadFault) → IfOk r (λ read. AreKeptFiles form files limit [] read.0.items read.1.items)
+all_kept : (form : Form) (files : List TableFile) (limit : ℕ) (r : Result (Vec Schema × Vec RowList) LoadFault) → IfOk r (λ read. AreProjectedFiles form files limit [] read.0.items read.1.items)
     → IfOk r (λ read. contents_of form files limit ≡ Ok (record { tables = read.0.items; entries = entries_from 0 read.1.items }))
 all_kept form files limit (Ok read) kept =
-    kept.told
+    kept.parsed
     ∙ ap (λ (l : List RowList). let r : Result Contents LoadFault = Ok (record { tables = read.0.items; entries = entries_from 0 l }) in r) (sym (kept.kept ∙ tables_all 0 kept.whole))
 all_kept form files limit (Err fault) kept = tt
 

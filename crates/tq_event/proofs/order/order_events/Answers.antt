@@ -2,7 +2,7 @@ use Rattle.std.proofs.Common.{ap, arith, length, map}
 use Rattle.std.proofs.lemmas.List.Sorted.{length_permutation}
 use Rattle.std.proofs.lemmas.List.{length-map}
 use Rattle.tq_event.specs.Entries.{entry_in}
-use Rattle.tq_event.proofs.MarkLemmas.{few_marks}
+use Rattle.tq_event.proofs.EndpointLemmas.{few_marks}
 use Rattle.tq_event.proofs.order.order_events.Goals as goal
 
 pub place_events-requires-clause-few : goal.place_events-requires-clause-few

@@ -6,4 +6,4 @@ pub bytes-preserved : goal.bytes-preserved
 bytes-preserved c = ascii_more c.bytes.ascii c.args.bytes.now c.bytes.byte-index c.bytes.invariant
 
 pub returns : goal.returns
-returns c told = ascii_all c.args.bytes.now c.bytes.byte-index (omega (arith, c.bytes-test.false)) (c.bytes.invariant told)
+returns c parsed = ascii_all c.args.bytes.now c.bytes.byte-index (omega (arith, c.bytes-test.false)) (c.bytes.invariant parsed)

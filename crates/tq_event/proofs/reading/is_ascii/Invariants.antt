@@ -1,4 +1,4 @@
--- The bytes so far are ASCII, if it was not seen that one is not.
+-- The bytes so far are ASCII, or one was found that is not.
 use Rattle.std.proofs.Common.{◌≡◌, ◌<◌, ℕ, get_or, true}
 use Rattle.tq_event.proofs.reading.is_ascii.Given as goal
 

@@ -4,8 +4,8 @@ use Rattle.std.proofs.lemmas.Result.{err_from_is_err_and}
 use Rattle.csv.specs.Records.{fields_of}
 use Rattle.tq_base.specs.declared.catalogue.Column.{Column}
 use Rattle.tq_base.specs.declared.value.Value.{Value}
-use Rattle.tq_event.specs.Keeping.{is_wanted, kept_value, kept_values}
-use Rattle.tq_event.proofs.KeptLemmas.{values_push}
+use Rattle.tq_event.specs.Projection.{is_wanted, projected_value, projected_values}
+use Rattle.tq_event.proofs.ProjectionLemmas.{values_push}
 use Rattle.tq_event.proofs.FieldLemmas.{fields_from}
 use Rattle.tq_event.proofs.reading.read_fields.Goals as goal
 
@@ -20,7 +20,7 @@ returns-in_err-value-clause-fault c =
     c.columns.invariant.rest ∙ rw (column, field) (rw (c.in_err-value.ensures.fault known) refl))
 
 pub columns-init : goal.columns-init
-unfolding kept_values
+unfolding projected_values
 columns-init c =
     let none : c.reserve.new.self.items ≡ [] = c.in_ok-reserve.ensures.items ∙ c.clear.ensures.items in
     record {
@@ -42,12 +42,12 @@ columns-preserved c =
     let wanted = c.args.wanted.now in
     let one = c.in_ok-value.ensures.ok in
     let pushed : c.push_reserved.new.self.items ≡ c.columns.values.items ++ c.in_ok-value.value ∷ [] = c.push_reserved.ensures.items in
-    let so : c.in_ok-value.value ≡ kept_value (is_wanted wanted (length i.whole)) one.whole = one.kept ∙ ap (λ b. kept_value b one.whole) (c.is_wanted.ensures ∙ ap (is_wanted wanted) (sym i.many)) in
+    let so : c.in_ok-value.value ≡ projected_value (is_wanted wanted (length i.whole)) one.whole = one.kept ∙ ap (λ b. projected_value b one.whole) (c.is_wanted.ensures ∙ ap (is_wanted wanted) (sym i.many)) in
     record {
       room = omega (arith, i.room, c.push_reserved.ensures.len, c.push_reserved.ensures.capacity);
       as_many = rw pushed (length-append c.columns.values.items (c.in_ok-value.value ∷ []) ∙ ap (λ n. n + 1) i.as_many);
       whole = i.whole ++ one.whole ∷ [];
       many = length-append i.whole (one.whole ∷ []) ∙ ap (λ n. n + 1) i.many;
-      kept = pushed ∙ ap (λ l. l ++ c.in_ok-value.value ∷ []) i.kept ∙ ap (λ (v : Value). kept_values wanted i.whole ++ v ∷ []) so ∙ sym (values_push wanted i.whole one.whole);
-      rest = i.rest ∙ rw (column, field) (rw one.told refl);
+      kept = pushed ∙ ap (λ l. l ++ c.in_ok-value.value ∷ []) i.kept ∙ ap (λ (v : Value). projected_values wanted i.whole ++ v ∷ []) so ∙ sym (values_push wanted i.whole one.whole);
+      rest = i.rest ∙ rw (column, field) (rw one.parsed refl);
     }

@@ -18,7 +18,7 @@ returns-then-not-wanted-clause-ok c =
     let short : nat_lt 1000 (length c.args.field.now) ≡ false = grind (arith, nat_tests) in
     record {
       whole = Text c.args.field.now;
-      told = rw (is_utf8-from_IsUtf8 c.args.field.now c.in-Some.ensures.text.1, short) refl;
+      parsed = rw (is_utf8-from_IsUtf8 c.args.field.now c.in-Some.ensures.text.1, short) refl;
       kept = rw c.if-not-wanted.true c.in_ok-text.ensures.value;
     }
 
@@ -27,6 +27,6 @@ returns-clause-ok c =
     let short : nat_lt 1000 (length c.args.field.now) ≡ false = grind (arith, nat_tests) in
     record {
       whole = Text c.args.field.now;
-      told = rw (is_utf8-from_IsUtf8 c.args.field.now c.in-Some.ensures.text.1, short) refl;
+      parsed = rw (is_utf8-from_IsUtf8 c.args.field.now c.in-Some.ensures.text.1, short) refl;
       kept = rw c.if-not-wanted.false (c.in_ok-text-2.ensures.value ∙ ap Text c.in-Some.ensures.text.0);
     }

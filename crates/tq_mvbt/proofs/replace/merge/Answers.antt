@@ -2,7 +2,7 @@ use Rattle.std.proofs.Common.{◌≡◌, ◌∙◌, ◌+◌, ◌≤◌, ◌++◌
 use Rattle.tq_mvbt.specs.Points.{is_live}
 use Rattle.tq_mvbt.specs.NodeState.{NodeState}
 use Rattle.tq_mvbt.specs.Steps.{retired, PutsNodes}
-use Rattle.tq_mvbt.specs.Loose.{IsLoose, IsSettling}
+use Rattle.tq_mvbt.specs.Unsettled.{IsUnsettled, IsSettling}
 use Rattle.tq_mvbt.proofs.Renewed.{merged, merged_copy, room_for_both, room_above, appended, siblings_differ, unchanged}
 use Rattle.tq_mvbt.proofs.Made.{put}
 use Rattle.tq_mvbt.proofs.Rising.{merged_settles, parent_loose, sibling_loose, sibling_older, part_under}
@@ -35,7 +35,7 @@ returns-clause-forest c lives height forest =
     let settling = c.requires.settling in
     let nodes = c.args.nodes.now.nodes in
     let standing = c.requires.standing in
-    let beside : IsLoose c.args.version c.args.level 0 nodes c.args.sibling = record { node = standing.node; stands = standing.stands; at_level = standing.at_level; died = standing.died; from_before = sibling_older c.args.version c.args.level c.args.last nodes c.args.number c.args.sibling settling c.requires.beside standing } in
+    let beside : IsUnsettled c.args.version c.args.level 0 nodes c.args.sibling = record { node = standing.node; stands = standing.stands; at_level = standing.at_level; died = standing.died; from_before = sibling_older c.args.version c.args.level c.args.last nodes c.args.number c.args.sibling settling c.requires.beside standing } in
     let above = parent_loose c.args.version c.args.level c.args.last nodes c.args.number c.args.parent settling c.requires.part in
     let there = unchanged c.args.nodes.now c.retire-low.new.nodes c.args.number c.args.sibling (retired c.args.version c.args.last) c.requires.standing.node c.retire-low.ensures.nodes (siblings_differ nodes c.args.number c.args.sibling c.requires.beside) c.requires.standing.stands in
     let range = rw (settling.loose.stands) at c.retire-low.ensures.range in

@@ -2,7 +2,7 @@ use Rattle.std.proofs.Common.{◌≡◌, ◌∙◌, ◌+◌, ◌≤◌, filter, 
 use Rattle.tq_mvbt.specs.Points.{is_live}
 use Rattle.tq_mvbt.specs.NodeState.{NodeState}
 use Rattle.tq_mvbt.specs.Steps.{retired, PutsNodes}
-use Rattle.tq_mvbt.specs.Loose.{IsSettling}
+use Rattle.tq_mvbt.specs.Unsettled.{IsSettling}
 use Rattle.tq_mvbt.proofs.Renewed.{renewed, renewed_copy, unchanged, levels_differ, appended}
 use Rattle.tq_mvbt.proofs.Places.{at_left}
 use Rattle.tq_mvbt.proofs.Made.{put}

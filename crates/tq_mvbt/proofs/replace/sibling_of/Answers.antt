@@ -4,7 +4,7 @@ use Rattle.std.proofs.lemmas.Bool.Decides.{nat_tests}
 use Rattle.tq_mvbt.specs.NodeState.{NodeState}
 use Rattle.tq_mvbt.specs.Points.{now}
 use Rattle.tq_mvbt.specs.Shape.{IsNode, listed}
-use Rattle.tq_mvbt.specs.Loose.{IsPart}
+use Rattle.tq_mvbt.specs.Unsettled.{IsPart}
 use Rattle.tq_mvbt.proofs.Lists.{all_at}
 use Rattle.tq_mvbt.proofs.Descent.{one_leads}
 use Rattle.tq_mvbt.proofs.Beside.{beside}
@@ -14,8 +14,8 @@ some_from_one : (r : Option ℕ) (n : ℕ) → MatchOption r (n ≡ 0) (λ _. 0 
 some_from_one None n h e = absurd (omega arith)
 some_from_one (Some x) n h e = search rules
 
-pub key_beside-requires : goal.key_beside-requires
-key_beside-requires c =
+pub adjacent_key-requires : goal.adjacent_key-requires
+adjacent_key-requires c =
     let part = c.requires.part in
     let e = c.read-node.ensures.node in
     let f = c.read-above.ensures.node in
@@ -37,8 +37,8 @@ unwrap-requires c =
     let node = all_at (IsNode some.version some.lives nodes) nodes c.args.parent m some.forest.each stands in
     let level : m.level ≡ c.args.level + 1 = ap (λ (x : NodeState). x.level) same ∙ part.above_level in
     let died : m.died ≡ now = ap (λ (x : NodeState). x.died) same ∙ part.above_died in
-    let one = one_leads some.version c.key_beside.result some.lives nodes m some.small node died c.key_beside.ensures.low c.key_beside.ensures.high in
-    let index : listed some.lives m.level c.key_beside.result some.version ≡ 1 = grind (arith, nat_tests, level) in
+    let one = one_leads some.version c.adjacent_key.result some.lives nodes m some.small node died c.adjacent_key.ensures.low c.adjacent_key.ensures.high in
+    let index : listed some.lives m.level c.adjacent_key.result some.version ≡ 1 = grind (arith, nat_tests, level) in
     some_from_one c.child_at.result _ c.child_at.ensures.none (one ∙ index)
 
 pub returns : goal.returns
@@ -53,9 +53,9 @@ returns c =
     let f' = part.above_stands in
     let same : m ≡ part.above = cc in
     let its_same : n ≡ part.node = cc in
-    let all = beside nodes c.requires.forest c.args.level c.args.number c.args.parent c.unwrap.result c.key_beside.result n m e f
+    let all = beside nodes c.requires.forest c.args.level c.args.number c.args.parent c.unwrap.result c.adjacent_key.result n m e f
     (ap (λ (x : NodeState). x.level) its_same ∙ part.at_level) (ap (λ (x : NodeState). x.died) its_same ∙ part.died) (ap (λ (x : NodeState). x.level) same ∙ part.above_level) (ap (λ (x : NodeState). x.died) same ∙ part.above_died)
-    c.key_beside.ensures.low c.key_beside.ensures.high c.key_beside.ensures.side
+    c.adjacent_key.ensures.low c.adjacent_key.ensures.high c.adjacent_key.ensures.side
     (rw (c.unwrap.ensures) at c.child_at.ensures.child) in
     record {
       beside = all.0;
@@ -65,5 +65,5 @@ returns c =
           let one : node ≡ n = cc in
           let two : above ≡ m = cc in
           let short : n.high < m.high = omega (arith, less, ap (λ (x : NodeState). x.high) one, ap (λ (x : NodeState). x.high) two) in
-          all.3 (c.key_beside.ensures.right short) other other_is ∙ ap (λ (x : NodeState). x.high) (sym one);
+          all.3 (c.adjacent_key.ensures.right short) other other_is ∙ ap (λ (x : NodeState). x.high) (sym one);
     }

@@ -2,7 +2,7 @@ use Rattle.std.proofs.Common.{◌≡◌, ◌≢◌, ◌∙◌, ◌+◌, ◌-◌,
 use Rattle.tq_mvbt.specs.declared.entry.Entry.{Entry}
 use Rattle.tq_mvbt.specs.Shape.{top}
 use Rattle.tq_mvbt.specs.Steps.{fresh, PutsNodes, Puts}
-use Rattle.tq_mvbt.specs.Loose.{HeightChanges}
+use Rattle.tq_mvbt.specs.Unsettled.{HeightChanges}
 use Rattle.tq_mvbt.specs.Directory.{IsTop}
 use Rattle.tq_mvbt.proofs.Renewed.{appended}
 use Rattle.tq_mvbt.proofs.Roots.{few_from, many_from, single, first_there, lowered, child_top, first_filled, same_height, one_top, one_filled, higher, two_top, two_filled, root_low, root_high}

@@ -2,7 +2,7 @@ use Rattle.std.proofs.Common.{◌≡◌, ◌+◌, ◌-◌, ◌*◌, ◌≤◌, �
 use Rattle.tq_mvbt.specs.declared.root.Root.{Root}
 use Rattle.tq_mvbt.specs.NodeState.{NodeState}
 use Rattle.tq_mvbt.specs.Shape.{IsFound}
-use Rattle.tq_mvbt.specs.Loose.{Grows, KeyChanges}
+use Rattle.tq_mvbt.specs.Unsettled.{Grows, KeyChanges}
 use Rattle.tq_mvbt.specs.Directory.{root_of, IsTop}
 use Rattle.tq_mvbt.specs.TreeState.{IsTree}
 use Rattle.tq_mvbt.proofs.Trees.{few_levels, root_found, top_grows, updated, updated_lives, updated_others, updated_roots}

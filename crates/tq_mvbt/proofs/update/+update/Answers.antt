@@ -1,7 +1,7 @@
 use Rattle.std.proofs.Common.{◌≡◌, ◌+◌, ◌-◌, arith, subst, refl}
 use Rattle.std.proofs.lemmas.Option.{slice_get_within}
 use Rattle.tq_mvbt.specs.Shape.{IsFound}
-use Rattle.tq_mvbt.specs.Loose.{IsSettling, Grows}
+use Rattle.tq_mvbt.specs.Unsettled.{IsSettling, Grows}
 use Rattle.tq_mvbt.proofs.Leaves.{settles_above, part_above, keyed_forest}
 use Rattle.tq_mvbt.proofs.Grown.{grows_more, grows_both, found_grows}
 use Rattle.tq_mvbt.proofs.Linked.{updates_up, keeps_same}

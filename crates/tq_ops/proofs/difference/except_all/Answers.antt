@@ -1,7 +1,7 @@
 use Rattle.std.proofs.Common.{◌≡◌, ◌≢◌, ◌-◌, None, map, sym, ap, ◌∙◌, subst}
 use Rattle.std.proofs.lemmas.Result.{IfOk-weaker}
 use Rattle.tq_base.specs.Fragments.{at, copies, occurrences}
-use Rattle.tq_base.specs.Relations.{line_of}
+use Rattle.tq_base.specs.Relations.{row_period_of}
 use Rattle.tq_ops.specs.Ordinary.{HasInside, selection}
 use Rattle.tq_ops.proofs.Widths.{all_pass, nothing_taken}
 use Rattle.tq_ops.proofs.difference.except_all.Goals as goal
@@ -20,9 +20,9 @@ pub returns-clause-inside : goal.returns-clause-inside
 returns-clause-inside c =
     let left = c.args.left.items in
     let right = c.args.right.now.items in
-    IfOk-weaker c.pick.result
-    (λ out. out.items ≡ map (line_of left) c.deref.result.now)
+    IfOk-weaker c.take_row_periods.result
+    (λ out. out.items ≡ map (row_period_of left) c.deref.result.now)
     (λ out. HasInside c.args.window.now out.items (λ t v. copies left v t - copies right v t))
     (λ out same.
-    subst (λ l. HasInside c.args.window.now l (λ t v. copies left v t - copies right v t)) (sym (same ∙ ap (map (line_of left)) c.deref.ensures.value)) c.in_ok-lines.ensures.inside)
-    c.pick.ensures.rows
+    subst (λ l. HasInside c.args.window.now l (λ t v. copies left v t - copies right v t)) (sym (same ∙ ap (map (row_period_of left)) c.deref.ensures.value)) c.in_ok-lines.ensures.inside)
+    c.take_row_periods.ensures.rows

@@ -1,4 +1,4 @@
--- What holds between two changes.
+-- The invariant between two changes.
 use Rattle.std.proofs.Common.{◌≤◌, take, drop}
 use Rattle.tq_ops.proofs.Sweeping.{Sweeping}
 use Rattle.tq_ops.proofs.difference.swept.Given as goal

@@ -1,4 +1,4 @@
--- The bounds so far that lie inside are kept, and no others.
+-- The list has exactly the bounds so far that lie inside.
 use Rattle.std.proofs.Common.{◌<◌, length, ℕ}
 use Rattle.std.specs.Prelude.{All, slice_index_or}
 use Rattle.tq_plan.specs.Cuts.{LiesInside}

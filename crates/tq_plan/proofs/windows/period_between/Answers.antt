@@ -1,4 +1,4 @@
--- A period is known by its ends.
+-- Periods with equal ends are equal.
 use Rattle.std.proofs.Common.{◌≡◌, ◌<◌, ℕ, Bool, true, false, Option, Some, None, nat_lt, arith, refl, ap, subst}
 use Rattle.std.specs.Coded.{le_prop}
 use Rattle.std.specs.Prelude.{◌↔◌, IsSome, IfSome}

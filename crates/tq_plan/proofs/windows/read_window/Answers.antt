@@ -1,6 +1,6 @@
 use Rattle.std.proofs.Common.{◌≡◌, ◌∙◌, Bool, true, false, cond, Option, None, refl, sym, ap}
 use Rattle.tq_base.specs.declared.period.Period.{Period}
-use Rattle.tq_plan.specs.Windows.{front_trimmed, inside_of, is_bracketed, period_in}
+use Rattle.tq_plan.specs.Windows.{without_leading_spaces, inside_of, is_bracketed, period_in}
 use Rattle.tq_plan.proofs.windows.read_window.Goals as goal
 
 when : (b : Bool) (o : Option Period) → b ≡ true → cond b o None ≡ o
@@ -12,5 +12,5 @@ returns c =
     let text = c.args.text.now in
     let form = c.args.form in
     c.read_period.ensures
-    ∙ ap (period_in form) (c.front_trimmed.ensures ∙ ap front_trimmed c.inside_of.ensures)
-    ∙ sym (when (is_bracketed text) (period_in form (front_trimmed (inside_of text))) (sym c.is_bracketed.ensures ∙ c.if-not-is_bracketed.false))
+    ∙ ap (period_in form) (c.without_leading_spaces.ensures ∙ ap without_leading_spaces c.inside_of.ensures)
+    ∙ sym (when (is_bracketed text) (period_in form (without_leading_spaces (inside_of text))) (sym c.is_bracketed.ensures ∙ c.if-not-is_bracketed.false))

@@ -4,5 +4,5 @@ use Rattle.tq_run.proofs.workers.+workers.Given as goal
 abbrev pub decreases-ours : goal.decreases-ours
 decreases-ours g l = 2 * vec_len l.others + 1
 
-abbrev pub decreases-work_among : goal.decreases-work_among
-decreases-work_among g l = 2 * vec_len l.others
+abbrev pub decreases-run_claimants : goal.decreases-run_claimants
+decreases-run_claimants g l = 2 * vec_len l.others

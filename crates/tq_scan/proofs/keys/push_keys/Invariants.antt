@@ -1,4 +1,4 @@
--- The keys that the leaf reports of the entries so far were appended, and there is room for the others.
+-- The keys that the leaf reports of the entries so far are appended, and there is room for the others.
 use Rattle.std.proofs.Common.{◌≡◌, ◌≤◌, ◌+◌, ◌++◌, length, map, filter, take}
 use Rattle.std.specs.Prelude.{vec_capacity, vec_len}
 use Rattle.tq_mvbt.specs.declared.entry.Entry.{Entry}

@@ -5,7 +5,7 @@ use Rattle.tq_mvbt.specs.declared.entry.Entry.{Entry}
 use Rattle.tq_scan.specs.Follows.{is_met_child}
 use Rattle.tq_scan.proofs.Lists.{filter_step, append-nil}
 use Rattle.tq_scan.proofs.leaves.push_children.Goals as goal
-use Rattle.tq_scan.proofs.leaves.push_children.Goals.{then-leads_on+in_ok-push, else-leads_on}
+use Rattle.tq_scan.proofs.leaves.push_children.Goals.{then-leads_to_part+in_ok-push, else-leads_to_part}
 
 abbrev blank : Entry
 blank = record { low = 0; high = 0; born = 0; dead = 0; child = 0 }
@@ -20,11 +20,11 @@ loop-place-preserved c =
     let inside : i < length entries = (let a = c.loop-place-test.true in let b = c.len-place-end.ensures in omega arith) in
     let there = slice_get-get_or entries i blank inside in
     let step = filter_step child_of (is_met_child c.args.part.now) entries i blank in
-    elim c.if-leads_on.branch [
-      | then-leads_on+in_ok-push w ↦
+    elim c.if-leads_to_part.branch [
+      | then-leads_to_part+in_ok-push w ↦
           (let k = ap (λ (x : ℕ). let n : NodeNo = record { 0 = x } in n) (rw there at w.child.ensures) in
-          let items : c.if-leads_on.row.items ≡ c.loop-place.row.items ++ w.child.result ∷ [] = ap (λ v. v.items) w.row-is ∙ w.in_ok-push.ensures.ok in
-          step true c.args.row.now.items c.loop-place.row.items c.if-leads_on.row.items inside (sym (rw there at w.if-leads_on.ensures)) (items ∙ ap (λ x. c.loop-place.row.items ++ x ∷ []) k) c.loop-place.invariant)
-      | else-leads_on w ↦
-          step false c.args.row.now.items c.loop-place.row.items c.if-leads_on.row.items inside (sym (rw there at w.if-leads_on.ensures)) (ap (λ v. v.items) w.row-is ∙ sym (append-nil c.loop-place.row.items)) c.loop-place.invariant
+          let items : c.if-leads_to_part.row.items ≡ c.loop-place.row.items ++ w.child.result ∷ [] = ap (λ v. v.items) w.row-is ∙ w.in_ok-push.ensures.ok in
+          step true c.args.row.now.items c.loop-place.row.items c.if-leads_to_part.row.items inside (sym (rw there at w.if-leads_to_part.ensures)) (items ∙ ap (λ x. c.loop-place.row.items ++ x ∷ []) k) c.loop-place.invariant)
+      | else-leads_to_part w ↦
+          step false c.args.row.now.items c.loop-place.row.items c.if-leads_to_part.row.items inside (sym (rw there at w.if-leads_to_part.ensures)) (ap (λ v. v.items) w.row-is ∙ sym (append-nil c.loop-place.row.items)) c.loop-place.invariant
     ]

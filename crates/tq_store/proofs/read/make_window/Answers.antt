@@ -4,7 +4,7 @@ use Rattle.std.specs.Int.{w64}
 use Rattle.std.proofs.lemmas.Int.{to_z-of_z}
 use Rattle.tq_event.specs.Versions.{version_at}
 use Rattle.tq_store.specs.Keys.{shifted}
-use Rattle.tq_store.proofs.KeyLemmas.{shifted-le}
+use Rattle.tq_store.proofs.SortKeyLemmas.{shifted-le}
 use Rattle.tq_store.proofs.VersionLemmas.{version_rises}
 use Rattle.tq_store.proofs.read.make_window.Goals as goal
 

@@ -6,8 +6,8 @@ use Rattle.tq_table.specs.Merging.{all_rows, AreOfWidth}
 use Rattle.tq_table.proofs.MergeLemmas.{all_and_next, middle_holds, of_same_width}
 use Rattle.tq_table.proofs.merging.chained.Goals as goal
 
-pub followed-requires : goal.followed-requires
-followed-requires c =
+pub append_rows-requires : goal.append_rows-requires
+append_rows-requires c =
     let is = ap (λ l. c.lists.yielded ++ l) (sym c.in-Some.ensures.steps.0) ∙ c.lists.invariant.reads in
     of_same_width c.in-Some.rows c.args.width c.lists.all.width c.lists.invariant.width
     (middle_holds (AreOfWidth c.args.width) c.lists.yielded c.in-Some.rows (into_iter_items c.next.new.self) (subst (λ l. All (AreOfWidth c.args.width) l) (sym is) c.requires))

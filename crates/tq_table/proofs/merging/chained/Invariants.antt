@@ -1,4 +1,4 @@
--- The lists so far stand one after the other.
+-- The lists so far were concatenated.
 use Rattle.std.proofs.Common.{◌≡◌, ◌++◌}
 use Rattle.std.specs.Vec.Iter.{into_iter_items}
 use Rattle.tq_table.specs.Merging.{all_rows}

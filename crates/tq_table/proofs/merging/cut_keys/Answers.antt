@@ -1,12 +1,12 @@
 use Rattle.std.proofs.Common.{◌∷◌, [], List, map, arith}
 use Rattle.std.specs.Global.{Vec}
 use Rattle.std.proofs.lemmas.List.{map-append}
-use Rattle.tq_base.specs.declared.sides.Key.{Key}
+use Rattle.tq_base.specs.declared.sort_input.SortKey.{SortKey}
 use Rattle.tq_table.specs.Merging.{cut_by}
 use Rattle.tq_table.proofs.MergeLemmas.{cut_next}
 use Rattle.tq_table.proofs.merging.cut_keys.Goals as goal
 
-abbrev of : Vec Key → List Key
+abbrev of : Vec SortKey → List SortKey
 of list = list.items
 
 pub lens-preserved : goal.lens-preserved

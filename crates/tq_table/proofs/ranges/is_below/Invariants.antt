@@ -1,4 +1,4 @@
--- The rows are alike so far.
+-- The rows have equal values so far.
 use Rattle.std.proofs.Common.{◌≡◌, take}
 use Rattle.tq_table.proofs.ranges.is_below.Given as goal
 

@@ -1,4 +1,4 @@
--- A field is written for each of the columns so far.
+-- A field was written for each of the columns so far.
 use Rattle.std.proofs.Common.{ℕ, List, take}
 use Rattle.tq_table.specs.Writing.{HasWritten, IsWriting}
 use Rattle.tq_table.proofs.text.write_header.Given as goal

@@ -7,7 +7,7 @@ use Rattle.tq_table.proofs.text.write_rows.Goals as goal
 pub blocks-2-preserved : goal.blocks-2-preserved
 blocks-2-preserved c = record {
   within = omega (arith, c.min-end.ensures, c.len-in-blocks-2.ensures);
-  written = λ text is. c.in_ok-write_lent.ensures text (c.blocks-2.invariant.written text is);
+  written = λ text is. c.in_ok-write_borrowed.ensures text (c.blocks-2.invariant.written text is);
 }
 
 pub returns : goal.returns

@@ -1,4 +1,4 @@
--- A line is written for each of the rows so far.
+-- A line was written for each of the rows so far.
 use Rattle.std.proofs.Common.{◌≤◌, ◌-◌, ℕ, List, ◌++◌, length, take}
 use Rattle.tq_table.specs.Text.{rows_text}
 use Rattle.tq_table.specs.Writing.{HasWritten}

@@ -4,7 +4,7 @@ use Rattle.tq_workers.proofs.PieceLemmas.{pieces_ordered, pieces_wide}
 use Rattle.tq_workers.proofs.among.answer_among.Goals as goal
 
 pub pieces_of-requires-clause-over : goal.pieces_of-requires-clause-over
-pieces_of-requires-clause-over g c κs within = c.queries_stand.ensures c.args.catalogue.now c.args.plan.now c.requires.plan
+pieces_of-requires-clause-over g c κs within = c.queries_are_valid.ensures c.args.catalogue.now c.args.plan.now c.requires.plan
 
 pub put_together-requires-clause-wide : goal.put_together-requires-clause-wide
 put_together-requires-clause-wide g c =

@@ -1,7 +1,7 @@
 use Rattle.std.proofs.Common.{◌<◌, ◌≤◌, ◌∙◌, ℕ, List, Option, ap, drop, length, map, refl, subst, sym}
 use Rattle.std.specs.Global.{Vec}
 use Rattle.std.specs.Prelude.{IfSome}
-use Rattle.tq_base.specs.Ranges.{StandInOrder}
+use Rattle.tq_base.specs.Ranges.{AreAscending}
 use Rattle.tq_base.specs.RowLists.{RowList}
 use Rattle.tq_event.specs.Tables.{lists_of}
 use Rattle.tq_agg.specs.declared.few.Tally.{Tally}
@@ -50,7 +50,7 @@ returns g c =
     let are = subst (λ n. IsResultList (IsShareText c.args.form valid plan (drop 1 ranks) columns) n values) (as_many_cuts ranks some) c.in_ok-values.ensures in
     subst (HaveAnswer c.args.form valid plan) (sym c.in_ok-texts_of.ensures)
     (have_answer c.shares_part_answers.ensures c.args.form all.catalogue.now valid plan (drop 1 ranks) columns values c.fit.ensures c.requires.over parted are
-    (subst (λ (l : List RangeText). StandInOrder (map (λ (r : RangeText). r.lines) l)) c.deref-6.ensures.value (c.if-not-stand_in_order.ensures refl)))
+    (subst (λ (l : List RangeText). AreAscending (map (λ (r : RangeText). r.lines) l)) c.deref-6.ensures.value (c.if-not-stand_in_order.ensures refl)))
 
 -- the work may be lent to several threads
 pub run_with-requires-sync-W : goal.run_with-requires-sync-W

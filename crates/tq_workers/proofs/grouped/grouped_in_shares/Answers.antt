@@ -19,7 +19,7 @@ returns g c valid found v t =
     let plan = c.args.plan.now in
     let made = c.in_ok-made.made.items in
     let rows = all_rows c.args.lists.now in
-    IfOk-weaker c.made.result _ _
+    IfOk-weaker c.owned.result _ _
     (λ relation is.
     ap (λ (r : RowList). copies r.items v t) is
     ∙ ap (λ l. copies l v t) c.in_ok-chained.ensures.rows
@@ -27,4 +27,4 @@ returns g c valid found v t =
     (groups_counted plan.left plan.window c.args.cuts.now rows made c.in_ok-made.ensures c.shares_part_groups.ensures valid c.requires.grouped c.requires.stand found)
     (groups_outside plan.left plan.window c.args.cuts.now rows made c.in_ok-made.ensures)
     v t)
-    c.made.ensures
+    c.owned.ensures

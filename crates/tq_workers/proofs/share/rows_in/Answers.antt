@@ -7,8 +7,8 @@ use Rattle.tq_base.specs.RowLists.{RowList}
 use Rattle.tq_workers.proofs.ShareLemmas.{at_places, places_within}
 use Rattle.tq_workers.proofs.share.rows_in.Goals as goal
 
-pub keep-requires : goal.keep-requires
-keep-requires c =
+pub take_rows-requires : goal.take_rows-requires
+take_rows-requires c =
     let items = c.args.rows.now.items in
     let numbers = c.in_ok-numbers.numbers.items in
     let within : All (λ k. k < length items) numbers = places_within c.args.number c.args.told.now numbers (length items) c.in_ok-numbers.ensures c.requires in
@@ -18,10 +18,10 @@ pub returns : goal.returns
 returns c share told =
     let items = c.args.rows.now.items in
     let numbers = c.in_ok-numbers.numbers.items in
-    IfOk-weaker c.keep.result _ _
+    IfOk-weaker c.take_rows.result _ _
     (λ relation is.
     is
     ∙ ap (λ (v : RowList). map (row_at v.items) c.deref.result.now) c.in_ok-of.ensures
     ∙ ap (map (row_at items)) (c.deref.ensures.value ∙ c.in_ok-numbers.ensures)
     ∙ at_places share c.args.number c.args.told.now items no_row told)
-    c.keep.ensures.rows
+    c.take_rows.ensures.rows

@@ -30,6 +30,6 @@ pub returns-in-None : goal.returns-in-None
 returns-in-None c =
     let share = c.args.share.now in
     let share_at = λ (row : Fragment). share_of share.cuts.now (value_at row.values c.args.column) in
-    IfOk-weaker c.made.result _ _
+    IfOk-weaker c.owned.result _ _
     (λ relation is. ap (λ (r : RowList). r.items) is ∙ c.new.ensures.rows ∙ ap (filter (λ (row : Fragment). share_at row == share.number)) (sym (no_table share.all.tables.now c.args.table c.in-None.ensures.lookup.3)))
-    c.made.ensures
+    c.owned.ensures

@@ -1,7 +1,7 @@
 use Rattle.std.proofs.Common.{ℕ, List, Option, map, refl, subst, sym}
 use Rattle.std.specs.Global.{Vec}
 use Rattle.std.specs.Prelude.{IfSome}
-use Rattle.tq_base.specs.Ranges.{StandInOrder}
+use Rattle.tq_base.specs.Ranges.{AreAscending}
 use Rattle.tq_event.specs.Tables.{lists_of}
 use Rattle.tq_eval.specs.Answers.{in_tables}
 use Rattle.tq_eval.specs.Shares.{ArePartedBy}
@@ -20,4 +20,4 @@ returns g c =
     let parted = subst (λ l. ArePartedBy (columns_in l) plan) (sym c.deref-6.ensures.value) found in
     subst (HaveAnswer c.args.form valid plan) (sym c.in_ok-texts_of.ensures)
     (have_answer c.shares_part_answers.ensures c.args.form all.catalogue.now valid plan c.deref-5.result.now columns c.in_ok-shares.shares.items c.fit.ensures c.requires.over parted c.in_ok-shares.ensures
-    (subst (λ (l : List RangeText). StandInOrder (map (λ (r : RangeText). r.lines) l)) c.deref-8.ensures.value (c.if-not-stand_in_order.ensures refl)))
+    (subst (λ (l : List RangeText). AreAscending (map (λ (r : RangeText). r.lines) l)) c.deref-8.ensures.value (c.if-not-stand_in_order.ensures refl)))

@@ -5,6 +5,6 @@ use Rattle.tq_workers.proofs.telling.share_of.Given as goal
 
 abbrev pub invariant-cuts : goal.invariant-cuts
 invariant-cuts l = record {
-  so_far : l.share ≡ length (filter (λ cut. nat_le cut l.rank) (take l.cut-index l.cuts));
+  so_far : l.share ≡ length (filter (λ cut. nat_le cut l.prefix) (take l.cut-index l.cuts));
   few : l.share ≤ l.cut-index;
 }

@@ -29,6 +29,6 @@ returns-2 g c v t =
     let pieces = c.in_ok-pieces.pieces.items in
     let tile : Tile plan.window periods = subst (λ (l : List Period). Tile plan.window l) (sym c.as_slice.ensures.value) c.in_ok-cuts.ensures.tile in
     let counted = pieces_counted valid plan v t periods pieces plan.window.start plan.window.end tile c.in_ok-pieces.ensures.many c.in_ok-pieces.ensures.pieces in
-    IfOk-weaker c.made.result _ _
+    IfOk-weaker c.owned.result _ _
     (λ relation same. ap (λ (r : RowList). copies r.items v t) same ∙ ap (λ l. copies l v t) c.in_ok-chained.ensures.rows ∙ counted)
-    c.made.ensures
+    c.owned.ensures

@@ -9,7 +9,7 @@ use Rattle.tq_workers.specs.Shares.{HaveAnswer}
 use Rattle.tq_workers.proofs.text.text_by_ranges.Goals as goal
 
 pub parted_texts-requires-clause-over : goal.parted_texts-requires-clause-over
-parted_texts-requires-clause-over g c κs within = c.queries_stand.ensures c.args.catalogue.now c.args.plan.now c.requires.plan
+parted_texts-requires-clause-over g c κs within = c.queries_are_valid.ensures c.args.catalogue.now c.args.plan.now c.requires.plan
 
 pub returns : goal.returns
 returns g c =
@@ -24,7 +24,7 @@ returns g c =
     c.joined.ensures
 
 pub rows_among-requires-clause-over : goal.rows_among-requires-clause-over
-rows_among-requires-clause-over g c κs within = c.queries_stand.ensures c.args.catalogue.now c.args.plan.now c.requires.plan
+rows_among-requires-clause-over g c κs within = c.queries_are_valid.ensures c.args.catalogue.now c.args.plan.now c.requires.plan
 
 pub returns-2 : goal.returns-2
 returns-2 g c =

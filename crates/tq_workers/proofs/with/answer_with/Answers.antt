@@ -3,7 +3,7 @@ use Rattle.tq_workers.proofs.PieceLemmas.{pieces_ordered, pieces_wide}
 use Rattle.tq_workers.proofs.with.answer_with.Goals as goal
 
 pub pieces_of-requires-clause-over : goal.pieces_of-requires-clause-over
-pieces_of-requires-clause-over g c κs within = c.queries_stand.ensures c.args.db.now.catalogue c.args.plan.now c.requires.plan
+pieces_of-requires-clause-over g c κs within = c.queries_are_valid.ensures c.args.db.now.catalogue c.args.plan.now c.requires.plan
 
 pub put_together-requires-clause-wide : goal.put_together-requires-clause-wide
 put_together-requires-clause-wide g c =

@@ -2,9 +2,9 @@ use Rattle.std.proofs.KnownBytes.{Appends-trans}
 use Rattle.std.proofs.lemmas.Result.{on_ok_weaker}
 use Rattle.tq.proofs.report.Refusal.print.Goals as goal
 
-pub returns-in_ok-write_shown-in-CannotRead : goal.returns-in_ok-write_shown-in-CannotRead
-returns-in_ok-write_shown-in-CannotRead g c =
-    let path = rw c.deref.ensures.value at c.in_ok-write_shown-in-CannotRead.ensures in
+pub returns-in_ok-write_printable-in-CannotRead : goal.returns-in_ok-write_printable-in-CannotRead
+returns-in_ok-write_printable-in-CannotRead g c =
+    let path = rw c.deref.ensures.value at c.in_ok-write_printable-in-CannotRead.ensures in
     rw c.in-CannotRead.is
     (on_ok_weaker c.write_all-in-CannotRead-2.result
     (λ end. Appends-trans _ _ _ _ _ c.in_ok-write_all-in-CannotRead.ensures.bytes (Appends-trans _ _ _ _ _ path end))

@@ -4,7 +4,7 @@ use Rattle.tq_base.specs.declared.value.Value.{Value}
 use Rattle.tq_base.specs.Catalogues.{Fit}
 use Rattle.tq_base.proofs.catalogue.Schema.fits.Goals as goal
 
--- values that fit are as many as the columns
+-- there is one fitting value for each column
 as_many : (columns : List Column) (values : List Value) → Fit columns values → length values ≡ length columns
 as_many [] [] fit = refl
 as_many [] (v ∷ vs) fit = absurd fit

@@ -1,4 +1,4 @@
--- The values fit where those that are left fit the columns that are left.
+-- The values fit if the remaining values fit the remaining columns.
 use Rattle.std.proofs.Common.{◌≡◌, length, drop}
 use Rattle.tq_base.specs.Catalogues.{Fit}
 use Rattle.tq_base.proofs.catalogue.Schema.fits.Given as goal

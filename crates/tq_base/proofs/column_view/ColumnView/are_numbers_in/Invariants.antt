@@ -1,4 +1,4 @@
--- All values so far are numbers of the range, or one was seen that is not.
+-- All values so far are numbers in the range, or one was found that is not.
 use Rattle.std.proofs.Common.{◌≡◌, take}
 use Rattle.std.specs.List.{list_all}
 use Rattle.tq_base.specs.KeyRanges.{is_number_in}

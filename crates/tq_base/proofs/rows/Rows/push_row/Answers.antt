@@ -8,19 +8,19 @@ use Rattle.tq_base.proofs.rows.Rows.push_row.Goals as goal
 
 pub push_copy-requires : goal.push_copy-requires
 push_copy-requires c =
-    let self_none : c.self.inside.slots.items ≡ [] = sym c.deref.ensures.value ∙ c.if-keep_all.ensures.all refl in
-    let rows_none : c.rows.inside.slots.items ≡ [] = sym c.deref-then-keep_all.ensures.value ∙ c.if-keep_all-2.ensures.all refl in
+    let self_none : c.self.inside.slots.items ≡ [] = sym c.deref.ensures.value ∙ c.if-has_all_columns.ensures.all refl in
+    let rows_none : c.rows.inside.slots.items ≡ [] = sym c.deref-then-has_all_columns.ensures.value ∙ c.if-has_all_columns-2.ensures.all refl in
     let rows : c.rows.inside.dense ≡ c.args.rows.now = seen_dense c.rows.inside.slots.items c.rows.inside.dense c.args.rows.now rows_none c.rows.view_is in
     ap length (c.values.ensures no_row ∙ ap (λ (v : RowList). (get_or v.items c.args.row no_row).values) rows)
     ∙ c.requires.width no_row
     ∙ ap (λ (v : RowList). v.width) (sym (seen_dense c.self.inside.slots.items c.self.inside.dense c.args.self.now self_none c.self.view_is))
 
-pub returns-then-keep_all-2-clause-pushed : goal.returns-then-keep_all-2-clause-pushed
-returns-then-keep_all-2-clause-pushed c d =
+pub returns-then-has_all_columns-2-clause-pushed : goal.returns-then-has_all_columns-2-clause-pushed
+returns-then-has_all_columns-2-clause-pushed c d =
     let r = c.self.inside in
     let from = c.rows.inside in
-    let self_none : r.slots.items ≡ [] = sym c.deref.ensures.value ∙ c.if-keep_all.ensures.all refl in
-    let rows_none : from.slots.items ≡ [] = sym c.deref-then-keep_all.ensures.value ∙ c.if-keep_all-2.ensures.all refl in
+    let self_none : r.slots.items ≡ [] = sym c.deref.ensures.value ∙ c.if-has_all_columns.ensures.all refl in
+    let rows_none : from.slots.items ≡ [] = sym c.deref-then-has_all_columns.ensures.value ∙ c.if-has_all_columns-2.ensures.all refl in
     let rows : from.dense ≡ c.args.rows.now = seen_dense from.slots.items from.dense c.args.rows.now rows_none c.rows.view_is in
     on_ok_weaker c.push_copy.result
     (λ put. copied_seen r.slots.items from.slots.items r.dense.width from.dense.width r.dense.items c.push_copy.new.self.items from.dense.items c.args.self.now c.args.rows.now c.args.row c.values.result.now c.period-period.result d no_row

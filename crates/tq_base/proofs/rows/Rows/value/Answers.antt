@@ -5,7 +5,7 @@ use Rattle.tq_base.specs.declared.fragment.Fragment.{Fragment}
 use Rattle.tq_base.specs.declared.rows.Slot.{Slot}
 use Rattle.tq_base.specs.declared.value.Value.{Value}
 use Rattle.tq_base.specs.Keys.{no_row}
-use Rattle.tq_base.specs.Slots.{seen_values, slot_value, AreSlots, IsText}
+use Rattle.tq_base.specs.Slots.{values_of_stored, slot_value, AreSlots, IsText}
 use Rattle.tq_base.proofs.SlotLemmas.{cell_of}
 use Rattle.tq_base.proofs.rows.Rows.value.Goals as goal
 
@@ -20,7 +20,7 @@ seen c d =
     let r = c.self.inside in
     ap (λ (l : List Value). slot_value l c.slot_of-slot.result) (c.values.ensures no_row)
     ∙ sym (cell_of r.slots.items r.dense.width r.dense.items c.args.self.now c.args.row c.args.column c.slot_of-slot.result d no_row c.self.view_is c.requires
-    (λ values. c.slot_of-slot.ensures.value values ∙ ap (λ (l : List Slot). value_at (seen_values l values) c.args.column) c.deref.ensures.value))
+    (λ values. c.slot_of-slot.ensures.value values ∙ ap (λ (l : List Slot). value_at (values_of_stored l values) c.args.column) c.deref.ensures.value))
 
 pub returns-clause-some : goal.returns-clause-some
 returns-clause-some c = IfSome_then c.value_in.result c.value_in.ensures.some (λ value is d. is ∙ seen c d)

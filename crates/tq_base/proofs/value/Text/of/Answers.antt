@@ -2,6 +2,5 @@
 use Rattle.std.proofs.lemmas.Str.{IsUtf8-string_bytes}
 use Rattle.tq_base.proofs.value.Text.of.Goals as goal
 
--- src/value.rt:37:5
 pub invariant_of-result : goal.invariant_of-result
 invariant_of-result c = rw (c.from_vec.ensures.items, c.into_bytes.ensures.value) (IsUtf8-string_bytes c.args.content)

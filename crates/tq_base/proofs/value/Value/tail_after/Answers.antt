@@ -1,11 +1,10 @@
--- The bytes beside the box of a text are those behind its first 14.
+-- The bytes next to the box of a text are those after its first 14.
 use Rattle.std.proofs.Common.{ap, subst, sym}
 use Rattle.tq_base.specs.Contents.{Text}
 use Rattle.tq_base.specs.Values.{IsNormal}
-use Rattle.tq_base.proofs.UntoldLemmas.{after_tail}
+use Rattle.tq_base.proofs.TieBreakLemmas.{after_tail}
 use Rattle.tq_base.proofs.value.Value.tail_after.Goals as goal
 
--- src/value.rt:198:5
 pub returns-in-Medium : goal.returns-in-Medium
 returns-in-Medium c =
     let tail_is = (subst IsNormal c.in-Medium.is c.self.invariant).1 in

@@ -1,4 +1,4 @@
--- The steps so far were taken, and there is room for the replies of the others.
+-- The steps so far were taken, and there is capacity for the replies of the others.
 use Rattle.std.proofs.Common.{◌≡◌, ◌≤◌, length, take, vec_len}
 use Rattle.std.specs.Vec.{vec_capacity}
 use Rattle.tq_core.specs.Machine.{IsRun}

@@ -9,7 +9,7 @@ returns-then-branch-eq0-clause-found g c =
     let i = c.reads.invariant in
     let read = c.in_ok-fill.ensures in
     let none = nil_from_length c.fill.new.self (sym read.count ∙ c.if-branch-eq0.true) in
-    midway_end c.args.self.now (c.reads.self-inside.left - 1) c.fill.new.self c.gather.new.line _ _ _ c.at_end.result
+    midway_end c.args.self.now (c.reads.self-inside.left - 1) c.fill.new.self c.collect_line.new.line _ _ _ c.at_end.result
     (midway_read _ _ _ _ _ _ _ _ (midway_moved _ _ _ _ _ _ _ _ i.midway c.reads-test.ensures) read.taken read.most (omega (arith, i.left, c.if-self-eq0.false)))
     c.at_end.ensures none (read.end none)
 
@@ -29,5 +29,5 @@ reads-preserved g c =
 
 pub returns-clause-found : goal.returns-clause-found
 returns-clause-found g c =
-    midway_found c.args.self.now c.reads.self-inside.left c.reads.self-inside.chunk c.gather.new.chunk c.reads.self-inside.line c.gather.new.line c.at_feed.new.self _ _ _ c.at_feed.result
+    midway_found c.args.self.now c.reads.self-inside.left c.reads.self-inside.chunk c.collect_line.new.chunk c.reads.self-inside.line c.collect_line.new.line c.at_feed.new.self _ _ _ c.at_feed.result
     c.reads.invariant.midway c.reads-test.ensures c.at_feed.ensures

@@ -6,8 +6,8 @@ use Rattle.tq_snapshot.specs.OpenRows.{has}
 use Rattle.tq_snapshot.proofs.FirstLemmas.{none_there}
 use Rattle.tq_snapshot.proofs.open_index.TableRows.first_like.Goals as goal
 
-pub first_among-requires-clause-near : goal.first_among-requires-clause-near
-first_among-requires-clause-near c =
+pub find_first_in-requires-clause-near : goal.find_first_in-requires-clause-near
+find_first_in-requires-clause-near c =
     let near = subst (λ o. IfSome o (λ set. (q : ℕ) → q / 4294967296 ≡ c.open_key.result / 4294967296 → has c.args.self.now.opened q ≡ contains nat_cmp set.now q)) c.in-Some.is c.near.ensures.set in
     λ k same. near k (same ∙ sym (ap (λ n. n / 4294967296) c.open_key.ensures))
 

@@ -1,6 +1,6 @@
 use Rattle.std.proofs.Common.{◌≡◌, ◌++◌, ◌∙◌, sym, ap, subst}
 use Rattle.tq_event.specs.History.{time_of}
-use Rattle.tq_store.proofs.KeyLemmas.{from_is_less, is_less}
+use Rattle.tq_store.proofs.SortKeyLemmas.{from_is_less, is_less}
 use Rattle.tq_snapshot.proofs.OpenIndexLemmas.{is_open_there, open_life}
 use Rattle.tq_snapshot.proofs.OpenLemmas.{open_of}
 use Rattle.tq_snapshot.proofs.open_index.TableRows.is_before.Goals as goal

@@ -2,7 +2,7 @@ use Rattle.std.proofs.Common.{◌++◌, ◌∷◌, ◌∙◌, ◌&&◌, not, [],
 use Rattle.std.specs.Ordering.{eq_by_cmp, nat_cmp}
 use Rattle.tq_event.specs.Recorded.{table_of}
 use Rattle.tq_store.specs.Index.{CanTake}
-use Rattle.tq_snapshot.specs.OpenRows.{has, place_key}
+use Rattle.tq_snapshot.specs.OpenRows.{has, index_key}
 use Rattle.tq_snapshot.specs.OpenIndex.{AreTableRows}
 use Rattle.tq_store.specs.Stored.{values_in}
 use Rattle.tq_store.proofs.IndexLemmas.{on_both}
@@ -24,7 +24,7 @@ returns-in-End-clause-ok c =
     let of_table = subst (λ e. AreTableRows es (table_of e) c.args.self.now) c.in-End.is c.requires.rows in
     let can = subst (CanTake es) c.in-End.is c.requires.can in
     let row = open_life es c.in-End.table c.in-End.row c.in-End.at can.0 in
-    let key = c.open_key.ensures ∙ ap (λ v. place_key v c.in-End.row) (c.values_of.ensures ∙ ap values_in (c.start_of-start.ensures.life row.life row.stands)) in
+    let key = c.open_key.ensures ∙ ap (λ v. index_key v c.in-End.row) (c.values_of.ensures ∙ ap values_in (c.start_of-start.ensures.life row.life row.stands)) in
     subst (λ e. AreTableRows (es ++ e ∷ []) (table_of e) (record { starts = c.args.self.now.starts; opened = c.remove.new.self })) (sym c.in-End.is)
     (rows_end es c.in-End.table c.in-End.row c.in-End.at c.args.self.now (record { starts = c.args.self.now.starts; opened = c.remove.new.self }) row.life c.requires.few of_table can.1 row.stands row.none row.from refl
     (λ k. c.remove.ensures k ∙ ap (λ q. has c.args.self.now.opened k && not (eq_by_cmp nat_cmp q k)) key))

@@ -5,4 +5,4 @@ pub invariant_of-self : goal.invariant_of-self
 invariant_of-self g c =
     let found = rw c.in-Ok.is at c.ask_with-inner.ensures.found in
     let own = rw c.in-Ok.is at c.ask_with-inner.ensures.own in
-    (found.0, own_all c.in-Ok.front.list _ c.len-self-inside.result c.len-self-inside.ensures own)
+    (found.0, own_all c.in-Ok.prefix.list _ c.len-self-inside.result c.len-self-inside.ensures own)

@@ -2,4 +2,4 @@ use Rattle.tq_snapshot.proofs.FindLemmas.{admits}
 use Rattle.tq_snapshot.proofs.writer.Writer.admit.Goals as goal
 
 pub reader-requires : goal.reader-requires
-reader-requires g c = admits g.J.Naming.catalogue g.J.Naming.book
+reader-requires g c = admits g.J.StoreId.catalogue g.J.StoreId.book

@@ -14,5 +14,5 @@ loop-preserved g c =
       count = ap length pushed ∙ length_push before reader ∙ ap (λ n. n + 1) inv.count;
       len = c.push_reserved.ensures.len ∙ ap (λ n. n + 1) inv.len;
       room = subst (λ n. c.args.count ≤ n) (sym c.push_reserved.ensures.capacity) inv.room;
-      told = subst (λ (l : List (List Event)). All (λ t. t ≡ c.args.self.now.published) l) (sym pushed) (All-push (λ t. t ≡ c.args.self.now.published) before reader inv.told c.in_ok-admit.ensures);
+      observed = subst (λ (l : List (List Event)). All (λ t. t ≡ c.args.self.now.published) l) (sym pushed) (All-push (λ t. t ≡ c.args.self.now.published) before reader inv.observed c.in_ok-admit.ensures);
     }

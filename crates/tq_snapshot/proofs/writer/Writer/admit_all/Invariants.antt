@@ -7,5 +7,5 @@ invariant-loop g l = record {
   count : length l.readers.items ≡ l.counter;
   len : vec_len l.readers ≡ l.counter;
   room : l.count ≤ vec_capacity l.readers;
-  told : All (λ t. t ≡ l.self.published) l.readers.items;
+  observed : All (λ t. t ≡ l.self.published) l.readers.items;
 }

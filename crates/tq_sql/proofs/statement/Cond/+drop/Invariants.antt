@@ -1,4 +1,4 @@
--- What is left is no larger than what was handed in, and each right part is smaller.
+-- What remains is at most as large as the initial condition, and each right part is smaller.
 use Rattle.std.proofs.Common.{◌≤◌}
 use Rattle.tq_sql.specs.declared.statement.Cond.{size-Cond}
 use Rattle.tq_sql.proofs.statement.Cond.+drop.Given as goal

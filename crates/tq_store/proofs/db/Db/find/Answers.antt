@@ -19,8 +19,8 @@ use Rattle.tq_scan.specs.Scans.{FoundIn, IsMetLeaf, alive_at}
 use Rattle.tq_scan.specs.Windows.{whole_of}
 use Rattle.tq_store.specs.declared.index.Index.{Index}
 use Rattle.tq_base.specs.declared.key_range.KeyRange.{KeyRange}
-use Rattle.tq_store.specs.Index.{IsDb, IsIndexOf, rows_kept}
-use Rattle.tq_store.specs.Rows.{ArePartRows, window_part}
+use Rattle.tq_store.specs.Index.{IsDb, IsIndexOf, stored_rows}
+use Rattle.tq_store.specs.Rows.{ArePartRows, whole_window}
 use Rattle.tq_store.specs.Stored.{IsReadable, row_of_key}
 use Rattle.tq_mvbt.specs.TreeState.{height_of}
 use Rattle.tq_store.proofs.LeafLemmas.{in_part, leaf_at, lower}
@@ -28,7 +28,7 @@ use Rattle.tq_store.proofs.RowLemmas.{part_rows, readable}
 use Rattle.tq_store.proofs.VersionLemmas.{version_within}
 use Rattle.tq_store.proofs.db.Db.find.Goals as goal
 
--- what follows from what a result gives
+-- a consequence of what holds of a result
 if_ok : {T E : Type 0} → (r : Result T E) {P Q : T → Type 0} → IfOk r P → ((x : T) → P x → Q x) → IfOk r Q
 if_ok (Ok x) is step = step x is
 if_ok (Err e) is step = is
@@ -43,16 +43,16 @@ index_of catalogue es indexes table index db less is =
     let tables = db.tables in
     db.indexed.each table index (slice_get_read indexes (length indexes) table index refl (omega (arith, less, tables)) is)
 
--- what a scan of the table's tree gives is read as the rows of the part
+-- the found keys of the table's tree are read as the rows of the part
 module _ (catalogue : Catalogue) (es : List Event) (indexes : List Index) (n table : ℕ) (index : Index) (range : KeyRange) (period : Period) (w : Window) (p : Part) (keys : List ℕ)
-    (db : IsDb catalogue es indexes) (le : n ≤ length es) (is : IsIndexOf es table index) (window_is : whole_of w ≡ window_part es n range period)
+    (db : IsDb catalogue es indexes) (le : n ≤ length es) (is : IsIndexOf es table index) (window_is : whole_of w ≡ whole_window es n range period)
     (fits_low : FitsSigned w64 range.low) (fits_high : FitsSigned w64 range.high) (finite : period.start < FOREVER) (just : ListsJust (FoundIn index.tree.nodes w p) keys) where
-  all_readable : (k d : ℕ) → k < length keys → IsReadable es (rows_kept es table) (slice_index_or keys k d)
+  all_readable : (k d : ℕ) → k < length keys → IsReadable es (stored_rows es table) (slice_index_or keys k d)
   all_readable k d less =
       readable es n table range period index.tree.nodes index.tree.version w p db.ordered db.few le is.tree window_is fits_low fits_high finite (slice_index_or keys k d)
       ((just.just (slice_index_or keys k d)).0 (k, less, get_or_from_slice_get keys k (slice_index_or keys k d) (slice_index_or keys k d) (slice_get-get_or keys k d less)))
 
-  all_rows : ArePartRows es n table range period p (map (row_of_key es (rows_kept es table) n) keys)
+  all_rows : ArePartRows es n table range period p (map (row_of_key es (stored_rows es table) n) keys)
   all_rows = part_rows es n table range period index.tree.nodes index.tree.version w p db.ordered db.few le is.tree window_is fits_low fits_high finite keys just
 
 pub returns-clause-readable : goal.returns-clause-readable
@@ -63,8 +63,8 @@ returns-clause-readable c = if_ok c.scan.result c.scan.ensures.keys (λ found ju
     let le : c.args.n ≤ length es = subst (λ (r : Recorded). c.args.n ≤ length r.events) view c.requires.known in
     let in_catalogue : c.args.table < length c.self.inside.catalogue.tables = subst (λ (r : Recorded). c.args.table < length r.catalogue.tables) view c.requires.table in
     let of_table = index_of c.self.inside.catalogue es c.self.inside.indexes.items c.args.table index c.self.invariant in_catalogue c.index-index.ensures in
-    let window_is = c.make_window-window.ensures.window ∙ ap (λ l. window_part l c.args.n c.args.range.now c.args.period.now) c.deref.ensures.value in
-    subst (λ (r : Recorded). All (IsReadable r.events (rows_kept r.events c.args.table)) found.keys) (sym view) (λ k d less.
+    let window_is = c.make_window-window.ensures.window ∙ ap (λ l. whole_window l c.args.n c.args.range.now c.args.period.now) c.deref.ensures.value in
+    subst (λ (r : Recorded). All (IsReadable r.events (stored_rows r.events c.args.table)) found.keys) (sym view) (λ k d less.
     all_readable c.self.inside.catalogue es c.self.inside.indexes.items c.args.n c.args.table index c.args.range.now c.args.period.now c.make_window-window.result c.args.part.now found.keys
     c.self.invariant le of_table window_is c.make_window-window.ensures.low c.make_window-window.ensures.high c.make_window-window.ensures.finite just k d less))
 
@@ -76,8 +76,8 @@ returns-clause-rows c = if_ok c.scan.result c.scan.ensures.keys (λ found just.
     let le : c.args.n ≤ length es = subst (λ (r : Recorded). c.args.n ≤ length r.events) view c.requires.known in
     let in_catalogue : c.args.table < length c.self.inside.catalogue.tables = subst (λ (r : Recorded). c.args.table < length r.catalogue.tables) view c.requires.table in
     let of_table = index_of c.self.inside.catalogue es c.self.inside.indexes.items c.args.table index c.self.invariant in_catalogue c.index-index.ensures in
-    let window_is = c.make_window-window.ensures.window ∙ ap (λ l. window_part l c.args.n c.args.range.now c.args.period.now) c.deref.ensures.value in
-    subst (λ (r : Recorded). ArePartRows r.events c.args.n c.args.table c.args.range.now c.args.period.now c.args.part.now (map (row_of_key r.events (rows_kept r.events c.args.table) c.args.n) found.keys)) (sym view)
+    let window_is = c.make_window-window.ensures.window ∙ ap (λ l. whole_window l c.args.n c.args.range.now c.args.period.now) c.deref.ensures.value in
+    subst (λ (r : Recorded). ArePartRows r.events c.args.n c.args.table c.args.range.now c.args.period.now c.args.part.now (map (row_of_key r.events (stored_rows r.events c.args.table) c.args.n) found.keys)) (sym view)
     (all_rows c.self.inside.catalogue es c.self.inside.indexes.items c.args.n c.args.table index c.args.range.now c.args.period.now c.make_window-window.result c.args.part.now found.keys
     c.self.invariant le of_table window_is c.make_window-window.ensures.low c.make_window-window.ensures.high c.make_window-window.ensures.finite just))
 

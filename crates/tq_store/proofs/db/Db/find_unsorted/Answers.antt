@@ -14,13 +14,13 @@ use Rattle.tq_scan.specs.Lists.{ListsOnce}
 use Rattle.tq_scan.specs.Scans.{FoundIn}
 use Rattle.tq_scan.specs.Windows.{whole_of}
 use Rattle.tq_store.specs.declared.index.Index.{Index}
-use Rattle.tq_store.specs.Index.{IsDb, IsIndexOf, rows_kept}
-use Rattle.tq_store.specs.Rows.{HasPartRows, window_part}
+use Rattle.tq_store.specs.Index.{IsDb, IsIndexOf, stored_rows}
+use Rattle.tq_store.specs.Rows.{HasPartRows, whole_window}
 use Rattle.tq_store.specs.Stored.{IsReadable, row_of_key}
 use Rattle.tq_store.proofs.RowLemmas.{part_rows_once, readable}
 use Rattle.tq_store.proofs.db.Db.find_unsorted.Goals as goal
 
--- what follows from what a result gives
+-- a consequence of what holds of a result
 if_ok : {T E : Type 0} → (r : Result T E) {P Q : T → Type 0} → IfOk r P → ((x : T) → P x → Q x) → IfOk r Q
 if_ok (Ok x) is step = step x is
 if_ok (Err e) is step = is
@@ -31,15 +31,15 @@ index_of catalogue es indexes table index db less is =
     let tables = db.tables in
     db.indexed.each table index (slice_get_read indexes (length indexes) table index refl (omega (arith, less, tables)) is)
 
--- what a scan of the table's tree gives is read as the rows of the part
+-- the found keys of the table's tree are read as the rows of the part
 module _ (catalogue : Catalogue) (es : List Event) (indexes : List Index) (n table : ℕ) (index : Index) (range : KeyRange) (period : Period) (w : Window) (p : Part) (keys : List ℕ)
-    (db : IsDb catalogue es indexes) (le : n ≤ length es) (is : IsIndexOf es table index) (window_is : whole_of w ≡ window_part es n range period)
+    (db : IsDb catalogue es indexes) (le : n ≤ length es) (is : IsIndexOf es table index) (window_is : whole_of w ≡ whole_window es n range period)
     (fits_low : FitsSigned w64 range.low) (fits_high : FitsSigned w64 range.high) (finite : period.start < FOREVER) (lists : ListsOnce (FoundIn index.tree.nodes w p) keys) where
-  all_readable : All (IsReadable es (rows_kept es table)) keys
+  all_readable : All (IsReadable es (stored_rows es table)) keys
   all_readable k d less =
       readable es n table range period index.tree.nodes index.tree.version w p db.ordered db.few le is.tree window_is fits_low fits_high finite (slice_index_or keys k d) (lists.all k d less)
 
-  all_rows : HasPartRows es n table range period p (map (row_of_key es (rows_kept es table) n) keys)
+  all_rows : HasPartRows es n table range period p (map (row_of_key es (stored_rows es table) n) keys)
   all_rows = (part_rows_once es n table range period index.tree.nodes index.tree.version w p db.ordered db.few le is.tree window_is fits_low fits_high finite keys lists)
 
 pub returns-clause-readable : goal.returns-clause-readable
@@ -50,8 +50,8 @@ returns-clause-readable c = if_ok c.scan_unsorted.result c.scan_unsorted.ensures
     let le : c.args.n ≤ length es = subst (λ (r : Recorded). c.args.n ≤ length r.events) view c.requires.known in
     let in_catalogue : c.args.table < length c.self.inside.catalogue.tables = subst (λ (r : Recorded). c.args.table < length r.catalogue.tables) view c.requires.table in
     let of_table = index_of c.self.inside.catalogue es c.self.inside.indexes.items c.args.table index c.self.invariant in_catalogue c.index-index.ensures in
-    let window_is = c.make_window-window.ensures.window ∙ ap (λ l. window_part l c.args.n c.args.range.now c.args.period.now) c.deref.ensures.value in
-    subst (λ (r : Recorded). All (IsReadable r.events (rows_kept r.events c.args.table)) found.keys) (sym view)
+    let window_is = c.make_window-window.ensures.window ∙ ap (λ l. whole_window l c.args.n c.args.range.now c.args.period.now) c.deref.ensures.value in
+    subst (λ (r : Recorded). All (IsReadable r.events (stored_rows r.events c.args.table)) found.keys) (sym view)
     (all_readable c.self.inside.catalogue es c.self.inside.indexes.items c.args.n c.args.table index c.args.range.now c.args.period.now c.make_window-window.result c.args.part.now found.keys
     c.self.invariant le of_table window_is c.make_window-window.ensures.low c.make_window-window.ensures.high c.make_window-window.ensures.finite lists))
 
@@ -63,7 +63,7 @@ returns-clause-rows c = if_ok c.scan_unsorted.result c.scan_unsorted.ensures.key
     let le : c.args.n ≤ length es = subst (λ (r : Recorded). c.args.n ≤ length r.events) view c.requires.known in
     let in_catalogue : c.args.table < length c.self.inside.catalogue.tables = subst (λ (r : Recorded). c.args.table < length r.catalogue.tables) view c.requires.table in
     let of_table = index_of c.self.inside.catalogue es c.self.inside.indexes.items c.args.table index c.self.invariant in_catalogue c.index-index.ensures in
-    let window_is = c.make_window-window.ensures.window ∙ ap (λ l. window_part l c.args.n c.args.range.now c.args.period.now) c.deref.ensures.value in
-    subst (λ (r : Recorded). HasPartRows r.events c.args.n c.args.table c.args.range.now c.args.period.now c.args.part.now (map (row_of_key r.events (rows_kept r.events c.args.table) c.args.n) found.keys)) (sym view)
+    let window_is = c.make_window-window.ensures.window ∙ ap (λ l. whole_window l c.args.n c.args.range.now c.args.period.now) c.deref.ensures.value in
+    subst (λ (r : Recorded). HasPartRows r.events c.args.n c.args.table c.args.range.now c.args.period.now c.args.part.now (map (row_of_key r.events (stored_rows r.events c.args.table) c.args.n) found.keys)) (sym view)
     (all_rows c.self.inside.catalogue es c.self.inside.indexes.items c.args.n c.args.table index c.args.range.now c.args.period.now c.make_window-window.result c.args.part.now found.keys
     c.self.invariant le of_table window_is c.make_window-window.ensures.low c.make_window-window.ensures.high c.make_window-window.ensures.finite lists))

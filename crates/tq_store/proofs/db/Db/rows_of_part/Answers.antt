@@ -10,15 +10,15 @@ pub returns-then-table-get-clause-rows : goal.returns-then-table-get-clause-rows
 returns-then-table-get-clause-rows c =
     let tables = ap length (c.get.ensures ∙ ap (λ (l : Catalogue). l.tables) c.catalogue.ensures) in
     let past : length c.args.self.now.catalogue.tables ≤ c.args.table = let on = c.if-table-get.true in omega (arith, on, tables) in
-    IfOk-weaker c.made.result _ _
+    IfOk-weaker c.owned.result _ _
     (λ relation same. none_there c.args.self.now.catalogue c.args.self.now.events c.args.n c.args.table c.args.range.now c.args.period.now c.args.part.now relation.items c.count-count.ensures.history past
     (ap (λ (r : RowList). r.items) same ∙ c.new.ensures.rows))
-    c.made.ensures
+    c.owned.ensures
 
 pub returns-then-table-get-clause-width : goal.returns-then-table-get-clause-width
 returns-then-table-get-clause-width c =
     let tables = ap length (c.get.ensures ∙ ap (λ (l : Catalogue). l.tables) c.catalogue.ensures) in
     let past : length c.args.self.now.catalogue.tables ≤ c.args.table = let on = c.if-table-get.true in omega (arith, on, tables) in
-    IfOk-weaker c.made.result _ _
+    IfOk-weaker c.owned.result _ _
     (λ relation same. ap (λ (r : RowList). r.width) same ∙ c.new.ensures.width ∙ no_width c.args.self.now.catalogue c.args.table past)
-    c.made.ensures
+    c.owned.ensures

@@ -5,7 +5,7 @@ use Rattle.tq_event.specs.declared.event.Event.{Event}
 use Rattle.tq_store.specs.declared.index.Index.{Index}
 use Rattle.tq_store.specs.declared.index.RowEvents.{RowEvents}
 use Rattle.tq_store.specs.Index.{IsIndexOf}
-use Rattle.tq_store.proofs.KeyLemmas.{from_is_less, is_less}
+use Rattle.tq_store.proofs.SortKeyLemmas.{from_is_less, is_less}
 use Rattle.tq_store.proofs.IndexLemmas.{IsKnown, known_row, not_opened, opened, opens}
 use Rattle.tq_store.proofs.index.Index.is_open_before.Goals as goal
 

@@ -12,12 +12,12 @@ use Rattle.tq_store.specs.Index.{CanTake, HasWidth, IsIndexOf, Ends, ended, even
 use Rattle.tq_store.proofs.IndexLemmas.{IsOpenRow, index_end, index_like, index_start, on_both, on_both_err, on_three, on_three_err, open_row}
 use Rattle.tq_store.proofs.index.Index.take.Goals as goal
 
--- the row that an end ends
+-- the row that the event ends
 ending_row : (es : List Event) (event : Event) (t row at : ℕ) (index : Index) → event ≡ End t row at → length es < 16777216 → IsIndexOf es (table_of event) index → CanTake es event → IsOpenRow es t row at index
 ending_row es event t row at index is few of_table can =
     open_row es t row at index few (subst (λ e. IsIndexOf es (table_of e) index) is of_table) (subst (CanTake es) is can).0
 
--- its events are those that the index has
+-- its events are those in the index
 known : (es : List Event) (t row at : ℕ) (index : Index) (k : RowEvents) → (open_there : IsOpenRow es t row at index) → k ≡ slice_index_or index.rows.items row k → k ≡ events_of open_there.life
 known es t row at index k open_there is = is ∙ get_or_from_slice_get index.rows.items row (events_of open_there.life) k open_there.kept
 

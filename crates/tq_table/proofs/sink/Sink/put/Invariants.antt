@@ -1,4 +1,4 @@
--- What is gone from `rest` was appended, and no call failed yet.
+-- The bytes that are no longer in `rest` were appended, and no call has failed.
 use Rattle.std.proofs.Common.{◌≡◌, ℕ, List, ◌++◌, length}
 use Rattle.std.specs.Io.KnownBytes.{Appends}
 use Rattle.tq_table.proofs.sink.Sink.put.Given as goal

@@ -8,12 +8,12 @@ use Rattle.std.proofs.lemmas.List.Concat.{flat_map-cons}
 use Rattle.tq_table.specs.Sink.{bytes_of}
 use Rattle.tq_table.proofs.sink.Sink.send_all.Goals as goal
 
--- what holds holds where there is an error
+-- what holds still holds after an error
 where_err : {T E P : Type 0} → (r : Result T E) → P → OnErr r P
 where_err (Ok x) p = tt
 where_err (Err e) p = p
 
--- the bytes before a text, then its own, then those behind it
+-- the bytes before a text, then its own, then those after it
 around : (texts : List (Vec ℕ)) (i : ℕ) (text : Vec ℕ) → i < length texts → text ≡ get_or texts i text → bytes_of texts ≡ bytes_of (take i texts) ++ (text.items ++ bytes_of (drop (suc i) texts))
 around texts i text less is =
     ap bytes_of (split_at texts i text less ∙ ap (λ t. take i texts ++ t ∷ drop (suc i) texts) (sym is))

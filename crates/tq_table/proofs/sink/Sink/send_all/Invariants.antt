@@ -1,4 +1,4 @@
--- The parts so far were appended, and no call failed yet.
+-- The parts so far were appended, and no call has failed.
 use Rattle.std.proofs.Common.{◌≡◌, take}
 use Rattle.std.specs.Io.KnownBytes.{Appends}
 use Rattle.tq_table.specs.Sink.{bytes_of}

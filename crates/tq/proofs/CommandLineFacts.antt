@@ -1,0 +1,53 @@
+-- What some command lines ask for, computed.
+use Rattle.std.proofs.Common.{◌≡◌, List, [], ◌∷◌, Some, true, false, codes, option_map, refl}
+use Rattle.clap.specs.Words.{Text, fault_of, subcommand_of}
+use Rattle.clap.specs.declared.error.kind.ErrorKind.TheVariants.{DisplayHelp, DisplayVersion, MissingRequiredArgument, MissingSubcommand}
+use Rattle.clap.proofs.OnLiterals.{clap_on_literals}
+use Rattle.tq.specs.CommandLine.{is_set, number_of, table_words, text_of, tq_app}
+
+abbrev words : List Text
+words = codes "ask" ∷ codes "--table" ∷ codes "a=b" ∷ codes "--table=c=d" ∷ codes "--dates" ∷ codes "VALIDTIME" ∷ []
+
+pub taken : fault_of tq_app words ≡ []
+unfolding clap_on_literals
+taken = refl
+
+pub statement_found : option_map (λ sub. text_of (codes "statement") sub.1) (subcommand_of tq_app words) ≡ Some (codes "VALIDTIME")
+unfolding clap_on_literals
+statement_found = refl
+
+pub tables_found : option_map (λ sub. table_words sub.1) (subcommand_of tq_app words) ≡ Some (codes "a=b" ∷ codes "c=d" ∷ [])
+unfolding clap_on_literals
+tables_found = refl
+
+pub dates_found : option_map (λ sub. is_set (codes "dates") sub.1) (subcommand_of tq_app words) ≡ Some true
+unfolding clap_on_literals
+dates_found = refl
+
+pub explain_left_out : option_map (λ sub. is_set (codes "explain") sub.1) (subcommand_of tq_app words) ≡ Some false
+unfolding clap_on_literals
+explain_left_out = refl
+
+pub one_worker : option_map (λ sub. number_of (codes "workers") sub.1) (subcommand_of tq_app words) ≡ Some 1
+unfolding clap_on_literals
+one_worker = refl
+
+pub workers_found : option_map (λ sub. number_of (codes "workers") sub.1) (subcommand_of tq_app (codes "check" ∷ codes "--workers" ∷ codes "12" ∷ codes "--table=a=b" ∷ [])) ≡ Some 12
+unfolding clap_on_literals
+workers_found = refl
+
+pub no_command : fault_of tq_app [] ≡ MissingSubcommand ∷ []
+unfolding clap_on_literals
+no_command = refl
+
+pub no_table : fault_of tq_app (codes "check" ∷ []) ≡ MissingRequiredArgument ∷ []
+unfolding clap_on_literals
+no_table = refl
+
+pub version : fault_of tq_app (codes "--version" ∷ []) ≡ DisplayVersion ∷ []
+unfolding clap_on_literals
+version = refl
+
+pub help : fault_of tq_app (codes "draw" ∷ codes "-h" ∷ []) ≡ DisplayHelp ∷ []
+unfolding clap_on_literals
+help = refl

@@ -1,0 +1,100 @@
+// The refusals of statements over files, with their details.
+
+ghost use Rattle.std.specs.Prelude.{◌≡◌, false, IfSome, None, map};
+ghost use Rattle.tq.specs.HeaderLines.{header_file};
+ghost use Rattle.tq.specs.Report.{IsLoadDetail, IsPlanDetailOver, IsQuestionDetail, refused_answer};
+
+use crate::files::read_path;
+use crate::headers::{catalogue_of, header_files};
+use crate::progress::Progress;
+use crate::report::{Diagnostic, Refusal};
+use crate::retained::is_read_once;
+use std::alloc::Global;
+use std::io::Input;
+use std::rt::Files;
+use tq_base::Form;
+use tq_engine::AnswerFault;
+use tq_event::{LoadFault, TableFile};
+use tq_plan::PlanFault;
+
+/// The refusal of a file that was not loaded, with details. For these the file is read again, so there are none for
+/// standard input or a pipe.
+pub fn refused_load<R: Files + AllocGlobal + Input>(
+    rt: &R,
+    fault: LoadFault,
+    paths: &[Vec<u8>],
+    form: Form,
+    progress: &Progress,
+) -> Diagnostic
+    ensures refusal { result.refusal ≡ Refusal.Load fault }
+    ensures detail { IfSome result.detail (λ text. IsLoadDetail form paths.now fault text.items) }
+{
+    let Some(path) = paths.get(fault.table as usize) else {
+        return Diagnostic::from(Refusal::Load(fault));
+    };
+    if is_read_once(rt, path) {
+        return Diagnostic::from(Refusal::Load(fault));
+    }
+    match read_path(rt, path, progress) {
+        Ok(bytes) => Diagnostic::of_load(rt.alloc(), fault, path, &bytes, form),
+        Err(_) => Diagnostic::from(Refusal::Load(fault)),
+    }
+}
+
+/// The header lines of the files if `explain` is set; a fault of the plan is described with them. `None` if an
+/// allocation failed.
+pub fn header_copies(alloc: Global, tables: &[TableFile], explain: bool) -> Option<Vec<TableFile>>
+    ensures { IfSome result (λ headers. headers.items ≡ map header_file tables.now) }
+{
+    if !explain {
+        return None;
+    }
+    header_files(alloc, tables).ok()
+}
+
+// The refusal for a fault of the plan, with details if the header lines are there and valid.
+fn refused_plan(
+    alloc: Global,
+    fault: PlanFault,
+    headers: Option<Vec<TableFile>>,
+    statement: &[u8],
+    form: Form,
+) -> Diagnostic
+    ensures refusal { result.refusal ≡ Refusal.Plan fault }
+    ensures detail { IfSome result.detail (λ text. IsPlanDetailOver form headers fault statement.now text.items) }
+{
+    let Some(headers) = headers else {
+        return Diagnostic::from(Refusal::Plan(fault));
+    };
+    let Some(catalogue) = catalogue_of(alloc, headers, form) else {
+        return Diagnostic::from(Refusal::Plan(fault));
+    };
+    Diagnostic::of_plan(alloc, fault, statement, &catalogue, form)
+}
+
+/// The refusal for a fault of the files at these paths, of the statement or of its plan, with details if `explain` is
+/// set. `headers` are the files' header lines.
+pub fn refused<R: Files + AllocGlobal + Input>(
+    rt: &R,
+    fault: AnswerFault,
+    statement: &[u8],
+    paths: &[Vec<u8>],
+    headers: Option<Vec<TableFile>>,
+    form: Form,
+    explain: bool,
+    progress: &Progress,
+) -> Diagnostic
+    ensures refusal { result.refusal ≡ refused_answer fault }
+    ensures detail { IfSome result.detail (λ text. IsQuestionDetail form paths.now headers fault statement.now text.items) }
+    ensures silent { explain ≡ false → result.detail ≡ None }
+{
+    match fault {
+        AnswerFault::Load(load) if explain => refused_load(rt, load, paths, form, progress),
+        AnswerFault::Load(load) => Diagnostic::from(Refusal::Load(load)),
+        AnswerFault::Plan(plan) if explain => {
+            refused_plan(rt.alloc(), plan, headers, statement, form)
+        }
+        AnswerFault::Plan(plan) => Diagnostic::from(Refusal::Plan(plan)),
+        _ => Diagnostic::of_answer(rt.alloc(), fault, statement, explain),
+    }
+}

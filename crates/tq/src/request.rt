@@ -1,0 +1,63 @@
+// What a command line asks for. These types have a module of their own because the definitions that the contracts of
+// `command_line` cite name them.
+
+ghost use Rattle.std.specs.Prelude.{◌≤◌};
+
+use tq_base::Form;
+
+/// A table's name, and the path of its file.
+#[derive(Drop)]
+pub struct TableOption {
+    pub name: Vec<u8>,
+    pub path: Vec<u8>,
+}
+
+/// What `tq ask` was asked: the tables in the order of their options, 1 to 16 workers, how instants are written, a
+/// statement, and whether a refusal is explained wherever it goes, and an answer.
+#[derive(Drop)]
+pub struct AskRequest {
+    pub tables: Vec<TableOption>,
+    pub workers: u32,
+    pub form: Form,
+    pub statement: Vec<u8>,
+    pub explain: bool,
+    ghost some_workers: { 1 ≤ workers },
+    ghost few_workers: { workers ≤ 16 },
+}
+
+/// What `tq draw` was asked: what `tq ask` is asked, how wide the picture may be, in characters, and whether it is to be
+/// an image in SVG.
+#[derive(Drop)]
+pub struct DrawRequest {
+    pub ask: AskRequest,
+    pub width: u32,
+    pub svg: bool,
+}
+
+/// What `tq check` was asked: the tables in the order of their options, 1 to 16 workers, and how instants are written.
+#[derive(Drop)]
+pub struct CheckRequest {
+    pub tables: Vec<TableOption>,
+    pub workers: u32,
+    pub form: Form,
+    ghost some_workers: { 1 ≤ workers },
+    ghost few_workers: { workers ≤ 16 },
+}
+
+/// What `tq session` is about: the tables in the order of their options, and how instants are written.
+#[derive(Drop)]
+pub struct SessionRequest {
+    pub tables: Vec<TableOption>,
+    pub form: Form,
+}
+
+/// What the program was asked: to print this text, to answer a statement, to draw its answer, to check tables, or to
+/// hold a session.
+#[derive(Drop)]
+pub enum Request {
+    Print(String),
+    Ask(AskRequest),
+    Draw(DrawRequest),
+    Check(CheckRequest),
+    Session(SessionRequest),
+}

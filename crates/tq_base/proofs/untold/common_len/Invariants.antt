@@ -1,6 +1,0 @@
--- The bytes so far are the same.
-use Rattle.std.proofs.Common.{◌≡◌, take}
-use Rattle.tq_base.proofs.untold.common_len.Given as goal
-
-abbrev pub invariant-bytes : goal.invariant-bytes
-invariant-bytes l = take l.place l.one ≡ take l.place l.other

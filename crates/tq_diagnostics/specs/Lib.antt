@@ -1,0 +1,17 @@
+pub mod Probes
+pub mod Details
+pub mod InvalidRecords
+pub mod Expected
+pub mod Faults
+pub mod Fields
+pub mod Files
+pub mod Headers
+pub mod Hints
+pub mod Lines
+pub mod Listing
+pub mod NamePlaces
+pub mod Parts
+pub mod PlanDetails
+pub mod Pointing
+pub mod Records
+pub mod Views

@@ -1,0 +1,31 @@
+//! Diagnostics: the lines that explain a fault to the user, after the fixed line of the fault.
+//!
+//! Four calls, each with its definition: `explain_statement` (`IsDetail` in `specs/Details.antt`), `explain_plan`
+//! (`IsPlanDetail` in `specs/PlanDetails.antt`), `explain_file` (`IsFileDetail` in `specs/Files.antt`) and
+//! `explain_records` (`IsRecordsText` in `specs/InvalidRecords.antt`). There is no second parser, planner or reader
+//! here: these calls run `tq_sql`, `tq_plan` and `tq_event` again on parts of the input.
+//!
+//! Open `src/statements.rt` first.
+#![tactic(auto)]
+
+mod expected;
+mod faults;
+mod fields;
+mod files;
+mod headers;
+mod hints;
+mod invalid_records;
+mod lines;
+mod listing;
+mod name_places;
+mod parts;
+mod plans;
+mod pointing;
+mod probe_statement;
+mod records;
+mod statements;
+
+pub use files::explain_file;
+pub use invalid_records::explain_records;
+pub use plans::explain_plan;
+pub use statements::explain_statement;

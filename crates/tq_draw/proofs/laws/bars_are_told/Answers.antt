@@ -1,5 +1,0 @@
-use Rattle.tq_draw.proofs.BarLemmas as bars
-use Rattle.tq_draw.proofs.laws.bars_are_told.Goals as goal
-
-pub returns : goal.returns
-returns c = bars.bars_are_told

@@ -1,5 +1,0 @@
-use Rattle.tq_draw.proofs.ScaleLemmas as scales
-use Rattle.tq_draw.proofs.laws.scales_hold_rows.Goals as goal
-
-pub returns : goal.returns
-returns c = scales.scales_hold_rows

@@ -1,6 +1,0 @@
-use Rattle.std.proofs.Common.{◌≡◌, map, take}
-use Rattle.tq_event.proofs.PlacingLemmas.{place_of}
-use Rattle.tq_event.proofs.order.places_of.Given as goal
-
-abbrev pub invariant-loop-entry : goal.invariant-loop-entry
-invariant-loop-entry l = l.places.items ≡ map place_of (take l.entry-index l.entries)

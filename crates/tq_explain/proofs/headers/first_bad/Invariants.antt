@@ -1,6 +1,0 @@
-use Rattle.csv.specs.Records.{fields_of}
-use Rattle.tq_explain.specs.Headers.{AllRead}
-use Rattle.tq_explain.proofs.headers.first_bad.Given as goal
-
-abbrev pub invariant-fields : goal.invariant-fields
-invariant-fields l = AllRead (fields_of l.header) l.place

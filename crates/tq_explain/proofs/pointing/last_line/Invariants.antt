@@ -1,6 +1,0 @@
-use Rattle.std.proofs.Common.{◌≡◌, take}
-use Rattle.tq_explain.specs.Pointing.{last_line}
-use Rattle.tq_explain.proofs.pointing.last_line.Given as goal
-
-abbrev pub invariant-bytes : goal.invariant-bytes
-invariant-bytes l = l.line.items ≡ last_line (take l.byte-index l.bytes)

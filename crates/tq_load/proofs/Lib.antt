@@ -1,0 +1,9 @@
+pub mod CutLemmas
+pub mod EventLemmas
+pub mod StateLemmas
+pub mod ChainLemmas
+pub mod FeedLemmas
+pub mod PartLemmas
+pub mod PieceLemmas
+pub mod Pushed
+pub mod ToldLemmas

@@ -1,0 +1,8 @@
+-- The tables so far have the events that were subtracted from the limit.
+use Rattle.std.proofs.Common.{◌≡◌, ◌+◌, sum_by, take}
+use Rattle.tq_event.specs.Loading.{event_count}
+use Rattle.tq_event.specs.Tables.{entries_from}
+use Rattle.tq_load.proofs.combining.events_fit.Given as goal
+
+abbrev pub invariant-tables : goal.invariant-tables
+invariant-tables l = l.left + sum_by event_count (entries_from 0 (take l.rows-index l.tables)) ≡ l.limit

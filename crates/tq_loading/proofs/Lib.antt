@@ -1,9 +1,0 @@
-pub mod CutLemmas
-pub mod EventLemmas
-pub mod StandingLemmas
-pub mod ChainLemmas
-pub mod FeedLemmas
-pub mod PartLemmas
-pub mod PieceLemmas
-pub mod Pushed
-pub mod ToldLemmas

@@ -1,6 +1,0 @@
--- The place lies in the bytes.
-use Rattle.std.proofs.Common.{◌≤◌, length}
-use Rattle.tq_loading.proofs.cut.cut_within.Given as goal
-
-abbrev pub invariant-lines : goal.invariant-lines
-invariant-lines l = l.place ≤ length l.bytes

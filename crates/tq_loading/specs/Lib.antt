@@ -1,5 +1,0 @@
-pub mod Feeds
-pub mod Laws
-pub mod Parts
-pub mod Reading
-pub mod Together

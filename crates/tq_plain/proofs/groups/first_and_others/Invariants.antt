@@ -1,8 +1,0 @@
--- The row and the others so far, and those among the rest, are all.
-use Rattle.std.proofs.Common.{◌≡◌, ◌∷◌, ◌++◌, drop, not}
-use Rattle.std.specs.Prelude.{filter}
-use Rattle.tq_agg.specs.Grouping.{same_row}
-use Rattle.tq_plain.proofs.groups.first_and_others.Given as goal
-
-abbrev pub invariant-rows : goal.invariant-rows
-invariant-rows l = l.kept.items ++ filter (λ other. not (same_row other l.first)) (drop l.row-index l.rows) ≡ l.first ∷ filter (λ other. not (same_row other l.first)) l.rows

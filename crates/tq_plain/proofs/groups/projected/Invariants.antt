@@ -1,7 +1,0 @@
--- The values so far are those at the places so far.
-use Rattle.std.proofs.Common.{◌≡◌, take}
-use Rattle.tq_ops.specs.Ordinary.{projection}
-use Rattle.tq_plain.proofs.groups.projected.Given as goal
-
-abbrev pub invariant-places : goal.invariant-places
-invariant-places l = l.values.items ≡ projection (take l.place-index l.places) l.row

@@ -1,0 +1,83 @@
+// Queries of a session.
+
+ghost use Rattle.std.specs.Prelude.{◌≡◌, ◌≤◌, List, length, MatchResult};
+ghost use mathlib.Core.List.{IsPrefix};
+ghost use Rattle.tq_event.specs.declared.event.Event.{Event as AnyEvent};
+ghost use Rattle.tq_session.specs.Query.{IsPlanOf, NotPlanned, Renders};
+ghost use Rattle.tq_session.specs.Transcripts.{Asks};
+
+use crate::reply::{Refusal, Reply};
+use std::alloc::Global;
+use std::sync::Wait;
+use std::thread::Threads;
+use tq_base::{Catalogue, Form};
+use tq_plan::{Plan, PlanFault, plan};
+use tq_run::Open;
+use tq_snapshot::laws::observed_answers;
+use tq_snapshot::{AskFault, Reader, StoreId};
+use tq_sql::{SqlFaultKind, read};
+use tq_table::{Table, table_text};
+
+// The plan of the statement, or the first fault of its text or its plan.
+fn planned(alloc: Global, catalogue: &Catalogue, bytes: &[u8], form: Form) -> Result<Plan, Refusal>
+    ensures { MatchResult result (IsPlanOf form catalogue.now bytes.now) (NotPlanned form catalogue.now bytes.now) }
+{
+    let statement = match read(alloc, bytes) {
+        Ok(statement) => statement,
+        Err(fault) if matches!(fault.kind, SqlFaultKind::OutOfMemory) => {
+            return Err(Refusal::OutOfMemory);
+        }
+        Err(fault) => return Err(Refusal::Statement(fault)),
+    };
+    match plan(alloc, catalogue, &statement, form) {
+        Ok(plan) => Ok(plan),
+        Err(PlanFault::OutOfMemory) => Err(Refusal::OutOfMemory),
+        Err(fault) => Err(Refusal::Plan(fault)),
+    }
+}
+
+// The reply with the number of rows of the table and its text.
+fn render(alloc: Global, table: &Table<'_>, form: Form) -> Reply
+    ensures { Renders form table.now result }
+{
+    match table_text(alloc, table, form) {
+        Ok(text) => Reply::Answer(table.rows.len(), text),
+        Err(_) => Reply::Refused(Refusal::OutOfMemory),
+    }
+}
+
+/// Executes a statement as of the first `n` of the `published` events, with 1 to 16 workers. The reply is the answer or
+/// why there is none.
+pub fn ask<J: StoreId, R: Threads + Wait + Sync>(
+    rt: &R,
+    alloc: Global,
+    catalogue: &Catalogue,
+    published: u32,
+    reader: &mut Reader<J>,
+    n: u32,
+    workers: u32,
+    bytes: &[u8],
+    form: Form,
+) -> Reply
+    requires catalogue { catalogue.now ≡ J.catalogue }
+    requires some { 1 ≤ workers }
+    requires at_most { workers ≤ 16 }
+    ensures reply { (events : List AnyEvent) → (published ≡ length events) → IsPrefix events reader.old → Asks form J.catalogue events n bytes.now result }
+    ensures told { IsPrefix reader.old reader.new }
+{
+    observed_answers();
+    let plan = match planned(alloc, catalogue, bytes, form) {
+        Ok(plan) => plan,
+        Err(why) => return Reply::Refused(why),
+    };
+    if published < n {
+        return Reply::Refused(Refusal::TooNew { published });
+    }
+    match reader.ask_with(rt, alloc, n, &plan, workers, &Open) {
+        Ok(table) => render(alloc, &table, form),
+        Err(AskFault::TooNew { seen: _ }) | Err(AskFault::Closed) => Reply::Refused(
+            Refusal::Closed,
+        ),
+        Err(AskFault::OutOfMemory) => Reply::Refused(Refusal::OutOfMemory),
+    }
+}

@@ -1,5 +1,0 @@
-use Rattle.std.proofs.Common.{◌≡◌, take}
-use Rattle.tq_snapshot.proofs.shared.Shared.filled.Given as goal
-
-abbrev pub invariant-loop-event : goal.invariant-loop-event
-invariant-loop-event l = l.db ≡ record { catalogue = l.fn.catalogue; events = take l.event-index l.events }
