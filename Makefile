@@ -1,8 +1,8 @@
-# `make` shows a first answer and then proves and builds the program, `make test` is the gate, and
-# `make bench` measures the program beside what one would write without it.
+# `make` shows a first answer and then proves and builds the program, `make quick` runs the tests without proofs, `make test`
+# is the full check, and `make bench` measures the program. All three that prove share what was proved.
 SHELL := /bin/bash
 .SHELLFLAGS := -eu -o pipefail -c
-.PHONY: answer first build test wrong-bodies soak bench install tools
+.PHONY: answer first build quick test words wrong-bodies soak bench install tools
 
 PREFIX := /usr/local
 SHARE := $(DESTDIR)$(PREFIX)/share
@@ -18,9 +18,13 @@ first: tools
 		echo "a first answer in a minute or two, from a build that is not proved yet:"; \
 		rt try --data emp.csv=../../examples/emp.csv -- $(subst examples/,,$(QUESTION)) 2> out/first.log || cat out/first.log; }
 
-# What was proved before is kept: a first build takes about an hour on four cores, a later one what changed.
+# A first build takes about an hour on four cores. A crate that this or the full check proved is not proved again.
 build: tools
 	@python3 gate/build.py
+
+# The tests without proofs, in a few minutes.
+quick: tools
+	@gate/quick.py
 
 # What must be there before.
 tools:
@@ -28,9 +32,14 @@ tools:
 		|| { echo "make: $$tool is missing; the Rattle toolchain (rt) and Python 3 build tq"; exit 1; }; done
 
 # The gate: proves every crate and its tests from nothing, tries the must-fail edits, runs tests and programs, and
-# puts the cases of gate/ to the program.
+# puts the cases of gate/ to the program. Its log is bin/check.log.
 test:
-	gate/run.sh
+	@mkdir -p bin
+	gate/run.sh 2>&1 | tee bin/check.log
+
+# The old names that are left in the code and the documents.
+words:
+	@gate/words.py
 
 # The wrong bodies that the gate leaves out: of the crates of CRATES, or of all.
 wrong-bodies:
@@ -40,7 +49,7 @@ wrong-bodies:
 # of asks, publishes and differences.
 MINUTES := 10
 soak: tools
-	cd crates/tq_tests_crowd && rt run < stdin > /dev/null
+	python3 gate/build.py tq_tests_concurrency
 	gate/soak.py $(MINUTES)
 
 bench: build

@@ -14,9 +14,9 @@ import subprocess
 import sys
 import time
 
-TOP = os.path.dirname(os.path.dirname(os.path.abspath(__file__)))
-CRATE = os.path.join(TOP, "crates", "bench_claims")
-PROGRAM = os.path.join(CRATE, "out", "bench_claims")
+from measuring import build
+
+PROGRAM = os.path.join(os.path.dirname(os.path.dirname(os.path.abspath(__file__))), "bin", "bench_claims")
 
 
 def processor():
@@ -51,7 +51,7 @@ def seconds(*words):
 def main():
     steps = int(sys.argv[1]) if len(sys.argv) > 1 else 20_000_000
     runs = int(sys.argv[2]) if len(sys.argv) > 2 else 2_000
-    subprocess.run(["rt", "run", "--", "loop", "1"], cwd=CRATE, check=True, capture_output=True)
+    build("bench_claims")
 
     digests = {output([way, str(steps)]).split(":", 1)[1] for way in ("loop", "here", "with")}
     if len(digests) != 1:

@@ -57,9 +57,9 @@ def sweep(script, table, columns, answer, output):
 
 def build(crate):
     """Builds a program of crates/, and gives its path."""
-    folder = os.path.join(HERE, "..", "crates", crate)
-    subprocess.run(["rt", "run"], cwd=folder, check=True, stdout=subprocess.DEVNULL)
-    return os.path.join(folder, "out", crate)
+    top = os.path.dirname(HERE)
+    subprocess.run([sys.executable, os.path.join(top, "gate", "build.py"), crate], check=True, stdout=subprocess.DEVNULL)
+    return os.path.join(top, "bin", crate)
 
 
 def held_in_one(rows):

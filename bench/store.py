@@ -14,14 +14,12 @@ the time to fill is taken off that of the questions. All is printed, and only wh
 import argparse
 import os
 import sqlite3
-import subprocess
 import sys
 import tempfile
 import time
 
-from measuring import HERE, TRIES, run
+from measuring import TRIES, build, run
 
-CRATE = os.path.join(HERE, "..", "crates", "bench_store")
 NEIGHBOURS = 250
 ROWS_OF_A_KEY = 4
 STEP = 7919
@@ -132,9 +130,9 @@ def measure_sqlite(rows, questions):
     return least
 
 
-def measure_store(words, output):
+def measure_store(program, words, output):
     """The least seconds and the greatest peak of the runs of bench_store, and the numbers that it prints."""
-    command = [os.path.join(CRATE, "out", "bench_store"), *map(str, words)]
+    command = [program, *map(str, words)]
     tries = [run(command, output) for _ in range(TRIES)]
     with open(output, encoding="utf-8") as lines:
         numbers = dict((line.rsplit(" ", 1)[0], int(line.rsplit(" ", 1)[1])) for line in lines)
@@ -143,12 +141,12 @@ def measure_store(words, output):
 
 def main():
     options = read_options()
-    subprocess.run(["rt", "run"], cwd=CRATE, check=True, stdout=subprocess.DEVNULL)
+    program = build("bench_store")
     with tempfile.TemporaryDirectory() as folder:
         output = os.path.join(folder, "output")
-        fill, peak, numbers = measure_store(["fill", options.rows], output)
-        asked, _, answers = measure_store(["ask", options.rows, options.questions], output)
-        read, _, found = measure_store(["read", options.rows, options.questions], output)
+        fill, peak, numbers = measure_store(program, ["fill", options.rows], output)
+        asked, _, answers = measure_store(program, ["ask", options.rows, options.questions], output)
+        read, _, found = measure_store(program, ["read", options.rows, options.questions], output)
     seconds = asked - fill
     filled = f"{options.rows:,} rows filled in {fill:.2f} s, {peak / options.rows:.0f} bytes a row"
     print(f"tq_store: {filled}, {numbers['levels']} levels in the middle of the history")

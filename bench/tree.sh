@@ -4,8 +4,8 @@
 # A delete in the tree asks first whether the key lives. Figures are ratios; name the machine beside them.
 set -euo pipefail
 count="${1:-1000000}"
-cd "$(dirname "$0")/../crates/bench_tree"
-rt run > /dev/null
+cd "$(dirname "$0")/.."
+python3 gate/build.py bench_tree > /dev/null
 python3 - "$count" <<'PY'
 import subprocess, sys, time
 
@@ -15,7 +15,7 @@ def best(mode):
     times = []
     for _ in range(5):
         begin = time.perf_counter()
-        out = subprocess.run(["out/bench_tree", mode, count], check=True, capture_output=True, text=True).stdout
+        out = subprocess.run(["bin/bench_tree", mode, count], check=True, capture_output=True, text=True).stdout
         times.append(time.perf_counter() - begin)
     return min(times), out
 
@@ -38,7 +38,7 @@ def best(mode, questions, runs):
     times = []
     for _ in range(runs):
         begin = time.perf_counter()
-        out = subprocess.run(["out/bench_tree", mode, count, str(questions)], check=True, capture_output=True, text=True).stdout
+        out = subprocess.run(["bin/bench_tree", mode, count, str(questions)], check=True, capture_output=True, text=True).stdout
         times.append(time.perf_counter() - begin)
     return min(times), dict((line.rsplit(" ", 1)[0], int(line.rsplit(" ", 1)[1])) for line in out.splitlines())
 

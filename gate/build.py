@@ -1,33 +1,42 @@
 #!/usr/bin/env python3
-"""Proves and builds the program, and says while it does so how far it is and how long it will take.
+"""Proves and builds programs into bin/, and shows meanwhile what share is proved and how long the rest will take.
 
-What `rt` has proved before is kept in crates/NAME/out, so a build that was stopped goes on where it stood.
-The share of a crate is that of its lines. The whole log is crates/tq/out/build.log.
+    gate/build.py [CRATE ..]
+
+Without a name it builds tq. `rt ci` proves a program and the crates below it in a copy of the repository that has no other
+crate and no must-fail edit. It keeps on this machine each crate that it proved, by the checksums of all that it read. So a
+build that was stopped resumes with the crates that are left, the full check does not prove them again, and after a full check
+there is nothing left to prove. A program of which nothing changed since its last build is not built again: bin/CRATE.sum has
+the checksum of its sources. The share of a crate is that of its lines. The whole log is bin/build.log.
 """
+import hashlib
 import os
 import re
 import shutil
 import subprocess
 import sys
+import tempfile
 import time
 
 ROOT = os.path.dirname(os.path.dirname(os.path.abspath(__file__)))
 PROGRAM = "tq"
+PARTS = ("src", "specs", "proofs", "data", "stdin", "stdout", "args", "status")
+
+
+def lines_of_crates():
+    """The line of each crate in crates.txt."""
+    with open(f"{ROOT}/crates.txt", encoding="utf-8") as file:
+        lines = [line.split("#")[0].strip() for line in file]
+    return {line.partition(":")[0].split()[0]: line for line in filter(None, lines)}
 
 
 def libraries():
     """The libraries below each crate of the repository, from crates.txt."""
-    with open(f"{ROOT}/crates.txt", encoding="utf-8") as file:
-        lines = [line.split("#")[0].strip() for line in file]
-    named = {}
-    for line in filter(None, lines):
-        name, _, below = line.partition(":")
-        named[name.split()[0]] = below.split()
-    return named
+    return {name: line.partition(":")[2].split() for name, line in lines_of_crates().items()}
 
 
 def lowest_first(named, crate, found):
-    """The crate and those of the repository below it, each after those that it stands on."""
+    """The crate and those of the repository below it, each after those that it uses."""
     for below in named[crate]:
         if below in named and below not in found:
             lowest_first(named, below, found)
@@ -50,108 +59,134 @@ def lines_of(crate):
 
 
 class Progress:
-    """Tells of each crate what share of all is proved, on one line where that is a terminal."""
+    """Shows what share of the crates is proved, on one line if standard output is a terminal."""
 
     def __init__(self, crates):
-        self.crates = crates
-        self.weights = [lines_of(crate) for crate in crates]
+        self.weights = {crate: lines_of(crate) for crate in crates}
+        self.proved, self.kept = set(), set()
         self.begun = time.monotonic()
-        self.first = None
-        self.at = None
-        self.done = 0.0
         self.is_terminal = sys.stdout.isatty()
-        self.told = 0.0
 
-    def start(self, crate):
-        self.at = self.crates.index(crate)
-        self.done = 0.0
-        self.tell(0, 0)
-
-    def advance(self, number, most):
-        # What an earlier run proved takes no time, and says nothing of what is left.
-        if self.first is None and number < most:
-            self.first = sum(self.weights[: self.at])
-            self.begun = time.monotonic()
-        self.done = number / most
-        self.tell(number, most)
+    def weight(self, crates):
+        return sum(self.weights[crate] for crate in crates)
 
     def minutes_left(self):
-        """By the time that the share which this run proved has taken; None where that is too little to tell."""
-        proved = sum(self.weights[: self.at]) + self.done * self.weights[self.at]
-        if self.first is None or proved - self.first < 0.02 * sum(self.weights):
+        """By the time that the share which this run proved has taken; None if that is too little to say, or nothing is left."""
+        whole, done = sum(self.weights.values()), self.weight(self.proved)
+        left = whole - self.weight(self.kept) - done
+        if done < 0.02 * whole or left == 0:
             return None
-        left = (sum(self.weights) - proved) / (proved - self.first)
-        return left * (time.monotonic() - self.begun) / 60
+        return left / done * (time.monotonic() - self.begun) / 60
 
-    def tell(self, number, most):
-        now = time.monotonic()
-        if now - self.told < (1 if self.is_terminal else 30) and number < most:
+    def read(self, line):
+        """Takes note of a line of `rt ci`."""
+        found = re.match(r"rt: (\w+) (proved|is kept)\b", line)
+        if not found or found[1] not in self.weights:
             return
-        self.told = now
-        proved = sum(self.weights[: self.at]) + self.done * self.weights[self.at]
+        (self.kept if found[2] == "is kept" else self.proved).add(found[1])
+        share = self.weight(self.proved | self.kept) / sum(self.weights.values())
         minutes = self.minutes_left()
         left = "" if minutes is None else f", about {max(1, round(minutes))} min left"
-        functions = f" {number} of {most} functions," if most else ""
-        line = f"  proving {self.crates[self.at]}:{functions} {100 * proved / sum(self.weights):.0f} % of all{left}"
-        if self.is_terminal:
-            print(f"\r\033[K{line}", end="", flush=True)
-        else:
-            print(line, flush=True)
+        text = f"  {found[1]} {found[2]}: {len(self.proved | self.kept)} of {len(self.weights)} crates, {100 * share:.0f} % of all{left}"
+        print(f"\r\033[K{text}" if self.is_terminal else text, end="" if self.is_terminal else "\n", flush=True)
 
     def end(self):
-        if self.is_terminal and self.at is not None:
+        if self.is_terminal:
             print("\r\033[K", end="", flush=True)
 
 
-def run(command, crate, log, progress):
-    """Runs a command in a crate's folder, follows what it says, and answers whether it went well."""
+def copy_crates(crates, room):
+    """Copies the crates into a repository of their own. The result is the checksum of what it has, and of the toolchain."""
+    lines = lines_of_crates()
+    for crate in crates:
+        for part in PARTS:
+            at, to = f"{ROOT}/crates/{crate}/{part}", f"{room}/crates/{crate}/{part}"
+            if os.path.isdir(at):
+                shutil.copytree(at, to)
+            elif os.path.isfile(at):
+                os.makedirs(os.path.dirname(to), exist_ok=True)
+                shutil.copyfile(at, to)
+    with open(f"{room}/crates.txt", "w", encoding="utf-8") as file:
+        file.writelines(lines[crate] + "\n" for crate in crates)
+    shutil.copyfile(f"{ROOT}/HANDLES", f"{room}/HANDLES")
+    found = hashlib.sha256(subprocess.run(["rt", "version"], stdout=subprocess.PIPE, check=True).stdout)
+    for at, folders, names in os.walk(room):
+        folders.sort()
+        for name in sorted(names):
+            with open(f"{at}/{name}", "rb") as file:
+                content = file.read()
+            found.update(f"{os.path.relpath(at, room)}/{name} {len(content)}\n".encode() + content)
+    # What marks the top of a repository.
+    os.mkdir(f"{room}/.git")
+    return found.hexdigest()
+
+
+def is_built(program, sources):
+    """Whether bin/ has the program as it was built from sources with this checksum."""
+    try:
+        with open(f"{ROOT}/bin/{program}.sum", encoding="utf-8") as file:
+            return file.read() == sources and os.path.isfile(f"{ROOT}/bin/{program}")
+    except OSError:
+        return False
+
+
+def run(room, log, progress):
+    """Runs `rt ci` and follows its output. The result is whether all was proved."""
     how = {"stdin": subprocess.DEVNULL, "stdout": subprocess.PIPE, "stderr": subprocess.STDOUT}
-    running = subprocess.Popen(command, cwd=f"{ROOT}/crates/{crate}", text=True, errors="replace", **how)
+    running = subprocess.Popen(["rt", "ci"], cwd=room, text=True, errors="replace", **how)
     try:
         for line in running.stdout:
             log.write(line)
             log.flush()
-            if step := re.match(r"(?:checked \S+,|so far:) (\d+) of (\d+)\b", line):
-                progress.advance(int(step[1]), int(step[2]))
+            progress.read(line)
     except KeyboardInterrupt:
         running.terminate()
         running.wait()
         raise
+    finally:
+        progress.end()
     return running.wait() == 0
 
 
-def build(log):
-    """Proves the crates below the program, lowest first, and builds it; answers whether that went well."""
-    crates = lowest_first(libraries(), PROGRAM, [])
-    progress = Progress(crates)
-    is_well = True
-    for crate in crates:
-        progress.start(crate)
-        is_well = is_well and run(["rt", "check"], crate, log, progress)
-    is_well = is_well and run(["rt", "run", "--", "--help"], PROGRAM, log, progress)
-    progress.end()
-    return is_well
+def install(program, room, sources):
+    """Puts a program into bin/, in one step, and then the checksum of its sources."""
+    to = f"{ROOT}/bin/{program}"
+    shutil.copyfile(f"{room}/crates/{program}/out/{program}", f"{to}.new")
+    os.chmod(f"{to}.new", 0o755)
+    os.replace(f"{to}.new", to)
+    with open(f"{to}.sum", "w", encoding="utf-8") as file:
+        file.write(sources)
+
+
+def build(program):
+    """Proves and builds a program. The result is whether that went well."""
+    crates = lowest_first(libraries(), program, [])
+    with tempfile.TemporaryDirectory(prefix="tq-build-") as room:
+        sources = copy_crates(crates, room)
+        if is_built(program, sources):
+            return True
+        print(f"proving and building bin/{program} (the log: bin/build.log)", flush=True)
+        with open(f"{ROOT}/bin/build.log", "w", encoding="utf-8") as log:
+            is_well = run(room, log, Progress(crates))
+        if is_well:
+            install(program, room, sources)
+        return is_well
 
 
 def main():
     if not shutil.which("rt"):
         sys.exit("`rt`, the command of the Rattle toolchain, is missing: tq is proved and built with it")
-    out = f"{ROOT}/crates/{PROGRAM}/out"
-    os.makedirs(out, exist_ok=True)
     os.makedirs(f"{ROOT}/bin", exist_ok=True)
-    print("proving and building bin/tq (the log: crates/tq/out/build.log)", flush=True)
     try:
-        with open(f"{out}/build.log", "w", encoding="utf-8") as log:
-            is_well = build(log)
+        for program in sys.argv[1:] or [PROGRAM]:
+            if not os.path.isfile(f"{ROOT}/crates/{program}/src/main.rt"):
+                sys.exit(f"crates/{program} is not a program")
+            if not build(program):
+                with open(f"{ROOT}/bin/build.log", encoding="utf-8") as log:
+                    said = [line for line in log if re.search(r"error|no proof|not proved|NOT PROVED|FAILED", line)]
+                sys.exit("not built:\n" + "".join(said[:20]))
     except KeyboardInterrupt:
-        sys.exit("\nstopped: what is proved is kept, and `make` goes on from there")
-    if not is_well:
-        with open(f"{out}/build.log", encoding="utf-8") as log:
-            said = [line for line in log if re.search(r"error|no proof|not proved", line)]
-        sys.exit("not built:\n" + "".join(said[:20]))
-    shutil.copyfile(f"{out}/{PROGRAM}", f"{ROOT}/bin/{PROGRAM}.new")
-    os.chmod(f"{ROOT}/bin/{PROGRAM}.new", 0o755)
-    os.replace(f"{ROOT}/bin/{PROGRAM}.new", f"{ROOT}/bin/{PROGRAM}")
+        sys.exit("\nstopped: what is proved is kept, and `make` resumes with the crates that are left")
 
 
 if __name__ == "__main__":

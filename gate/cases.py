@@ -561,7 +561,7 @@ def checks():
         yield check(f"a check of many rows by {workers} workers", [("t", SMALL + many)], ["--workers", str(workers)], out=out)
     out = told("d", "k:int v:text", 2, 1, "2024-02-28", "2024-03-01", 0, 0)
     yield check("a check in dates", [("d", DATED)], ["--dates"], out=out)
-    dated = b"".join(b"d record %d, line %d: from `%s` is a date: with --dates instants are dates\n" % it for it in ((2, 2, b"2024-02-28"), (3, 3, b"2024-03-01")))
+    dated = b"".join(b"d record %d, line %d: from `%s` is a date: use --dates for files with dates\n" % it for it in ((2, 2, b"2024-02-28"), (3, 3, b"2024-03-01")))
     yield check("a check of a second file at fault", [("e", EMP), ("d", DATED)], out=dated, err=b"tq: load BadPeriod table 1 record 2\n", status=1)
     yield check("a check of tables of one name", [("e", EMP), ("E", EMP)], err=b"tq: load DuplicateName table 1 record 0\n", status=1)
     yield Case("a check of a file that is missing", ["check", "--table", "e=ROOM/none.csv"], err=b"tq: cannot read ROOM/none.csv\n", status=1)
@@ -613,7 +613,7 @@ def pointed(line, at):
 def long_statements():
     """Statements of long lines, with the place at the beginning, on the way and at the end."""
     emp = ["ask", "--explain", "--table", "emp=examples/emp.csv"]
-    said = b"  no word, number, text or sign begins here\n"
+    said = b"  invalid character\n"
     for part in ("AND name <> 'bob' ", "AND name <> 'b\u00f6b' ", "AND name <> '\u20ac\U0001f600' ", "AND\tname <> 'bob'\t"):
         for before, behind in ((0, 8), (1, 8), (2, 8), (4, 4), (8, 2), (8, 1), (8, 0)):
             begin = "VALIDTIME SELECT name FROM emp WHERE emp = 1 " + before * part
@@ -646,7 +646,7 @@ def explanations():
     line = b"tq: statement UnexpectedToken at 37\n"
     detail = b"""  VALIDTIME SELECT name FROM emp ORDER BY name
                                        ^
-  answers are in the order of their values; `| sort -t, -k2n` puts lines in that of time
+  ORDER BY is not supported: rows are sorted by value, then by period; `| sort -t, -k2n` sorts by column 2
   expected:  WHERE  GROUP BY  EXCEPT ALL  ,  ;  the end
 """
     yield Case("a fault of a statement in a pipe", [*emp, statement], err=line, status=1)
@@ -657,21 +657,21 @@ def explanations():
     yield Case("a fault of a plan in a pipe", [*emp, "VALIDTIME SELECT age FROM emp"], err=b"tq: plan UnknownColumn\n", status=1)
     for asked, kind, shown in (
         ("VALIDTIME SELECT age FROM emp", "UnknownColumn", (" " * 17 + "^", "columns of emp:  emp  name  dept")),
-        ("VALIDTIME SELECT x.name FROM emp x, emp y WHERE x.name = 'y' AND name = 'z'", "AmbiguousColumn", (" " * 65 + "^", "sources that have it:  x  y")),
+        ("VALIDTIME SELECT x.name FROM emp x, emp y WHERE x.name = 'y' AND name = 'z'", "AmbiguousColumn", (" " * 65 + "^", "sources with this column:  x  y")),
         ("VALIDTIME SELECT name FROM emp, boss", "UnknownTable", (" " * 32 + "^", "tables:  emp")),
         ("VALIDTIME SELECT COUNT(*) FROM emp x, emp x", "DuplicateAlias", (" " * 38 + "^", "sources:  x  x")),
-        ("VALIDTIME SELECT name FROM emp WHERE name = 3", "TypeMismatch", (" " * 37 + "^", "a text is compared with a number")),
-        ("VALIDTIME SELECT SUM(emp) FROM emp", "SumNeedsGroup", (" " * 21 + "^", "a sum needs GROUP BY")),
-        ("VALIDTIME SELECT SUM(name) FROM emp GROUP BY dept", "SumOfText", (" " * 21 + "^", "a sum takes numbers, and this column holds texts")),
-        ("VALIDTIME PERIOD '[2 - 1)' SELECT name FROM emp", "BadWindow", (" " * 17 + "^", "a window is written '[10 - 20)' or '[10 - forever)', with its start before its end")),
+        ("VALIDTIME SELECT name FROM emp WHERE name = 3", "TypeMismatch", (" " * 37 + "^", "a text cannot be compared with a number")),
+        ("VALIDTIME SELECT SUM(emp) FROM emp", "SumNeedsGroup", (" " * 21 + "^", "SUM needs GROUP BY")),
+        ("VALIDTIME SELECT SUM(name) FROM emp GROUP BY dept", "SumOfText", (" " * 21 + "^", "SUM needs an int column; this one is text")),
+        ("VALIDTIME PERIOD '[2 - 1)' SELECT name FROM emp", "BadWindow", (" " * 17 + "^", "write the window as '[10 - 20)' or '[10 - forever)', with its start before its end")),
     ):
         detail = pointed(asked, shown[0].index("^")) + f"  {shown[1]}\n".encode()
         line = b"tq: plan " + kind.encode() + b"\n"
         for terminal, words in ((False, [*emp, "--explain", asked]), (True, [*emp, asked])):
             yield Case(f"a {kind} explained, terminal: {terminal}", words, err=line + detail, status=1, terminal=terminal)
     for asked, kind, rule in (
-        ("VALIDTIME SELECT name, COUNT(*) FROM emp", b"NotGrouped", b"beside GROUP BY, a count or a sum stand only columns of GROUP BY"),
-        ("VALIDTIME SELECT name FROM emp EXCEPT ALL SELECT emp FROM emp", b"UnequalColumns", b"both sides of EXCEPT ALL have as many columns, numbers and texts in the same order"),
+        ("VALIDTIME SELECT name, COUNT(*) FROM emp", b"NotGrouped", b"with GROUP BY, COUNT or SUM, a selected column must be in GROUP BY"),
+        ("VALIDTIME SELECT name FROM emp EXCEPT ALL SELECT emp FROM emp", b"UnequalColumns", b"both sides of EXCEPT ALL must have the same number and kinds of columns"),
     ):
         yield Case(f"{asked} explained", [*emp, "--explain", asked], err=b"tq: plan " + kind + b"\n  " + rule + b"\n", status=1)
     piped = ["ask", "--explain", "--table", "emp=-", "VALIDTIME SELECT emp.age FROM emp"]
@@ -789,41 +789,41 @@ def explained_answers():
 
 
 # Of a file at fault: its bytes, the fault's line, and what stands below it behind the file's path.
-AN_INT = b"digits, or - and digits, from -9223372036854775808 to 9223372036854775807"
-A_HEADER = b"a header is NAME:int or NAME:text for each column, an int first, and then from,to"
+AN_INT = b"write digits, or - and digits, from -9223372036854775808 to 9223372036854775807"
+A_HEADER = b"write the header as NAME:int or NAME:text for each column, an int first, then from,to"
 EXPLAINED_FILES = [
-    (SMALL + b"1,x,0\n", b"FieldCount table 0 record 2", b", line 2: fields here: 3, in the header: 4"),
-    (SMALL + b"1,x,0,1\n1,x,y,0,1\n", b"FieldCount table 0 record 3", b", line 3: fields here: 5, in the header: 4"),
-    (SMALL + b"12.50,x,0,1\n", b"BadInt table 0 record 2", b", line 2: k `12.50` is no int: " + AN_INT),
+    (SMALL + b"1,x,0\n", b"FieldCount table 0 record 2", b", line 2: the header has 4 fields, but this record has 3"),
+    (SMALL + b"1,x,0,1\n1,x,y,0,1\n", b"FieldCount table 0 record 3", b", line 3: the header has 4 fields, but this record has 5"),
+    (SMALL + b"12.50,x,0,1\n", b"BadInt table 0 record 2", b", line 2: k `12.50` is not an int: " + AN_INT),
     (SMALL + b",x,0,1\n", b"BadInt table 0 record 2", b", line 2: k is empty: " + AN_INT),
-    (SMALL + b"1\x1b[7m,x,0,1\n", b"BadInt table 0 record 2", b", line 2: k `1?[7m` is no int: " + AN_INT),
-    (b"k:int,pay:int,from,to\n1,1e3,9,9\n", b"BadInt table 0 record 2", b", line 2: pay `1e3` is no int: " + AN_INT),
-    (SMALL + b"1,\xff,0,1\n", b"NotUtf8 table 0 record 2", b", line 2: v `\xff` is no UTF-8: a text is in UTF-8"),
+    (SMALL + b"1\x1b[7m,x,0,1\n", b"BadInt table 0 record 2", b", line 2: k `1?[7m` is not an int: " + AN_INT),
+    (b"k:int,pay:int,from,to\n1,1e3,9,9\n", b"BadInt table 0 record 2", b", line 2: pay `1e3` is not an int: " + AN_INT),
+    (SMALL + b"1,\xff,0,1\n", b"NotUtf8 table 0 record 2", b", line 2: v `\xff` is not valid UTF-8: save the file as UTF-8"),
     (SMALL + b"1," + 1001 * b"x" + b",0,1\n", b"TextTooLong table 0 record 2", b", line 2: v `" + 60 * b"x" + b"..` is too long: a text has at most 1,000 bytes"),
-    (SMALL + b"1,x,2020-01-31,forever\n", b"BadPeriod table 0 record 2", b", line 2: from `2020-01-31` is a date: with --dates instants are dates"),
-    (SMALL + b"1,x,0,2020-01-31\n", b"BadPeriod table 0 record 2", b", line 2: to `2020-01-31` is a date: with --dates instants are dates"),
-    (SMALL + b"1,x,,9\n", b"BadPeriod table 0 record 2", b", line 2: from is empty: digits, at most 999,999,999,999"),
-    (SMALL + b"1,x,forever,forever\n", b"BadPeriod table 0 record 2", b", line 2: from `forever` is no instant: digits, at most 999,999,999,999"),
-    (SMALL + b"1,x,9,\n", b"BadPeriod table 0 record 2", b", line 2: to is empty: an open end is written forever"),
-    (SMALL + b"1,x,9,never\n", b"BadPeriod table 0 record 2", b", line 2: to `never` is no instant: digits, at most 999,999,999,999, or forever"),
+    (SMALL + b"1,x,2020-01-31,forever\n", b"BadPeriod table 0 record 2", b", line 2: from `2020-01-31` is a date: use --dates for files with dates"),
+    (SMALL + b"1,x,0,2020-01-31\n", b"BadPeriod table 0 record 2", b", line 2: to `2020-01-31` is a date: use --dates for files with dates"),
+    (SMALL + b"1,x,,9\n", b"BadPeriod table 0 record 2", b", line 2: from is empty: write digits, from 0 to 999999999999"),
+    (SMALL + b"1,x,forever,forever\n", b"BadPeriod table 0 record 2", b", line 2: from `forever` is not a valid instant: write digits, from 0 to 999999999999"),
+    (SMALL + b"1,x,9,\n", b"BadPeriod table 0 record 2", b", line 2: to is empty: write forever for an open end"),
+    (SMALL + b"1,x,9,never\n", b"BadPeriod table 0 record 2", b", line 2: to `never` is not a valid instant: write digits, from 0 to 999999999999, or forever"),
     (SMALL + b"1,x,9,5\n", b"BadPeriod table 0 record 2", b", line 2: from `9` is not before to `5`"),
     (SMALL + b'1,"a\nb",0,1\n\n2,x,9,9\n', b"BadPeriod table 0 record 3", b", line 5: from `9` is not before to `9`"),
-    (SMALL + b'1,x,0,1\n"\n2",x,0,1\n', b"BadInt table 0 record 3", b", line 3: k `?2` is no int: " + AN_INT),
-    (b"\xef\xbb\xbf" + SMALL + b"x,x,0,1\n", b"BadInt table 0 record 2", b", line 2: k `x` is no int: " + AN_INT),
+    (SMALL + b'1,x,0,1\n"\n2",x,0,1\n', b"BadInt table 0 record 3", b", line 3: k `?2` is not an int: " + AN_INT),
+    (b"\xef\xbb\xbf" + SMALL + b"x,x,0,1\n", b"BadInt table 0 record 2", b", line 2: k `x` is not an int: " + AN_INT),
     (b"\r\n" + SMALL.replace(b"\n", b"\r\n") + b"1,x,0,1\r\n\r\n1,x,0,0\r\n", b"BadPeriod table 0 record 3", b", line 5: from `0` is not before to `0`"),
     (b"", b"BadHeader table 0 record 1", b": " + A_HEADER),
-    (b"\nid,v,start,end\n", b"BadHeader table 0 record 1", b", line 2: `id` is no column: " + A_HEADER),
-    (b"k:int,v:float,from,to\n", b"BadHeader table 0 record 1", b", line 1: `v:float` is no column: " + A_HEADER),
-    (b"v:text,k:int,from,to\n", b"BadHeader table 0 record 1", b", line 1: `v:text` is no column: " + A_HEADER),
+    (b"\nid,v,start,end\n", b"BadHeader table 0 record 1", b", line 2: invalid column `id`: " + A_HEADER),
+    (b"k:int,v:float,from,to\n", b"BadHeader table 0 record 1", b", line 1: invalid column `v:float`: " + A_HEADER),
+    (b"v:text,k:int,from,to\n", b"BadHeader table 0 record 1", b", line 1: invalid column `v:text`: " + A_HEADER),
     (b"k:int,v:text,start,end\n", b"BadHeader table 0 record 1", b", line 1: " + A_HEADER),
-    (2 * b"\xef\xbb\xbf" + SMALL, b"BadHeader table 0 record 1", b", line 1: two byte order marks begin the file, and one may"),
-    (b"k:int,K:text,from,to\n", b"DuplicateName table 0 record 1", b", line 1: `K:text` is no column: two columns have one name"),
+    (2 * b"\xef\xbb\xbf" + SMALL, b"BadHeader table 0 record 1", b", line 1: the file begins with two byte order marks: remove one"),
+    (b"k:int,K:text,from,to\n", b"DuplicateName table 0 record 1", b", line 1: invalid column `K:text`: two columns have the same name"),
     (17 * b"k:int," + b"from,to\n", b"TooManyColumns table 0 record 1", b", line 1: there are more than 16 columns before from,to"),
 ]
 EXPLAINED_DATES = [
-    (SMALL + b"1,x,2023-02-29,forever\n", b"BadPeriod table 0 record 2", b", line 2: from `2023-02-29` is no date: a day of the calendar, YYYY-MM-DD"),
-    (SMALL + b"1,x,2023-02-28,20\n", b"BadPeriod table 0 record 2", b", line 2: to `20` is no date: a day of the calendar, YYYY-MM-DD, or forever"),
-    (SMALL + b"1,x,2023-02-28,\n", b"BadPeriod table 0 record 2", b", line 2: to is empty: an open end is written forever"),
+    (SMALL + b"1,x,2023-02-29,forever\n", b"BadPeriod table 0 record 2", b", line 2: from `2023-02-29` is not a valid date: write a day of the calendar, YYYY-MM-DD"),
+    (SMALL + b"1,x,2023-02-28,20\n", b"BadPeriod table 0 record 2", b", line 2: to `20` is not a valid date: write a day of the calendar, YYYY-MM-DD, or forever"),
+    (SMALL + b"1,x,2023-02-28,\n", b"BadPeriod table 0 record 2", b", line 2: to is empty: write forever for an open end"),
     (SMALL + b"1,x,2023-02-28,2023-02-28\n", b"BadPeriod table 0 record 2", b", line 2: from `2023-02-28` is not before to `2023-02-28`"),
 ]
 
@@ -848,9 +848,9 @@ def explained_files():
     told = b"tq: load BadPeriod table 1 record 3\n  ROOM/1.csv, line 3: from `1` is not before to `1`\n"
     yield ask("the second of three files, explained", second, asked, ["--explain"], err=told, status=1)
     named = [("a", SMALL), ("A", SMALL)]
-    told = b"tq: load DuplicateName table 1 record 0\n  ROOM/1.csv: two tables have this name\n"
+    told = b"tq: load DuplicateName table 1 record 0\n  ROOM/1.csv: two tables have the same name\n"
     yield ask("two tables of one name, explained", named, asked, ["--explain"], err=told, status=1)
-    told = b"tq: load BadHeader table 0 record 0\n  ROOM/0.csv: a table's name is a letter or _, then letters, digits or _, and no word of the language\n"
+    told = b"tq: load BadHeader table 0 record 0\n  ROOM/0.csv: a table name is a letter or _, then letters, digits or _, at most 64 in all, and not a reserved word\n"
     yield ask("a word of the language as a table, explained", [("select", SMALL)], asked, ["--explain"], err=told, status=1)
     told = b"tq: load TooManyTables table 16 record 0\n  ROOM/16.csv: there are more than 16 tables\n"
     yield ask("seventeen tables, explained", numbered(17), asked, ["--explain"], err=told, status=1)
@@ -865,10 +865,10 @@ def further_faults():
     for behind, more in (
         (b"", b""),
         (3 * good, b""),
-        (good + b"2,x,y,0,1\n" + good, b", and 1 more record is at fault"),
-        (b"a,x,0,1\n" + good + b"1,\xff,0,1\n1," + 1001 * b"x" + b",0,1\n2,x,1,0\n\n1\n", b", and 5 more records are at fault"),
-        (b'"\n",x,0,1\n' * 150 + good, b", and 150 more records are at fault"),
-        (b'1,"x,9,9\n1,x,9,9\n', b", and 1 more record is at fault"),
+        (good + b"2,x,y,0,1\n" + good, b", and 1 more record is invalid"),
+        (b"a,x,0,1\n" + good + b"1,\xff,0,1\n1," + 1001 * b"x" + b",0,1\n2,x,1,0\n\n1\n", b", and 5 more records are invalid"),
+        (b'"\n",x,0,1\n' * 150 + good, b", and 150 more records are invalid"),
+        (b'1,"x,9,9\n1,x,9,9\n', b", and 1 more record is invalid"),
     ):
         tables = [("d", SMALL + good + b"1,x,9,9\n" + behind)]
         line = b"tq: load BadPeriod table 0 record 3\n"
@@ -876,10 +876,10 @@ def further_faults():
         yield ask(f"{behind[-40:]!r} behind a fault, in a terminal", tables, asked, err=line + b"  ROOM/0.csv" + told + more + b"\n", status=1, terminal=True)
         yield ask(f"{behind[-40:]!r} behind a fault, in a pipe", tables, asked, err=line, status=1)
     dated = [("d", SMALL + b"1,x,5,9\n1,x,2024-02-29,forever\n1,x,5,2024-03-01\n")]
-    below = b"tq: load BadPeriod table 0 record 2\n  ROOM/0.csv, line 2: from `5` is no date: a day of the calendar, YYYY-MM-DD, and 1 more record is at fault\n"
+    below = b"tq: load BadPeriod table 0 record 2\n  ROOM/0.csv, line 2: from `5` is not a valid date: write a day of the calendar, YYYY-MM-DD, and 1 more record is invalid\n"
     yield ask("dates behind a fault", dated, asked, ["--dates", "--explain"], err=below, status=1)
     second = [("a", SMALL + b"1,x,0,1\n"), ("d", SMALL + b"1,x,1,1\n1,x,2,2\n"), ("c", SMALL + b"1,x,3,3\n")]
-    below = b"tq: load BadPeriod table 1 record 2\n  ROOM/1.csv, line 2: from `1` is not before to `1`, and 1 more record is at fault\n"
+    below = b"tq: load BadPeriod table 1 record 2\n  ROOM/1.csv, line 2: from `1` is not before to `1`, and 1 more record is invalid\n"
     yield ask("faults of the second of three files", second, asked, ["--explain"], err=below, status=1)
 
 
@@ -889,14 +889,14 @@ def each_fault():
     several = SMALL + good + b'2,"a\nb",9,9\n\nx,y,0,1\n' + good + b"1,\xff,0,1\n1\n1,x,2020-01-31,forever\n"
     listed = (
         b"emp record 3, line 3: from `9` is not before to `9`\n"
-        b"emp record 4, line 6: k `x` is no int: " + AN_INT + b"\n"
-        b"emp record 6, line 8: v `\xff` is no UTF-8: a text is in UTF-8\n"
-        b"emp record 7, line 9: fields here: 1, in the header: 4\n"
-        b"emp record 8, line 10: from `2020-01-31` is a date: with --dates instants are dates\n"
+        b"emp record 4, line 6: k `x` is not an int: " + AN_INT + b"\n"
+        b"emp record 6, line 8: v `\xff` is not valid UTF-8: save the file as UTF-8\n"
+        b"emp record 7, line 9: the header has 4 fields, but this record has 1\n"
+        b"emp record 8, line 10: from `2020-01-31` is a date: use --dates for files with dates\n"
     )
     line = b"tq: load BadPeriod table 0 record 3\n"
     yield check("records at fault", [("emp", several)], out=listed, err=line, status=1)
-    more = b"  ROOM/0.csv, line 3: from `9` is not before to `9`, and 4 more records are at fault\n"
+    more = b"  ROOM/0.csv, line 3: from `9` is not before to `9`, and 4 more records are invalid\n"
     yield check("records at fault at a terminal", [("emp", several)], out=listed, err=line + more, status=1, terminal=True)
     for workers in ("2", "16"):
         yield check(f"records at fault by {workers} workers", [("emp", several)], ["--workers", workers], out=listed, err=line, status=1)
@@ -905,28 +905,28 @@ def each_fault():
     yield check("a name is listed as it was given", [("Emp", several)], out=listed.replace(b"emp record", b"Emp record"), err=line, status=1)
     broken = b"emp record 3, line 3: from `25` is not before to `15`\n"
     yield Case("a record at fault of a file", ["check", "--table", "emp=examples/broken.csv"], out=broken, err=line, status=1)
-    for count, rest in ((100, b""), (101, b"t: 1 more record is at fault\n"), (350, b"t: 250 more records are at fault\n")):
+    for count, rest in ((100, b""), (101, b"t: 1 more record is invalid\n"), (350, b"t: 250 more records are invalid\n")):
         content = SMALL + good + count * b"1,x,7,7\r\n\r\n" + good
         out = b"".join(b"t record %d, line %d: from `7` is not before to `7`\n" % (3 + n, 3 + 2 * n) for n in range(100)) + rest
         yield check(f"{count} records at fault", [("t", content)], out=out, err=b"tq: load BadPeriod table 0 record 3\n", status=1)
     tables = [("a", SMALL + good), ("b", SMALL + b"1,x,1,1\n" + good), ("c", b"\nk:int,v:float,from,to\n"), ("d", SMALL + b"1,x,0,1\n,,,\n")]
     out = (
         b"b record 2, line 2: from `1` is not before to `1`\n"
-        b"c record 1, line 2: `v:float` is no column: " + A_HEADER + b"\n"
+        b"c record 1, line 2: invalid column `v:float`: " + A_HEADER + b"\n"
         b"d record 3, line 3: k is empty: " + AN_INT + b"\n"
     )
     yield check("records at fault of several tables", tables, out=out, err=b"tq: load BadPeriod table 1 record 2\n", status=1)
-    out = b"c record 1, line 1: two columns have one name\n".replace(b"two", b"`K:text` is no column: two", 1)
+    out = b"c record 1, line 1: two columns have the same name\n".replace(b"two", b"invalid column `K:text`: two", 1)
     yield check("a header at fault", [("c", b"k:int,K:text,from,to\nx\n")], out=out, err=b"tq: load DuplicateName table 0 record 1\n", status=1)
     yield check("no header", [("c", b"")], out=b"c record 1: " + A_HEADER + b"\n", err=b"tq: load BadHeader table 0 record 1\n", status=1)
-    out = b"c record 1, line 1: two byte order marks begin the file, and one may\n"
+    out = b"c record 1, line 1: the file begins with two byte order marks: remove one\n"
     yield check("two byte order marks", [("c", 2 * b"\xef\xbb\xbf" + SMALL)], out=out, err=b"tq: load BadHeader table 0 record 1\n", status=1)
-    out = b"c record 2, line 2: k `x` is no int: " + AN_INT + b"\n"
+    out = b"c record 2, line 2: k `x` is not an int: " + AN_INT + b"\n"
     yield check("a byte order mark", [("c", b"\xef\xbb\xbf" + SMALL + b"x,x,0,1\n")], out=out, err=b"tq: load BadInt table 0 record 2\n", status=1)
-    out = b"c record 2, line 2: k `?1?` is no int: " + AN_INT + b"\n"
+    out = b"c record 2, line 2: k `?1?` is not an int: " + AN_INT + b"\n"
     yield check("hidden characters in a record at fault", [("c", SMALL + "\u202e1\x85,x,0,1\n".encode())], out=out, err=b"tq: load BadInt table 0 record 2\n", status=1)
     yield check("a name at fault, and a record", [("select", SMALL + b"1\n")], err=b"tq: load BadHeader table 0 record 0\n", status=1)
-    out = b"d record 2, line 2: from `0` is no date: a day of the calendar, YYYY-MM-DD\n"
+    out = b"d record 2, line 2: from `0` is not a valid date: write a day of the calendar, YYYY-MM-DD\n"
     yield check("records at fault in dates", [("d", SMALL + good)], ["--dates"], out=out, err=b"tq: load BadPeriod table 0 record 2\n", status=1)
     for to in (FULL, UNREAD, CLOSED):
         yield Case(f"records at fault where the output is {to}", ["check", "--table", "emp=examples/broken.csv"], err=line, status=1, to=to)
@@ -935,10 +935,10 @@ def each_fault():
 def unread_files():
     """Why a file cannot be read, where that is asked for, and in a pipe the line alone."""
     for path, reason in (
-        ("ROOM/none.csv", b"there is no such file or directory"),
-        ("ROOM/emp.csv/none", b"there is no such file or directory"),
+        ("ROOM/none.csv", b"no such file or directory"),
+        ("ROOM/emp.csv/none", b"no such file or directory"),
         ("ROOM", b"it is a directory"),
-        (b"no\xff.csv", b"its path is no UTF-8"),
+        (b"no\xff.csv", b"the path is not valid UTF-8"),
     ):
         shown = path if isinstance(path, bytes) else path.encode()
         word = b"emp=" + shown if isinstance(path, bytes) else f"emp={path}"

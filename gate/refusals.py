@@ -4,12 +4,12 @@
     gate/refusals.py PROGRAM TESTS.. [--all]
 
 gate/refusing.c, a malloc, is built with the toolchain's own compiler and loaded before the C library's. TESTS, the
-programs tq_tests_faults and tq_tests_crowd, tell it which growths it is to refuse: each in turn, in each call that
-their scripts try so. PROGRAM, tq, knows nothing of it: of one run after another a growth of the whole run is refused,
-once alone and once with all that follow it. A command is answered as its page says, or says that there is no memory,
-with nothing written before. A session says so before its first line, or refuses lines for it: all others are replied
-to as if these had not been there, and such a line is replied to where it comes again. Of the growths of a run at most
-200 are refused, spread over all of them; with --all each is.
+programs tq_tests_faults and tq_tests_concurrency, tell it which growths it is to refuse: each in turn, in each call
+that their scripts try so. PROGRAM, tq, knows nothing of it: of one run after another a growth of the whole run is
+refused, once alone and once with all that follow it. A command is answered as its page says, or says that there is no
+memory, with nothing written before. A session says so before its first line, or refuses lines for it: all others are
+replied to as if these had not been there, and such a line is replied to where it comes again. Of the growths of a run
+at most 200 are refused, spread over all of them; with --all each is.
 
 Each failed run has one line; the last line is 'N passed, M failed'.
 """
@@ -28,7 +28,7 @@ from program import ROOT, SECONDS, cases_of_page
 CHOICE = 200
 # Of each program of tests where the part of its script begins in which growths are refused, and how many are, and how
 # many calls answer that there is no memory, at least.
-TESTS = {"tq_tests_faults": (b"", 1_000), "tq_tests_crowd": (b"# Pieces of work", 500)}
+TESTS = {"tq_tests_faults": (b"", 1_000), "tq_tests_concurrency": (b"# Pieces of work", 500)}
 # Of each part at most so many faults are shown.
 SHOWN = 10
 # The reply to a line of a session that finds no memory, and what a program says that ends for want of it.

@@ -1,5 +1,5 @@
 // A malloc that refuses growths, loaded before the C library's by gate/refusals.py (LD_PRELOAD). It is no part of the
-// program: crates/tq_tests_help/src/refusal.rt has the other side.
+// program: crates/tq_tests_script/src/refusal.rt has the other side.
 //
 // Which growth is refused is said by the sizes of blocks that are asked for. A block of MARK + 2 n bytes, n > 0, says
 // that of the growths to come the nth is refused; of MARK + 2 n + 1 bytes, that each from the nth on is. A block of

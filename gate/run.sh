@@ -2,9 +2,13 @@
 # The gate: `rt ci`, which proves every crate and its tests from nothing, tries the must-fail edits and runs
 # tests and programs; then the cases of gate/cases.py, put to the program that it built; runs of it in
 # little memory; and growths of memory that are refused to it and to programs of tests. The last line sums all.
+# Each line of a part begins with the minutes since the start; gate/times.py makes a table of them. With --anew what
+# earlier runs proved is proved again.
 set -uo pipefail
 cd "$(dirname "$0")/.."
 
+begin=$(date +%s)
+echo "full check of $(git rev-parse --short HEAD 2> /dev/null || echo 'no commit') on $(date -u +%F), $(nproc) processors"
 said=$(mktemp)
 trap 'rm -f "$said"' EXIT
 passed=0
@@ -12,7 +16,7 @@ failed=0
 
 # Runs a part of the gate, shows what it says, and adds the numbers of its last line.
 part() {
-    "$@" 2>&1 | tee "$said"
+    "$@" 2>&1 | tee "$said" | gate/stamp.py $$ "$begin"
     local status=${PIPESTATUS[0]}
     if [[ $(tail -n 1 "$said") =~ ^([0-9]+)\ passed,\ ([0-9]+)\ failed$ ]]; then
         passed=$((passed + BASH_REMATCH[1]))
@@ -27,9 +31,9 @@ part() {
     fi
 }
 
-part rt ci
+part rt ci "$@"
 part gate/program.py crates/tq/out/tq
 part gate/limits.py crates/tq/out/tq
-part gate/refusals.py crates/tq/out/tq crates/tq_tests_faults/out/tq_tests_faults crates/tq_tests_crowd/out/tq_tests_crowd
+part gate/refusals.py crates/tq/out/tq crates/tq_tests_faults/out/tq_tests_faults crates/tq_tests_concurrency/out/tq_tests_concurrency
 echo "$passed passed, $failed failed"
 ((failed == 0))

@@ -3,9 +3,9 @@
 
     gate/soak.py MINUTES [SEED]
 
-It has tq_tests_crowd hold rounds of bounded length one after another, each with a seed of its own, and ends with the
-numbers of asks, of publishes and of differences. Its status is 1 where there are differences, and where a round does
-not end or says nothing.
+It has tq_tests_concurrency hold rounds of bounded length one after another, each with a seed of its own, and ends with
+the numbers of asks, of publishes and of differences. Its status is 1 where there are differences, and where a round
+does not end or says nothing.
 """
 
 import re
@@ -14,7 +14,8 @@ import sys
 import time
 from pathlib import Path
 
-AT = Path(__file__).resolve().parent.parent / "crates" / "tq_tests_crowd"
+ROOT = Path(__file__).resolve().parent.parent
+TESTS = "tq_tests_concurrency"
 # Of each round: how many random events, and questions of each reader.
 EVENTS, ASKS = 4000, 200
 # A round that is not done after so many seconds has failed; every so many seconds it is told how far the soak is.
@@ -24,8 +25,8 @@ NUMBERS = re.compile(rb"\+ (\d+) asks, (\d+) publishes, (\d+) differences\n")
 
 def table():
     """The block that makes the table, as the full check's rounds have it."""
-    script = (AT / "stdin").read_bytes()
-    start = script.index(b"table emp\n")
+    script = (ROOT / "crates" / TESTS / "stdin").read_bytes()
+    start = script.index(b"table emp\n", script.index(b"# Staff: the events are"))
     return script[start : script.index(b"\n\n", start) + 2]
 
 
@@ -33,7 +34,7 @@ def hold(made, seed):
     """The numbers of asks, publishes and differences of the round of this seed."""
     taken = made + f"soak {seed} {EVENTS} {ASKS}\n".encode()  # no output is expected, so all of it is shown
     how = {"stdout": subprocess.PIPE, "stderr": subprocess.DEVNULL, "timeout": SECONDS}
-    ran = subprocess.run([AT / "out" / AT.name], input=taken, **how)
+    ran = subprocess.run([ROOT / "bin" / TESTS], input=taken, **how)
     found = NUMBERS.search(ran.stdout)
     if ran.returncode != 0 or not found:
         sys.exit(f"the round of seed {seed} ended with status {ran.returncode}: {ran.stdout[-200:]!r}")

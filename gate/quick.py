@@ -1,0 +1,253 @@
+#!/usr/bin/env python3
+"""The quick check: builds tq and the test programs without proofs, and puts their cases to them.
+
+    gate/quick.py [--jobs N] [--all] [CRATE ..]
+
+`rt try` builds each crate with all libraries below it and runs it. It proves nothing. Its build stops at an overflow,
+an index out of bounds, a failed unwrap and a bad access. The crates are found by their files:
+
+- a program with the files `stdin` and `stdout`: a test script, which must print what `stdout` holds;
+- a crate with #[test] functions: `rt try --test` runs them;
+- tq: the cases of gate/cases.py and the commands of the pages that need no terminal, no shell and no special standard
+  output (see `is_possible`). `rt try` takes more than a second for each, so only every third one is put, and all with --all.
+
+N builds are made concurrently, by default one for each processor. With names, only these crates are checked. Each failed
+case is printed. The last line is 'quick: N passed, M failed; nothing was proved'. The exit status is 1 if a case failed.
+"""
+
+import argparse
+import os
+import re
+import subprocess
+import sys
+import tempfile
+import threading
+import time
+from concurrent.futures import ThreadPoolExecutor, as_completed
+from dataclasses import dataclass, field
+from functools import partial
+from pathlib import Path
+
+import cases
+import program
+from build import PROGRAM, libraries, lines_of, lowest_first
+from cases import Case
+from program import ROOT
+
+# `rt try` also runs an interpreter, which finds nothing here that the build does not: it gets one step. The build is not
+# optimised, so a run may take 600 seconds.
+LIMITS = ["--steps", "1", "--seconds", "600"]
+# The most bytes of a case's files, and of its output: `rt try` gives no answer past 1 MiB, and its build is slow.
+MOST = 1_000_000
+# At most this many lines are shown of a crate that failed.
+SHOWN = 60
+# One case of tq in this many is put, without --all.
+STRIDE = 3
+PAGES = ["README.md", "examples/payroll.md", "examples/dates.md", "examples/session.md"]
+
+SCRIPT_END = re.compile(rb"(\d+) passed, (\d+) failed\n\Z")
+TESTS_END = re.compile(rb"^test result: \w+\. (\d+) passed; (\d+) failed", re.MULTILINE)
+# The line of `rt try` after each case: its name, and how the run ended.
+CASE_END = re.compile(rb"^case=(\S+) run=(\S+)(?: status=(\d+))?.*\n", re.MULTILINE)
+
+
+@dataclass
+class Outcome:
+    """How many cases passed and failed, and the lines that say what is wrong."""
+
+    passed: int = 0
+    failed: int = 0
+    lines: list = field(default_factory=list)
+
+
+def put_last(running):
+    """Gives the lowest priority to the process in which `rt try` looks for reserved names while it builds."""
+    for _ in range(60):
+        time.sleep(0.5)
+        try:
+            for child in Path(f"/proc/{running.pid}/task/{running.pid}/children").read_text().split():
+                if b"--start" in Path(f"/proc/{child}/cmdline").read_bytes():
+                    os.setpriority(os.PRIO_PROCESS, int(child), 19)
+                    return
+        except OSError:
+            return
+
+
+def try_crate(crate, words, taken=b""):
+    """Runs `rt try` in the crate's folder: its status, standard output and standard error."""
+    how = {"stdin": subprocess.PIPE, "stdout": subprocess.PIPE, "stderr": subprocess.PIPE}
+    with subprocess.Popen(["rt", "try", *words], cwd=ROOT / "crates" / crate, **how) as running:
+        threading.Thread(target=put_last, args=(running,), daemon=True).start()
+        out, err = running.communicate(taken)
+    return running.returncode, out, err
+
+
+def lines_in(output):
+    return output.decode(errors="replace").splitlines()
+
+
+def options_of(folder):
+    """The options and words with which a program is run: its files data/ and args."""
+    words = [*LIMITS]
+    data = folder / "data"
+    for path in sorted(data.rglob("*")) if data.is_dir() else []:
+        if path.is_file():
+            words += ["--data", f"{path.relative_to(data)}={path}"]
+    args = folder / "args"
+    return [*words, "--", *args.read_text().splitlines()] if args.is_file() else words
+
+
+def check_script(crate):
+    """Runs a test script. Its output is compared with the file `stdout`."""
+    folder = ROOT / "crates" / crate
+    wanted = (folder / "stdout").read_bytes()
+    number = (folder / "status").read_text().strip() if (folder / "status").is_file() else "0"
+    status, out, err = try_crate(crate, options_of(folder), (folder / "stdin").read_bytes())
+    end = SCRIPT_END.search(out)
+    passed, failed = (int(end[1]), int(end[2])) if end else (0, 0)
+    if (status, out) == (int(number), wanted):
+        return Outcome(max(passed, 1), failed)
+    if failed or not end:
+        return Outcome(passed, max(failed, 1), [*lines_in(out)[:SHOWN], *lines_in(err)[-SHOWN:]])
+    return Outcome(passed, 1, [f"status {status}, and the last line is {lines_in(out)[-1]!r}: the file stdout has something else"])
+
+
+def check_tests(crate):
+    """Runs the #[test] functions of a crate."""
+    status, out, err = try_crate(crate, ["--test", *LIMITS])
+    end = TESTS_END.search(out) or TESTS_END.search(err)
+    passed, failed = (int(end[1]), int(end[2])) if end else (0, 0)
+    if status == 0 and passed and not failed:
+        return Outcome(passed)
+    said = [line for line in [*lines_in(out), *lines_in(err)] if not line.endswith(" ... ok")]
+    return Outcome(passed, max(failed, 1), said[-SHOWN:])
+
+
+def is_possible(case):
+    """Whether `rt try --cases` can put the case: it has no terminal, no memory limit, no special standard output, no word with
+    a line end or without a meaning in UTF-8, and neither large files nor a large output."""
+    is_plain = case.to is None and case.memory is None and not case.terminal
+    is_text = not any(isinstance(word, bytes) or "\n" in word or "\r" in word or word == "{}" for word in case.words)
+    sizes = [content if isinstance(content, int) else len(content) for content in case.files.values()]
+    return is_plain and is_text and max(sum(sizes), len(case.out or b"")) <= MOST
+
+
+def cases_of_program():
+    """The cases of tq, and how many others are left out."""
+    table = [case for page in PAGES for case in program.cases_of_page(ROOT / page)]
+    table += [program.image_of_the_front_page(), *cases.table()]
+    folder = ROOT / "crates" / PROGRAM
+    words = (folder / "args").read_text().splitlines()
+    files = {path.name: path.read_bytes() for path in (folder / "data").iterdir()}
+    named = [word if word not in files else f"ROOM/{word}" for word in (re.sub(r"=(\S+\.csv)$", r"=ROOM/\1", w) for w in words)]
+    table.append(Case("the crate's file args", named, out=(folder / "stdout").read_bytes(), files=files))
+    possible = [case for case in table if is_possible(case)]
+    return possible, len(table) - len(possible)
+
+
+def write_case(case, name, room):
+    """Writes a case for `rt try --cases`: its input and its words. The result is the standard error that is expected."""
+    files = room / "files" / name
+    files.mkdir(parents=True)
+    program.make_files(case, files)
+    (room / "cases" / name).write_bytes(case.taken)
+    (room / "cases" / f"{name}.args").write_text("".join(word.replace("ROOM", str(files)) + "\n" for word in case.words))
+    return case.err.replace(b"ROOM", str(files).encode())
+
+
+def outputs_of(out):
+    """The outputs that `rt try` prints, by the case's name. It ends a last line that has no end."""
+    parts = re.split(rb"^== (case-\d+)\n", out, flags=re.MULTILINE)
+    return dict(zip((name.decode() for name in parts[1::2]), parts[2::2]))
+
+
+def faults_of(case, wanted, found, said, out):
+    """What is wrong with a run of a case: `found` is its line, `said` is its standard error."""
+    if found[2] != b"ended":
+        return [f"run={found[2].decode()}", *lines_in(said)[-10:]]
+    faults = [f"{held!r} is missing in the output" for held in case.holds if held not in out]
+    if int(found[3]) != case.status:
+        faults.append(f"status {int(found[3])}, not {case.status}")
+    if case.out is not None and out not in (case.out, case.out + b"\n"):
+        faults.append(f"output {out[:200]!r}, not {case.out[:200]!r}")
+    if case.timed:
+        said = program.TOOK.sub(b"SECONDS", said)
+    if said != wanted:
+        faults.append(f"standard error {said[:200]!r}, not {wanted[:200]!r}")
+    return faults
+
+
+def check_program(crate, stride):
+    """Puts one in `stride` of the cases of gate/ to tq."""
+    table, left_out = cases_of_program()
+    left_out += len(table) - len(table[::stride])
+    table = table[::stride]
+    with tempfile.TemporaryDirectory(prefix="tq-") as folder:
+        room = Path(folder)
+        (room / "cases").mkdir()
+        names = [f"case-{place:04}" for place in range(len(table))]
+        wanted = [write_case(case, name, room) for case, name in zip(table, names)]
+        words = [*LIMITS, "--cases", str(room / "cases")]
+        for path in sorted((ROOT / "examples").iterdir()):
+            words += ["--data", f"examples/{path.name}={path}"]
+        status, out, err = try_crate(crate, words)
+    outputs, ends = outputs_of(out), list(CASE_END.finditer(err))
+    if [end[1].decode() for end in ends] != names:
+        return Outcome(0, 1, [f"{len(ends)} of {len(names)} cases were run, status {status}", *lines_in(err)[-SHOWN:]])
+    outcome, start = Outcome(lines=[f"{left_out} other cases are left to gate/program.py"]), 0
+    for case, name, its_error, end in zip(table, names, wanted, ends):
+        faults = faults_of(case, its_error, end, err[start : end.start()], outputs.get(name, b""))
+        start = end.end()
+        outcome.passed += not faults
+        outcome.failed += bool(faults)
+        if faults:
+            outcome.lines.append(f"{case.name[:120]}: {'; '.join(faults)}")
+    return outcome
+
+
+def checks(stride):
+    """Each crate with cases, with a title and a call that checks it."""
+    for crate in libraries():
+        folder = ROOT / "crates" / crate
+        if crate == PROGRAM:
+            yield crate, crate, partial(check_program, crate, stride)
+        elif (folder / "stdin").is_file() and (folder / "stdout").is_file():
+            yield crate, crate, partial(check_script, crate)
+        if any(b"#[test]" in path.read_bytes() for path in folder.glob("src/**/*.rt")):
+            yield crate, f"{crate} (tests)", partial(check_tests, crate)
+
+
+def main():
+    parser = argparse.ArgumentParser(description="builds tq and the test programs without proofs and runs their cases")
+    parser.add_argument("--jobs", type=int, default=len(os.sched_getaffinity(0)), help="crates built concurrently")
+    parser.add_argument("--all", action="store_true", help="put each case of tq that can be put")
+    parser.add_argument("crates", nargs="*", metavar="CRATE")
+    options = parser.parse_args()
+    named = libraries()
+    if unknown := [crate for crate in options.crates if crate not in named]:
+        sys.exit(f"crates.txt names no crate {unknown[0]}")
+    chosen = [check for check in checks(1 if options.all else STRIDE) if check[0] in options.crates or not options.crates]
+    # The largest first: the more lines a crate is built of, the longer its build takes.
+    weights = {crate: sum(map(lines_of, lowest_first(named, crate, []))) for crate, _, _ in chosen}
+    chosen.sort(key=lambda it: -weights[it[0]])
+    begun, total = time.monotonic(), Outcome()
+    with ThreadPoolExecutor(max(options.jobs, 1)) as pool:
+        running = {pool.submit(call): title for _, title, call in chosen}
+        try:
+            for done in as_completed(running):
+                outcome = done.result()
+                took = f"{time.monotonic() - begun:.0f} s"
+                print(f"{running[done]}: {outcome.passed} passed, {outcome.failed} failed (after {took})", flush=True)
+                for line in outcome.lines:
+                    print(f"    {line}", flush=True)
+                total.passed += outcome.passed
+                total.failed += outcome.failed
+        except KeyboardInterrupt:
+            pool.shutdown(cancel_futures=True)
+            sys.exit("stopped")
+    print(f"quick: {total.passed} passed, {total.failed} failed; nothing was proved")
+    return 1 if total.failed or not total.passed else 0
+
+
+if __name__ == "__main__":
+    sys.exit(main())
