@@ -17,7 +17,7 @@ import sys
 import tempfile
 from pathlib import Path
 
-import cases
+from generated import EMP
 from refusals import has_no_memory, report
 
 SECONDS = 120
@@ -183,7 +183,7 @@ def faults_of_stack(program, room):
 def main():
     program = str(Path(sys.argv[1]).resolve())
     with tempfile.TemporaryDirectory(prefix="tq-") as room:
-        (Path(room) / "emp.csv").write_bytes(cases.EMP)
+        (Path(room) / "emp.csv").write_bytes(EMP)
         (Path(room) / "large.csv").write_bytes(staff(2000))
         parts = [
             faults_of(program, name, [words[0], "--table", table, *words[1:]], more, taken, room)

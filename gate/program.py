@@ -1,5 +1,6 @@
 #!/usr/bin/env python3
-"""Puts the cases of cases.py, and each command that README.md, examples/ and docs/recipes.md print, to the program.
+"""Puts the cases of gate/cases/ and gate/generated.py, and each command that README.md, examples/ and docs/recipes.md
+print, to the program.
 
     gate/program.py PROGRAM
 
@@ -19,8 +20,10 @@ import termios
 import time
 from pathlib import Path
 
-import cases
-from cases import Case
+import generated
+import script
+from generated import ALL_NAMES, ask
+from script import Case
 
 ROOT = Path(__file__).resolve().parent.parent
 SECONDS = 120
@@ -94,9 +97,9 @@ def make_files(case, room):
 
 def standard_output(case):
     """Where the program writes: a pipe, a device that is full, or a pipe that nobody reads."""
-    if case.to == cases.FULL:
+    if case.to == script.FULL:
         return os.open("/dev/full", os.O_WRONLY)
-    if case.to == cases.UNREAD:
+    if case.to == script.UNREAD:
         read, write = os.pipe()
         os.close(read)
         return write
@@ -119,19 +122,20 @@ def prepare(case):
     """What is done in the new process before the program begins."""
     if case.memory:
         resource.setrlimit(resource.RLIMIT_AS, (case.memory, case.memory))
-    if case.to == cases.CLOSED:
+    if case.to == script.CLOSED:
         os.close(1)
 
 
 def run(program, case, room):
-    """What the program does with a case: its status, standard output and standard error."""
+    """What the program does with a case in this folder, which also gets examples/: its status, standard output and standard
+    error."""
+    (Path(room) / "examples").symlink_to(ROOT / "examples")
     make_files(case, Path(room))
-    words = [word if isinstance(word, bytes) else word.replace("ROOM", room) for word in case.words]
     out = standard_output(case)
     terminal, errors = pty.openpty() if case.terminal else (None, subprocess.PIPE)
     ran = subprocess.run(
-        [program, *words],
-        cwd=ROOT,
+        [program, *case.words],
+        cwd=room,
         input=case.taken,
         stdout=out,
         stderr=errors,
@@ -152,16 +156,15 @@ def faults_of(program, case):
             status, out, err = run(program, case, room)
         except subprocess.TimeoutExpired:
             return [f"it had not ended after {SECONDS} seconds"]
-        wanted = case.err.replace(b"ROOM", room.encode())
     faults = [f"{held!r} is missing in the output" for held in case.holds if held not in out]
     if status != case.status:
         faults.append(f"status {status}, not {case.status}")
     if case.out is not None and out != case.out:
         faults.append(f"output {out[:200]!r}, not {case.out[:200]!r}")
-    if case.timed:
+    if case.is_timed:
         err = TOOK.sub(b"SECONDS", err)
-    if err != wanted:
-        faults.append(f"standard error {err[:200]!r}, not {wanted[:200]!r}")
+    if err != case.err:
+        faults.append(f"standard error {err[:200]!r}, not {case.err[:200]!r}")
     return faults
 
 
@@ -174,12 +177,12 @@ def cases_of_help(program):
     for statement in parts["Statement"]:
         yield Case(f"help: {statement}", [*form, statement], out=None, holds=[b",from,to\n"])
     content = "".join(line + "\n" for line in parts["Table file"]).encode()
-    yield cases.ask("help: the file", [("emp", content)], cases.ALL_NAMES, out=b"name,from,to\nann,10,20\nbob,15,forever\n")
+    yield ask("help: the file", [("emp", content)], ALL_NAMES, out=b"name,from,to\nann,10,20\nbob,15,forever\n")
     tables = [("emp", "".join(line + "\n" for line in parts["Table file, with --dates"]).encode())]
     said = b"name,from,to\nann,2024-02-29,2024-07-01\nbob,2024-03-01,forever\n"
-    yield cases.ask("help: the file of dates", tables, cases.ALL_NAMES, ["--dates"], out=said)
+    yield ask("help: the file of dates", tables, ALL_NAMES, ["--dates"], out=said)
     for statement in parts["Statement, with --dates"]:
-        yield cases.ask(f"help: {statement}", tables, statement, ["--dates"], out=b"name,from,to\nann,2024-02-29,2024-03-01\n")
+        yield ask(f"help: {statement}", tables, statement, ["--dates"], out=b"name,from,to\nann,2024-02-29,2024-03-01\n")
 
 
 def recipes(program):
@@ -232,14 +235,14 @@ def question_that_takes_long(program):
     """A question whose file comes through a pipe, in two parts with more than a second between, with what is wrong with it:
     a terminal shows how far it is and has nothing left of that, and what is no terminal gets nothing."""
     text = (ROOT / "examples/emp.csv").read_bytes()
-    words = [program, "ask", "--table", "emp=examples/emp.csv", cases.ALL_NAMES]
+    words = [program, "ask", "--table", "emp=examples/emp.csv", ALL_NAMES]
     answer = subprocess.run(words, cwd=ROOT, stdin=subprocess.DEVNULL, stdout=subprocess.PIPE, timeout=SECONDS).stdout
     for name, on_terminal in (("a terminal", True), ("a file", False)):
         with tempfile.TemporaryDirectory() as room:
             pipe = f"{room}/emp.csv"
             os.mkfifo(pipe)
             terminal, errors = pty.openpty() if on_terminal else (None, subprocess.PIPE)
-            words = [program, "ask", "--table", f"emp={pipe}", cases.ALL_NAMES]
+            words = [program, "ask", "--table", f"emp={pipe}", ALL_NAMES]
             ran = subprocess.Popen(words, stdin=subprocess.DEVNULL, stdout=subprocess.PIPE, stderr=errors)
             with open(pipe, "wb", buffering=0) as into:
                 into.write(text[:40])
@@ -259,7 +262,7 @@ def question_that_takes_long(program):
 
 def image_of_the_front_page():
     """The image that README.md shows is the one that the program draws."""
-    words = ["draw", "--svg", "--table", "emp=examples/emp.csv", cases.ALL_NAMES]
+    words = ["draw", "--svg", "--table", "emp=examples/emp.csv", ALL_NAMES]
     return Case("examples/emp.svg", words, out=(ROOT / "examples/emp.svg").read_bytes())
 
 
@@ -269,7 +272,8 @@ def main():
     shown = {page: list(cases_of_page(ROOT / page)) for page in pages}
     shown["the help"] = list(cases_of_help(program))
     shown["examples/emp.svg"] = [image_of_the_front_page()]
-    table = [*(case for part in shown.values() for case in part), *cases.table()]
+    shown["gate/cases"] = script.table()
+    table = [*(case for part in shown.values() for case in part), *generated.table()]
     tried = [(case.name, faults_of(program, case)) for case in table]
     shown["docs/recipes.md"] = list(recipes(program))
     tried += [*shown["docs/recipes.md"], *made_pages(program), *session_at_a_terminal(program),

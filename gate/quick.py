@@ -8,8 +8,9 @@ an index out of bounds, a failed unwrap and a bad access. The crates are found b
 
 - a program with the files `stdin` and `stdout`: a test script, which must print what `stdout` holds;
 - a crate with #[test] functions: `rt try --test` runs them;
-- tq: the cases of gate/cases.py and the commands of the pages that need no terminal, no shell and no special standard
-  output (see `is_possible`). `rt try` takes more than a second for each, so only every third one is put, and all with --all.
+- tq: the cases of gate/cases/ and gate/generated.py and the commands of the pages that need no terminal, no shell and no
+  special standard output (see `is_possible`). `rt try` takes more than a second for each, so only every third one is put,
+  and all with --all.
 
 N builds are made concurrently, by default one for each processor. With names, only these crates are checked. Each failed
 case is printed. The last line is 'quick: N passed, M failed; nothing was proved'. The exit status is 1 if a case failed.
@@ -28,11 +29,12 @@ from dataclasses import dataclass, field
 from functools import partial
 from pathlib import Path
 
-import cases
+import generated
 import program
+import script
 from build import PROGRAM, libraries, lines_of, lowest_first
-from cases import Case
 from program import ROOT
+from script import Case
 
 # `rt try` also runs an interpreter, which finds nothing here that the build does not: it gets one step. The build is not
 # optimised, so a run may take 600 seconds.
@@ -135,14 +137,28 @@ def is_possible(case):
 def cases_of_program():
     """The cases of tq, and how many others are left out."""
     table = [case for page in PAGES for case in program.cases_of_page(ROOT / page)]
-    table += [program.image_of_the_front_page(), *cases.table()]
+    table += [program.image_of_the_front_page(), *script.table(), *generated.table()]
     folder = ROOT / "crates" / PROGRAM
     words = (folder / "args").read_text().splitlines()
     files = {path.name: path.read_bytes() for path in (folder / "data").iterdir()}
-    named = [word if word not in files else f"ROOM/{word}" for word in (re.sub(r"=(\S+\.csv)$", r"=ROOM/\1", w) for w in words)]
-    table.append(Case("the crate's file args", named, out=(folder / "stdout").read_bytes(), files=files))
+    table.append(Case("the crate's file args", words, out=(folder / "stdout").read_bytes(), files=files))
     possible = [case for case in table if is_possible(case)]
     return possible, len(table) - len(possible)
+
+
+def placed(case, folder):
+    """The words and the standard error of a case whose files are in this folder. `rt try` runs all cases in one other folder,
+    so the paths of tables become absolute, except those in examples/."""
+    words, err = [], case.err
+    for before, word in zip([None, *case.words], case.words):
+        front = "--table=" if word.startswith("--table=") else ""
+        name, _, path = word.removeprefix(front).partition("=")
+        if (front or before == "--table") and path not in ("", "-") and not path.startswith(("/", "examples/")):
+            word = f"{front}{name}={folder}/{path}"
+            line = rb"^(tq: cannot read |  )(?=" + re.escape(path.encode()) + rb"[,:\n])"
+            err = re.sub(line, lambda found: found[1] + f"{folder}/".encode(), err, flags=re.MULTILINE)
+        words.append(word)
+    return words, err
 
 
 def write_case(case, name, room):
@@ -150,9 +166,10 @@ def write_case(case, name, room):
     files = room / "files" / name
     files.mkdir(parents=True)
     program.make_files(case, files)
+    words, err = placed(case, files)
     (room / "cases" / name).write_bytes(case.taken)
-    (room / "cases" / f"{name}.args").write_text("".join(word.replace("ROOM", str(files)) + "\n" for word in case.words))
-    return case.err.replace(b"ROOM", str(files).encode())
+    (room / "cases" / f"{name}.args").write_text("".join(word + "\n" for word in words))
+    return err
 
 
 def outputs_of(out):
@@ -170,7 +187,7 @@ def faults_of(case, wanted, found, said, out):
         faults.append(f"status {int(found[3])}, not {case.status}")
     if case.out is not None and out not in (case.out, case.out + b"\n"):
         faults.append(f"output {out[:200]!r}, not {case.out[:200]!r}")
-    if case.timed:
+    if case.is_timed:
         said = program.TOOK.sub(b"SECONDS", said)
     if said != wanted:
         faults.append(f"standard error {said[:200]!r}, not {wanted[:200]!r}")

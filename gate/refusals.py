@@ -21,7 +21,7 @@ import sys
 import tempfile
 from pathlib import Path
 
-import cases
+import script
 from program import ROOT, SECONDS, cases_of_page
 
 # At most so many growths of a run are refused, spread over all of them.
@@ -29,6 +29,12 @@ CHOICE = 200
 # Of each program of tests where the part of its script begins in which growths are refused, and how many are, and how
 # many calls answer that there is no memory, at least.
 TESTS = {"tq_tests_faults": (b"", 1_000), "tq_tests_concurrency": (b"# Pieces of work", 500)}
+# Cases of gate/cases/: the script and the command.
+SCRIPT_CASES = (
+    ("draw.test", "tq draw --table emp=examples/emp.csv 'VALIDTIME SELECT name FROM emp'"),
+    ("check.test", "tq check --table emp=examples/emp.csv"),
+    ("check.test", "tq check --table emp=examples/broken.csv"),
+)
 # Of each part at most so many faults are shown.
 SHOWN = 10
 # The reply to a line of a session that finds no memory, and what a program says that ends for want of it.
@@ -195,7 +201,8 @@ def over_several_files(page):
 def commands(malloc, program):
     """The commands of README.md, the sessions of their own page, a picture and a check; questions by several workers too, and
     those over several files; and a check of a file at fault."""
-    for case in (next(cases.pictures()), next(cases.checks())):
+    for name, command in SCRIPT_CASES:
+        case = script.find(name, command)
         yield Command(malloc, [program, *case.words], case)
     for page in ("README.md", "examples/session.md"):
         for case in cases_of_page(ROOT / page):
@@ -205,9 +212,6 @@ def commands(malloc, program):
                 yield Command(malloc, [program, *case.words], case)
                 if case.words[0] == "ask":
                     yield Command(malloc, [program, "ask", "--workers", "3", *case.words[1:]], case)
-    for case in cases.each_fault():
-        if case.words[1:] == ["--table", "emp=examples/broken.csv"] and case.to is None:
-            yield Command(malloc, [program, *case.words], case)
     for case in over_several_files(ROOT / "docs" / "recipes.md"):
         yield Command(malloc, [program, "ask", "--workers", "3", *case.words[1:]], case)
 

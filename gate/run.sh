@@ -1,6 +1,6 @@
 #!/usr/bin/env bash
 # The gate: `rt ci`, which proves every crate and its tests from nothing, tries the must-fail edits and runs
-# tests and programs; then the cases of gate/cases.py, put to the program that it built; runs of it in
+# tests and programs; then the cases of gate/cases/ and gate/generated.py, put to the program that it built; runs of it in
 # little memory; and growths of memory that are refused to it and to programs of tests. The last line sums all.
 # Each line of a part begins with the minutes since the start; gate/times.py makes a table of them. With --anew what
 # earlier runs proved is proved again.
