@@ -113,7 +113,7 @@ pub fn count_levels(db: &Db) -> anyhow::Result<u64> {
 // Adds the numbers in the table's first column.
 fn add_numbers(table: &Table<'_>, found: &mut Found) {
     for line in 0..table.rows.len() {
-        match table.rows.row(line).at(0).as_ref() {
+        match table.rows.row(line).value(0).as_ref() {
             ValueRef::Int(number) => found.add(u64::try_from(number).unwrap_or(0)),
             ValueRef::Text(_) => found.add(0),
         }

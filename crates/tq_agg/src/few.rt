@@ -72,7 +72,7 @@ pub(crate) fn bucket_at(
     ensures changes_cut { (window : Period) → AreChangesCut window buckets.old.list.items → IfOk result (λ found. IfSome found (λ _. AreChangesCut window buckets.new.list.items)) }
     ensures weights { IfOk result (λ found. IfSome found (λ _. (f : ℤ → ℤ) (t : ℕ) (key : List Value) → weighed f column.now t key buckets.new.list.items ≡ weighed f column.now t key buckets.old.list.items)) }
 {
-    let prefix = normalized_key(column.at(row));
+    let prefix = normalized_key(column.value(row as usize));
     let place = place_of(&buckets.ranks, prefix);
     if place < buckets.ranks.len() && buckets.ranks[place] == prefix {
         return Ok(Some(place));
@@ -133,7 +133,7 @@ pub fn tally_rows(
     requires within { end ≤ length rows.now.items }
     ensures { IfOk result (λ buckets. buckets.is_whole ≡ true → IsTally rows.now.items window.now column start end buckets) }
 {
-    let view = rows.column(column);
+    let view = rows.column(column as usize);
     let periods = rows.periods();
     rows.len();
     let mut buckets = Tally {

@@ -34,7 +34,7 @@ pub(crate) fn weight(summand: Summand, row: &Row<'_>) -> i128
         Summand::One => return 1,
         Summand::Column(column) => column,
     };
-    number_of(row.at(column))
+    number_of(row.value(column as usize))
 }
 
 // What the rows add, row after row, in a column; no more of them where one has more than 64 signed bits. A sweep asks
@@ -42,11 +42,11 @@ pub(crate) fn weight(summand: Summand, row: &Row<'_>) -> i128
 fn weights_in(alloc: Global, rows: &Relation<'_>, column: u32) -> Result<Vec<i64>, AllocError>
     ensures { IfOk result (λ weights. AreWeights rows.now.items (Column column) weights.items) }
 {
-    let values = rows.column(column);
+    let values = rows.column(column as usize);
     let len = rows.len() as u32;
     let mut weights = Vec::with_capacity(alloc, rows.len())?;
     'rows: for row in 0..len {
-        match i64::try_from(number_of(values.at(row))) {
+        match i64::try_from(number_of(values.value(row as usize))) {
             Ok(weight) => weights.push(weight)?,
             Err(_) => break,
         }

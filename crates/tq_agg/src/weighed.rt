@@ -60,8 +60,8 @@ fn weigh_rows(
 ) -> Result<Tally, AllocError>
     ensures { IfOk result (λ buckets. buckets.is_whole ≡ true → AreWeighed rows.now.items window.now column summed buckets) }
 {
-    let view = rows.column(column);
-    let numbers = rows.column(summed);
+    let view = rows.column(column as usize);
+    let numbers = rows.column(summed as usize);
     let periods = rows.periods();
     rows.len();
     let mut buckets = Tally {
@@ -70,7 +70,7 @@ fn weigh_rows(
         is_whole: true,
     };
     'rows: for row in 0..periods.len() {
-        let Ok(weight) = i64::try_from(number_of(numbers.at(row as u32))) else {
+        let Ok(weight) = i64::try_from(number_of(numbers.value(row))) else {
             buckets.is_whole = false;
             return Ok(buckets);
         };

@@ -1,15 +1,14 @@
 //! Access to one column of a relation in loops over rows: the part, the place and the step are looked up once.
 
-ghost use Rattle.std.specs.Prelude.{◌≡◌, ◌+◌, ◌*◌, ◌<◌, ◌≤◌, ◌++◌, OnOk, length, map, pos, vec_capacity, vec_len};
+ghost use Rattle.std.specs.Prelude.{◌≡◌, ◌+◌, ◌≤◌, ◌++◌, OnOk, length, map, pos, vec_capacity, vec_len};
 ghost use Rattle.std.specs.List.{list_all, range_with_len};
-ghost use Rattle.std.specs.Option.{option_copied};
 ghost use Rattle.tq_base.specs.Contents.{Int};
 ghost use Rattle.tq_base.specs.KeyRanges.{is_number_in};
 ghost use Rattle.tq_base.specs.RowValues.{value_at};
-ghost use Rattle.tq_base.specs.Parts.{column_cells, number_in, part_values, value_there, AreThere};
+ghost use Rattle.tq_base.specs.Parts.{column_cells, part_values, value_there, AreThere};
 
 use crate::key_range::KeyRange;
-use crate::parts::{Part, Place};
+use crate::parts::{Part, Place, number_in};
 use crate::prefetch::{PREFETCHED, Prefetch};
 use crate::short_text::SHORT;
 use crate::value::Value;
@@ -78,19 +77,9 @@ fn in_part<'a>(part: &'a Part<'a>, column: u32, len: usize, zero: &'a Value) -> 
     }
 }
 
-// The number at the place; the place itself if there is no list of numbers.
-#[inline]
-fn number_in(numbers: Option<&[u32]>, place: usize) -> usize
-    ensures { result ≡ number_in (option_copied numbers.entry) place }
-{
-    match numbers {
-        None => place,
-        Some(numbers) => numbers.get(place).copied().unwrap_or(0) as usize,
-    }
-}
-
 // The value of row `number` in a column that begins at `place` and has one value every `step` values. The number 0 if
-// there is no such row among the first `rows`.
+// there is no such row among the first `rows`. For loops over a column that was looked up once; `value_of` looks the
+// column up for one value.
 #[inline]
 fn value_there<'a>(
     values: &'a [Value],
@@ -137,9 +126,9 @@ impl<'a> ColumnView<'a> {
         self.len
     }
 
-    // The value of the row; a row that does not exist counts as the number 0.
+    /// The value of the row; a row that does not exist counts as the number 0.
     #[inline]
-    pub(crate) fn value(&self, row: usize) -> &'a Value
+    pub fn value(&self, row: usize) -> &'a Value
         ensures { result.now ≡ value_at self.now row }
     {
         if row >= self.len {
@@ -153,13 +142,6 @@ impl<'a> ColumnView<'a> {
             number_in(self.numbers, row),
             self.zero,
         )
-    }
-
-    /// The value of the row; a row that does not exist counts as the number 0.
-    pub fn at(&self, row: u32) -> &'a Value
-        ensures { result.now ≡ value_at self.now row }
-    {
-        self.value(row as usize)
     }
 
     /// Whether each value is a number in the range. The loop reads every value, without an early exit, so that the

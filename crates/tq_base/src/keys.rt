@@ -18,12 +18,10 @@ use crate::prefetch::PREFETCHED;
 use crate::prefixes::{normalized_key, prefix_in_place};
 use crate::relation::Relation;
 use crate::row::Row;
+use crate::short_text::TEXT_PREFIX;
 use crate::sort_input::{RunStart, Side, SortInput, SortKey};
-use std::alloc::{AllocError, Global};
+use std::alloc::AllocError;
 use std::cmp::Ordering;
-
-// The least prefix of a text.
-const TEXT_PREFIX: u128 = 1 << 120;
 
 // The greatest prefix of a number of 64 signed bits. All greater numbers have the next one.
 const WIDE_PREFIX: u128 = 1 << 64;
@@ -35,7 +33,8 @@ const LONG_RUN: usize = 1024;
 fn compare_at(one: &Row<'_>, column: u32, other: &Row<'_>, other_column: u32) -> Ordering
     ensures { result ≡ value_cmp (value_at one.now column) (value_at other.now other_column) }
 {
-    one.at(column).compare(other.at(other_column))
+    one.value(column as usize)
+        .compare(other.value(other_column as usize))
 }
 
 // The period of the first instant alone.
@@ -77,7 +76,7 @@ fn prefix_in(column: &Option<ColumnView<'_>>, row: u32, are_boxed: bool) -> u128
 {
     match column {
         Some(column) => {
-            let value = column.at(row);
+            let value = column.value(row as usize);
             if are_boxed {
                 normalized_key(value)
             } else {
@@ -263,7 +262,7 @@ impl<'a> SortInput<'a> {
         ensures { IsFirstOn (state_of self.now) side result }
     {
         match self.columns(side) {
-            [first, ..] => Some(self.rows(side).column(*first)),
+            [first, ..] => Some(self.rows(side).column(*first as usize)),
             [] => None,
         }
     }

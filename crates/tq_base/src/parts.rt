@@ -33,15 +33,25 @@ pub(crate) struct Place {
 }
 
 // The value of the column in the row with this number; the number 0 if there is no such row or no such column.
-fn value_of<'a>(rows: &'a Rows, number: u32, column: u32, zero: &'a Value) -> &'a Value
+fn value_of<'a>(rows: &'a Rows, number: usize, column: u32, zero: &'a Value) -> &'a Value
     requires { zero.now ≡ Int (pos 0) }
     ensures { result.now ≡ value_at (values_at_number rows.now.items number) column }
 {
-    let number = number as usize;
     if number >= rows.len() {
         return zero;
     }
     rows.value(number, column).unwrap_or(zero)
+}
+
+// The number at the place; the place itself if there is no list of numbers.
+#[inline]
+pub(crate) fn number_in(numbers: Option<&[u32]>, place: usize) -> usize
+    ensures { result ≡ number_in (option_copied numbers.entry) place }
+{
+    match numbers {
+        None => place,
+        Some(numbers) => numbers.get(place).copied().unwrap_or(0) as usize,
+    }
 }
 
 // The numbers at these places, 0 for a place that does not exist.
@@ -81,16 +91,6 @@ impl Source<'_> {
 }
 
 impl Part<'_> {
-    // The number in its source of the row at the place.
-    fn number(&self, place: u32) -> u32
-        ensures { result ≡ number_at self.now.numbers place }
-    {
-        match &self.numbers {
-            None => place,
-            Some(numbers) => numbers.get(place as usize).copied().unwrap_or(0),
-        }
-    }
-
     // The numbers of the rows in their source; `None` if the part has all rows of the source.
     pub(crate) fn numbers(&self) -> Option<&[u32]>
         ensures { (place : ℕ) → number_in (option_copied result) place ≡ number_at self.now.numbers place }
@@ -105,7 +105,8 @@ impl Part<'_> {
         requires { zero.now ≡ Int (pos 0) }
         ensures { result.now ≡ value_at (part_values self.now place) column }
     {
-        value_of(self.source.rows(), self.number(place), column, zero)
+        let number = number_in(self.numbers(), place as usize);
+        value_of(self.source.rows(), number, column, zero)
     }
 
     // Replaces the rows by those at these places. If an allocation failed, they have not changed.

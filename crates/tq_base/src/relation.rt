@@ -13,6 +13,7 @@ use crate::parts::{Part, Place, Source};
 use crate::period::Period;
 use crate::row::Row;
 use crate::rows::Rows;
+use crate::sort_input::all_columns;
 use crate::value::Value;
 use std::alloc::{AllocError, Global};
 use std::marker::Model;
@@ -66,14 +67,16 @@ impl<'a> Model for Relation<'a> {
 fn first_columns(alloc: Global, width: usize) -> Result<Vec<Option<Place>>, AllocError>
     ensures { IfOk result (λ columns. columns.items ≡ map first_column (range_with_len 0 width)) }
 {
-    let mut columns = Vec::with_capacity(alloc, width)?;
-    'columns: for column in 0..width {
-        match u32::try_from(column) {
-            Ok(column) => columns.push(Some(Place { part: 0, column }))?,
-            Err(_) => return Err(AllocError),
-        }
-    }
-    Ok(columns)
+    let columns = all_columns(alloc, width)?;
+    columns
+        .iter()
+        .map(|column| {
+            Some(Place {
+                part: 0,
+                column: *column,
+            })
+        })
+        .collect(alloc)
 }
 
 // The places of the columns with these numbers; none for a column that does not exist.
@@ -303,19 +306,13 @@ impl<'a> Relation<'a> {
         }
     }
 
-    fn column_at(&self, place: usize) -> ColumnView<'_>
-        ensures { result ≡ column_of self.now.items place }
-    {
-        let place = self.columns.get(place).copied().unwrap_or(None);
-        ColumnView::of(self.parts.as_slice(), place, self.len(), &self.zero)
-    }
-
     /// The values of the column, numbered from 0, for loops over rows. A column that the rows do not have counts as the
     /// number 0.
-    pub fn column(&self, column: u32) -> ColumnView<'_>
+    pub fn column(&self, column: usize) -> ColumnView<'_>
         ensures { result ≡ column_of self.now.items column }
     {
-        self.column_at(column as usize)
+        let place = self.columns.get(column).copied().unwrap_or(None);
+        ColumnView::of(self.parts.as_slice(), place, self.len(), &self.zero)
     }
 
     // Replaces the rows by those with these numbers, each valid in the period at its place. If an allocation failed,
@@ -488,12 +485,12 @@ impl<'a> Relation<'a> {
         Ok(out)
     }
 
-    fn all_columns(&self, alloc: Global) -> Result<Vec<ColumnView<'_>>, AllocError>
+    fn column_views(&self, alloc: Global) -> Result<Vec<ColumnView<'_>>, AllocError>
         ensures { IfOk result (λ columns. columns.items ≡ map (column_of self.now.items) (range_with_len 0 self.now.width)) }
     {
         let mut columns = Vec::with_capacity(alloc, self.width())?;
         'columns: for column in 0..self.width() {
-            columns.push(self.column_at(column))?;
+            columns.push(self.column(column))?;
         }
         Ok(columns)
     }
@@ -502,7 +499,7 @@ impl<'a> Relation<'a> {
     fn copied_values(&self, alloc: Global) -> Result<Vec<Value>, AllocError>
         ensures { IfOk result (λ values. values.items ≡ flat_map (λ (row : Fragment). row.values) self.now.items) }
     {
-        let columns = self.all_columns(alloc)?;
+        let columns = self.column_views(alloc)?;
         let Some(room) = self.len().checked_mul(self.width()) else {
             return Err(AllocError);
         };

@@ -58,21 +58,14 @@ impl<'a> Row<'a> {
         self.columns.len()
     }
 
-    /// The value at the place, counted from 0; a place that the row does not have counts as the number 0.
-    pub fn value(&self, place: usize) -> &'a Value
-        ensures { result.now ≡ value_at self.now place }
+    /// The value in the column, numbered from 0; a column that the row does not have counts as the number 0.
+    pub fn value(&self, column: usize) -> &'a Value
+        ensures { result.now ≡ value_at self.now column }
     {
-        match self.columns.get(place) {
+        match self.columns.get(column) {
             Some(column) => value_in(self.parts, column, self.place, self.zero),
             None => self.zero,
         }
-    }
-
-    /// The value in the column, numbered from 0; a column that the row does not have counts as the number 0.
-    pub fn at(&self, column: u32) -> &'a Value
-        ensures { result.now ≡ value_at self.now column }
-    {
-        self.value(column as usize)
     }
 
     /// Appends copies of the values in the columns to `room`. `AllocError` if an allocation failed.
@@ -80,7 +73,7 @@ impl<'a> Row<'a> {
         ensures { OnOk result (room.new.items ≡ room.old.items ++ map (value_at self.now) columns.now) }
     {
         'columns: for column in columns {
-            room.push(self.at(*column).try_copy()?)?;
+            room.push(self.value(*column as usize).try_copy()?)?;
         }
         Ok(())
     }

@@ -10,11 +10,11 @@ use std::cmp::Ordering;
 use std::marker::Model;
 use std::str;
 
-/// The most bytes of a text that a value stores without a box.
+/// The most bytes of a text that a value stores without a box, and that its prefix begins with.
 pub const SHORT: usize = 14;
 
-// The least prefix of a text: 2^120.
-const TEXTS: u128 = 0x100_0000_0000_0000_0000_0000_0000_0000;
+/// The least prefix of a text: 2^120.
+pub(crate) const TEXT_PREFIX: u128 = 1 << 120;
 
 // The factor of the first eight bytes in a prefix: 2^56.
 const FIRST_STEP: u128 = 0x100_0000_0000_0000;
@@ -43,7 +43,7 @@ pub fn text_prefix(head: &[u8; SHORT], len: u8) -> u128
     let [a, b, c, d, e, f, g, h, i, j, k, l, m, n] = *head;
     let first = u64::from_be_bytes([a, b, c, d, e, f, g, h]);
     let last = u64::from_be_bytes([g, h, i, j, k, l, m, n]) % LAST_SPAN;
-    TEXTS + u128::from(first) * FIRST_STEP + u128::from(last) * 256 + u128::from(len)
+    TEXT_PREFIX + u128::from(first) * FIRST_STEP + u128::from(last) * 256 + u128::from(len)
 }
 
 /// A text of at most 14 bytes, padded with zeros. Contracts see its bytes.

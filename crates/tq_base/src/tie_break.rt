@@ -23,14 +23,12 @@ use crate::place_view::PlaceView;
 use crate::prefetch::{PREFETCHED, Prefetch};
 use crate::prefixes::{compare_after, prefix_after, text_after};
 use crate::row::Row;
+use crate::short_text::SHORT;
 use crate::sort_input::{RunStart, SortInput, SortKey};
 use std::cmp::Ordering;
 
 // The most prefixes that are taken of one key; what they do not decide is compared by reading rows.
 const LEVELS: u32 = 256;
-
-// The number of bytes of a text that its prefix begins with.
-const HEAD: usize = 14;
 
 // The number of keys whose next texts are prefetched together, before the keys are sorted.
 const AHEAD: usize = PREFETCHED;
@@ -50,7 +48,8 @@ const NOTHING_AHEAD: Ahead = Ahead {
     longest: 0,
 };
 
-// Compares the values in the two columns, texts from the offset on.
+// Compares the values in the two columns, texts from the offset on. `compare_at` is faster for whole values, because it
+// compares short texts by their prefixes.
 fn compare_there(
     one: &Row<'_>,
     column: u32,
@@ -60,7 +59,11 @@ fn compare_there(
 ) -> Ordering
     ensures { result ≡ value_cmp (value_after offset (value_at one.now column)) (value_after offset (value_at other.now other_column)) }
 {
-    compare_after(one.at(column), other.at(other_column), offset)
+    compare_after(
+        one.value(column as usize),
+        other.value(other_column as usize),
+        offset,
+    )
 }
 
 // The number of equal bytes at the front of the two texts.
@@ -158,7 +161,7 @@ fn longest_text(view: &PlaceView<'_>, keys: &[SortKey], offset: usize) -> usize 
     'keys: for key in keys {
         prefetch.push(view.at(key));
     }
-    if offset < HEAD {
+    if offset < SHORT {
         prefetch.longest()
     } else {
         prefetch.longest_after_tail()
@@ -324,8 +327,8 @@ impl<'a> SortInput<'a> {
             return (place + 1, 0);
         }
         let longest = longest.saturating_sub(offset);
-        let len = if longest <= 2 * HEAD {
-            HEAD
+        let len = if longest <= 2 * SHORT {
+            SHORT
         } else {
             self.shared_len(run, place, offset)
         };

@@ -5,6 +5,7 @@ ghost use Rattle.std.specs.Cmp.{partial_equiv_from_equiv, eq_by_cmp_equiv, parti
 ghost use Rattle.std.specs.Ordering.{eq_by_cmp, as_partial_cmp};
 ghost use Rattle.tq_base.specs.ValueOrder.{values_cmp, values_total};
 
+use crate::dense::push_copies;
 use crate::value::Value;
 use std::alloc::AllocError;
 use std::cmp::Ordering;
@@ -23,16 +24,6 @@ impl Model for Values {
     ghost Value = { List OneValue };
 
     ghost view = { λ a. a.items.items };
-}
-
-fn copy_values(items: &Vec<Value>) -> Result<Vec<Value>, AllocError>
-    ensures { IfOk result (λ v. v.items ≡ items.now.items) }
-{
-    let mut copies = Vec::new(*items.allocator());
-    for value in items {
-        copies.push(value.try_copy()?)?;
-    }
-    Ok(copies)
 }
 
 impl Values {
@@ -54,9 +45,9 @@ impl Values {
     pub fn try_copy(&self) -> Result<Values, AllocError>
         ensures { IfOk result (λ v. v ≡ self.now) }
     {
-        Ok(Values {
-            items: copy_values(&self.items)?,
-        })
+        let mut items = Vec::new(*self.items.allocator());
+        push_copies(&mut items, self.get())?;
+        Ok(Values { items })
     }
 
     /// Compares at the first place at which the values differ; a proper prefix of a list is less.

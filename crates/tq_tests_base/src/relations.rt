@@ -12,9 +12,7 @@ fn print_row(relation: &Relation<'_>, number: usize, out: &mut String) -> Result
     }
     let row = relation.row(number);
     for column in 0..row.len() {
-        if let Ok(column) = u32::try_from(column) {
-            push_value(row.at(column), out)?;
-        }
+        push_value(row.value(column), out)?;
     }
     push_period(&relation.period(number), out)?;
     out.push('\n')

@@ -72,15 +72,15 @@ fn is_there(
     column: usize,
     value: &Value,
 ) -> bool {
-    let Ok(column) = u32::try_from(column) else {
+    let Ok(stored) = u32::try_from(column) else {
         return false;
     };
     if number >= rows.len() || number >= relation.len() {
         return false;
     }
     let zero = Value::int(0);
-    let lent = rows.value(number, column).unwrap_or(&zero);
-    lent == value && relation.row(number).at(column) == value
+    let lent = rows.value(number, stored).unwrap_or(&zero);
+    lent == value && relation.row(number).value(column) == value
 }
 
 // Prints the row as `show` gives it, and which of its values differ when borrowed.

@@ -22,7 +22,7 @@ returns-then-index-prefix-clause-value c d =
     let inside : place < length ranks = omega (arith, c.if-place-len.true, c.len.ensures, c.args.buckets.now.ranks.ok.0) in
     let is : prefix ≡ get_or ranks place prefix = subst (λ n. n ≡ get_or ranks place n) c.if-index-prefix.true c.index.ensures in
     value_there column ranks buckets c.requires place inside prefix (value_at column c.args.row) is
-    (c.normalized_key-prefix.ensures.prefix ∙ ap normalized_key c.at.ensures) (subst HasBytes c.at.ensures c.normalized_key-prefix.ensures.bytes) d
+    (c.normalized_key-prefix.ensures.prefix ∙ ap normalized_key c.value.ensures) (subst HasBytes c.value.ensures c.normalized_key-prefix.ensures.bytes) d
 
 pub returns-clause-ranked : goal.returns-clause-ranked
 returns-clause-ranked c =
@@ -32,9 +32,9 @@ returns-clause-ranked c =
     let place = c.place_of-place.result in
     let prefix = c.normalized_key-prefix.result in
     let b : Bucket = record { row = c.args.row; edges = c.none.result; changes = c.none-2.result } in
-    let of : prefix ≡ normalized_key (value_at column c.args.row) = c.normalized_key-prefix.ensures.prefix ∙ ap normalized_key c.at.ensures in
+    let of : prefix ≡ normalized_key (value_at column c.args.row) = c.normalized_key-prefix.ensures.prefix ∙ ap normalized_key c.value.ensures in
     let told : IsTold (value_at column c.args.row) =
-    (subst HasBytes c.at.ensures c.normalized_key-prefix.ensures.bytes, ap is_exact (sym of) ∙ sym c.is_exact.ensures ∙ c.if-not-is_exact.false) in
+    (subst HasBytes c.value.ensures c.normalized_key-prefix.ensures.bytes, ap is_exact (sym of) ∙ sym c.is_exact.ensures ∙ c.if-not-is_exact.false) in
     let there : place ≡ below prefix ranks = c.place_of-place.ensures ∙ ap (below prefix) c.deref.ensures.value in
     let differs : place < length ranks → get_or ranks place 0 ≢ prefix = λ lt same.
     elim c.else-place-len.branch [

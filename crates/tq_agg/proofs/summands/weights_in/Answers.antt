@@ -12,7 +12,7 @@ rows-preserved c =
     let items = c.args.rows.now.items in
     let column = c.args.column in
     let number : c.number_of.result ≡ number_of (value_at (values_at_number items c.rows.row) column) =
-    c.number_of.ensures ∙ ap number_of (c.at.ensures ∙ ap (λ l. value_at l c.rows.row) c.column-values.ensures ∙ column_here items column c.rows.row) in
+    c.number_of.ensures ∙ ap number_of (c.value.ensures ∙ ap (λ l. value_at l c.rows.row) c.column-values.ensures ∙ column_here items column c.rows.row) in
     let weight : to_z w64 (of_z w64 c.in-Ok.weight) ≡ c.number_of.result = search rules in
     let put : c.push.new.self.items ≡ old ++ c.number_of.result ∷ [] = c.in_ok-push-in-Ok.ensures.items ∙ ap (λ n. old ++ n ∷ []) weight in
     record {

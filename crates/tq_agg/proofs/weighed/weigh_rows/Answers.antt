@@ -33,7 +33,7 @@ rows-preserved c =
     let wide : FitsSigned w128 c.number_of.result = search rules in
     let same : w ≡ c.number_of.result = omega (arith, ints, c.in-Ok.ensures) in
     let of : w ≡ weight_of (Column c.args.summed) (values_at_number rows i) =
-    same ∙ c.number_of.ensures ∙ ap number_of c.at.ensures ∙ ap (λ (l : List Value). number_of (value_at l i)) c.column-numbers.ensures ∙ weight_at rows c.args.summed i in
+    same ∙ c.number_of.ensures ∙ ap number_of c.value.ensures ∙ ap (λ (l : List Value). number_of (value_at l i)) c.column-numbers.ensures ∙ weight_at rows c.args.summed i in
     let ranked : AreRanked view new.ranks.items new.list.items = c.in_ok-put_change.ensures.ranked c.if-not-branch.false in
     let weights : (f : ℤ → ℤ) (t : ℕ) (key : List Value) → weighed f view t key new.list.items ≡ weighed f view t key old +ℤ cond (holds period t && holds window t) (cond (same_row (value_at view i ∷ []) key) (f w) (pos 0)) (pos 0) =
     c.in_ok-put_change.ensures.weights c.if-not-branch.false in
