@@ -44,7 +44,10 @@ pub use fragment::Fragment;
 pub use key_range::KeyRange;
 pub use keys::is_exact;
 pub use list::List;
-pub use name::{MAX_NAME, Name, RESERVED, fold_name, is_name, is_reserved, is_same_word};
+pub use name::{
+    MAX_NAME, Name, RESERVED, fold_name, is_name, is_name_byte, is_name_start, is_reserved,
+    is_same_word, word_length,
+};
 pub use number::{read_int, read_natural};
 pub use period::{Bound, FOREVER, Instant, Period};
 pub use prefixes::normalized_key;

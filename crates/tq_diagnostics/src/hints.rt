@@ -1,12 +1,10 @@
 // Hints for words and signs of other SQL dialects.
 
-ghost use Rattle.std.specs.Prelude.{◌≡◌, ◌≤◌, IfOk, length, map};
-ghost use Rattle.std.specs.List.{prefix_len};
-ghost use Rattle.tq_base.specs.Names.{is_name_byte};
+ghost use Rattle.std.specs.Prelude.{◌≡◌, IfOk, map};
 ghost use Rattle.tq_diagnostics.specs.Hints as spec;
 
 use std::alloc::{AllocError, Global};
-use tq_base::is_same_word;
+use tq_base::{is_name_byte, is_same_word, word_length};
 
 // Words of other dialects, and what to write instead.
 const WORDS: [(&[u8], &[u8]); 14] = [
@@ -76,25 +74,6 @@ const SIGNS: [(&[u8], &[u8]); 10] = [
     (b"||", b"texts cannot be concatenated"),
 ];
 
-pub(crate) fn is_word_byte(byte: u8) -> bool
-    ensures { result ≡ is_name_byte byte }
-{
-    byte.is_ascii_alphanumeric() || byte == b'_'
-}
-
-// The number of leading bytes that belong to a word.
-pub(crate) fn word_length(bytes: &[u8]) -> usize
-    ensures value { result ≡ prefix_len is_name_byte bytes.now }
-    ensures within { result ≤ length bytes.now }
-{
-    for (place, byte) in bytes.iter().enumerate() {
-        if !is_word_byte(*byte) {
-            return place;
-        }
-    }
-    bytes.len()
-}
-
 // The hint for a word, or nothing if it is not in the table.
 fn of_word(mut table: &[(&'static [u8], &'static [u8])], word: &[u8]) -> &'static [u8]
     ensures { result.now ≡ spec.of_word (map (λ row. (row.0.now, row.1.now)) table.entry.now) word.now }
@@ -128,7 +107,7 @@ fn last_word(alloc: Global, bytes: &[u8]) -> Result<Vec<u8>, AllocError>
     let mut word = Vec::new(alloc);
     let mut open = false;
     'bytes: for byte in bytes {
-        if is_word_byte(*byte) {
+        if is_name_byte(*byte) {
             if !open {
                 word.clear();
             }

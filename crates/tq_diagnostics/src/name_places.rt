@@ -1,19 +1,11 @@
 // The places of the names in a statement's text.
 
 ghost use Rattle.std.specs.Prelude.{◌≡◌, ◌<◌, ◌++◌, IfSome, OnOk, length};
-ghost use Rattle.tq_base.specs.Names.{is_name_start};
 ghost use Rattle.tq_diagnostics.specs.NamePlaces.{begins_name, left_after, name_place, pointed_name, quoted_after, within_after};
 
-use crate::hints::{is_word_byte, word_length};
 use crate::pointing::push_pointed;
 use std::alloc::{AllocError, Global};
-use tq_base::{is_reserved, is_same_word};
-
-fn is_word_start(byte: u8) -> bool
-    ensures { result ≡ is_name_start byte }
-{
-    byte.is_ascii_alphabetic() || byte == b'_'
-}
+use tq_base::{is_name_byte, is_name_start, is_reserved, is_same_word, word_length};
 
 // Whether a quote is open after the byte.
 fn quoted_after(quoted: bool, byte: u8) -> bool
@@ -30,9 +22,9 @@ fn within_after(quoted: bool, within: bool, byte: u8) -> bool
         return false;
     }
     if within {
-        is_word_byte(byte)
+        is_name_byte(byte)
     } else {
-        is_word_start(byte)
+        is_name_start(byte)
     }
 }
 
@@ -43,7 +35,7 @@ fn begins_name(quoted: bool, within: bool, bytes: &[u8]) -> bool
     match bytes {
         [] => false,
         [byte, ..] => {
-            !quoted && !within && is_word_start(*byte) && !is_reserved(&bytes[..word_length(bytes)])
+            !quoted && !within && is_name_start(*byte) && !is_reserved(&bytes[..word_length(bytes)])
         }
     }
 }

@@ -10,9 +10,9 @@ ghost use Rattle.tq_sql.specs.TokenViews.{token_view};
 use crate::fault::{SqlFault, SqlFaultKind};
 use crate::texts::{text_length, utf8_fault};
 use crate::token::{Token, TokenKind};
-use crate::words::{is_word_byte, word_kind, word_length};
+use crate::words::word_kind;
 use std::alloc::Global;
-use tq_base::read_int;
+use tq_base::{is_name_byte, read_int, word_length};
 
 /// The most bytes of a statement.
 pub const MAX_STATEMENT: usize = 65_536;
@@ -118,7 +118,7 @@ fn token_at(bytes: &[u8], at: usize) -> Result<(TokenKind, usize), SqlFault>
     ensures within { IfOk result (λ r. (0 < r.1) × (r.1 ≤ length bytes.now)) }
 {
     let first = byte_at(bytes, 0);
-    if is_word_byte(first) && !first.is_ascii_digit() {
+    if is_name_byte(first) && !first.is_ascii_digit() {
         let size = word_length(bytes);
         Ok((word_kind(&bytes[..size]), size))
     } else if first.is_ascii_digit() || (first == b'-' && byte_at(bytes, 1).is_ascii_digit()) {

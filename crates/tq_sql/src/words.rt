@@ -1,8 +1,6 @@
 // Words: the keywords in any ASCII case, and names.
 
-ghost use Rattle.std.specs.Prelude.{◌≡◌, ◌≤◌, length, map};
-ghost use Rattle.std.specs.List.{prefix_len};
-ghost use Rattle.tq_base.specs.Names.{is_name_byte};
+ghost use Rattle.std.specs.Prelude.{◌≡◌, map};
 ghost use Rattle.tq_sql.specs.Tokens as spec;
 
 use crate::token::TokenKind;
@@ -25,26 +23,6 @@ const KEYWORDS: [(&[u8], TokenKind); 15] = [
     (b"except", TokenKind::Except),
     (b"all", TokenKind::All),
 ];
-
-/// Whether the byte can be part of a word: an ASCII letter, a digit or `_`.
-pub fn is_word_byte(byte: u8) -> bool
-    ensures { result ≡ is_name_byte byte }
-{
-    byte.is_ascii_alphanumeric() || byte == b'_'
-}
-
-/// The number of leading bytes that belong to a word.
-pub fn word_length(bytes: &[u8]) -> usize
-    ensures value { result ≡ prefix_len is_name_byte bytes.now }
-    ensures within { result ≤ length bytes.now }
-{
-    for (place, byte) in bytes.iter().enumerate() {
-        if !is_word_byte(*byte) {
-            return place;
-        }
-    }
-    bytes.len()
-}
 
 // The kind of a word that is not a keyword in an earlier row of the table.
 fn keyword_kind(mut table: &[(&[u8], TokenKind)], word: &[u8]) -> TokenKind
