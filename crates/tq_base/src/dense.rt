@@ -1,6 +1,6 @@
 //! Rows of one width, stored one after the other in one list of values, with a second list of their periods.
 
-ghost use Rattle.std.specs.Prelude.{◌≡◌, ◌++◌, ◌∷◌, [], ◌<◌, ◌≤◌, ◌+◌, ◌*◌, ℕ, List, All, IfOk, OnErr, OnOk, drop, length, map, slice_index_or, take, vec_capacity, vec_len};
+ghost use Rattle.std.specs.Prelude.{◌≡◌, ◌++◌, ◌∷◌, [], ◌<◌, ◌≤◌, ◌+◌, ◌*◌, ℕ, All, IfOk, OnErr, OnOk, drop, length, map, slice_index_or, take, vec_capacity, vec_len};
 ghost use Rattle.tq_base.specs.declared.fragment.Fragment.{Fragment};
 ghost use Rattle.tq_base.specs.RowLists.{rows_from};
 ghost use Rattle.tq_base.specs.Slots.{kept_of, AreNumbered};

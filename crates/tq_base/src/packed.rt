@@ -2,9 +2,6 @@
 
 ghost use Rattle.std.specs.Prelude.{◌≡◌, All, IfSome, IsPermutation, IsSorted, false, length, map};
 ghost use Rattle.std.specs.Bool.{OnTrue};
-ghost use Rattle.tq_base.specs.declared.packed.Corner.{Corner};
-ghost use Rattle.tq_base.specs.declared.packed.Packed.{Packed};
-ghost use Rattle.tq_base.specs.declared.sort_input.SortKey.{SortKey};
 ghost use Rattle.tq_base.specs.Keys.{prefix_start_cmp};
 ghost use Rattle.tq_base.specs.Packed.{pack, unpack, IsAbove, IsNear, IsOfKey};
 

@@ -1,6 +1,6 @@
 // Queries and whole statements.
 
-ghost use Rattle.std.specs.Prelude.{◌≡◌, ◌≤◌, length};
+ghost use Rattle.std.specs.Prelude.{◌≤◌, length};
 ghost use Rattle.tq_sql.specs.Descent as spec;
 ghost use Rattle.tq_sql.specs.Descent.{Reads};
 

@@ -1,6 +1,6 @@
 // Columns, items and sources.
 
-ghost use Rattle.std.specs.Prelude.{◌≡◌, ◌≤◌, length};
+ghost use Rattle.std.specs.Prelude.{◌≤◌, length};
 ghost use Rattle.tq_sql.specs.Descent as spec;
 ghost use Rattle.tq_sql.specs.Descent.{Reads};
 
