@@ -18,3 +18,5 @@ pub mod Widths
 pub mod Ranging
 pub mod Sufficing
 pub mod Opening
+pub mod Orders
+pub mod Rebuilding

@@ -7,3 +7,4 @@ pub mod Known
 pub mod EquiJoin
 pub mod Ordinary
 pub mod Steps
+pub mod JoinOrders
