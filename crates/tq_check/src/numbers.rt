@@ -1,6 +1,6 @@
 // Numbers of periods.
 
-ghost use Rattle.std.specs.Prelude.{◌≡◌, ◌≤◌, ◌<◌, length};
+ghost use Rattle.std.specs.Prelude.{◌≡◌, ◌<◌, length};
 ghost use Rattle.tq_check.specs.Numbers.{first_start, is_open, last_bound, last_change, open_periods};
 
 use tq_base::{FOREVER, Period};

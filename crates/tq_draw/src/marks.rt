@@ -1,6 +1,6 @@
 // The marks above the bars, and their instants.
 
-ghost use Rattle.std.specs.Prelude.{◌≡◌, ◌++◌, ◌<◌, ◌≤◌, ◌*◌, ◌-◌, OnOk};
+ghost use Rattle.std.specs.Prelude.{◌≡◌, ◌++◌, OnOk};
 ghost use Rattle.tq_draw.specs.Bars.{marks_on, ruler_byte, ruler_of};
 ghost use Rattle.tq_draw.specs.Pictures.{marks_text, all_but_last_text};
 ghost use Rattle.tq_draw.specs.Scales.{IsScale};

@@ -2,7 +2,6 @@
 
 ghost use Rattle.std.specs.Prelude.{◌≡◌, [], ◌++◌, OnOk, length};
 ghost use Rattle.std.specs.List.{flat_map};
-ghost use Rattle.tq_base.specs.declared.fragment.Fragment.{Fragment};
 ghost use Rattle.tq_draw.specs.Labels.{column_text, columns_text};
 ghost use Rattle.tq_draw.specs.Pictures.{drawn_row, name_label, value_label};
 ghost use Rattle.tq_draw.specs.Scales.{IsScale};
