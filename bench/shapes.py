@@ -1,16 +1,20 @@
-"""Measures `tq ask` on tables of one shape each, of which a sweep could be slow: python3 bench/shapes.py
+"""Measures `tq ask` on shapes of tables and of joins that could be slow: python3 bench/shapes.py
 
     --tq PROGRAM   the program to measure (bin/tq)
-    --rows N ..    the sizes of the tables (100000 1000000)
+    --rows N ..    the sizes of the tables of one source (100000 1000000)
+    --joined N ..  the sizes of the tables that are joined (1000 2000 4000)
 
-The bytes have to be those of the plain Python script; how the time grows is printed and asserted nowhere.
+Answers over one source have to be the bytes of the plain Python script. Of a join only the number of rows at one instant is
+asked for, and compared with the number that the shape gives. How the time grows is printed and asserted nowhere.
 """
 
+import argparse
 import functools
 import os
+import sys
 import tempfile
 
-from measuring import ask, bytes_per_row, each_size, read_options, sweep
+from measuring import HERE, TRIES, ask, bytes_per_row, each_size, run, sweep
 
 # The value, the start and the end of row i of n.
 SHAPES = {
@@ -20,6 +24,34 @@ SHAPES = {
     "all meeting": lambda i, n: ("x", i, i + 1),
     "no two of one value": lambda i, n: (f"v{i}", i, "forever"),
 }
+
+# FROM and WHERE of a join over `s`, and how many rows pass of n. Row i of n has k = i, v = n + i and g = i // (n // 4), and is
+# valid from 0 to 10. `none` has no row.
+JOINS = {
+    "star through the last": ("s a, s b, s c, s d", "a.k = d.k AND b.k = d.k AND c.k = d.k", lambda n: n),
+    "through the third": ("s a, s b, s c", "a.k = c.k AND b.k = c.k", lambda n: n),
+    "a source of no rows": ("s a, s b, none c", "a.k >= 0", lambda n: 0),
+    "equal in each branch": ("s a, s b", "(a.k = b.k AND a.g = 0) OR (a.k = b.k AND b.g = 1)", lambda n: n // 2),
+    "an OR of equalities": ("s a, s b", "a.k = b.k OR a.v = b.k", lambda n: n),
+    "equal by two bounds": ("s a, s b", "a.k <= b.k AND a.k >= b.k", lambda n: n),
+    "few values, none less": ("s a, s b", "a.g = b.g AND a.v < b.k", lambda n: 0),
+}
+
+
+def read_options():
+    parser = argparse.ArgumentParser()
+    parser.add_argument("--tq", default=os.path.join(HERE, "..", "bin", "tq"))
+    parser.add_argument("--rows", type=int, nargs="+", default=[100_000, 1_000_000])
+    parser.add_argument("--joined", type=int, nargs="+", default=[1_000, 2_000, 4_000])
+    return parser.parse_args()
+
+
+def write_joined(path, rows):
+    """Writes the rows that are joined."""
+    with open(path, "w", encoding="utf-8") as file:
+        file.write("k:int,v:int,g:int,from,to\n")
+        for i in range(rows):
+            file.write(f"{i},{rows + i},{i // max(rows // 4, 1)},0,10\n")
 
 
 def write_table(path, shape, rows):
@@ -31,8 +63,32 @@ def write_table(path, shape, rows):
             file.write(f"{i},{value},{start},{stop}\n")
 
 
+def measure_join(options, folder, name, rows):
+    """Measures a join of tables of so many rows: the least seconds of some tries."""
+    sources, test, passing = JOINS[name]
+    table, none, answer = (os.path.join(folder, it) for it in ["s.csv", "none.csv", "answer.csv"])
+    write_joined(table, rows)
+    write_joined(none, 0)
+    statement = f"VALIDTIME PERIOD '[5 - 6)' SELECT COUNT(*) FROM {sources} WHERE {test}"
+    command = [options.tq, "ask", "--table", f"s={table}", "--table", f"none={none}", statement]
+    seconds = min(run(command, answer)[0] for _ in range(TRIES))
+    with open(answer, encoding="utf-8") as file:
+        expected = f"{passing(rows)},5,6\n"
+        if file.read() != f"count,from,to\n{expected}":
+            sys.exit(f"{name} of {rows} rows: the answer is not {expected}")
+    print(f"{name:<24} {rows:>9,} {seconds:>8.2f}", flush=True)
+    return seconds
+
+
+def measure_joins(options):
+    print(f"\ntq ask on joins of one shape each\n{'shape':<24} {'rows':>9} {'seconds':>8}")
+    with tempfile.TemporaryDirectory() as folder:
+        for name in JOINS:
+            each_size(options.joined, functools.partial(measure_join, options, folder, name))
+
+
 def main():
-    options = read_options([100_000, 1_000_000])
+    options = read_options()
     print("tq ask on tables of one shape each (Python: how many times as long the plain script takes)")
     print(f"{'shape':<20} {'rows':>9} {'Python':>8} {'tq rows/s':>12} {'bytes/row':>10}")
     with tempfile.TemporaryDirectory() as folder:
@@ -48,6 +104,7 @@ def main():
 
         for name, shape in SHAPES.items():
             each_size(options.rows, functools.partial(measure, name, shape))
+    measure_joins(options)
 
 
 if __name__ == "__main__":
