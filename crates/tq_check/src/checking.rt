@@ -9,7 +9,7 @@ use std::alloc::Global;
 use std::thread::Threads;
 use tq_base::Form;
 use tq_event::{LoadFault, LoadFaultKind, MAX_EVENTS, TableFile};
-use tq_load::load_tables_parallel;
+use tq_load::{LoadOptions, load_tables_parallel};
 use tq_run::Open;
 
 /// The summary of the tables of the files, which 1 to 16 workers load, the calling thread among them. `form` says how
@@ -28,7 +28,12 @@ pub fn check<R: Threads + Sync>(
     ensures fault { IfErr result (λ fault. fault.kind ≢ LoadFaultKind.OutOfMemory → contents_of form files.items MAX_EVENTS ≡ Err fault) }
     ensures out_of_memory { IfErr result (λ fault. fault.kind ≡ LoadFaultKind.OutOfMemory → fault ≡ out_of_memory) }
 {
-    let tables = load_tables_parallel(rt, alloc, files, MAX_EVENTS, workers, &Open, form)?;
+    let options = LoadOptions {
+        limit: MAX_EVENTS,
+        workers,
+        form,
+    };
+    let tables = load_tables_parallel(rt, alloc, files, &Open, options)?;
     let text = check_text(alloc, &tables, form)?;
     Ok(text)
 }

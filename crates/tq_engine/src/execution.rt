@@ -20,7 +20,7 @@ use tq_eval::laws::{held_rows_fit, kept_rows_fit};
 use tq_eval::to_owned;
 use tq_event::laws::{loaded_is_history, tables_are_loaded};
 use tq_event::{LoadFault, LoadFaultKind, MAX_EVENTS, TableFile, Tables};
-use tq_load::load_projected_parallel;
+use tq_load::{LoadOptions, load_projected_parallel};
 use tq_plan::{Plan, PlanFault, plan};
 use tq_run::{Gate, Open};
 use tq_sql::{SqlFault, SqlFaultKind, Statement, read};
@@ -123,9 +123,12 @@ pub(crate) fn load_query<R: Threads + Sync, G: Gate + Sync>(
     ensures fault { IfErr result (IsFault form files.items bytes.now) }
 {
     let named = named_columns(alloc, &files, bytes, form);
-    let tables = load_projected_parallel(
-        rt, alloc, files, &named, MAX_EVENTS, workers, gate, form,
-    )?;
+    let options = LoadOptions {
+        limit: MAX_EVENTS,
+        workers,
+        form,
+    };
+    let tables = load_projected_parallel(rt, alloc, files, &named, gate, options)?;
     tables_are_loaded();
     loaded_is_history();
     held_rows_fit();

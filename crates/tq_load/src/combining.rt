@@ -1,6 +1,6 @@
 // Combining the rows of parts.
 
-ghost use Rattle.std.specs.Prelude.{◌≡◌, ◌≤◌, ◌+◌, All, Bool, IfOk, IfSome, IsTrue, List, OnOk, OnSome, length, map, sum_by};
+ghost use Rattle.std.specs.Prelude.{◌≡◌, ◌≤◌, ◌+◌, All, Bool, IfOk, IfSome, IsTrue, List, OnOk, length, map, sum_by};
 ghost use Rattle.tq_base.specs.declared.catalogue.Schema.{Schema as Heading};
 ghost use Rattle.tq_base.specs.declared.form.Form.{Form as AnyForm};
 ghost use Rattle.tq_event.specs.declared.file.TableFile.{TableFile as File};

@@ -14,6 +14,7 @@ mod cut;
 mod headers;
 mod if_valid;
 pub mod laws;
+mod options;
 mod parallel;
 mod part;
 mod reading;
@@ -21,4 +22,5 @@ mod work;
 
 pub use cut::first_cut;
 pub use headers::read_schemas;
+pub use options::LoadOptions;
 pub use parallel::{load_projected_parallel, load_tables_by_parts, load_tables_parallel};

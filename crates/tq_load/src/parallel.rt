@@ -9,10 +9,11 @@ use crate::combining::{combine_parallel, is_within, whole_tables};
 use crate::cut::{cut, part_len};
 use crate::headers::read_schemas;
 use crate::if_valid::if_valid;
-use crate::work::read_parts;
+use crate::options::LoadOptions;
+use crate::work::{Parts, read_parts};
 use std::alloc::{AllocError, Global};
 use std::thread::Threads;
-use tq_base::{Catalogue, Form, List};
+use tq_base::{Catalogue, List};
 use tq_event::{LoadFault, LoadFaultKind, MAX_EVENTS, TableFile, Tables, load_projected};
 use tq_run::Gate;
 
@@ -26,25 +27,30 @@ fn tables_of_parts<R: Threads + Sync, G: Gate + Sync>(
     alloc: Global,
     files: &[TableFile],
     wanted: &[Vec<bool>],
-    limit: u32,
-    workers: u32,
     least: usize,
     gate: &G,
-    form: Form,
+    options: LoadOptions,
 ) -> Result<Option<Tables>, AllocError>
-    requires some { 1 ≤ workers }
-    requires at_most { workers ≤ 16 }
-    ensures tables { IfOk result (λ found. IfSome found (AreProjectedTables form files.now limit (wanted_lists wanted.now))) }
+    requires some { 1 ≤ options.workers }
+    requires at_most { options.workers ≤ 16 }
+    ensures tables { IfOk result (λ found. IfSome found (AreProjectedTables options.form files.now options.limit (wanted_lists wanted.now))) }
     ensures read { IfOk result (λ found. IfSome found (λ tables. AreRead tables.catalogue.tables tables.rows)) }
 {
     let Some(schemas) = if_valid(read_schemas(alloc, files))? else {
         return Ok(None);
     };
+    let LoadOptions { limit, workers, .. } = options;
     let len = part_len(files, workers, least);
     let parts = cut(alloc, files, len, workers)?;
-    let read = read_parts(
-        rt, alloc, limit, files, wanted, &schemas, &parts, workers, gate, form,
-    )?;
+    let work = Parts {
+        alloc,
+        files,
+        wanted,
+        schemas: &schemas,
+        parts: &parts,
+        options,
+    };
+    let read = read_parts(rt, &work, gate)?;
     let Some(read) = combine_parallel(rt, alloc, files.len(), workers, read)? else {
         return Ok(None);
     };
@@ -68,28 +74,24 @@ fn load_by_parts<R: Threads + Sync, G: Gate + Sync>(
     alloc: Global,
     files: Vec<TableFile>,
     wanted: &[Vec<bool>],
-    limit: u32,
-    workers: u32,
     least: usize,
     gate: &G,
-    form: Form,
+    options: LoadOptions,
 ) -> Result<Tables, LoadFault>
-    requires limit { limit ≤ MAX_EVENTS }
-    requires some { 1 ≤ workers }
-    requires at_most { workers ≤ 16 }
-    ensures tables { IfOk result (AreProjectedTables form files.items limit (wanted_lists wanted.now)) }
+    requires limit { options.limit ≤ MAX_EVENTS }
+    requires some { 1 ≤ options.workers }
+    requires at_most { options.workers ≤ 16 }
+    ensures tables { IfOk result (AreProjectedTables options.form files.items options.limit (wanted_lists wanted.now)) }
     ensures read { IfOk result (λ tables. AreRead tables.catalogue.tables tables.rows) }
-    ensures fault { IfErr result (λ fault. fault.kind ≢ LoadFaultKind.OutOfMemory → contents_of form files.items limit ≡ Err fault) }
+    ensures fault { IfErr result (λ fault. fault.kind ≢ LoadFaultKind.OutOfMemory → contents_of options.form files.items options.limit ≡ Err fault) }
     ensures out_of_memory { IfErr result (λ fault. fault.kind ≡ LoadFaultKind.OutOfMemory → fault ≡ out_of_memory) }
 {
-    if workers > 1
-        && let Some(tables) = tables_of_parts(
-            rt, alloc, &files, wanted, limit, workers, least, gate, form,
-        )?
+    if options.workers > 1
+        && let Some(tables) = tables_of_parts(rt, alloc, &files, wanted, least, gate, options)?
     {
         return Ok(tables);
     }
-    load_projected(alloc, files, wanted, limit, form)
+    load_projected(alloc, files, wanted, options.limit, options.form)
 }
 
 /// The same as `load_tables_parallel`, with parts of length `least` or more instead of 64 KiB. Public for tests, which
@@ -98,20 +100,18 @@ pub fn load_tables_by_parts<R: Threads + Sync, G: Gate + Sync>(
     rt: &R,
     alloc: Global,
     files: Vec<TableFile>,
-    limit: u32,
-    workers: u32,
     least: usize,
     gate: &G,
-    form: Form,
+    options: LoadOptions,
 ) -> Result<Tables, LoadFault>
-    requires limit { limit ≤ MAX_EVENTS }
-    requires some { 1 ≤ workers }
-    requires at_most { workers ≤ 16 }
-    ensures tables { IfOk result (AreTables form files.items limit) }
-    ensures fault { IfErr result (λ fault. fault.kind ≢ LoadFaultKind.OutOfMemory → contents_of form files.items limit ≡ Err fault) }
+    requires limit { options.limit ≤ MAX_EVENTS }
+    requires some { 1 ≤ options.workers }
+    requires at_most { options.workers ≤ 16 }
+    ensures tables { IfOk result (AreTables options.form files.items options.limit) }
+    ensures fault { IfErr result (λ fault. fault.kind ≢ LoadFaultKind.OutOfMemory → contents_of options.form files.items options.limit ≡ Err fault) }
     ensures out_of_memory { IfErr result (λ fault. fault.kind ≡ LoadFaultKind.OutOfMemory → fault ≡ out_of_memory) }
 {
-    load_by_parts(rt, alloc, files, &[], limit, workers, least, gate, form)
+    load_by_parts(rt, alloc, files, &[], least, gate, options)
 }
 
 /// Loads files as `load_tables` does, by 1 to 16 workers, one of which is the calling thread. The gate is called before
@@ -121,28 +121,17 @@ pub fn load_tables_parallel<R: Threads + Sync, G: Gate + Sync>(
     rt: &R,
     alloc: Global,
     files: Vec<TableFile>,
-    limit: u32,
-    workers: u32,
     gate: &G,
-    form: Form,
+    options: LoadOptions,
 ) -> Result<Tables, LoadFault>
-    requires limit { limit ≤ MAX_EVENTS }
-    requires some { 1 ≤ workers }
-    requires at_most { workers ≤ 16 }
-    ensures tables { IfOk result (AreTables form files.items limit) }
-    ensures fault { IfErr result (λ fault. fault.kind ≢ LoadFaultKind.OutOfMemory → contents_of form files.items limit ≡ Err fault) }
+    requires limit { options.limit ≤ MAX_EVENTS }
+    requires some { 1 ≤ options.workers }
+    requires at_most { options.workers ≤ 16 }
+    ensures tables { IfOk result (AreTables options.form files.items options.limit) }
+    ensures fault { IfErr result (λ fault. fault.kind ≢ LoadFaultKind.OutOfMemory → contents_of options.form files.items options.limit ≡ Err fault) }
     ensures out_of_memory { IfErr result (λ fault. fault.kind ≡ LoadFaultKind.OutOfMemory → fault ≡ out_of_memory) }
 {
-    load_tables_by_parts(
-        rt,
-        alloc,
-        files,
-        limit,
-        workers,
-        MIN_PART_LENGTH,
-        gate,
-        form,
-    )
+    load_tables_by_parts(rt, alloc, files, MIN_PART_LENGTH, gate, options)
 }
 
 /// Loads files as `load_projected` does, by 1 to 16 workers. `wanted` has for each table, and for each of its columns,
@@ -153,28 +142,16 @@ pub fn load_projected_parallel<R: Threads + Sync, G: Gate + Sync>(
     alloc: Global,
     files: Vec<TableFile>,
     wanted: &[Vec<bool>],
-    limit: u32,
-    workers: u32,
     gate: &G,
-    form: Form,
+    options: LoadOptions,
 ) -> Result<Tables, LoadFault>
-    requires limit { limit ≤ MAX_EVENTS }
-    requires some { 1 ≤ workers }
-    requires at_most { workers ≤ 16 }
-    ensures tables { IfOk result (AreProjectedTables form files.items limit (wanted_lists wanted.now)) }
+    requires limit { options.limit ≤ MAX_EVENTS }
+    requires some { 1 ≤ options.workers }
+    requires at_most { options.workers ≤ 16 }
+    ensures tables { IfOk result (AreProjectedTables options.form files.items options.limit (wanted_lists wanted.now)) }
     ensures read { IfOk result (λ tables. AreRead tables.catalogue.tables tables.rows) }
-    ensures fault { IfErr result (λ fault. fault.kind ≢ LoadFaultKind.OutOfMemory → contents_of form files.items limit ≡ Err fault) }
+    ensures fault { IfErr result (λ fault. fault.kind ≢ LoadFaultKind.OutOfMemory → contents_of options.form files.items options.limit ≡ Err fault) }
     ensures out_of_memory { IfErr result (λ fault. fault.kind ≡ LoadFaultKind.OutOfMemory → fault ≡ out_of_memory) }
 {
-    load_by_parts(
-        rt,
-        alloc,
-        files,
-        wanted,
-        limit,
-        workers,
-        MIN_PART_LENGTH,
-        gate,
-        form,
-    )
+    load_by_parts(rt, alloc, files, wanted, MIN_PART_LENGTH, gate, options)
 }

@@ -6,6 +6,7 @@ ghost use Rattle.tq_event.specs.Projection.{wanted_lists};
 ghost use Rattle.tq_load.specs.Parts.{IsPartOf, IsRead, part_of_prop};
 
 use crate::if_valid::if_valid;
+use crate::options::LoadOptions;
 use crate::part::{Part, PartRows};
 use crate::reading::read_part;
 use std::alloc::{AllocError, Global};
@@ -54,16 +55,15 @@ fn part_rows(
     }
 }
 
-// The parts of files, one for each piece.
+/// The parts of files as work, one part for each piece.
 #[derive(Drop)]
-struct Parts<'p> {
-    alloc: Global,
-    limit: u32,
-    files: &'p [TableFile],
-    wanted: &'p [Vec<bool>],
-    schemas: &'p [Schema],
-    parts: &'p [Part],
-    form: Form,
+pub struct Parts<'p> {
+    pub alloc: Global,
+    pub files: &'p [TableFile],
+    pub wanted: &'p [Vec<bool>],
+    pub schemas: &'p [Schema],
+    pub parts: &'p [Part],
+    pub options: LoadOptions,
     ghost few: { length parts.now ≤ 65552 },
     ghost many: { length schemas.now ≡ length files.now },
     ghost are: { All (IsPartOf files.now) parts.now } by { Prim.hlevel (props, part_of_prop) },
@@ -74,7 +74,7 @@ impl Work for Parts<'_> {
 
     ghost count = { λ w. length w.parts.now };
 
-    ghost relates = { λ w _ read. IfSome read (IsRead w.form w.files.now (wanted_lists w.wanted.now) w.schemas.now) };
+    ghost relates = { λ w _ read. IfSome read (IsRead w.options.form w.files.now (wanted_lists w.wanted.now) w.schemas.now) };
 
     fn pieces(&self) -> u32 {
         self.parts.len() as u32
@@ -83,44 +83,25 @@ impl Work for Parts<'_> {
     fn run(&self, i: u32) -> Result<Option<PartRows>, AllocError> {
         part_rows(
             self.alloc,
-            self.limit,
+            self.options.limit,
             self.files,
             self.wanted,
             self.schemas,
             self.parts[i as usize],
-            self.form,
+            self.options.form,
         )
     }
 }
 
 /// The rows of the parts, in order, read by the workers, with only the wanted values kept. `None` for an invalid part.
-pub fn read_parts<'p, R: Threads + Sync, G: Gate + Sync>(
+pub fn read_parts<R: Threads + Sync, G: Gate + Sync>(
     rt: &R,
-    alloc: Global,
-    limit: u32,
-    files: &'p [TableFile],
-    wanted: &'p [Vec<bool>],
-    schemas: &'p [Schema],
-    parts: &'p [Part],
-    workers: u32,
+    work: &Parts<'_>,
     gate: &G,
-    form: Form,
 ) -> Result<Vec<Option<PartRows>>, AllocError>
-    requires few { length parts.now ≤ 65552 }
-    requires many { length schemas.now ≡ length files.now }
-    requires are { All (IsPartOf files.now) parts.now }
-    requires some { 1 ≤ workers }
-    requires at_most { workers ≤ 16 }
-    ensures { IfOk result (λ read. All (λ one. IfSome one (IsRead form files.now (wanted_lists wanted.now) schemas.now)) read.items) }
+    requires some { 1 ≤ work.now.options.workers }
+    requires at_most { work.now.options.workers ≤ 16 }
+    ensures { IfOk result (λ read. All (λ one. IfSome one (IsRead work.now.options.form work.now.files.now (wanted_lists work.now.wanted.now) work.now.schemas.now)) read.items) }
 {
-    let work = Parts {
-        alloc,
-        limit,
-        files,
-        wanted,
-        schemas,
-        parts,
-        form,
-    };
-    run_with(rt, alloc, workers, &work, gate)
+    run_with(rt, work.alloc, work.options.workers, work, gate)
 }

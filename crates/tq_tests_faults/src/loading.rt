@@ -6,7 +6,7 @@ use std::sync::Wait;
 use std::thread::Threads;
 use tq_base::{Form, Rows, Value, ValueRef};
 use tq_event::{Event, LoadFault, LoadFaultKind, Loaded, MAX_EVENTS, TableFile, Tables, load};
-use tq_load::load_tables_by_parts;
+use tq_load::{LoadOptions, load_tables_by_parts};
 use tq_run::Open;
 use tq_tests_script::{Call, Refusal, TableFiles, Tried, attempt};
 
@@ -133,17 +133,12 @@ fn loaded_among<R: Threads + Wait + Sync>(
     files: Vec<TableFile>,
     workers: u32,
 ) -> Result<Tables, LoadFault> {
-    let workers = workers.clamp(1, 16);
-    load_tables_by_parts(
-        rt,
-        alloc,
-        files,
-        MAX_EVENTS,
-        workers,
-        20,
-        &Open,
-        Form::Numbers,
-    )
+    let options = LoadOptions {
+        limit: MAX_EVENTS,
+        workers: workers.clamp(1, 16),
+        form: Form::Numbers,
+    };
+    load_tables_by_parts(rt, alloc, files, 20, &Open, options)
 }
 
 impl Call for LoadingAmong<'_> {

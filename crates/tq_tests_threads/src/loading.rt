@@ -1,6 +1,6 @@
 // Files loaded by 1 to 16 workers, completely and in parts of several lengths.
 
-ghost use Rattle.std.specs.Prelude.{◌≤◌};
+ghost use Rattle.std.specs.Prelude.{◌≡◌, ◌≤◌};
 
 use std::alloc::{AllocError, Global};
 use std::fmt::Write;
@@ -10,8 +10,22 @@ use std::thread;
 use std::thread::Threads;
 use tq_base::{Form, List, Rows, Value, ValueRef};
 use tq_event::{FileBytes, LoadFault, MAX_EVENTS, TableFile, Tables, load_projected, load_tables};
-use tq_load::{first_cut, load_projected_parallel, load_tables_by_parts, load_tables_parallel};
+use tq_load::{
+    LoadOptions, first_cut, load_projected_parallel, load_tables_by_parts, load_tables_parallel,
+};
 use tq_run::{Gate, Open};
+
+// Loading by these workers, with instants as numbers, of as many events as there may be.
+fn all_events(workers: u32) -> LoadOptions
+    ensures limit { result.limit ≡ MAX_EVENTS }
+    ensures workers { result.workers ≡ workers }
+{
+    LoadOptions {
+        limit: MAX_EVENTS,
+        workers,
+        form: Form::Numbers,
+    }
+}
 
 // The bytes in lists of this length, or in one list if it is 0.
 fn in_pieces(alloc: Global, bytes: &[u8], len: usize) -> Result<FileBytes, AllocError> {
@@ -83,32 +97,22 @@ fn printed(alloc: Global, loaded: Result<Tables, LoadFault>) -> Result<String, F
     Ok(lines)
 }
 
-// Whether these workers load the files as `wanted` says, in parts of at least `least` bytes, from lists of `len` bytes.
+// Whether the files are loaded as `wanted` says, in parts of at least `least` bytes, from lists of `len` bytes.
 fn is_loaded<R: Threads + Sync>(
     rt: &R,
     alloc: Global,
     texts: (&str, &str),
-    limit: u32,
-    workers: u32,
     least: usize,
     len: usize,
+    options: LoadOptions,
     wanted: &str,
 ) -> Result<bool, Fail>
-    requires limit { limit ≤ MAX_EVENTS }
-    requires some { 1 ≤ workers }
-    requires at_most { workers ≤ 16 }
+    requires limit { options.limit ≤ MAX_EVENTS }
+    requires some { 1 ≤ options.workers }
+    requires at_most { options.workers ≤ 16 }
 {
     let files = files_in_pieces(alloc, texts, len)?;
-    let loaded = load_tables_by_parts(
-        rt,
-        alloc,
-        files,
-        limit,
-        workers,
-        least,
-        &Open,
-        Form::Numbers,
-    );
+    let loaded = load_tables_by_parts(rt, alloc, files, least, &Open, options);
     Ok(printed(alloc, loaded)?.as_str() == wanted)
 }
 
@@ -131,7 +135,12 @@ fn is_loaded_by_all<R: Threads + Sync>(
     for workers in [1, 2, 7, 16] {
         for least in [0, 1, 7, 50, 100_000] {
             for len in [0, 1, 2, 16, 22, 37] {
-                if !is_loaded(rt, alloc, texts, limit, workers, least, len, &wanted)? {
+                let options = LoadOptions {
+                    limit,
+                    workers,
+                    form: Form::Numbers,
+                };
+                if !is_loaded(rt, alloc, texts, least, len, options, &wanted)? {
                     return Ok(false);
                 }
             }
@@ -233,15 +242,7 @@ fn events_are_counted_over_all_parts(rt: HostRuntime) -> Result<(), Fail> {
 fn no_files_are_no_tables(rt: HostRuntime) -> Result<(), Fail> {
     for workers in [1, 2, 16] {
         let files = Vec::new(rt.alloc());
-        let loaded = load_tables_parallel(
-            &rt,
-            rt.alloc(),
-            files,
-            MAX_EVENTS,
-            workers,
-            &Open,
-            Form::Numbers,
-        );
+        let loaded = load_tables_parallel(&rt, rt.alloc(), files, &Open, all_events(workers));
         assert_eq!(rt; printed(rt.alloc(), loaded)?.as_str(), "");
     }
     Ok(())
@@ -297,7 +298,7 @@ fn is_loaded_among<R: Threads + Sync, G: Gate + Sync>(
         Form::Numbers,
     );
     let files = files_of(alloc, texts.0, texts.1)?;
-    let among = load_tables_parallel(rt, alloc, files, MAX_EVENTS, workers, gate, Form::Numbers);
+    let among = load_tables_parallel(rt, alloc, files, gate, all_events(workers));
     Ok(printed(alloc, here)? == printed(alloc, among)?)
 }
 
@@ -397,16 +398,7 @@ fn parts_of_lists<R: Threads + Sync>(
         name: List::of(b"a".to_vec(alloc)?),
         bytes: FileBytes::of_pieces(front, pieces).ok_or(AllocError)?,
     })?;
-    let among = load_tables_by_parts(
-        rt,
-        alloc,
-        files,
-        MAX_EVENTS,
-        2,
-        100_000,
-        &gate,
-        Form::Numbers,
-    );
+    let among = load_tables_by_parts(rt, alloc, files, 100_000, &gate, all_events(2));
     let here = load_tables(
         alloc,
         files_of(alloc, &text, "")?,
@@ -468,16 +460,7 @@ fn wanted_output<R: Threads + Sync>(rt: &R, alloc: Global, workers: u32) -> Resu
 {
     let files = files_of(alloc, TWO.0, TWO.1)?;
     let wanted = wanted_lists(alloc)?;
-    let loaded = load_projected_parallel(
-        rt,
-        alloc,
-        files,
-        &wanted,
-        MAX_EVENTS,
-        workers,
-        &Open,
-        Form::Numbers,
-    );
+    let loaded = load_projected_parallel(rt, alloc, files, &wanted, &Open, all_events(workers));
     printed(alloc, loaded)
 }
 

@@ -14,4 +14,4 @@ all_told form files limit (Ok tables) wanted read = all_wanted form files limit 
 all_told form files limit (Err fault) wanted read = tt
 
 pub returns-clause-tables : goal.returns-clause-tables
-returns-clause-tables g c = all_told c.args.form c.args.files.items c.args.limit c.load_by_parts.result c.load_by_parts.ensures.tables c.load_by_parts.ensures.read
+returns-clause-tables g c = all_told c.args.options.form c.args.files.items c.args.options.limit c.load_by_parts.result c.load_by_parts.ensures.tables c.load_by_parts.ensures.read
