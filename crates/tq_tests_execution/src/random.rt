@@ -89,12 +89,7 @@ fn random_instant(draws: &mut Draws) -> u64 {
 }
 
 // Compares the answer of a random statement as of a random count of events at five random instants.
-fn see_one(
-    alloc: Global,
-    draws: &mut Draws,
-    sources: u64,
-    seen: &mut Seen,
-) -> Result<(), Fault> {
+fn see_one(alloc: Global, draws: &mut Draws, sources: u64, seen: &mut Seen) -> Result<(), Fault> {
     let files = random_files(alloc, draws, sources)?;
     let statement = random_statement(alloc, draws, sources)?;
     let question = asked(alloc, files, statement.as_str())?;
