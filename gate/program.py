@@ -1,6 +1,6 @@
 #!/usr/bin/env python3
-"""Puts the cases of gate/cases/ and gate/generated.py, and each command that README.md, examples/ and docs/recipes.md
-print, to the program.
+"""Puts the cases of gate/cases/ and gate/generated.py, and each command that README.md, examples/ and the documents for
+users print, to the program.
 
     gate/program.py PROGRAM
 
@@ -29,6 +29,8 @@ ROOT = Path(__file__).resolve().parent.parent
 SECONDS = 120
 COMMAND = re.compile(r"    \$ bin/tq (.*)")
 SHELL_COMMAND = re.compile(r"    \$ (.*)")
+# The pages whose commands the shell runs.
+SHELL_PAGES = ["docs/guide.md", "docs/recipes.md"]
 FORM = re.compile(r"    bin/tq (.*) STATEMENT")
 # The seconds that a run took, which no case names.
 TOOK = re.compile(rb"(?<= )\d+\.\d{3} s$", re.MULTILINE)
@@ -52,15 +54,27 @@ def commands_of(block, command):
         yield command.match(block[start])[1], block[start + 1 : end]
 
 
+def text_of(lines):
+    """What a command prints, by the lines of a page."""
+    return "".join(line.removeprefix("    ") + "\n" for line in lines)
+
+
+def status_of(said):
+    """The status of a command that prints this text: that of a refusal, if a line is one."""
+    if "tq: BadCommandLine\n" in said:
+        return 2
+    return 1 if re.search("^tq: ", said, re.MULTILINE) else 0
+
+
 def printed(name, words, lines):
     """The case of a command that a page prints with these lines: a refusal, or an answer. A file may be its input."""
-    said = "".join(line.removeprefix("    ") + "\n" for line in lines).encode()
+    said = text_of(lines).encode()
     taken = b""
     if len(words) > 2 and words[-2] == "<":
         taken = (ROOT / words[-1]).read_bytes()
         words = words[:-2]
     if said.startswith(b"tq: "):
-        return Case(name, words, err=said, status=2 if said == b"tq: BadCommandLine\n" else 1, taken=taken)
+        return Case(name, words, err=said, status=status_of(said.decode()), taken=taken)
     return Case(name, words, out=said, taken=taken)
 
 
@@ -185,21 +199,23 @@ def cases_of_help(program):
         yield ask(f"help: {statement}", tables, statement, ["--dates"], out=b"name,from,to\nann,2024-02-29,2024-03-01\n")
 
 
-def recipes(program):
-    """Each command of docs/recipes.md, run by the shell in one folder in their order, with what is wrong with it."""
-    text = (ROOT / "docs" / "recipes.md").read_text()
+def commands_by_shell(program, page):
+    """Each command of a page, run by the shell in one folder in their order, with what is wrong with it. The page shows
+    standard output and standard error together."""
+    text = (ROOT / page).read_text()
     with tempfile.TemporaryDirectory(prefix="tq-") as room:
         (Path(room) / "bin").mkdir()
         (Path(room) / "bin" / "tq").symlink_to(program)
         (Path(room) / "examples").symlink_to(ROOT / "examples")
         for block in blocks_of(text):
             for command, lines in commands_of(block, SHELL_COMMAND):
-                wanted = "".join(line.removeprefix("    ") + "\n" for line in lines)
+                wanted = text_of(lines)
+                status = status_of(wanted)
                 shell = ["bash", "-euo", "pipefail", "-c", command]
                 ran = subprocess.run(shell, cwd=room, stdout=subprocess.PIPE, stderr=subprocess.STDOUT, timeout=SECONDS)
                 out = ran.stdout.decode()
-                faults = [] if ran.returncode == 0 else [f"status {ran.returncode}"]
-                yield command, faults + ([] if out == wanted else [f"output {out[:200]!r}, not {wanted[:200]!r}"])
+                faults = [] if ran.returncode == status else [f"status {ran.returncode}, not {status}"]
+                yield f"{page}: {command}", faults + ([] if out == wanted else [f"output {out[:200]!r}, not {wanted[:200]!r}"])
 
 
 def made_pages(program):
@@ -275,9 +291,10 @@ def main():
     shown["gate/cases"] = script.table()
     table = [*(case for part in shown.values() for case in part), *generated.table()]
     tried = [(case.name, faults_of(program, case)) for case in table]
-    shown["docs/recipes.md"] = list(recipes(program))
-    tried += [*shown["docs/recipes.md"], *made_pages(program), *session_at_a_terminal(program),
-              *question_that_takes_long(program)]
+    by_shell = {page: list(commands_by_shell(program, page)) for page in SHELL_PAGES}
+    shown |= by_shell
+    tried += [command for page in by_shell.values() for command in page]
+    tried += [*made_pages(program), *session_at_a_terminal(program), *question_that_takes_long(program)]
     passed = failed = 0
     for place, part in shown.items():
         if not part:
