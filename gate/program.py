@@ -30,7 +30,13 @@ SECONDS = 120
 COMMAND = re.compile(r"    \$ bin/tq (.*)")
 SHELL_COMMAND = re.compile(r"    \$ (.*)")
 # The pages whose commands the shell runs.
-SHELL_PAGES = ["docs/guide.md", "docs/recipes.md", "docs/reference/cli.md", "docs/reference/language.md"]
+SHELL_PAGES = [
+    "docs/guide.md",
+    "docs/recipes.md",
+    "docs/reference/cli.md",
+    "docs/reference/files.md",
+    "docs/reference/language.md",
+]
 FORM = re.compile(r"    bin/tq (.*) STATEMENT")
 # The seconds that a run took, which no case names.
 TOOK = re.compile(rb"(?<= )\d+\.\d{3} s$", re.MULTILINE)
