@@ -2,7 +2,7 @@
 # is the full check, and `make bench` measures the program. All three that prove share what was proved.
 SHELL := /bin/bash
 .SHELLFLAGS := -eu -o pipefail -c
-.PHONY: answer first build quick test words wrong-bodies soak bench install tools
+.PHONY: answer first build quick test words docs wrong-bodies soak bench install tools
 
 PREFIX := /usr/local
 SHARE := $(DESTDIR)$(PREFIX)/share
@@ -31,8 +31,8 @@ tools:
 	@for tool in rt python3; do command -v $$tool > /dev/null \
 		|| { echo "make: $$tool is missing; the Rattle toolchain (rt) and Python 3 build tq"; exit 1; }; done
 
-# The gate: proves every crate and its tests from nothing, tries the must-fail edits, runs tests and programs, and
-# puts the cases of gate/ to the program. Its log is bin/check.log.
+# The gate: proves every crate and its tests from nothing, tries the must-fail edits, runs tests and programs,
+# puts the cases of gate/ to the program, and checks the documents. Its log is bin/check.log.
 test:
 	@mkdir -p bin
 	gate/run.sh 2>&1 | tee bin/check.log
@@ -40,6 +40,10 @@ test:
 # The old names that are left in the code and the documents.
 words:
 	@gate/words.py
+
+# Links, names, length and words of the documents.
+docs:
+	@gate/docs.py
 
 # The wrong bodies that the gate leaves out: of the crates of CRATES, or of all.
 wrong-bodies:

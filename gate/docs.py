@@ -1,0 +1,264 @@
+#!/usr/bin/env python3
+"""Checks the documents: README.md, docs/, the README of each crate and examples/.
+
+    gate/docs.py
+
+- Links: each relative link leads to a tracked file or folder, and its anchor to a heading there, by GitHub's rule.
+- Names: each code name in backticks exists in the tracked files (see `Names`).
+- Length, in the documents of SHORT: a sentence has at most 30 words, a paragraph, a list item or a table cell at most 100.
+- Words: no document of docs/ and not README.md has an old word of WORDS.
+
+Each fault has one line, 'FAILED: FILE:LINE: what'. The last line is 'N passed, M failed': N documents without a fault, and
+M faults. The exit status is 1 if there is a fault.
+"""
+
+import re
+import subprocess
+import sys
+from collections import Counter
+from fnmatch import fnmatchcase
+from functools import cache
+from pathlib import Path
+from posixpath import dirname, join, normpath
+
+ROOT = Path(__file__).resolve().parent.parent
+DOCUMENT = re.compile(r"README\.md|docs/.*\.md|crates/[^/]+/README\.md|examples/[^/]+\.md")
+
+MOST_IN_SENTENCE, MOST_IN_PARAGRAPH = 30, 100
+SHORT = ["README.md", "docs/guide.md", "docs/limits.md", "docs/proved.md"]
+
+# Names and paths that no tracked file has, the documents that may have them, and the reason.
+EXCEPTIONS = """
+bin/*         *                made by `make`
+out/          docs/gate.md     made by `rt check`
+./-           docs/formats.md  a path that a user may write
+AVG           *                SQL that is not supported
+k[0-9]*       docs/tree.md     keys in its pictures
+tq_tests_*    docs/gate.md     crates of an earlier gate, in its table of times
+"""
+
+# Old words as a regular expression, what to write instead, and after `but` the documents that still have them. At least two
+# spaces divide the three. Not here are old words that are right in another meaning: made, at once, behind, lines, layers.
+WORDS = """
+told|tells            reports, prints, shows, is known    but architecture formats promises recipes semantics threads tree
+stands(?! for)        is, is stored, holds                but architecture formats promises recipes semantics threads tree
+beside                next to, compared with              but architecture formats promises recipes semantics threads
+amiss|at fault        invalid                             but architecture formats promises recipes threads
+lent                  borrowed                            but architecture threads
+owed                  required                            but semantics
+so many|as many as    n, that many, at most n             but formats promises semantics threads
+in place of           instead of                          but recipes
+tries                 checks                              but architecture
+(?<!there )is no      is not a valid                      but formats threads
+wrong bod(?:y|ies)    mutant                              but architecture promises threads
+growths?              failed allocation                   but architecture formats promises threads
+ranks?                normalized key prefix               but architecture threads
+falls? apart          is partitioned                      but threads
+shares                partitions                          but architecture threads
+"""
+
+HEADING = re.compile(r"#+ +(.*)")
+SPAN = re.compile(r"`([^`]+)`")
+LINK = re.compile(r"!?\[((?:[^\[\]]|\[[^\]]*\])*)\]\(([^()\s]+)\)")
+SENTENCE_END = re.compile(r"[.!?][)\"'*]*\s+(?=[\"'(*]*[A-Z])")
+
+
+class Document:
+    """The lines of a document with their numbers, without those of code blocks, and the anchors of its headings."""
+
+    def __init__(self, path):
+        self.path = path
+        self.lines, self.anchors = [], set()
+        seen, is_fenced = Counter(), False
+        for number, line in enumerate((ROOT / path).read_text(encoding="utf-8").split("\n"), 1):
+            if line.startswith("```"):
+                is_fenced = not is_fenced
+            elif is_fenced or line.startswith("    "):
+                continue
+            elif heading := HEADING.match(line):
+                anchor = anchor_of(heading[1])
+                self.anchors.add(f"{anchor}-{seen[anchor]}" if seen[anchor] else anchor)
+                seen[anchor] += 1
+            self.lines.append((number, line))
+
+    def paragraphs(self):
+        """Paragraphs, list items and cells of tables: the number of the first line, and the text."""
+        begun, text = 0, ""
+        for number, line in [*self.lines, (0, "")]:
+            starts = re.match(r" *(?:[-*]|\d+\.) +|> *", line)
+            ends = not line.strip() or HEADING.match(line) or line.startswith(("|", "<!--", "```"))
+            if (ends or starts) and text:
+                yield begun, text
+                text = ""
+            if line.startswith("|"):
+                yield from ((number, cell) for cell in re.split(r"(?<!\\)\|", line) if re.search(r"\w", cell))
+            elif not ends:
+                begun = begun if text else number
+                text += " " + (line[starts.end():] if starts else line)
+
+
+@cache
+def document(path):
+    return Document(path)
+
+
+def anchor_of(heading):
+    """GitHub's anchor of a heading: small letters, digits, `_`, `-`, and a `-` for each space."""
+    text = LINK.sub(r"\1", heading).replace("`", "")
+    return re.sub(r"[^\w\- ]", "", text.lower()).replace(" ", "-")
+
+
+class Links:
+    """Relative links, with their anchors."""
+
+    def __init__(self, files):
+        self.targets = {"."}.union(files, *map(folders_of, files))
+
+    def faults(self, of):
+        for number, line in of.lines:
+            for _, target in LINK.findall(SPAN.sub("", line)):
+                if not re.match(r"\w+:", target) and (fault := self.fault(of, target)):
+                    yield number, f"the link {target} leads to no {fault}"
+
+    def fault(self, of, target):
+        path, _, anchor = target.partition("#")
+        file = normpath(join(dirname(of.path), path)) if path else of.path
+        if file not in self.targets:
+            return "tracked file"
+        if anchor and not (file.endswith(".md") and anchor in document(file).anchors):
+            return "heading"
+        return None
+
+
+class Names:
+    """Code names in backticks.
+
+    A path has a `/` or one of the endings of tracked files. It is, or ends, the path of a tracked file or folder. Words in
+    capitals in it stand for any name.
+
+    A name is a word, or words divided by `::` or `.`, with or without `()` after them. Each word is in a tracked file that
+    is not a document, or in the path of one. Words divided by `::` are all in one .rt file, or declared in the crate that
+    comes first.
+
+    In "`NAME`, `NAME` in `PLACE`", where PLACE is a crate or a path in one, each name is declared there: after a keyword
+    such as `fn` in .rt files, as the first word of a line in .antt files, anywhere in others."""
+
+    NAME = re.compile(r"\w+(?:(?:::|\.)\w+)*(?:\(\))?")
+    PLACE = re.compile(r"(?:crates/)?(tq(?:_\w+)?(?:/[\w./-]*)?)")
+    IN_PLACE = re.compile(r"((?:`[^`]+`(?:,? and(?: the laws?)? |,? or |, ))*`[^`]+`) in `([^`]+)`")
+    DECLARED = {
+        ".rt": re.compile(r"\b(?:fn|struct|enum|trait|type|const|static|mod) +(\w+)"),
+        ".antt": re.compile(r"^(?!use |--)(?:(?:pub|abbrev|record|data) +)*(\w+)", re.MULTILINE),
+    }
+    WORD = re.compile(r"\w+")
+
+    def __init__(self, files):
+        self.files = files
+        self.endings = {Path(file).suffix for file in files} - {""}
+        self.paths = {file[at:] for path in files for file in (path, *folders_of(path)) for at in starts_of(file)}
+        words = {file: set(self.WORD.findall(text_of(file))) for file in files if not DOCUMENT.fullmatch(file)}
+        self.words = set(self.WORD.findall(" ".join(files))).union(*words.values())
+        self.words_of_code = [words[file] for file in words if file.endswith(".rt")]
+        self.exceptions = [line.split()[:2] for line in EXCEPTIONS.split("\n") if line]
+
+    def faults(self, of):
+        for number, line in of.lines:
+            for name in SPAN.findall(line):
+                if not self.exists(name) and not self.is_exception(name, of.path):
+                    yield number, f"`{name}` is in no tracked file"
+            for names, place in self.IN_PLACE.findall(line):
+                if found := self.PLACE.fullmatch(place):
+                    declared = self.declared_in("crates/" + found[1].rstrip("/"))
+                    for name in filter(self.NAME.fullmatch, SPAN.findall(names)):
+                        if not name.startswith("tq_") and not declared.issuperset(self.WORD.findall(name)):
+                            yield number, f"`{name}` is not declared in `{place}`"
+
+    def is_exception(self, name, path):
+        return any(fnmatchcase(name, names) and fnmatchcase(path, paths) for names, paths in self.exceptions)
+
+    def exists(self, name):
+        if " " not in name and ("/" in name or Path(name).suffix in self.endings):
+            path = re.sub(r"\b[A-Z]+\b", "*", name.rstrip("/"))
+            return path in self.paths or ("*" in path and any(fnmatchcase(known, path) for known in self.paths))
+        words = self.WORD.findall(name)
+        if not self.NAME.fullmatch(name):
+            return True
+        if "::" not in name:
+            return self.words.issuperset(words)
+        if words[0].startswith("tq"):
+            return self.declared_in(f"crates/{words[0]}").issuperset(words)
+        return any(known.issuperset(words) for known in self.words_of_code)
+
+    @cache
+    def declared_in(self, place):
+        words = set()
+        for file in self.files:
+            if (file == place or file.startswith(place + "/")) and not file.endswith(".md"):
+                words.update(self.WORD.findall(file), self.DECLARED.get(Path(file).suffix, self.WORD).findall(text_of(file)))
+        return words
+
+
+class Length:
+    """Sentences and paragraphs."""
+
+    def faults(self, of):
+        for number, text in of.paragraphs() if of.path in SHORT else ():
+            text = LINK.sub(r"\1", SPAN.sub("Code", text))
+            if (count := len(text.split())) > MOST_IN_PARAGRAPH:
+                yield number, f"a paragraph of {count} words"
+            for sentence in SENTENCE_END.split(text):
+                if (count := len(sentence.split())) > MOST_IN_SENTENCE:
+                    yield number, f"a sentence of {count} words: {' '.join(sentence.split()[:6])} .."
+
+
+class Words:
+    """Old words."""
+
+    def __init__(self):
+        self.sought = []
+        for line in filter(None, WORDS.split("\n")):
+            old, new, *waiting = re.split(r"  +", line)
+            documents = [f"docs/{name}.md" for name in " ".join(waiting).split()[1:]]
+            self.sought.append((re.compile(rf"\b(?:{old})\b", re.IGNORECASE), new, documents))
+
+    def faults(self, of):
+        if not of.path.startswith(("docs/", "README.md")):
+            return
+        for number, line in of.lines:
+            text = LINK.sub(r"\1", SPAN.sub("Code", line))
+            for old, new, waiting in self.sought:
+                if of.path not in waiting and (found := old.search(text)):
+                    yield number, f"{found[0]} -> {new}"
+
+
+def folders_of(path):
+    """The folders above a path."""
+    return [path[:at] for at, letter in enumerate(path) if letter == "/"]
+
+
+def starts_of(path):
+    """The places of a path at which a name begins."""
+    return [0, *(at + 1 for at, letter in enumerate(path) if letter == "/")]
+
+
+def text_of(file):
+    return (ROOT / file).read_text(encoding="utf-8", errors="replace")
+
+
+def main():
+    listed = subprocess.run(["git", "ls-files", "-z"], cwd=ROOT, stdout=subprocess.PIPE, text=True, check=True).stdout
+    files = listed.split("\0")[:-1]
+    checks = [Links(files), Names(files), Length(), Words()]
+    passed = failed = 0
+    for path in filter(DOCUMENT.fullmatch, files):
+        faults = sorted(set(fault for check in checks for fault in check.faults(document(path))))
+        for number, what in faults:
+            print(f"FAILED: {path}:{number}: {what}")
+        passed += not faults
+        failed += len(faults)
+    print(f"{passed} passed, {failed} failed")
+    return 1 if failed else 0
+
+
+if __name__ == "__main__":
+    sys.exit(main())
