@@ -7,6 +7,7 @@
 - Names: each code name in backticks exists in the tracked files (see `Names`).
 - Length, in the documents of SHORT: a sentence has at most 30 words, a paragraph, a list item or a table cell at most 100.
 - Words: no document of docs/ and not README.md has an old word of WORDS.
+- Quotes, in the documents of QUOTING: each line of a code block is a line of a .rt or .antt file.
 
 Each fault has one line, 'FAILED: FILE:LINE: what'. The last line is 'N passed, M failed': N documents without a fault, and
 M faults. The exit status is 1 if there is a fault.
@@ -26,6 +27,7 @@ DOCUMENT = re.compile(r"README\.md|docs/.*\.md|crates/[^/]+/README\.md|examples/
 
 MOST_IN_SENTENCE, MOST_IN_PARAGRAPH = 30, 100
 SHORT = ["README.md", "docs/guide.md", "docs/limits.md", "docs/proved.md"]
+QUOTING = ["docs/proved.md"]
 
 # Names and paths that no tracked file has, the documents that may have them, and the reason.
 EXCEPTIONS = """
@@ -64,16 +66,17 @@ SENTENCE_END = re.compile(r"[.!?][)\"'*]*\s+(?=[\"'(*]*[A-Z])")
 
 
 class Document:
-    """The lines of a document with their numbers, without those of code blocks, and the anchors of its headings."""
+    """The lines of a document with their numbers, those of code blocks apart, and the anchors of its headings."""
 
     def __init__(self, path):
         self.path = path
-        self.lines, self.anchors = [], set()
+        self.lines, self.code, self.anchors = [], [], set()
         seen, is_fenced = Counter(), False
         for number, line in enumerate((ROOT / path).read_text(encoding="utf-8").split("\n"), 1):
             if line.startswith("```"):
                 is_fenced = not is_fenced
             elif is_fenced or line.startswith("    "):
+                self.code.append((number, line))
                 continue
             elif heading := HEADING.match(line):
                 anchor = anchor_of(heading[1])
@@ -231,6 +234,18 @@ class Words:
                     yield number, f"{found[0]} -> {new}"
 
 
+class Quotes:
+    """Code that is quoted."""
+
+    def __init__(self, files):
+        self.quotable = {line for file in files if file.endswith((".rt", ".antt")) for line in text_of(file).split("\n")}
+
+    def faults(self, of):
+        for number, line in of.code if of.path in QUOTING else ():
+            if line.removeprefix("    ") not in self.quotable:
+                yield number, "the line is in no .rt or .antt file"
+
+
 def folders_of(path):
     """The folders above a path."""
     return [path[:at] for at, letter in enumerate(path) if letter == "/"]
@@ -241,6 +256,7 @@ def starts_of(path):
     return [0, *(at + 1 for at, letter in enumerate(path) if letter == "/")]
 
 
+@cache
 def text_of(file):
     return (ROOT / file).read_text(encoding="utf-8", errors="replace")
 
@@ -248,7 +264,7 @@ def text_of(file):
 def main():
     listed = subprocess.run(["git", "ls-files", "-z"], cwd=ROOT, stdout=subprocess.PIPE, text=True, check=True).stdout
     files = listed.split("\0")[:-1]
-    checks = [Links(files), Names(files), Length(), Words()]
+    checks = [Links(files), Names(files), Length(), Words(), Quotes(files)]
     passed = failed = 0
     for path in filter(DOCUMENT.fullmatch, files):
         faults = sorted(set(fault for check in checks for fault in check.faults(document(path))))
