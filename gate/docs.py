@@ -42,18 +42,18 @@ tq_tests_*    docs/gate.md     crates of an earlier gate, in its table of times
 # Old words as a regular expression, what to write instead, and after `but` the documents that still have them. At least two
 # spaces divide the three. Not here are old words that are right in another meaning: made, at once, behind, lines, layers.
 WORDS = """
-told|tells            reports, prints, shows, is known    but architecture formats promises recipes semantics threads tree
-stands(?! for)        is, is stored, holds                but architecture formats promises recipes semantics threads tree
-beside                next to, compared with              but architecture formats promises recipes semantics threads
-amiss|at fault        invalid                             but architecture formats promises recipes threads
+told|tells            reports, prints, shows, is known    but architecture formats recipes threads
+stands(?! for)        is, is stored, holds                but architecture formats recipes threads
+beside                next to, compared with              but architecture formats recipes threads
+amiss|at fault        invalid                             but architecture formats recipes threads
 lent                  borrowed                            but architecture threads
-owed                  required                            but semantics
-so many|as many as    n, that many, at most n             but formats promises semantics threads
+owed                  required
+so many|as many as    n, that many, at most n             but formats threads
 in place of           instead of                          but recipes
 tries                 checks                              but architecture
 (?<!there )is no      is not a valid                      but formats threads
-wrong bod(?:y|ies)    mutant                              but architecture promises threads
-growths?              failed allocation                   but architecture formats promises threads
+wrong bod(?:y|ies)    mutant                              but architecture threads
+growths?              failed allocation                   but architecture formats threads
 ranks?                normalized key prefix               but architecture threads
 falls? apart          is partitioned                      but threads
 shares                partitions                          but architecture threads
