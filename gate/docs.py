@@ -26,34 +26,36 @@ ROOT = Path(__file__).resolve().parent.parent
 DOCUMENT = re.compile(r"README\.md|docs/.*\.md|crates/[^/]+/README\.md|examples/[^/]+\.md")
 
 MOST_IN_SENTENCE, MOST_IN_PARAGRAPH = 30, 100
-SHORT = ["README.md", "docs/guide.md", "docs/limits.md", "docs/proved.md"]
+SHORT = ["README.md", "docs/DECISIONS.md", "docs/adr/*", "docs/guide.md", "docs/limits.md", "docs/proved.md", "docs/recipes.md",
+         "docs/reference/*"]
 QUOTING = ["docs/proved.md"]
 
 # Names and paths that no tracked file has, the documents that may have them, and the reason.
 EXCEPTIONS = """
-bin/*         *                made by `make`
-out/          docs/gate.md     made by `rt check`
-./-           docs/formats.md  a path that a user may write
-AVG           *                SQL that is not supported
-k[0-9]*       docs/tree.md     keys in its pictures
-tq_tests_*    docs/gate.md     crates of an earlier gate, in its table of times
+bin/*                                    *                 made by `make`
+out/                                     docs/gate.md      made by `rt check`
+./-|/dev/fd/63                           docs/*            paths that a user may write
+AVG|CASE|DELETE|INTERSECT|OFFSET|UPDATE  *                 SQL that is not supported
+tr                                       docs/recipes.md   a command of the shell
+k[0-9]*                                  docs/tree.md      keys in its pictures
+tq_tests_*                               docs/gate.md      crates of an earlier gate, in its table of times
 """
 
 # Old words as a regular expression, what to write instead, and after `but` the documents that still have them. At least two
 # spaces divide the three. Not here are old words that are right in another meaning: made, at once, behind, lines, layers.
 WORDS = """
-told|tells            reports, prints, shows, is known    but architecture formats recipes threads
-stands(?! for)        is, is stored, holds                but architecture formats recipes threads
-beside                next to, compared with              but architecture formats recipes threads
-amiss|at fault        invalid                             but architecture formats recipes threads
+told|tells            reports, prints, shows, is known    but architecture threads
+stands(?! for)        is, is stored, holds                but architecture threads
+beside                next to, compared with              but architecture threads
+amiss|at fault        invalid                             but architecture threads
 lent                  borrowed                            but architecture threads
 owed                  required
-so many|as many as    n, that many, at most n             but formats threads
-in place of           instead of                          but recipes
+so many|as many as    n, that many, at most n             but threads
+in place of           instead of
 tries                 checks                              but architecture
-(?<!there )is no      is not a valid                      but formats threads
+(?<!there )is no      is not a valid                      but threads
 wrong bod(?:y|ies)    mutant                              but architecture threads
-growths?              failed allocation                   but architecture formats threads
+growths?              failed allocation                   but architecture threads
 ranks?                normalized key prefix               but architecture threads
 falls? apart          is partitioned                      but threads
 shares                partitions                          but architecture threads
@@ -162,7 +164,8 @@ class Names:
         words = {file: set(self.WORD.findall(text_of(file))) for file in files if not DOCUMENT.fullmatch(file)}
         self.words = set(self.WORD.findall(" ".join(files))).union(*words.values())
         self.words_of_code = [words[file] for file in words if file.endswith(".rt")]
-        self.exceptions = [line.split()[:2] for line in EXCEPTIONS.split("\n") if line]
+        lines = [line.split() for line in EXCEPTIONS.split("\n") if line]
+        self.exceptions = [(name, paths) for names, paths, *_ in lines for name in names.split("|")]
 
     def faults(self, of):
         for number, line in of.lines:
@@ -177,7 +180,7 @@ class Names:
                             yield number, f"`{name}` is not declared in `{place}`"
 
     def is_exception(self, name, path):
-        return any(fnmatchcase(name, names) and fnmatchcase(path, paths) for names, paths in self.exceptions)
+        return any(fnmatchcase(name, known) and fnmatchcase(path, paths) for known, paths in self.exceptions)
 
     def exists(self, name):
         if " " not in name and ("/" in name or Path(name).suffix in self.endings):
@@ -205,7 +208,9 @@ class Length:
     """Sentences and paragraphs."""
 
     def faults(self, of):
-        for number, text in of.paragraphs() if of.path in SHORT else ():
+        if not any(fnmatchcase(of.path, pattern) for pattern in SHORT):
+            return
+        for number, text in of.paragraphs():
             text = LINK.sub(r"\1", SPAN.sub("Code", text))
             if (count := len(text.split())) > MOST_IN_PARAGRAPH:
                 yield number, f"a paragraph of {count} words"
