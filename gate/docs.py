@@ -25,6 +25,9 @@ from posixpath import dirname, join, normpath
 ROOT = Path(__file__).resolve().parent.parent
 DOCUMENT = re.compile(r"README\.md|docs/.*\.md|crates/[^/]+/README\.md|examples/[^/]+\.md")
 
+# Folders with files that commands make.
+MADE = {"bin", "out", "__pycache__"}
+
 MOST_IN_SENTENCE, MOST_IN_PARAGRAPH = 30, 100
 SHORT = ["README.md", "docs/DECISIONS.md", "docs/adr/*", "docs/guide.md", "docs/limits.md", "docs/proved.md", "docs/recipes.md",
          "docs/reference/*"]
@@ -44,20 +47,20 @@ tq_tests_*                               docs/gate.md      crates of an earlier 
 # Old words as a regular expression, what to write instead, and after `but` the documents that still have them. At least two
 # spaces divide the three. Not here are old words that are right in another meaning: made, at once, behind, lines, layers.
 WORDS = """
-told|tells            reports, prints, shows, is known    but architecture threads
-stands(?! for)        is, is stored, holds                but architecture threads
-beside                next to, compared with              but architecture threads
-amiss|at fault        invalid                             but architecture threads
-lent                  borrowed                            but architecture threads
+told|tells            reports, prints, shows, is known    but architecture
+stands(?! for)        is, is stored, holds                but architecture
+beside                next to, compared with              but architecture
+amiss|at fault        invalid                             but architecture
+lent                  borrowed                            but architecture
 owed                  required
-so many|as many as    n, that many, at most n             but threads
+so many|as many as    n, that many, at most n
 in place of           instead of
 tries                 checks                              but architecture
-(?<!there )is no      is not a valid                      but threads
-wrong bod(?:y|ies)    mutant                              but architecture threads
-growths?              failed allocation                   but architecture threads
+(?<!there )is no      is not a valid
+wrong bod(?:y|ies)    mutant                              but architecture
+growths?              failed allocation                   but architecture
 ranks?                normalized key prefix               but architecture threads
-falls? apart          is partitioned                      but threads
+falls? apart          is partitioned
 shares                partitions                          but architecture threads
 """
 
@@ -266,9 +269,17 @@ def text_of(file):
     return (ROOT / file).read_text(encoding="utf-8", errors="replace")
 
 
+def tracked_files():
+    """The files that git tracks; without git, all but those that commands make."""
+    ran = subprocess.run(["git", "ls-files", "-z"], cwd=ROOT, stdout=subprocess.PIPE, stderr=subprocess.DEVNULL, text=True)
+    if ran.returncode == 0:
+        return ran.stdout.split("\0")[:-1]
+    paths = (path.relative_to(ROOT) for path in sorted(ROOT.rglob("*")) if path.is_file())
+    return [str(path) for path in paths if not MADE.intersection(path.parts)]
+
+
 def main():
-    listed = subprocess.run(["git", "ls-files", "-z"], cwd=ROOT, stdout=subprocess.PIPE, text=True, check=True).stdout
-    files = listed.split("\0")[:-1]
+    files = tracked_files()
     checks = [Links(files), Names(files), Length(), Words(), Quotes(files)]
     passed = failed = 0
     for path in filter(DOCUMENT.fullmatch, files):
