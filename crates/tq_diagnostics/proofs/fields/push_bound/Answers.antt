@@ -8,7 +8,7 @@ pub returns : goal.returns
 returns c =
     subst
     (λ empty. OnOk c.push_instant.result (c.push_instant.new.text.items ≡ c.args.text.now.items
-        ++ (if empty then spec.reported (codes "to") c.args.to.now [] (codes "write forever for an open end")
-            else spec.instant_report c.args.form (codes "to") c.args.to.now (codes ", or forever"))))
+    ++ (if empty then spec.reported (codes "to") c.args.to.now [] (codes "write forever for an open end")
+    else spec.instant_report c.args.form (codes "to") c.args.to.now (codes ", or forever"))))
     (sym (ne_eqb (length c.args.to.now) 0 c.if-to-eq0.false))
     c.push_instant.ensures

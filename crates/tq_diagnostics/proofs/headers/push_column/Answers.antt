@@ -11,5 +11,5 @@ returns c =
     let tail = codes "`: " in
     rw (c.in-Some.is, c.field_at.ensures)
     (subst (λ text. OnOk c.push_bad.result (c.push_bad.new.text.items ≡ text))
-        (ap (λ text. text ++ tail) (append_assoc before head shown) ∙ append_assoc before (head ++ shown) tail)
-        c.push_bad.ensures)
+    (ap (λ text. text ++ tail) (append_assoc before head shown) ∙ append_assoc before (head ++ shown) tail)
+    c.push_bad.ensures)
