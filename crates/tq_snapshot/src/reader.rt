@@ -20,7 +20,8 @@ use tq_table::Table;
 /// those that the store was opened with, those that it found, and those of notes that it learnt.
 #[derive(Drop)]
 pub struct Reader<J: StoreId> {
-    // Taken out while the reader enters, and put back afterwards.
+    // Taken out while the reader enters, and put back afterwards. Each call does both itself: in between, the reader does
+    // not satisfy its invariant and can call none of its methods.
     pub(crate) inner: Option<SharedReader<J>>,
     pub(crate) observed: Prefix,
     // The reader found the first `own` of the observed events itself; the others came with a note.

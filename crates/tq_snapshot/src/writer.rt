@@ -61,7 +61,7 @@ impl<J: StoreId> Drop for Writer<J> {
     }
 }
 
-// Fails if the table does not take the values.
+// Fails if the table does not take the values. `can_start` of `tq_event` decides the same, but not which error it is.
 fn fits(catalogue: &Catalogue, table: u32, values: &Values) -> Result<(), AppendFault>
     ensures { MatchResult result (λ _. HasTable catalogue.now table values.now) (IsTableRefusal catalogue.now table values.now) }
 {
@@ -77,7 +77,8 @@ fn fits(catalogue: &Catalogue, table: u32, values: &Values) -> Result<(), Append
     }
 }
 
-// The time of the last event of both lists if it is later than the instant.
+// The time of the last event of both lists if it is later than the instant, as the error reports it. `is_not_before` of
+// `tq_event` only compares, and takes one list.
 fn later(published: &[Event], pending: &[Event], at: Instant) -> Option<Instant>
     ensures { MatchOption result (IsNotBefore (published.now ++ pending.now) at) (λ last. IsLater (published.now ++ pending.now) at last) }
 {

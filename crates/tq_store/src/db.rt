@@ -42,6 +42,8 @@ impl Model for Db {
     ghost invariant = { λ d. IsDb d.catalogue d.events.items d.indexes.items };
 }
 
+// Whether the row is open and started before the instant. A `History` of `tq_event` keeps a list of its open rows for
+// this. A `Db` has no such list: its indexes know the open rows.
 fn can_end(indexes: &[Index], events: &[Event], table: u32, row: u32, at: Instant) -> bool
     requires { AreIndexes events.now indexes.now }
     ensures { IsTrue result ↔ CanEnd (length indexes.now) events.now table row at }
@@ -196,7 +198,8 @@ impl Db {
         read_rows(self.alloc, &self.events, &index.rows, found.keys.get(), n)
     }
 
-    // The tree keys of the rows of the part of the window, in any order.
+    // The tree keys of the rows of the part of the window, in any order: `find` without the work of ordering them, for
+    // rows that are asked at the instants of the period alone.
     fn find_unsorted(
         &self,
         alloc: Global,
