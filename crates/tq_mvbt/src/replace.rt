@@ -12,6 +12,13 @@ use smallvec::SmallVec;
 use std::alloc::Global;
 use tq_arena::{Arena, Meter, NodeNo};
 
+// Where a node is: its parent and its level.
+#[derive(Clone, Copy)]
+struct Place {
+    parent: u32,
+    level: u32,
+}
+
 // Replaces the node by one or two; its last `last` entries began at the version. Returns the number of entries that the
 // parent got.
 fn renew(
@@ -19,28 +26,27 @@ fn renew(
     nodes: &mut Arena<Node>,
     number: u32,
     last: usize,
-    parent: u32,
-    level: u32,
+    place: Place,
     version: u32,
 ) -> usize
     requires small { version < 4294967295 }
     requires room { 2 ≤ nodes.old.room }
     requires forest { IsForestBy version nodes.old.nodes }
-    requires settling { IsSettling version level last nodes.old.nodes number }
+    requires settling { IsSettling version place.level last nodes.old.nodes number }
     requires ample { HasManyLive nodes.old.nodes number }
-    requires part { IsPartOf nodes.old.nodes level number parent }
+    requires part { IsPartOf nodes.old.nodes place.level number place.parent }
     ensures forest { StaysForest version nodes.old.nodes nodes.new.nodes }
-    ensures settling { IsSettling version (level + 1) result nodes.new.nodes parent }
-    ensures grows { Grows version (level + 1) nodes.old.nodes nodes.new.nodes }
-    ensures links { KeepsLinks level version nodes.old.nodes nodes.new.nodes }
+    ensures settling { IsSettling version (place.level + 1) result nodes.new.nodes place.parent }
+    ensures grows { Grows version (place.level + 1) nodes.old.nodes nodes.new.nodes }
+    ensures links { KeepsLinks place.level version nodes.old.nodes nodes.new.nodes }
     ensures room { nodes.old.room ≤ nodes.new.room + 2 }
     ensures len { length nodes.new.nodes ≤ length nodes.old.nodes + 2 }
 {
     let mut copied = ArrayVec::new();
     let mut links = SmallVec::new(alloc);
     let (low, high) = retire(nodes, number, last, version, &mut copied, &mut links);
-    let added = push_nodes(nodes, level, low, high, version, &mut copied, &links);
-    edit(nodes, parent, low, high, version, &added);
+    let added = push_nodes(nodes, place.level, low, high, version, &mut copied, &links);
+    edit(nodes, place.parent, low, high, version, &added);
     added.len()
 }
 
@@ -52,23 +58,22 @@ fn merge(
     number: u32,
     last: usize,
     sibling: u32,
-    parent: u32,
-    level: u32,
+    place: Place,
     version: u32,
 ) -> usize
     requires small { version < 4294967295 }
     requires room { 2 ≤ nodes.old.room }
     requires forest { IsForestBy version nodes.old.nodes }
-    requires settling { IsSettling version level last nodes.old.nodes number }
+    requires settling { IsSettling version place.level last nodes.old.nodes number }
     requires thin { HasFewLive nodes.old.nodes number }
-    requires part { IsPartOf nodes.old.nodes level number parent }
+    requires part { IsPartOf nodes.old.nodes place.level number place.parent }
     requires beside { AreAdjacent nodes.old.nodes number sibling }
-    requires under { IsWithinParent nodes.old.nodes sibling parent }
-    requires standing { IsCurrentNode level nodes.old.nodes sibling }
+    requires under { IsWithinParent nodes.old.nodes sibling place.parent }
+    requires standing { IsCurrentNode place.level nodes.old.nodes sibling }
     ensures forest { StaysForest version nodes.old.nodes nodes.new.nodes }
-    ensures settling { IsSettling version (level + 1) result nodes.new.nodes parent }
-    ensures grows { Grows version (level + 1) nodes.old.nodes nodes.new.nodes }
-    ensures links { KeepsLinks level version nodes.old.nodes nodes.new.nodes }
+    ensures settling { IsSettling version (place.level + 1) result nodes.new.nodes place.parent }
+    ensures grows { Grows version (place.level + 1) nodes.old.nodes nodes.new.nodes }
+    ensures links { KeepsLinks place.level version nodes.old.nodes nodes.new.nodes }
     ensures room { nodes.old.room ≤ nodes.new.room + 2 }
     ensures len { length nodes.new.nodes ≤ length nodes.old.nodes + 2 }
 {
@@ -78,8 +83,8 @@ fn merge(
     let (its_low, its_high) = retire(nodes, sibling, 0, version, &mut copied, &mut links);
     let low = low.min(its_low);
     let high = high.max(its_high);
-    let added = push_nodes(nodes, level, low, high, version, &mut copied, &links);
-    edit(nodes, parent, low, high, version, &added);
+    let added = push_nodes(nodes, place.level, low, high, version, &mut copied, &links);
+    edit(nodes, place.parent, low, high, version, &added);
     added.len()
 }
 
@@ -99,18 +104,18 @@ fn adjacent_key(node: &Node, above: &Node) -> u128
 }
 
 // The adjacent node under the same parent, on the right if there is one.
-fn sibling_of(nodes: &Arena<Node>, number: u32, parent: u32, level: u32) -> u32
-    requires level { level < 4294967295 }
+fn sibling_of(nodes: &Arena<Node>, number: u32, place: Place) -> u32
+    requires level { place.level < 4294967295 }
     requires forest { IsSomeForest nodes.now.nodes }
-    requires part { IsPartOf nodes.now.nodes level number parent }
+    requires part { IsPartOf nodes.now.nodes place.level number place.parent }
     ensures beside { AreAdjacent nodes.now.nodes number result }
-    ensures under { IsWithinParent nodes.now.nodes result parent }
-    ensures standing { IsCurrentNode level nodes.now.nodes result }
-    ensures right { IsRightFirst nodes.now.nodes number parent result }
+    ensures under { IsWithinParent nodes.now.nodes result place.parent }
+    ensures standing { IsCurrentNode place.level nodes.now.nodes result }
+    ensures right { IsRightFirst nodes.now.nodes number place.parent result }
 {
     let mut meter = Meter::new();
     let node = nodes.read(NodeNo(number), &mut meter);
-    let above = nodes.read(NodeNo(parent), &mut meter);
+    let above = nodes.read(NodeNo(place.parent), &mut meter);
     above.child_at(adjacent_key(node, above)).unwrap()
 }
 
@@ -138,9 +143,10 @@ pub(crate) fn replace(
     ensures room { nodes.old.room ≤ nodes.new.room + 2 }
     ensures len { length nodes.new.nodes ≤ length nodes.old.nodes + 2 }
 {
+    let place = Place { parent, level };
     if count_live(nodes, number) >= 8 {
-        return renew(alloc, nodes, number, last, parent, level, version);
+        return renew(alloc, nodes, number, last, place, version);
     }
-    let sibling = sibling_of(nodes, number, parent, level);
-    merge(alloc, nodes, number, last, sibling, parent, level, version)
+    let sibling = sibling_of(nodes, number, place);
+    merge(alloc, nodes, number, last, sibling, place, version)
 }

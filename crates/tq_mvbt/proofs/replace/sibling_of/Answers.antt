@@ -34,8 +34,8 @@ unwrap-requires c =
     let stands = c.read-above.ensures.node in
     let its = part.above_stands in
     let same : m ≡ part.above = cc in
-    let node = all_at (IsNode some.version some.lives nodes) nodes c.args.parent m some.forest.each stands in
-    let level : m.level ≡ c.args.level + 1 = ap (λ (x : NodeState). x.level) same ∙ part.above_level in
+    let node = all_at (IsNode some.version some.lives nodes) nodes c.args.place.parent m some.forest.each stands in
+    let level : m.level ≡ c.args.place.level + 1 = ap (λ (x : NodeState). x.level) same ∙ part.above_level in
     let died : m.died ≡ now = ap (λ (x : NodeState). x.died) same ∙ part.above_died in
     let one = one_leads some.version c.adjacent_key.result some.lives nodes m some.small node died c.adjacent_key.ensures.low c.adjacent_key.ensures.high in
     let index : listed some.lives m.level c.adjacent_key.result some.version ≡ 1 = grind (arith, nat_tests, level) in
@@ -53,7 +53,7 @@ returns c =
     let f' = part.above_stands in
     let same : m ≡ part.above = cc in
     let its_same : n ≡ part.node = cc in
-    let all = beside nodes c.requires.forest c.args.level c.args.number c.args.parent c.unwrap.result c.adjacent_key.result n m e f
+    let all = beside nodes c.requires.forest c.args.place.level c.args.number c.args.place.parent c.unwrap.result c.adjacent_key.result n m e f
     (ap (λ (x : NodeState). x.level) its_same ∙ part.at_level) (ap (λ (x : NodeState). x.died) its_same ∙ part.died) (ap (λ (x : NodeState). x.level) same ∙ part.above_level) (ap (λ (x : NodeState). x.died) same ∙ part.above_died)
     c.adjacent_key.ensures.low c.adjacent_key.ensures.high c.adjacent_key.ensures.side
     (rw (c.unwrap.ensures) at c.child_at.ensures.child) in
