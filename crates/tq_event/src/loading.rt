@@ -28,6 +28,13 @@ pub const MAX_EVENTS: u32 = 16_777_216;
 /// The most tables.
 pub const MAX_TABLES: usize = 16;
 
+// How files are read: at most `limit` events, and times written in this form.
+#[derive(Clone, Copy)]
+struct Rules {
+    limit: u32,
+    form: Form,
+}
+
 // The fault of a record of a table. `OutOfMemory` has neither record nor table.
 fn fault_at(table: u32, number: u32, kind: LoadFaultKind) -> LoadFault
     ensures named { kind ≢ LoadFaultKind.OutOfMemory → result ≡ record { kind = kind; table = table; number = number } }
@@ -83,20 +90,19 @@ fn add_row(
 #[inline(never)]
 fn read_table(
     alloc: Global,
-    limit: u32,
+    rules: Rules,
     table: u32,
     wanted: &[bool],
     events: &mut u32,
     bytes: &[u8],
-    form: Form,
 ) -> Result<(Vec<Column>, Rows), LoadFault>
-    requires limit { limit ≤ MAX_EVENTS }
-    requires within { events.old ≤ limit }
-    ensures ok { IfOk result (λ read. IsProjectedTable form limit table wanted.now bytes.now events.old events.new read.0.items read.1.items) }
+    requires limit { rules.limit ≤ MAX_EVENTS }
+    requires within { events.old ≤ rules.limit }
+    ensures ok { IfOk result (λ read. IsProjectedTable rules.form rules.limit table wanted.now bytes.now events.old events.new read.0.items read.1.items) }
     ensures width { IfOk result (λ read. read.1.width ≡ length read.0.items) }
-    ensures within { OnOk result (events.new ≤ limit) }
+    ensures within { OnOk result (events.new ≤ rules.limit) }
     ensures fault { (before : List Entry) → sum_by event_count before ≡ events.old → IfErr result (λ fault. fault.kind ≢ LoadFaultKind.OutOfMemory
-        → table_contents form limit table before bytes.now ≡ Err fault) }
+        → table_contents rules.form rules.limit table before bytes.now ≡ Err fault) }
     ensures out_of_memory { IfErr result (λ fault. fault.kind ≡ LoadFaultKind.OutOfMemory → fault ≡ out_of_memory) }
 {
     if has_two_boms(bytes) {
@@ -117,11 +123,11 @@ fn read_table(
         if !next_record(&mut reader, &mut record)? {
             return Ok((columns, rows));
         }
-        let period = match read_entry(alloc, &columns, wanted, &record, &mut values, form) {
+        let period = match read_entry(alloc, &columns, wanted, &record, &mut values, rules.form) {
             Ok(period) => period,
             Err(kind) => return Err(fault_at(table, number, kind)),
         };
-        if let Err(kind) = add_row(limit, events, &mut rows, &mut values, period) {
+        if let Err(kind) = add_row(rules.limit, events, &mut rows, &mut values, period) {
             return Err(fault_at(table, number, kind));
         }
     }
@@ -132,27 +138,26 @@ fn read_table(
 // The same as `read_table`, for bytes that may be in several lists; these are first copied into one.
 fn read_bytes(
     alloc: Global,
-    limit: u32,
+    rules: Rules,
     table: u32,
     wanted: &[bool],
     events: &mut u32,
     bytes: &FileBytes,
-    form: Form,
 ) -> Result<(Vec<Column>, Rows), LoadFault>
-    requires limit { limit ≤ MAX_EVENTS }
-    requires within { events.old ≤ limit }
-    ensures ok { IfOk result (λ read. IsProjectedTable form limit table wanted.now bytes.now events.old events.new read.0.items read.1.items) }
+    requires limit { rules.limit ≤ MAX_EVENTS }
+    requires within { events.old ≤ rules.limit }
+    ensures ok { IfOk result (λ read. IsProjectedTable rules.form rules.limit table wanted.now bytes.now events.old events.new read.0.items read.1.items) }
     ensures width { IfOk result (λ read. read.1.width ≡ length read.0.items) }
-    ensures within { OnOk result (events.new ≤ limit) }
+    ensures within { OnOk result (events.new ≤ rules.limit) }
     ensures fault { (before : List Entry) → sum_by event_count before ≡ events.old → IfErr result (λ fault. fault.kind ≢ LoadFaultKind.OutOfMemory
-        → table_contents form limit table before bytes.now ≡ Err fault) }
+        → table_contents rules.form rules.limit table before bytes.now ≡ Err fault) }
     ensures out_of_memory { IfErr result (λ fault. fault.kind ≡ LoadFaultKind.OutOfMemory → fault ≡ out_of_memory) }
 {
     if let Some(whole) = bytes.whole() {
-        return read_table(alloc, limit, table, wanted, events, whole, form);
+        return read_table(alloc, rules, table, wanted, events, whole);
     }
     let whole = bytes.to_vec(alloc)?;
-    read_table(alloc, limit, table, wanted, events, &whole, form)
+    read_table(alloc, rules, table, wanted, events, &whole)
 }
 
 fn has_table(tables: &[Schema], name: &[u8]) -> bool
@@ -182,27 +187,26 @@ pub fn read_name(alloc: Global, tables: &[Schema], name: &[u8]) -> Result<Name, 
 // Adds the table of a file and its rows, with only the wanted values kept.
 fn load_file(
     alloc: Global,
-    limit: u32,
+    rules: Rules,
     wanted: &[Vec<bool>],
     tables: &mut Vec<Schema>,
     rows: &mut Vec<Rows>,
     events: &mut u32,
     file: &TableFile,
-    form: Form,
 ) -> Result<(), LoadFault>
-    requires limit { limit ≤ MAX_EVENTS }
+    requires limit { rules.limit ≤ MAX_EVENTS }
     requires few { length tables.old.items ≤ 16 }
     requires read { AreRead tables.old.items rows.old.items }
     requires counted { events.old ≡ sum_by event_count (entries_from 0 rows.old.items) }
-    requires within { events.old ≤ limit }
+    requires within { events.old ≤ rules.limit }
     ensures ok { (whole : List RowList) → rows.old.items ≡ projected_from (wanted_lists wanted.now) 0 whole
-        → OnOk result (IsProjectedAfter form limit (wanted_lists wanted.now) tables.old.items whole file.now tables.new.items rows.new.items) }
+        → OnOk result (IsProjectedAfter rules.form rules.limit (wanted_lists wanted.now) tables.old.items whole file.now tables.new.items rows.new.items) }
     ensures few { OnOk result (length tables.new.items ≤ 16) }
     ensures read { OnOk result (AreRead tables.new.items rows.new.items) }
     ensures counted { OnOk result (events.new ≡ sum_by event_count (entries_from 0 rows.new.items)) }
-    ensures within { OnOk result (events.new ≤ limit) }
+    ensures within { OnOk result (events.new ≤ rules.limit) }
     ensures fault { (whole : List RowList) → rows.old.items ≡ projected_from (wanted_lists wanted.now) 0 whole → IfErr result (λ fault. fault.kind ≢ LoadFaultKind.OutOfMemory
-        → next_contents form limit (record { tables = tables.old.items; entries = entries_from 0 whole }) file.now ≡ Err fault) }
+        → next_contents rules.form rules.limit (record { tables = tables.old.items; entries = entries_from 0 whole }) file.now ≡ Err fault) }
     ensures out_of_memory { IfErr result (λ fault. fault.kind ≡ LoadFaultKind.OutOfMemory → fault ≡ out_of_memory) }
 {
     let number = tables.len() as u32;
@@ -211,7 +215,7 @@ fn load_file(
         Err(kind) => return Err(fault_at(number, 0, kind)),
     };
     let wanted = wanted_columns(wanted, number);
-    let (columns, read) = read_bytes(alloc, limit, number, wanted, events, &file.bytes, form)?;
+    let (columns, read) = read_bytes(alloc, rules, number, wanted, events, &file.bytes)?;
     let columns = List::of(columns);
     tables
         .push(Schema { name, columns })
@@ -243,13 +247,12 @@ fn read_files(
     'files: for file in files {
         load_file(
             alloc,
-            limit,
+            Rules { limit, form },
             wanted,
             &mut tables,
             &mut rows,
             &mut events,
             &file,
-            form,
         )?;
     }
     Ok((tables, rows))

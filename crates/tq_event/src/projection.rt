@@ -3,8 +3,6 @@
 ghost use Rattle.std.specs.Prelude.{◌≡◌};
 ghost use Rattle.tq_event.specs.Projection.{is_wanted, wanted_lists, wanted_of};
 
-use std::alloc::Global;
-
 /// Which columns of the table are wanted, from the first on; columns after the end of the list are wanted.
 pub fn wanted_columns(wanted: &[Vec<bool>], table: u32) -> &[bool]
     ensures { result.now ≡ wanted_of (wanted_lists wanted.entry.now) table }

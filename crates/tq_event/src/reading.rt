@@ -11,7 +11,7 @@ use crate::fault::LoadFaultKind;
 use crate::projection::is_wanted;
 use crate::records::field_at;
 use csv::ByteRecord;
-use std::alloc::{AllocError, Global};
+use std::alloc::Global;
 use std::str;
 use tq_base::{
     Bound, Column, Form, Instant, Kind, MAX_TEXT, Period, Value, read_bound, read_instant, read_int,

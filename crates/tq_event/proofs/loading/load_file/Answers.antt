@@ -41,7 +41,7 @@ returns-clause-ok c whole kept =
     let pushed : c.push-2.new.self.items ≡ rows ++ read ∷ [] = rw good at c.push-2.ensures.items in
     let kept_read : read.items ≡ map (projected_row (wanted_of wanted number)) of_file.whole = rw c.wanted_columns-wanted.ensures at of_file.kept in
     let parsed : entries_from 0 (whole ++ whole_read ∷ []) ≡ entries ++ map (row_entry number) of_file.whole = entries_put whole (whole ++ whole_read ∷ []) whole_read number refl as_many in
-    let contents : table_contents c.args.form c.args.limit number entries c.args.file.now.bytes ≡ Ok (columns, entries ++ map (row_entry number) of_file.whole) =
+    let contents : table_contents c.args.rules.form c.args.rules.limit number entries c.args.file.now.bytes ≡ Ok (columns, entries ++ map (row_entry number) of_file.whole) =
     of_file.parsed entries (events_before wanted whole rows c.args.events.now kept c.requires.counted) in
     let named : next_name tables c.args.file.now.name ≡ Ok c.in-Ok.name = rw (c.deref.ensures.value, c.get.ensures) at c.in-Ok.ensures.ok in
     let place : length tables ≡ number = omega (arith, c.len-number.ensures, c.args.tables.now.ok.0) in

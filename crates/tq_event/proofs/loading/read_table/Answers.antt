@@ -20,7 +20,7 @@ pub returns-then-not-branch-clause-fault : goal.returns-then-not-branch-clause-f
 returns-then-not-branch-clause-fault c before same known =
     let bytes = c.args.bytes.now in
     let none = rw c.if-not-branch.true at (c.in_ok-next_record.ensures (csv_records bytes) c.record_reader-reader.ensures) in
-    header_fault c.args.form c.args.limit c.args.table before bytes BadHeader c.fault_at-then-not-branch.result
+    header_fault c.args.rules.form c.args.rules.limit c.args.table before bytes BadHeader c.fault_at-then-not-branch.result
     (columns_none bytes (sym c.has_two_boms.ensures ∙ c.if-has_two_boms.false) none)
     (c.fault_at-then-not-branch.ensures.named bad_header)
 
@@ -29,7 +29,7 @@ returns-in-Err-clause-fault c before same known =
     let bytes = c.args.bytes.now in
     let (more, split, has) = rw c.if-not-branch.false at (c.in_ok-next_record.ensures (csv_records bytes) c.record_reader-reader.ensures) in
     let kind = known_kind c.in-Err.kind c.fault_at-in-Err.result c.fault_at-in-Err.ensures.out_of_memory known in
-    header_fault c.args.form c.args.limit c.args.table before bytes c.in-Err.kind c.fault_at-in-Err.result
+    header_fault c.args.rules.form c.args.rules.limit c.args.table before bytes c.in-Err.kind c.fault_at-in-Err.result
     (columns_first bytes (fields_of c.next_record.new.record) more (sym c.has_two_boms.ensures ∙ c.if-has_two_boms.false) split ∙ c.in-Err.ensures.fault kind)
     (c.fault_at-in-Err.ensures.named kind)
 
@@ -47,8 +47,8 @@ records-init c =
       few = omega arith;
       left = more;
       has = has;
-      rest = λ before same. ap (λ (l : List (List (List ℕ))). entries_after c.args.form c.args.limit c.args.table c.in-Ok.columns.items 2 before (drop 1 l)) split
-          ∙ ap (λ es. entries_after c.args.form c.args.limit c.args.table c.in-Ok.columns.items 2 es more) (sym (append-nil before));
+      rest = λ before same. ap (λ (l : List (List (List ℕ))). entries_after c.args.rules.form c.args.rules.limit c.args.table c.in-Ok.columns.items 2 before (drop 1 l)) split
+          ∙ ap (λ es. entries_after c.args.rules.form c.args.rules.limit c.args.table c.in-Ok.columns.items 2 es more) (sym (append-nil before));
     }
 
 pub records-preserved : goal.records-preserved
@@ -75,10 +75,10 @@ records-preserved c =
       left = more;
       has = has;
       rest = λ before same. i.rest before same
-          ∙ add_ok c.args.form c.args.limit table c.in-Ok.columns.items c.records.number (before ++ parsed) (fields_of c.next_record-in-records.new.record) more i.left split entry ((before ++ parsed) ++ entry ∷ [])
+          ∙ add_ok c.args.rules.form c.args.rules.limit table c.in-Ok.columns.items c.records.number (before ++ parsed) (fields_of c.next_record-in-records.new.record) more i.left split entry ((before ++ parsed) ++ entry ∷ [])
           (rw c.deref-in-records.ensures.value at (of_record.parsed table))
-          (next_ok c.args.limit (before ++ parsed) entry c.add_row.new.events (omega (arith, counted, told_count before parsed c.args.events.now c.records.events same i.counted)) c.in_default.ensures.within)
-          ∙ ap (λ es. entries_after c.args.form c.args.limit table c.in-Ok.columns.items (c.records.number + 1) es more) (append_assoc before parsed (entry ∷ []) ∙ ap (λ es. before ++ es) (sym grown));
+          (next_ok c.args.rules.limit (before ++ parsed) entry c.add_row.new.events (omega (arith, counted, told_count before parsed c.args.events.now c.records.events same i.counted)) c.in_default.ensures.within)
+          ∙ ap (λ es. entries_after c.args.rules.form c.args.rules.limit table c.in-Ok.columns.items (c.records.number + 1) es more) (append_assoc before parsed (entry ∷ []) ∙ ap (λ es. before ++ es) (sym grown));
     }
 
 pub returns-then-not-branch-2-clause-ok : goal.returns-then-not-branch-2-clause-ok
@@ -90,7 +90,7 @@ returns-then-not-branch-2-clause-ok c =
       kept = i.kept;
       counted = i.counted;
       parsed = λ before same.
-          read_ok c.args.form c.args.limit c.args.table before c.args.bytes.now c.in-Ok.columns.items (before ++ map (row_entry c.args.table) i.whole) i.columns (i.rest before same ∙ rw none refl);
+          read_ok c.args.rules.form c.args.rules.limit c.args.table before c.args.bytes.now c.in-Ok.columns.items (before ++ map (row_entry c.args.table) i.whole) i.columns (i.rest before same ∙ rw none refl);
     }
 
 pub returns-in-Err-read_entry-clause-fault : goal.returns-in-Err-read_entry-clause-fault
@@ -98,8 +98,8 @@ returns-in-Err-read_entry-clause-fault c before same known =
     let i = c.records.invariant in
     let (more, split, has) = rw c.if-not-branch-2.false at (c.in_ok-next_record-2.ensures i.left i.has) in
     let kind = known_kind c.in-Err-read_entry.kind c.fault_at-in-Err-read_entry.result c.fault_at-in-Err-read_entry.ensures.out_of_memory known in
-    read_fault c.args.form c.args.limit c.args.table before c.args.bytes.now c.in-Ok.columns.items c.fault_at-in-Err-read_entry.result i.columns
-    (i.rest before same ∙ entry_fault c.args.form c.args.limit c.args.table c.in-Ok.columns.items c.records.number (before ++ map (row_entry c.args.table) i.whole) (fields_of c.next_record-in-records.new.record) more i.left split
+    read_fault c.args.rules.form c.args.rules.limit c.args.table before c.args.bytes.now c.in-Ok.columns.items c.fault_at-in-Err-read_entry.result i.columns
+    (i.rest before same ∙ entry_fault c.args.rules.form c.args.rules.limit c.args.table c.in-Ok.columns.items c.records.number (before ++ map (row_entry c.args.table) i.whole) (fields_of c.next_record-in-records.new.record) more i.left split
     c.in-Err-read_entry.kind c.fault_at-in-Err-read_entry.result (rw c.deref-in-records.ensures.value at (c.in-Err-read_entry.ensures.fault c.args.table kind)) (c.fault_at-in-Err-read_entry.ensures.named kind))
 
 pub returns-in-Err-add_row-clause-fault : goal.returns-in-Err-add_row-clause-fault
@@ -112,10 +112,10 @@ returns-in-Err-add_row-clause-fault c before same known =
     let of_record = c.in-Ok-read_entry.ensures.ok in
     let row : Fragment = record { values = of_record.whole; period = c.in-Ok-read_entry.period } in
     let entry : Entry = row_entry table row in
-    let many : next_entries c.args.limit (before ++ parsed) entry ≡ Err TooManyEvents = next_many c.args.limit (before ++ parsed) entry (c.records.events + event_count entry)
+    let many : next_entries c.args.rules.limit (before ++ parsed) entry ≡ Err TooManyEvents = next_many c.args.rules.limit (before ++ parsed) entry (c.records.events + event_count entry)
     (omega (arith, told_count before parsed c.args.events.now c.records.events same i.counted)) (c.in-Err-add_row.ensures.many kind) in
-    read_fault c.args.form c.args.limit table before c.args.bytes.now c.in-Ok.columns.items c.fault_at-in-Err-add_row.result i.columns
-    (i.rest before same ∙ add_fault c.args.form c.args.limit table c.in-Ok.columns.items c.records.number (before ++ parsed) (fields_of c.next_record-in-records.new.record) more i.left split entry
+    read_fault c.args.rules.form c.args.rules.limit table before c.args.bytes.now c.in-Ok.columns.items c.fault_at-in-Err-add_row.result i.columns
+    (i.rest before same ∙ add_fault c.args.rules.form c.args.rules.limit table c.in-Ok.columns.items c.records.number (before ++ parsed) (fields_of c.next_record-in-records.new.record) more i.left split entry
     c.in-Err-add_row.kind c.fault_at-in-Err-add_row.result (rw c.deref-in-records.ensures.value at (of_record.parsed table))
     (many ∙ ap (λ (k : LoadFaultKind). let r : Result (List Entry) LoadFaultKind = Err k in r) (sym (c.in-Err-add_row.ensures.kind kind))) (c.fault_at-in-Err-add_row.ensures.named kind))
 

@@ -16,10 +16,10 @@ invariant-records l = record {
   whole : List Fragment;
   kept : l.rows.items ≡ map (projected_row l.wanted) whole;
   counted : l.events ≡ l.fn.events + sum_by event_count (map (row_entry l.table) whole);
-  within : l.events ≤ l.limit;
+  within : l.events ≤ l.rules.limit;
   few : l.number ≤ l.events + 2;
   left : List (List (List ℕ));
   has : HasLeft l.reader left;
   rest : (before : List Entry) → sum_by event_count before ≡ l.fn.events
-      → entries_after l.form l.limit l.table l.columns.items 2 before (drop 1 (csv_records l.bytes)) ≡ entries_after l.form l.limit l.table l.columns.items l.number (before ++ map (row_entry l.table) whole) left;
+      → entries_after l.rules.form l.rules.limit l.table l.columns.items 2 before (drop 1 (csv_records l.bytes)) ≡ entries_after l.rules.form l.rules.limit l.table l.columns.items l.number (before ++ map (row_entry l.table) whole) left;
 }
