@@ -5,12 +5,10 @@ ghost use Rattle.tq_snapshot.specs.OpenRows.{index_key};
 
 use crate::digest::digest;
 use tq_base::Values;
-use tq_store::first_key;
+use tq_store::{ROWS, first_key};
 
-/// The number of index keys with one digest: one for each possible row number. It is also the number of digests.
-pub(crate) const ROWS: u128 = 4_294_967_296;
-
-// The index key of the row's key (shifted to be 0 or more), the digest of its values, and its number.
+// The index key of the row's key (shifted to be 0 or more), the digest of its values, and its number. There are `ROWS`
+// digests, as there are row numbers.
 fn place(key: u64, digest: u32, row: u32) -> u128
     ensures { result ≡ (key * 4294967296 + digest) * 4294967296 + row }
 {

@@ -15,12 +15,13 @@ ghost use Rattle.tq_snapshot.specs.OpenIndex.{AreTableRows, IsOpenIndex, MayFoll
 ghost use Rattle.tq_snapshot.specs.OpenRows.{HasSame, IsNear, has, index_key};
 ghost use Rattle.tq_store.specs.Stored.{IsStart, values_in};
 
-use crate::key::{ROWS, open_key};
+use crate::key::open_key;
 use crate::open_rows::OpenRows;
 use std::alloc::{AllocError, Global};
 use std::collections::BTreeSet;
 use tq_base::{Catalogue, Instant, Values};
 use tq_event::Event;
+use tq_store::ROWS;
 
 /// The rows of a table: the numbers of the events that start them, and the keys of the open ones.
 #[derive(Drop)]

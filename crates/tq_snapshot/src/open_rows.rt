@@ -5,9 +5,9 @@ ghost use Rattle.std.specs.BTreeSet.{contains};
 ghost use Rattle.std.specs.Ordering.{eq_by_cmp, nat_cmp};
 ghost use Rattle.tq_snapshot.specs.OpenRows.{HasSame, has, set_index};
 
-use crate::key::ROWS;
 use std::alloc::{AllocError, Global};
 use std::collections::BTreeSet;
+use tq_store::ROWS;
 
 /// The number of sets over which the keys are distributed.
 const SETS: usize = 4096;

@@ -17,7 +17,7 @@ use crate::row::Row;
 use std::alloc::{AllocError, Global};
 use std::marker::Model;
 use tq_arena::Meter;
-use tq_base::{Catalogue, Instant, KeyRange, Period, Relation, Values};
+use tq_base::{Catalogue, Instant, KeyRange, Period, Relation, Rows};
 use tq_event::{Event, can_start, is_not_before};
 use tq_mvbt::trees_tile;
 use tq_scan::{Found, Part, Window, scan, scan_unsorted};
@@ -220,8 +220,10 @@ impl Db {
         scan_unsorted(alloc, &index.tree, &window, part, &mut Meter::new())
     }
 
-    // The rows of the part of the window, with borrowed values. The table must exist.
-    pub(crate) fn row_periods_of_part(
+    /// The rows of the part of the window as of the first n events, each once, in any order. At the instants of the
+    /// period they are valid exactly when those of `rows_part` are; at other instants nothing is promised. Their values
+    /// are borrowed. A table that does not exist has no rows. `AllocError` if an allocation failed.
+    pub fn rows_of_part(
         &self,
         alloc: Global,
         n: u32,
@@ -231,11 +233,13 @@ impl Db {
         part: &Part,
     ) -> Result<Relation<'_>, AllocError>
         requires known { n ≤ length self.now.events }
-        requires table { table < length self.now.catalogue.tables }
         requires inside { IsWithin (whole_window self.now.events n range.now period.now) part.now }
         ensures rows { IfOk result (λ rows. ArePart self.now.events n table range.now period.now part.now rows.items) }
         ensures width { IfOk result (λ rows. rows.width ≡ width_of self.now.catalogue table) }
     {
+        if table as usize >= self.indexes.len() {
+            return Relation::owned(alloc, Rows::new(alloc, 0));
+        }
         let found = self.find_unsorted(alloc, n, table, range, period, part)?;
         let index = &self.indexes[table as usize];
         let row_periods = row_periods_of_keys(alloc, &index.rows, found.keys.get(), n, period)?;

@@ -10,7 +10,7 @@ use tq_base::{Value, ValueRef};
 const SPAN: i128 = 0x8000_0000_0000_0000;
 
 /// The number of tree keys for each key, one for each row number.
-pub(crate) const ROWS: u128 = 4_294_967_296;
+pub const ROWS: u128 = 4_294_967_296;
 
 /// The number, counted from the least number of 64 signed bits, which gives 0. A wider number counts as the nearest
 /// number of 64 signed bits.

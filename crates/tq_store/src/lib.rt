@@ -19,7 +19,7 @@ mod stored;
 mod valid;
 
 pub use db::Db;
-pub use key::{first_key, least_tree_key, shift};
+pub use key::{ROWS, first_key, least_tree_key, shift};
 pub use laws::{parts_are_valid, rows_appear_once};
 pub use opening::open_row;
 pub use row::Row;

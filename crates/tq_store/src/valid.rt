@@ -1,40 +1,14 @@
 //! The rows of a table at the instants of a period, with borrowed values.
 
-ghost use Rattle.std.specs.Prelude.{◌≡◌, ◌≤◌, All, IfOk, length};
+ghost use Rattle.std.specs.Prelude.{◌≤◌, All, IfOk, length};
 ghost use Rattle.tq_base.specs.declared.fragment.Fragment.{Fragment};
-ghost use Rattle.tq_store.specs.Rows.{IsWithin, whole_window};
-ghost use Rattle.tq_store.specs.Valid.{ArePart, AreValidIn, HasKeyIn, width_of};
+ghost use Rattle.tq_store.specs.Valid.{AreValidIn, HasKeyIn};
 
 use crate::db::Db;
 use std::alloc::{AllocError, Global};
-use tq_base::{KeyRange, Period, Relation, Rows};
-use tq_scan::Part;
+use tq_base::{KeyRange, Period, Relation};
 
 impl Db {
-    /// The rows of the part of the window as of the first n events, each once, in any order. At the instants of the
-    /// period they are valid exactly when those of `rows_part` are; at other instants nothing is promised. Their values
-    /// are borrowed. A table that does not exist has no rows. `AllocError` if an allocation failed.
-    pub fn rows_of_part(
-        &self,
-        alloc: Global,
-        n: u32,
-        table: u32,
-        range: &KeyRange,
-        period: &Period,
-        part: &Part,
-    ) -> Result<Relation<'_>, AllocError>
-        requires known { n ≤ length self.now.events }
-        requires inside { IsWithin (whole_window self.now.events n range.now period.now) part.now }
-        ensures rows { IfOk result (λ rows. ArePart self.now.events n table range.now period.now part.now rows.items) }
-        ensures width { IfOk result (λ rows. rows.width ≡ width_of self.now.catalogue table) }
-    {
-        let _count = self.count();
-        if table as usize >= self.catalogue().tables.get().len() {
-            return Relation::owned(alloc, Rows::new(alloc, 0));
-        }
-        self.row_periods_of_part(alloc, n, table, range, period, part)
-    }
-
     /// The rows of the table as of the first n events whose key lies in the range. At each instant of the period
     /// exactly these rows are valid; at other instants nothing is promised. Their values are borrowed. A table that
     /// does not exist has no rows. `AllocError` if an allocation failed.
