@@ -29,8 +29,8 @@ DOCUMENT = re.compile(r"README\.md|docs/.*\.md|crates/[^/]+/README\.md|examples/
 MADE = {"bin", "out", "__pycache__"}
 
 MOST_IN_SENTENCE, MOST_IN_PARAGRAPH = 30, 100
-SHORT = ["README.md", "docs/DECISIONS.md", "docs/adr/*", "docs/guide.md", "docs/limits.md", "docs/proved.md", "docs/recipes.md",
-         "docs/reference/*"]
+SHORT = ["README.md", "docs/DECISIONS.md", "docs/adr/*", "docs/architecture.md", "docs/contract-gaps.md",
+         "docs/design/core-machine.md", "docs/guide.md", "docs/limits.md", "docs/proved.md", "docs/recipes.md", "docs/reference/*"]
 QUOTING = ["docs/proved.md"]
 
 # Names and paths that no tracked file has, the documents that may have them, and the reason.
@@ -40,28 +40,28 @@ out/                                     docs/gate.md      made by `rt check`
 ./-|/dev/fd/63                           docs/*            paths that a user may write
 AVG|CASE|DELETE|INTERSECT|OFFSET|UPDATE  *                 SQL that is not supported
 tr                                       docs/recipes.md   a command of the shell
-k[0-9]*                                  docs/tree.md      keys in its pictures
+k[0-9]*                                  docs/design/tree.md      keys in its pictures
 tq_tests_*                               docs/gate.md      crates of an earlier gate, in its table of times
 """
 
 # Old words as a regular expression, what to write instead, and after `but` the documents that still have them. At least two
 # spaces divide the three. Not here are old words that are right in another meaning: made, at once, behind, lines, layers.
 WORDS = """
-told|tells            reports, prints, shows, is known    but architecture
-stands(?! for)        is, is stored, holds                but architecture
-beside                next to, compared with              but architecture
-amiss|at fault        invalid                             but architecture
-lent                  borrowed                            but architecture
+told|tells            reports, prints, shows, is known    but traceability
+stands(?! for)        is, is stored, holds                but traceability
+beside                next to, compared with              but traceability
+amiss|at fault        invalid                             but traceability
+lent                  borrowed                            but traceability
 owed                  required
 so many|as many as    n, that many, at most n
 in place of           instead of
-tries                 checks                              but architecture
+tries                 checks                              but traceability
 (?<!there )is no      is not a valid
-wrong bod(?:y|ies)    mutant                              but architecture
-growths?              failed allocation                   but architecture
-ranks?                normalized key prefix               but architecture threads
+wrong bod(?:y|ies)    mutant                              but traceability
+growths?              failed allocation                   but traceability
+ranks?                normalized key prefix               but traceability design/threads
 falls? apart          is partitioned
-shares                partitions                          but architecture threads
+shares                partitions                          but traceability design/threads
 """
 
 HEADING = re.compile(r"#+ +(.*)")
