@@ -1,12 +1,12 @@
 #!/usr/bin/env python3
-"""Checks the documents: README.md, docs/, the README of each crate and examples/.
+"""Checks the documents: README.md, CONTRIBUTING.md, CHANGELOG.md, docs/, the README of each crate and examples/.
 
     gate/docs.py
 
 - Links: each relative link leads to a tracked file or folder, and its anchor to a heading there, by GitHub's rule.
 - Names: each code name in backticks exists in the tracked files (see `Names`).
 - Length, in the documents of SHORT: a sentence has at most 30 words, a paragraph, a list item or a table cell at most 100.
-- Words: no document of docs/ and not README.md has an old word of WORDS.
+- Words: no document of docs/ or of the top folder has an old word of WORDS.
 - Quotes, in the documents of QUOTING: each line of a code block is a line of a .rt or .antt file.
 
 Each fault has one line, 'FAILED: FILE:LINE: what'. The last line is 'N passed, M failed': N documents without a fault, and
@@ -23,14 +23,15 @@ from pathlib import Path
 from posixpath import dirname, join, normpath
 
 ROOT = Path(__file__).resolve().parent.parent
-DOCUMENT = re.compile(r"README\.md|docs/.*\.md|crates/[^/]+/README\.md|examples/[^/]+\.md")
+DOCUMENT = re.compile(r"[A-Z]+\.md|docs/.*\.md|crates/[^/]+/README\.md|examples/[^/]+\.md")
 
 # Folders with files that commands make.
 MADE = {"bin", "out", "__pycache__"}
 
 MOST_IN_SENTENCE, MOST_IN_PARAGRAPH = 30, 100
-SHORT = ["README.md", "docs/DECISIONS.md", "docs/adr/*", "docs/architecture.md", "docs/contract-gaps.md",
-         "docs/design/core-machine.md", "docs/guide.md", "docs/limits.md", "docs/proved.md", "docs/recipes.md", "docs/reference/*"]
+SHORT = ["README.md", "CONTRIBUTING.md", "CHANGELOG.md", "docs/DECISIONS.md", "docs/adr/*", "docs/architecture.md",
+         "docs/contract-gaps.md", "docs/design/core-machine.md", "docs/guide.md", "docs/limits.md", "docs/proved.md",
+         "docs/recipes.md", "docs/reference/*"]
 QUOTING = ["docs/proved.md"]
 
 # Names and paths that no tracked file has, the documents that may have them, and the reason.
@@ -233,7 +234,7 @@ class Words:
             self.sought.append((re.compile(rf"\b(?:{old})\b", re.IGNORECASE), new, documents))
 
     def faults(self, of):
-        if not of.path.startswith(("docs/", "README.md")):
+        if of.path.startswith(("crates/", "examples/")):
             return
         for number, line in of.lines:
             text = LINK.sub(r"\1", SPAN.sub("Code", line))
