@@ -8,6 +8,7 @@
 - Length, in the documents of SHORT: a sentence has at most 30 words, a paragraph, a list item or a table cell at most 100.
 - Words: no document of docs/ or of the top folder has an old word of WORDS.
 - Quotes, in the documents of QUOTING: each line of a code block is a line of a .rt or .antt file.
+- docs/traceability.md is what gate/traceability.py prints.
 
 Each fault has one line, 'FAILED: FILE:LINE: what'. The last line is 'N passed, M failed': N documents without a fault, and
 M faults. The exit status is 1 if there is a fault.
@@ -19,8 +20,11 @@ import sys
 from collections import Counter
 from fnmatch import fnmatchcase
 from functools import cache
+from itertools import zip_longest
 from pathlib import Path
 from posixpath import dirname, join, normpath
+
+import traceability
 
 ROOT = Path(__file__).resolve().parent.parent
 DOCUMENT = re.compile(r"[A-Z]+\.md|docs/.*\.md|crates/[^/]+/README\.md|examples/[^/]+\.md")
@@ -30,8 +34,8 @@ MADE = {"bin", "out", "__pycache__"}
 
 MOST_IN_SENTENCE, MOST_IN_PARAGRAPH = 30, 100
 SHORT = ["README.md", "CONTRIBUTING.md", "CHANGELOG.md", "docs/DECISIONS.md", "docs/adr/*", "docs/architecture.md",
-         "docs/contract-gaps.md", "docs/design/core-machine.md", "docs/guide.md", "docs/limits.md", "docs/proved.md",
-         "docs/recipes.md", "docs/reference/*"]
+         "docs/contract-gaps.md", "docs/design/core-machine.md", "docs/guide.md", "docs/limits.md", "docs/promises.md",
+         "docs/proved.md", "docs/recipes.md", "docs/reference/*"]
 QUOTING = ["docs/proved.md"]
 
 # Names and paths that no tracked file has, the documents that may have them, and the reason.
@@ -48,21 +52,21 @@ tq_tests_*                               docs/gate.md      crates of an earlier 
 # Old words as a regular expression, what to write instead, and after `but` the documents that still have them. At least two
 # spaces divide the three. Not here are old words that are right in another meaning: made, at once, behind, lines, layers.
 WORDS = """
-told|tells            reports, prints, shows, is known    but traceability
-stands(?! for)        is, is stored, holds                but traceability
-beside                next to, compared with              but traceability
-amiss|at fault        invalid                             but traceability
-lent                  borrowed                            but traceability
+told|tells            reports, prints, shows, is known
+stands(?! for)        is, is stored, holds
+beside                next to, compared with
+amiss|at fault        invalid
+lent                  borrowed
 owed                  required
 so many|as many as    n, that many, at most n
 in place of           instead of
-tries                 checks                              but traceability
+tries                 checks
 (?<!there )is no      is not a valid
-wrong bod(?:y|ies)    mutant                              but traceability
-growths?              failed allocation                   but traceability
-ranks?                normalized key prefix               but traceability design/threads
+wrong bod(?:y|ies)    mutant
+growths?              failed allocation
+ranks?                normalized key prefix               but design/threads
 falls? apart          is partitioned
-shares                partitions                          but traceability design/threads
+shares                partitions                          but design/threads
 """
 
 HEADING = re.compile(r"#+ +(.*)")
@@ -255,6 +259,21 @@ class Quotes:
                 yield number, "the line is in no .rt or .antt file"
 
 
+class Generated:
+    """The page that gate/traceability.py prints."""
+
+    def faults(self, of):
+        if of.path != traceability.PAGE:
+            return
+        printed = traceability.page().split("\n")
+        yield from ((1, what) for what in traceability.faults.found)
+        lines = text_of(of.path).split("\n")
+        if lines != printed:
+            pairs = enumerate(zip_longest(lines, printed), 1)
+            number = next(number for number, (line, other) in pairs if line != other)
+            yield number, "this is not what gate/traceability.py prints: run it with --write"
+
+
 def folders_of(path):
     """The folders above a path."""
     return [path[:at] for at, letter in enumerate(path) if letter == "/"]
@@ -281,7 +300,7 @@ def tracked_files():
 
 def main():
     files = tracked_files()
-    checks = [Links(files), Names(files), Length(), Words(), Quotes(files)]
+    checks = [Links(files), Names(files), Length(), Words(), Quotes(files), Generated()]
     passed = failed = 0
     for path in filter(DOCUMENT.fullmatch, files):
         faults = sorted(set(fault for check in checks for fault in check.faults(document(path))))
