@@ -34,19 +34,19 @@ MADE = {"bin", "out", "__pycache__"}
 
 MOST_IN_SENTENCE, MOST_IN_PARAGRAPH = 30, 100
 SHORT = ["README.md", "CONTRIBUTING.md", "CHANGELOG.md", "docs/DECISIONS.md", "docs/adr/*", "docs/architecture.md",
-         "docs/contract-gaps.md", "docs/design/core-machine.md", "docs/guide.md", "docs/limits.md", "docs/promises.md",
-         "docs/proved.md", "docs/recipes.md", "docs/reference/*"]
+         "docs/contract-gaps.md", "docs/design/core-machine.md", "docs/formats.md", "docs/guide.md", "docs/limits.md",
+         "docs/promises.md", "docs/proved.md", "docs/recipes.md", "docs/reference/*", "docs/semantics.md"]
 QUOTING = ["docs/proved.md"]
 
 # Names and paths that no tracked file has, the documents that may have them, and the reason.
 EXCEPTIONS = """
-bin/*                                    *                 made by `make`
-out/                                     docs/gate.md      made by `rt check`
-./-|/dev/fd/63                           docs/*            paths that a user may write
-AVG|CASE|DELETE|INTERSECT|OFFSET|UPDATE  *                 SQL that is not supported
-tr                                       docs/recipes.md   a command of the shell
-k[0-9]*                                  docs/design/tree.md      keys in its pictures
-tq_tests_*                               docs/gate.md      crates of an earlier gate, in its table of times
+bin/*                                    *                    made by `make`
+out/                                     docs/gate.md         made by `rt check`
+./-|/dev/fd/63                           docs/*               paths that a user may write
+AVG|CASE|DELETE|INTERSECT|OFFSET|UPDATE  *                    SQL that is not supported
+tr                                       docs/recipes.md      a command of the shell
+k[0-9]*                                  docs/design/tree.md  keys in its pictures
+tq_tests_*                               docs/gate.md         crates of an earlier gate, in its table of times
 """
 
 # Old words as a regular expression, what to write instead, and after `but` the documents that still have them. At least two
