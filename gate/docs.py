@@ -34,7 +34,7 @@ MADE = {"bin", "out", "__pycache__"}
 
 MOST_IN_SENTENCE, MOST_IN_PARAGRAPH = 30, 100
 SHORT = ["README.md", "CONTRIBUTING.md", "CHANGELOG.md", "docs/DECISIONS.md", "docs/adr/*", "docs/architecture.md",
-         "docs/contract-gaps.md", "docs/design/core-machine.md", "docs/formats.md", "docs/guide.md", "docs/limits.md",
+         "docs/contract-gaps.md", "docs/design/*", "docs/formats.md", "docs/guide.md", "docs/limits.md",
          "docs/promises.md", "docs/proved.md", "docs/recipes.md", "docs/reference/*", "docs/semantics.md"]
 QUOTING = ["docs/proved.md"]
 
@@ -49,8 +49,8 @@ k[0-9]*                                  docs/design/tree.md  keys in its pictur
 tq_tests_*                               docs/gate.md         crates of an earlier gate, in its table of times
 """
 
-# Old words as a regular expression, what to write instead, and after `but` the documents that still have them. At least two
-# spaces divide the three. Not here are old words that are right in another meaning: made, at once, behind, lines, layers.
+# Old words as a regular expression, and what to write instead, divided by at least two spaces. Not here are old words that
+# are right in another meaning: made, at once, behind, lines, layers.
 WORDS = """
 told|tells            reports, prints, shows, is known
 stands(?! for)        is, is stored, holds
@@ -64,9 +64,9 @@ tries                 checks
 (?<!there )is no      is not a valid
 wrong bod(?:y|ies)    mutant
 growths?              failed allocation
-ranks?                normalized key prefix               but design/threads
+ranks?                normalized key prefix
 falls? apart          is partitioned
-shares                partitions                          but design/threads
+shares                partitions
 """
 
 HEADING = re.compile(r"#+ +(.*)")
@@ -233,17 +233,16 @@ class Words:
     def __init__(self):
         self.sought = []
         for line in filter(None, WORDS.split("\n")):
-            old, new, *waiting = re.split(r"  +", line)
-            documents = [f"docs/{name}.md" for name in " ".join(waiting).split()[1:]]
-            self.sought.append((re.compile(rf"\b(?:{old})\b", re.IGNORECASE), new, documents))
+            old, new = re.split(r"  +", line)
+            self.sought.append((re.compile(rf"\b(?:{old})\b", re.IGNORECASE), new))
 
     def faults(self, of):
         if of.path.startswith(("crates/", "examples/")):
             return
         for number, line in of.lines:
             text = LINK.sub(r"\1", SPAN.sub("Code", line))
-            for old, new, waiting in self.sought:
-                if of.path not in waiting and (found := old.search(text)):
+            for old, new in self.sought:
+                if found := old.search(text):
                     yield number, f"{found[0]} -> {new}"
 
 
