@@ -35,7 +35,8 @@ MADE = {"bin", "out", "__pycache__"}
 MOST_IN_SENTENCE, MOST_IN_PARAGRAPH = 30, 100
 SHORT = ["README.md", "CONTRIBUTING.md", "CHANGELOG.md", "docs/DECISIONS.md", "docs/adr/*", "docs/architecture.md",
          "docs/contract-gaps.md", "docs/design/*", "docs/formats.md", "docs/gate.md", "docs/guide.md", "docs/limits.md",
-         "docs/promises.md", "docs/proved.md", "docs/recipes.md", "docs/reference/*", "docs/semantics.md"]
+         "docs/performance.md", "docs/promises.md", "docs/proved.md", "docs/recipes.md", "docs/reference/*",
+         "docs/semantics.md"]
 QUOTING = ["docs/proved.md"]
 
 # Names and paths that no tracked file has, the documents that may have them, and the reason.
