@@ -4,7 +4,7 @@ use crate::fill::ROWS_OF_A_KEY;
 use std::alloc::{AllocError, Global};
 use tq_arena::Meter;
 use tq_base::{Bound, Form, Instant, KeyRange, Period, ValueRef};
-use tq_eval::answer;
+use tq_exec::answer;
 use tq_plan::plan;
 use tq_sql::read;
 use tq_store::Db;

@@ -3,7 +3,7 @@
 ghost use Rattle.std.specs.Prelude.{◌≡◌, ◌≢◌, ◌≤◌, Err, IfErr, OnOk};
 ghost use Rattle.std.specs.Io.KnownBytes.{Appends};
 ghost use Rattle.tq_event.specs.Tables.{lists_of};
-ghost use Rattle.tq_eval.specs.Fitting.{AreAllFitting};
+ghost use Rattle.tq_exec.specs.Fitting.{AreAllFitting};
 ghost use Rattle.tq_plan.specs.ValidPlans.{IsPlanOver};
 ghost use Rattle.tq_table.specs.Sink.{AppendsPrefix, one_more};
 ghost use Rattle.tq_table.specs.Text.{text_of};

@@ -9,7 +9,7 @@ use Rattle.tq_base.specs.Numbers.{IsDated}
 use Rattle.tq_event.specs.declared.event.Event.{Event}
 use Rattle.tq_event.specs.History.{time_of}
 use Rattle.tq_event.specs.Laws.{LoadedAreDated}
-use Rattle.tq_eval.specs.Bounds.{given_bounds, BoundsAreGiven, IsBoundedBy}
+use Rattle.tq_exec.specs.Bounds.{given_bounds, BoundsAreGiven, IsBoundedBy}
 use Rattle.tq_plan.specs.ValidPlans.{WindowsAreDated}
 use Rattle.tq_engine.specs.Answers.{AnswersAreDated}
 

@@ -15,10 +15,10 @@ use Rattle.tq_load.specs.Parts.{AreHeaded}
 use Rattle.tq_plan.specs.Plans.{plan_of}
 use Rattle.tq_plan.specs.ValidPlans.{QueriesAreValid}
 use Rattle.tq_plan.specs.declared.plans.Plan.{Plan}
-use Rattle.tq_eval.specs.Answers.{tables_read, IsTablesAnswer}
-use Rattle.tq_eval.specs.Fitting.{AreAllFitting, HeldRowsFit}
-use Rattle.tq_eval.specs.Named.{KeptTablesAnswer, Serve}
-use Rattle.tq_eval.specs.TableAnswers.{TablesAnswer}
+use Rattle.tq_exec.specs.Answers.{tables_read, IsTablesAnswer}
+use Rattle.tq_exec.specs.Fitting.{AreAllFitting, HeldRowsFit}
+use Rattle.tq_exec.specs.Required.{ProjectedTablesAnswer, Serve}
+use Rattle.tq_exec.specs.TableAnswers.{TablesAnswer}
 use Rattle.tq_table.specs.declared.table.Table.{Table}
 use Rattle.tq_engine.specs.Answers.{QueryIsAnswered, QueryIsRefused, IsLoadedQuery, IsStatementFault, ServesQuery}
 use Rattle.tq_engine.proofs.FaultLemmas.{statement_fault}
@@ -32,7 +32,7 @@ whole_fit held is_history form files whole of =
 
 -- the answer of the statement's plan over the tables is its answer over the complete tables, and so the answer over the
 -- files
-pub answers_asked : TablesAreLoaded → LoadedIsHistory → HeldRowsFit → QueriesAreValid → KeptTablesAnswer → TablesAnswer → QueryIsAnswered
+pub answers_asked : TablesAreLoaded → LoadedIsHistory → HeldRowsFit → QueriesAreValid → ProjectedTablesAnswer → TablesAnswer → QueryIsAnswered
 answers_asked are_loaded is_history held stand kept_answer tables_answer form files bytes tables statement plan table is_query planned is =
     let wanted = is_query.of_files in
     let whole = wanted.whole in

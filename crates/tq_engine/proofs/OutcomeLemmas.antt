@@ -7,7 +7,7 @@ use Rattle.tq_event.specs.declared.file.Loaded.{Loaded}
 use Rattle.tq_event.specs.declared.file.TableFile.{TableFile}
 use Rattle.tq_event.specs.Laws.{LoadedExists, LoadedIsUnique}
 use Rattle.tq_event.specs.Loading.{Contents, IsLoaded, contents_of}
-use Rattle.tq_eval.specs.Answers.{AnswersExist}
+use Rattle.tq_exec.specs.Answers.{AnswersExist}
 use Rattle.tq_plan.specs.declared.fault.PlanFault.{PlanFault}
 use Rattle.tq_plan.specs.declared.plans.Plan.{Plan}
 use Rattle.tq_plan.specs.Plans.{plan_of}

@@ -6,7 +6,7 @@ use Rattle.tq_base.specs.declared.catalogue.Schema.{Schema}
 use Rattle.tq_base.specs.declared.form.Form.{Form}
 use Rattle.tq_event.specs.declared.file.TableFile.{TableFile}
 use Rattle.tq_event.specs.Laws.{LoadedIsUnique}
-use Rattle.tq_eval.specs.Answers.{AnswersAreUnique, IsAnswer}
+use Rattle.tq_exec.specs.Answers.{AnswersAreUnique, IsAnswer}
 use Rattle.tq_sql.specs.declared.fault.SqlFault.{SqlFault}
 use Rattle.tq_sql.specs.declared.statement.Statement.{Statement}
 use Rattle.tq_sql.specs.Grammar.{IsStatement}

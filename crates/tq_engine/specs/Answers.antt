@@ -11,8 +11,8 @@ use Rattle.tq_event.specs.declared.file.Tables.{Tables}
 use Rattle.tq_event.specs.Projection.{AreProjectedTables}
 use Rattle.tq_event.specs.Loading.{Contents, IsLoaded, contents_of}
 use Rattle.tq_event.specs.Tables.{lists_of}
-use Rattle.tq_eval.specs.Answers.{IsAnswer, IsTablesAnswer}
-use Rattle.tq_eval.specs.Named.{Serve}
+use Rattle.tq_exec.specs.Answers.{IsAnswer, IsTablesAnswer}
+use Rattle.tq_exec.specs.Required.{Serve}
 use Rattle.tq_plan.specs.Plans.{plan_of}
 use Rattle.tq_plan.specs.declared.plans.Plan.{Plan}
 use Rattle.tq_sql.specs.declared.fault.SqlFault.{SqlFault}

@@ -7,17 +7,17 @@ ghost use Rattle.tq_plan.specs.declared.plans.Plan.{Plan as AnyPlan};
 ghost use Rattle.tq_plan.specs.Plans.{plan_of};
 ghost use Rattle.tq_table.specs.Text.{IsTextOf};
 ghost use Rattle.tq_engine.specs.Answers.{HasAnswer, IsLoadedQuery, IsFault, IsStatementFault};
-ghost use Rattle.tq_eval.specs.Answers.{IsTablesAnswer};
-ghost use Rattle.tq_eval.specs.Fitting.{AreAllFitting};
+ghost use Rattle.tq_exec.specs.Answers.{IsTablesAnswer};
+ghost use Rattle.tq_exec.specs.Fitting.{AreAllFitting};
 
 use crate::laws::query_is_answered;
-use crate::required::named_columns;
+use crate::required::required_columns;
 use std::alloc::{AllocError, Global};
 use std::thread::Threads;
 use thiserror::Error;
 use tq_base::Form;
-use tq_eval::laws::{held_rows_fit, kept_rows_fit};
-use tq_eval::to_owned;
+use tq_exec::laws::{held_rows_fit, projected_rows_fit};
+use tq_exec::to_owned;
 use tq_event::laws::{loaded_is_history, tables_are_loaded};
 use tq_event::{LoadFault, LoadFaultKind, MAX_EVENTS, TableFile, Tables};
 use tq_load::{LoadOptions, load_projected_parallel};
@@ -25,7 +25,7 @@ use tq_plan::{Plan, PlanFault, plan};
 use tq_run::{Gate, Open};
 use tq_sql::{SqlFault, SqlFaultKind, Statement, read};
 use tq_table::Table;
-use tq_workers::{AnswerText, answer_among, text_among};
+use tq_exec::{AnswerText, answer_among, text_among};
 
 /// Why there is no answer: the first fault of the files, of the statement's text or of its plan; a failed write; or a
 /// failed allocation.
@@ -122,7 +122,7 @@ pub(crate) fn load_query<R: Threads + Sync, G: Gate + Sync>(
     ensures fit { IfOk result (λ query. AreAllFitting query.tables.catalogue (lists_of query.tables.rows)) }
     ensures fault { IfErr result (IsFault form files.items bytes.now) }
 {
-    let named = named_columns(alloc, &files, bytes, form);
+    let named = required_columns(alloc, &files, bytes, form);
     let options = LoadOptions {
         limit: MAX_EVENTS,
         workers,
@@ -132,7 +132,7 @@ pub(crate) fn load_query<R: Threads + Sync, G: Gate + Sync>(
     tables_are_loaded();
     loaded_is_history();
     held_rows_fit();
-    kept_rows_fit();
+    projected_rows_fit();
     let statement = read(alloc, bytes)?;
     Ok(LoadedQuery { tables, statement })
 }

@@ -2,8 +2,8 @@
 
 ghost use Rattle.tq_engine.specs.Answers.{AnswersAreDated, AnswersAreUnique, QueryIsAnswered, QueryIsRefused, OutcomesAreUnique, OutcomesExist};
 
-use tq_eval::laws::{
-    answers_exist, bounds_are_given, held_rows_fit, kept_tables_answer, tables_answer,
+use tq_exec::laws::{
+    answers_exist, bounds_are_given, held_rows_fit, projected_tables_answer, tables_answer,
 };
 use tq_event::laws::{
     loaded_are_dated, loaded_exists, loaded_is_history, loaded_is_unique, tables_are_loaded,
@@ -19,7 +19,7 @@ pub fn answers_are_unique()
 {
     loaded_is_unique();
     statements_are_unique();
-    tq_eval::laws::answers_are_unique();
+    tq_exec::laws::answers_are_unique();
 }
 
 /// Files and a statement have exactly one outcome: an answer, or a first fault. Failed allocations and failed writes
@@ -58,6 +58,6 @@ pub fn query_is_answered()
     loaded_is_history();
     held_rows_fit();
     queries_are_valid();
-    kept_tables_answer();
+    projected_tables_answer();
     tables_answer();
 }

@@ -37,7 +37,7 @@ fn plan_columns(
     let Ok(plan) = plan(alloc, &catalogue, &statement, form) else {
         return None;
     };
-    match tq_eval::named_columns(alloc, &catalogue, &plan) {
+    match tq_exec::required_columns(alloc, &catalogue, &plan) {
         Ok(columns) => Some(columns),
         Err(_) => None,
     }
@@ -45,7 +45,7 @@ fn plan_columns(
 
 /// For each table, which columns the statement names. An empty list means that all columns are loaded: a header, the
 /// statement or its plan is invalid, or an allocation failed.
-pub(crate) fn named_columns(
+pub(crate) fn required_columns(
     alloc: Global,
     files: &[TableFile],
     bytes: &[u8],

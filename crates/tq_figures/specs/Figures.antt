@@ -9,7 +9,7 @@ use Rattle.tq_event.specs.Tables.{rows_in}
 use Rattle.tq_base.specs.Periods.{holds}
 use Rattle.tq_ops.specs.Ordinary.{product_of, projection, selection}
 use Rattle.tq_base.specs.declared.value.Value.{Value}
-use Rattle.tq_eval.specs.Answers.{in_tables, lists_at, IsTablesAnswer}
+use Rattle.tq_exec.specs.Answers.{in_tables, lists_at, IsTablesAnswer}
 use Rattle.tq_plan.specs.KeyRanges.{HasKeysOf}
 use Rattle.tq_plan.specs.Plans.{tables_of}
 use Rattle.tq_plan.specs.declared.plans.Plan.{Plan}

@@ -5,8 +5,8 @@ ghost use Rattle.tq_base.specs.declared.fragment.Fragment.{Fragment};
 ghost use Rattle.tq_base.specs.KeyRanges.{key_of};
 ghost use Rattle.tq_base.specs.Keys.{is_overlap};
 ghost use Rattle.tq_event.specs.Tables.{lists_of, rows_in};
-ghost use Rattle.tq_eval.specs.Answers.{IsTablesAnswer};
-ghost use Rattle.tq_eval.specs.Fitting.{AreAllFitting};
+ghost use Rattle.tq_exec.specs.Answers.{IsTablesAnswer};
+ghost use Rattle.tq_exec.specs.Fitting.{AreAllFitting};
 ghost use Rattle.tq_figures.specs.Figures.{AreFigures, AreSourceFigures, IsQueryFigures, IsRightFigures, IsSourceFigures, is_in_range, is_kept};
 ghost use Rattle.tq_plan.specs.declared.plans.QueryPlan.{QueryPlan as AnyQueryPlan};
 ghost use Rattle.tq_plan.specs.ValidPlans.{IsPlanOver, IsQueryOver};
@@ -17,7 +17,7 @@ use crate::groups::groups_of;
 use crate::steps::{StepFigures, query_steps};
 use std::alloc::{AllocError, Global};
 use tq_base::{Catalogue, KeyRange, List, Period, Rows, ValueRef};
-use tq_eval::{Snapshot, TablesOfRows, answer_tables, passing_rows};
+use tq_exec::{Snapshot, TablesOfRows, answer_tables, scan_filter_join};
 use tq_plan::laws::queries_are_valid;
 use tq_plan::{Plan, QueryPlan, QuerySource};
 
@@ -170,7 +170,7 @@ fn query_figures(
 {
     snapshot.fit();
     let sources = sources_figures(alloc, snapshot.tables, query, window)?;
-    let rows = passing_rows(alloc, snapshot, query, window)?;
+    let rows = scan_filter_join(alloc, snapshot, query, window)?;
     let steps = query_steps(alloc, snapshot, query, window, rows.len())?;
     let groups = groups_of(alloc, &rows, query.group.get())?;
     Ok(QueryFigures {

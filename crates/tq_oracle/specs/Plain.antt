@@ -7,7 +7,7 @@ use Rattle.tq_base.specs.Layers.{LayersAreUnique}
 use Rattle.tq_event.specs.declared.event.Event.{Event}
 use Rattle.tq_table.specs.declared.table.Table.{Table}
 use Rattle.tq_plan.specs.declared.plans.Plan.{Plan}
-use Rattle.tq_eval.specs.Answers.{as_of, times_at, AnswersExist, IsPlanAnswer}
+use Rattle.tq_exec.specs.Answers.{as_of, times_at, AnswersExist, IsPlanAnswer}
 
 -- each plan has exactly one answer over every history, as of every count of its events
 abbrev pub PlansHaveOneAnswer : Type 0

@@ -8,7 +8,7 @@ use Rattle.tq_core.specs.Machine.{Machine}
 use Rattle.tq_core.specs.Runs.{AnswersOverLast, IsAt}
 use Rattle.tq_table.specs.declared.table.Table.{Table}
 use Rattle.tq_plan.specs.declared.plans.Plan.{Plan}
-use Rattle.tq_eval.specs.Answers.{IsPlanAnswer}
+use Rattle.tq_exec.specs.Answers.{IsPlanAnswer}
 use Rattle.tq_oracle.specs.Plain.{plain_answer, PlansHaveOneAnswer}
 
 -- each answer to an Ask of a plan as of n events is the answer of that plan as of n, over the events published in the

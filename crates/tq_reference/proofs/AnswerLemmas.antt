@@ -7,8 +7,8 @@ use Rattle.tq_plan.specs.Plans.{tables_of}
 use Rattle.tq_agg.specs.Grouping.{Row}
 use Rattle.tq_plan.specs.declared.plans.Plan.{Plan}
 use Rattle.tq_plan.specs.declared.plans.QueryPlan.{QueryPlan}
-use Rattle.tq_eval.specs.Answers.{as_of, lists_at, times_at, times_in, times_in_right}
-use Rattle.tq_eval.specs.Ordinary.{ordinary}
+use Rattle.tq_exec.specs.Answers.{as_of, lists_at, times_at, times_in, times_in_right}
+use Rattle.tq_exec.specs.Ordinary.{ordinary}
 
 times_inside : (history : List Event) (n : ℕ) (plan : Plan) (v : Row) (t : ℕ) → holds plan.window t ≡ true → times_at (as_of history n) plan v t ≡ times_in (as_of history n) plan.left v t - times_in_right (as_of history n) plan.right v t
 times_inside history n plan v t inside = rw inside refl

@@ -12,11 +12,11 @@ use Rattle.tq_event.specs.History.{Row as AnyRow, end_of, rows_from, rows_of, va
 use Rattle.tq_base.specs.RowValues.{number_of, value_at}
 use Rattle.tq_ops.specs.Ordinary.{product, product_of, projection}
 use Rattle.tq_agg.specs.Grouping.{Row, each_once, same_row}
-use Rattle.tq_eval.specs.Answers.{as_of, lists_at}
-use Rattle.tq_eval.specs.Ordinary.{alone_or_together, groups}
+use Rattle.tq_exec.specs.Answers.{as_of, lists_at}
+use Rattle.tq_exec.specs.Ordinary.{alone_or_together, groups}
 use Rattle.tq_plan.specs.ValidPlans.{is_aggregate}
 use Rattle.tq_plan.specs.declared.plans.Output.{Output}
-use Rattle.tq_eval.specs.Running.{AreNumbers, HasNumbers}
+use Rattle.tq_exec.specs.OutputPlaces.{AreNumbers, HasNumbers}
 
 abbrev IsNarrowValue : Value → Type 0
 IsNarrowValue value = FitsSigned w64 (number_of value)

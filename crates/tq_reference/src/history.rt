@@ -3,7 +3,7 @@
 ghost use Rattle.std.specs.Prelude.{◌≡◌, IfOk};
 ghost use Rattle.tq_event.specs.History.{end_of, valid_at};
 ghost use Rattle.tq_plan.specs.Plans.{tables_in};
-ghost use Rattle.tq_eval.specs.Answers.{as_of, lists_at};
+ghost use Rattle.tq_exec.specs.Answers.{as_of, lists_at};
 
 use crate::bags::push;
 use std::alloc::{AllocError, Global};

@@ -5,9 +5,9 @@ ghost use Rattle.tq_base.specs.Fragments.{occurrences};
 ghost use Rattle.tq_base.specs.Periods.{holds};
 ghost use Rattle.tq_agg.specs.Grouping.{Row};
 ghost use Rattle.tq_plan.specs.Plans.{tables_of};
-ghost use Rattle.tq_eval.specs.Answers.{as_of, lists_at, times_at};
-ghost use Rattle.tq_eval.specs.Ordinary.{ordinary};
-ghost use Rattle.tq_eval.specs.Running.{HasNumbers};
+ghost use Rattle.tq_exec.specs.Answers.{as_of, lists_at, times_at};
+ghost use Rattle.tq_exec.specs.Ordinary.{ordinary};
+ghost use Rattle.tq_exec.specs.OutputPlaces.{HasNumbers};
 
 use crate::fault::ReferenceFault;
 use crate::history::lists_at;

@@ -10,7 +10,7 @@ use Rattle.tq_plan.specs.Plans.{plan_of}
 use Rattle.tq_sql.specs.declared.statement.Statement.{Statement}
 use Rattle.tq_sql.specs.Reading.{ParsesTo}
 use Rattle.tq_table.specs.declared.table.Table.{Table}
-use Rattle.tq_eval.specs.Answers.{IsAnswer}
+use Rattle.tq_exec.specs.Answers.{IsAnswer}
 use Rattle.tq_session.specs.declared.reply.Refusal.{Refusal}
 use Rattle.tq_session.specs.declared.reply.Reply.{Reply}
 use Rattle.tq_session.specs.declared.reply.Reply.TheVariants as outcome

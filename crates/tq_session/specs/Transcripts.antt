@@ -18,7 +18,7 @@ use Rattle.tq_sql.specs.Reading.{IsSqlFault, ParsesTo}
 use Rattle.tq_snapshot.specs.OpenIndex.{next_row}
 use Rattle.tq_table.specs.declared.table.Table.{Table}
 use Rattle.tq_table.specs.Text.{text_of}
-use Rattle.tq_eval.specs.Answers.{IsAnswer}
+use Rattle.tq_exec.specs.Answers.{IsAnswer}
 use Rattle.tq_snapshot.specs.declared.faults.AppendFault.{AppendFault}
 use Rattle.tq_snapshot.specs.Calls.{CanEndRow, CanStart, IsEndRefusal, IsStartRefusal, WriterState, all_of}
 use Rattle.tq_session.specs.declared.reply.Refusal.{Refusal}

@@ -9,7 +9,7 @@ use Rattle.tq_event.specs.Opening.{open_row}
 use Rattle.tq_event.specs.Recorded.{HasTable}
 use Rattle.tq_plan.specs.declared.plans.Plan.{Plan}
 use Rattle.tq_table.specs.declared.table.Table.{Table}
-use Rattle.tq_eval.specs.Answers.{IsPlanAnswer}
+use Rattle.tq_exec.specs.Answers.{IsPlanAnswer}
 use Rattle.tq_snapshot.specs.declared.faults.AskFault.{AskFault}
 use Rattle.tq_snapshot.specs.declared.faults.AskFault.TheVariants as ask
 use Rattle.tq_snapshot.specs.declared.faults.AppendFault.{AppendFault}

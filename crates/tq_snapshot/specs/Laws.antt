@@ -6,7 +6,7 @@ use Rattle.tq_event.specs.declared.event.Event.{Event}
 use Rattle.tq_plan.specs.declared.plans.Plan.{Plan}
 use Rattle.tq_plan.specs.ValidPlans.{IsPlanOver}
 use Rattle.tq_table.specs.declared.table.Table.{Table}
-use Rattle.tq_eval.specs.Answers.{IsPlanAnswer}
+use Rattle.tq_exec.specs.Answers.{IsPlanAnswer}
 
 -- an answer as of events that were observed before is that of the observed events, whatever was found
 abbrev pub ObservedAnswers : Type 0

@@ -5,7 +5,7 @@ ghost use mathlib.Core.List.{IsPrefix};
 ghost use Rattle.left_right.specs.Sides.{view};
 ghost use Rattle.tq_event.specs.History.{IsHistory};
 ghost use Rattle.tq_plan.specs.ValidPlans.{IsPlanOver};
-ghost use Rattle.tq_eval.specs.Answers.{IsPlanAnswer};
+ghost use Rattle.tq_exec.specs.Answers.{IsPlanAnswer};
 ghost use Rattle.tq_snapshot.specs.Calls.{Entered, FitsFault};
 ghost use Rattle.tq_snapshot.specs.StoreValue.{IsOf};
 ghost use Rattle.tq_snapshot.specs.Sound.{FindsOwn};

@@ -4,7 +4,7 @@ ghost use Rattle.std.specs.Prelude.{◌≡◌, ◌≤◌, IfOk, IfSome, length};
 ghost use mathlib.Core.List.{IsPrefix};
 ghost use Rattle.tq_event.specs.History.{IsHistory};
 ghost use Rattle.tq_plan.specs.ValidPlans.{IsPlanOver};
-ghost use Rattle.tq_eval.specs.Answers.{IsPlanAnswer};
+ghost use Rattle.tq_exec.specs.Answers.{IsPlanAnswer};
 ghost use Rattle.tq_snapshot.specs.Laws.{EqualAsksAgree, ObservedAnswers};
 
 use crate::book::{Opened, StoreId};
@@ -16,7 +16,7 @@ use std::alloc::Global;
 use std::marker::Brand;
 use std::sync::Wait;
 use tq_base::{Instant, Values};
-use tq_eval::laws::answers_are_unique;
+use tq_exec::laws::answers_are_unique;
 use tq_event::laws::prefixes_agree;
 use tq_event::{Loaded, MAX_EVENTS};
 use tq_plan::Plan;

@@ -3,7 +3,7 @@
 ghost use Rattle.std.specs.Prelude.{◌≡◌, ◌≤◌, ◌∷◌, [], ◌++◌, length, take, IfOk, OnOk, OnErr, MatchResult};
 ghost use Rattle.tq_event.specs.History.{IsHistory};
 ghost use Rattle.tq_plan.specs.ValidPlans.{IsPlanOver};
-ghost use Rattle.tq_eval.specs.Answers.{IsPlanAnswer};
+ghost use Rattle.tq_exec.specs.Answers.{IsPlanAnswer};
 ghost use Rattle.tq_snapshot.specs.StoreValue.{absorbed};
 ghost use Rattle.tq_snapshot.specs.Calls.{FitsFault};
 
@@ -14,13 +14,13 @@ use std::alloc::{AllocError, Global};
 use std::marker::Model;
 use std::thread::Threads;
 use tq_base::Catalogue;
-use tq_eval::answer;
+use tq_exec::answer;
 use tq_event::{Event, MAX_EVENTS};
 use tq_plan::Plan;
 use tq_run::Gate;
 use tq_store::Db;
 use tq_table::Table;
-use tq_workers::answer_with;
+use tq_exec::answer_with;
 
 /// An event, with the prefix of the history that ends with it.
 #[derive(Drop)]

@@ -11,7 +11,7 @@ use crate::statements::{TEXTS, random_statement};
 use std::alloc::{AllocError, Global};
 use std::fmt::Write;
 use tq_base::{Form, Instant, List, Value, Values};
-use tq_eval::answer;
+use tq_exec::answer;
 use tq_event::{Event, FileBytes, MAX_EVENTS, TableFile};
 use tq_plan::{Plan, plan};
 use tq_sql::read;

@@ -2,7 +2,7 @@
 
 ghost use Rattle.std.specs.Prelude.{◌≤◌};
 ghost use Rattle.tq_event.specs.Tables.{lists_of};
-ghost use Rattle.tq_eval.specs.Fitting.{AreAllFitting};
+ghost use Rattle.tq_exec.specs.Fitting.{AreAllFitting};
 ghost use Rattle.tq_plan.specs.ValidPlans.{IsPlanOver};
 
 use crate::loaded::{history_of, planned, tables_of};

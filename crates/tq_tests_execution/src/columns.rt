@@ -5,7 +5,7 @@ use std::alloc::{AllocError, Global};
 use std::fmt::Write;
 use std::str;
 use tq_base::{Form, Name, Schema};
-use tq_eval::named_columns;
+use tq_exec::required_columns;
 use tq_event::{MAX_EVENTS, TableFile, load_tables};
 use tq_plan::plan;
 use tq_sql::read;
@@ -35,7 +35,7 @@ pub(crate) fn print_columns(
     let tables = load_tables(alloc, files, MAX_EVENTS, Form::Numbers)?;
     let statement = read(alloc, statement.as_bytes())?;
     let plan = plan(alloc, &tables.catalogue, &statement, Form::Numbers)?;
-    let wanted = named_columns(alloc, &tables.catalogue, &plan)?;
+    let wanted = required_columns(alloc, &tables.catalogue, &plan)?;
     for (schema, wanted) in tables.catalogue.tables.get().iter().zip(&wanted) {
         print_table(schema, wanted, out)?;
     }

@@ -2,13 +2,13 @@
 
 ghost use Rattle.std.specs.Prelude.{◌≤◌, IfOk, IfSome};
 ghost use Rattle.tq_event.specs.Tables.{lists_of};
-ghost use Rattle.tq_eval.specs.Fitting.{AreAllFitting};
+ghost use Rattle.tq_exec.specs.Fitting.{AreAllFitting};
 ghost use Rattle.tq_plan.specs.ValidPlans.{IsPlanOver};
 
 use std::alloc::{AllocError, Global};
 use tq_base::{Catalogue, Form};
-use tq_eval::answer;
-use tq_eval::laws::held_rows_fit;
+use tq_exec::answer;
+use tq_exec::laws::held_rows_fit;
 use tq_event::laws::{loaded_is_history, tables_are_loaded};
 use tq_event::{Event, LoadFault, MAX_EVENTS, TableFile, Tables, load, load_tables};
 use tq_plan::{Plan, plan};

@@ -1,14 +1,14 @@
 //! Answers over tables of rows, and over histories with the same rows.
 
 ghost use Rattle.tq_event.specs.Tables.{lists_of};
-ghost use Rattle.tq_eval.specs.Fitting.{AreAllFitting};
+ghost use Rattle.tq_exec.specs.Fitting.{AreAllFitting};
 
 use crate::fault::Fault;
 use crate::instants::asked;
 use crate::loaded::tables_of;
 use std::alloc::Global;
 use tq_base::Form;
-use tq_eval::{answer, answer_tables};
+use tq_exec::{answer, answer_tables};
 use tq_event::{TableFile, Tables};
 use tq_plan::plan;
 use tq_sql::read;

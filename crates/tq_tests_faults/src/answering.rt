@@ -9,7 +9,7 @@ use std::fmt::Write;
 use std::sync::Wait;
 use std::thread::Threads;
 use tq_base::Form;
-use tq_eval::answer;
+use tq_exec::answer;
 use tq_plan::{Plan, PlanFault, plan};
 use tq_sql::{SqlFault, SqlFaultKind, Statement, read};
 use tq_store::Db;

@@ -1,7 +1,7 @@
 use Rattle.std.proofs.Common.{ap, sym, subst}
 use Rattle.std.proofs.lemmas.Result.{err_from_is_err_and}
 use Rattle.tq_base.specs.declared.catalogue.Catalogue.{Catalogue}
-use Rattle.tq_eval.specs.Fitting.{AreAllFitting}
+use Rattle.tq_exec.specs.Fitting.{AreAllFitting}
 use Rattle.tq_event.specs.Projection.{wanted_lists}
 use Rattle.tq_event.specs.Tables.{lists_of, AreLoaded}
 use Rattle.tq_sql.specs.declared.fault.SqlFault.{SqlFault}
@@ -20,7 +20,7 @@ returns-in_err-statement-clause-fault g c =
 pub returns-clause-is_query : goal.returns-clause-is_query
 returns-clause-is_query g c =
     is_asked c.args.form c.args.files.items c.args.bytes.now (wanted_lists c.deref-2.result.now) c.in_ok-tables.tables c.in_ok-statement.statement
-    (rw (c.deref-2.ensures.value) (rw (c.deref.ensures.value) at c.named_columns-named.ensures)) c.in_ok-tables.ensures.tables c.in_ok-statement.ensures.statement
+    (rw (c.deref-2.ensures.value) (rw (c.deref.ensures.value) at c.required_columns-named.ensures)) c.in_ok-tables.ensures.tables c.in_ok-statement.ensures.statement
 
 pub returns-clause-fit : goal.returns-clause-fit
 returns-clause-fit g c =
@@ -31,4 +31,4 @@ returns-clause-fit g c =
     let fit : AreAllFitting kept.whole.catalogue (lists_of kept.whole.rows) =
     whole_fit c.held_rows_fit.ensures c.loaded_is_history.ensures c.args.form files kept.whole of in
     subst (λ (catalogue : Catalogue). AreAllFitting catalogue (lists_of tables.rows)) (sym kept.kept.catalogue)
-    (c.kept_rows_fit.ensures.tables (wanted_lists c.deref-2.result.now) kept.whole.catalogue (lists_of kept.whole.rows) (lists_of tables.rows) kept.kept.rows fit)
+    (c.projected_rows_fit.ensures.tables (wanted_lists c.deref-2.result.now) kept.whole.catalogue (lists_of kept.whole.rows) (lists_of tables.rows) kept.kept.rows fit)

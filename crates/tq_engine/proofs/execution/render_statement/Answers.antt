@@ -1,8 +1,8 @@
 use Rattle.std.proofs.Common.{List, sym, subst}
 use Rattle.tq_base.specs.RowLists.{RowList}
 use Rattle.tq_event.specs.Tables.{lists_of}
-use Rattle.tq_eval.specs.Answers.{IsTablesAnswer}
-use Rattle.tq_eval.specs.Fitting.{AreAllFitting}
+use Rattle.tq_exec.specs.Answers.{IsTablesAnswer}
+use Rattle.tq_exec.specs.Fitting.{AreAllFitting}
 use Rattle.tq_table.specs.Text.{IsTextOf}
 use Rattle.tq_engine.proofs.execution.render_statement.Goals as goal
 

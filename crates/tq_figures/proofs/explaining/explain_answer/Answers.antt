@@ -2,7 +2,7 @@ use Rattle.std.proofs.Common.{List, sym, subst}
 use Rattle.std.proofs.lemmas.Result.{IfOk-weaker}
 use Rattle.tq_base.specs.RowLists.{RowList}
 use Rattle.tq_event.specs.Tables.{lists_of}
-use Rattle.tq_eval.specs.Fitting.{AreAllFitting}
+use Rattle.tq_exec.specs.Fitting.{AreAllFitting}
 use Rattle.tq_figures.specs.Figures.{AreFigures}
 use Rattle.tq_figures.proofs.explaining.explain_answer.Goals as goal
 

@@ -1,7 +1,7 @@
 use Rattle.std.proofs.Common.{◌∙◌, ℕ, List, ap, length, map, subst}
 use Rattle.tq_base.specs.declared.value.Value.{Value}
 use Rattle.tq_event.specs.Tables.{lists_of}
-use Rattle.tq_eval.specs.Answers.{in_tables, lists_at}
+use Rattle.tq_exec.specs.Answers.{in_tables, lists_at}
 use Rattle.tq_ops.specs.Ordinary.{product_of, selection}
 use Rattle.tq_plan.specs.Plans.{tables_of}
 use Rattle.tq_figures.specs.Figures.{IsGroup}

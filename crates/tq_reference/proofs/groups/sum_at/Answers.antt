@@ -5,7 +5,7 @@ use Rattle.std.proofs.lemmas.List.{drop_more}
 use Rattle.std.proofs.lemmas.List.Elements.{All-get_or}
 use Rattle.tq_agg.specs.Grouping.{sum_at}
 use Rattle.tq_base.specs.RowValues.{number_of, value_at}
-use Rattle.tq_eval.specs.Running.{AreNumbers}
+use Rattle.tq_exec.specs.OutputPlaces.{AreNumbers}
 use Rattle.tq_reference.proofs.NarrowLemmas.{IsSumOf, narrow_at, sum_more}
 use Rattle.tq_reference.proofs.groups.sum_at.Goals as goal
 

@@ -2,7 +2,7 @@
 use Rattle.std.proofs.Common.{◌≡◌, ◌+ℤ◌, drop}
 use Rattle.std.specs.Prelude.{All}
 use Rattle.tq_agg.specs.Grouping.{sum_at}
-use Rattle.tq_eval.specs.Running.{AreNumbers}
+use Rattle.tq_exec.specs.OutputPlaces.{AreNumbers}
 use Rattle.tq_reference.proofs.NarrowLemmas.{IsSumOf}
 use Rattle.tq_reference.proofs.groups.sum_at.Given as goal
 

@@ -2,7 +2,7 @@ use Rattle.std.proofs.Common.{◌∙◌}
 use Rattle.std.specs.Prelude.{All}
 use Rattle.std.proofs.lemmas.List.Elements.{All-same}
 use Rattle.tq_plan.specs.Plans.{tables_in}
-use Rattle.tq_eval.specs.Running.{AreNumbers}
+use Rattle.tq_exec.specs.OutputPlaces.{AreNumbers}
 use Rattle.tq_reference.proofs.NarrowLemmas.{lists_narrow}
 use Rattle.tq_reference.proofs.instant.query_rows.Goals as goal
 

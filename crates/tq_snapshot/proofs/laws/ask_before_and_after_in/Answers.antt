@@ -2,7 +2,7 @@ use Rattle.std.proofs.Common.{◌≡◌, ◌∙◌, List, subst}
 use Rattle.std.specs.Prelude.{All, IfSome}
 use Rattle.tq_base.specs.Sweep.{all_last}
 use Rattle.tq_event.specs.declared.event.Event.{Event}
-use Rattle.tq_eval.specs.Answers.{IsPlanAnswer}
+use Rattle.tq_exec.specs.Answers.{IsPlanAnswer}
 use Rattle.tq_snapshot.proofs.laws.ask_before_and_after_in.Goals as goal
 
 pub returns-in_ok-reader-in-Ok-clause-answer : goal.returns-in_ok-reader-in-Ok-clause-answer

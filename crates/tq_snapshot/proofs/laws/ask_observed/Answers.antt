@@ -4,7 +4,7 @@ use Rattle.tq_base.specs.declared.catalogue.Catalogue.{Catalogue}
 use Rattle.tq_event.specs.declared.event.Event.{Event}
 use Rattle.tq_plan.specs.declared.plans.Plan.{Plan}
 use Rattle.tq_table.specs.declared.table.Table.{Table}
-use Rattle.tq_eval.specs.Answers.{IsPlanAnswer}
+use Rattle.tq_exec.specs.Answers.{IsPlanAnswer}
 use Rattle.tq_snapshot.specs.Calls.{Answers}
 use Rattle.tq_snapshot.specs.Laws.{ObservedAnswers}
 use Rattle.tq_snapshot.proofs.laws.ask_observed.Goals as goal

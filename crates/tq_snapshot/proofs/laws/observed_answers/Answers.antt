@@ -1,6 +1,6 @@
 use Rattle.std.proofs.Common.{◌≡◌, sym, ap, subst, ◌∙◌}
 use Rattle.tq_event.specs.History.{valid_at}
-use Rattle.tq_eval.specs.Answers.{IsAnswerOver, ValidRows, as_of}
+use Rattle.tq_exec.specs.Answers.{IsAnswerOver, ValidRows, as_of}
 use Rattle.tq_snapshot.proofs.laws.observed_answers.Goals as goal
 
 pub returns : goal.returns

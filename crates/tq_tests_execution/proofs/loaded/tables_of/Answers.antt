@@ -2,7 +2,7 @@ use Rattle.std.proofs.Common.{length, subst}
 use Rattle.tq_base.specs.declared.catalogue.Catalogue.{Catalogue}
 use Rattle.tq_base.specs.declared.form.Form.TheVariants.{Numbers}
 use Rattle.tq_event.specs.Tables.{lists_of, AreLoaded}
-use Rattle.tq_eval.specs.Fitting.{AreAllFitting}
+use Rattle.tq_exec.specs.Fitting.{AreAllFitting}
 use Rattle.tq_tests_execution.proofs.loaded.tables_of.Goals as goal
 
 pub returns : goal.returns

@@ -2,7 +2,7 @@ use Rattle.std.proofs.Common.{List, sym, subst}
 use Rattle.tq_base.specs.RowLists.{RowList}
 use Rattle.tq_base.specs.declared.form.Form.TheVariants.{Numbers}
 use Rattle.tq_event.specs.Tables.{lists_of}
-use Rattle.tq_eval.specs.Fitting.{AreAllFitting}
+use Rattle.tq_exec.specs.Fitting.{AreAllFitting}
 use Rattle.tq_tests_execution.proofs.tables.answered.Goals as goal
 
 pub answer_tables-requires-clause-fit : goal.answer_tables-requires-clause-fit

@@ -4,7 +4,7 @@ use Rattle.std.proofs.lemmas.List.{take_all}
 use Rattle.tq_event.specs.declared.event.Event.{Event}
 use Rattle.tq_event.specs.History.{Row, rows_from}
 use Rattle.tq_table.specs.declared.table.Table.{Table}
-use Rattle.tq_eval.specs.Answers.{ValidRows, IsAnswerOver, IsPlanAnswer}
+use Rattle.tq_exec.specs.Answers.{ValidRows, IsAnswerOver, IsPlanAnswer}
 use Rattle.tq_oracle.specs.Plain.{plain_answer, PlansHaveOneAnswer}
 use Rattle.tq_oracle.proofs.plain.Plain.runs_answer_plans.Goals as goal
 

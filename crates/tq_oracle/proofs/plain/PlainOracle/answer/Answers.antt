@@ -4,7 +4,7 @@ use Rattle.tq_event.specs.declared.event.Event.{Event}
 use Rattle.tq_event.specs.Recorded.{Recorded}
 use Rattle.tq_table.specs.declared.table.Table.{Table}
 use Rattle.tq_plan.specs.declared.plans.Plan.{Plan}
-use Rattle.tq_eval.specs.Answers.{IsPlanAnswer}
+use Rattle.tq_exec.specs.Answers.{IsPlanAnswer}
 use Rattle.tq_oracle.specs.Plain.{plain_answer, same_answer, PlansHaveOneAnswer}
 use Rattle.tq_oracle.proofs.plain.PlainOracle.answer.Goals as goal
 

@@ -1,5 +1,0 @@
-use Rattle.tq_eval.proofs.HeldRows.{fit_as_of}
-use Rattle.tq_eval.proofs.as_of.AsOfSnapshot.fit.Goals as goal
-
-pub returns : goal.returns
-returns c = fit_as_of c.args.self.now.db.now.catalogue c.args.self.now.db.now.events c.args.self.now.n c.count-count.ensures.history

@@ -1,9 +1,0 @@
--- The places so far, and those of the items that are left.
-use Rattle.std.proofs.Common.{◌≡◌, ◌+◌, ◌≤◌, ◌++◌, drop, length}
-use Rattle.tq_eval.specs.Running.{item_places}
-use Rattle.tq_eval.proofs.grouping.item_places.Given as goal
-
-abbrev pub invariant-outputs : goal.invariant-outputs
-invariant-outputs l =
-    (l.places.items ++ item_places l.group l.sum_place (drop l.output-index l.outputs) ≡ item_places l.group (length l.group + 1) l.outputs)
-    × (l.sum_place ≤ length l.group + 1 + l.output-index)

@@ -1,5 +1,0 @@
-use Rattle.tq_eval.proofs.TableLemmas.{answers_agree}
-use Rattle.tq_eval.proofs.laws.answers_agree.Goals as goal
-
-pub returns : goal.returns
-returns c = answers_agree c.plans_are_valid.ensures

@@ -1,5 +1,0 @@
-use Rattle.tq_eval.proofs.AnswerLemmas.{one_answer}
-use Rattle.tq_eval.proofs.laws.answers_are_unique.Goals as goal
-
-pub returns : goal.returns
-returns c = one_answer c.layers_are_unique.ensures

@@ -1,5 +1,0 @@
-use Rattle.tq_eval.proofs.AnswerLemmas.{answer_stays}
-use Rattle.tq_eval.proofs.laws.answers_stay.Goals as goal
-
-pub returns : goal.returns
-returns c = answer_stays c.prefixes_agree.ensures c.answers_agree.ensures

@@ -1,5 +1,0 @@
-use Rattle.tq_eval.proofs.HeldRows.{held_fit}
-use Rattle.tq_eval.proofs.laws.held_rows_fit.Goals as goal
-
-pub returns : goal.returns
-returns c = held_fit

@@ -1,0 +1,90 @@
+-- Which columns a plan names, and that its answer depends on these alone. This project's own.
+use Rattle.std.specs.Prelude.{◌≡◌, ◌≢◌, ℕ, ◌+◌, ◌<◌, Bool, true, All, List, [], Some, map}
+use Rattle.tq_base.specs.declared.catalogue.Catalogue.{Catalogue}
+use Rattle.tq_base.specs.declared.fragment.Fragment.{Fragment}
+use Rattle.tq_event.specs.Projection.{is_wanted, projected_row, projected_values, wanted_of}
+use Rattle.tq_event.specs.Tables.{rows_in}
+use Rattle.tq_base.specs.RowValues.{value_at}
+use Rattle.tq_ops.specs.Ordinary.{admits}
+use Rattle.tq_agg.specs.Grouping.{Row}
+use Rattle.tq_plan.specs.declared.plans.Output.{Output}
+use Rattle.tq_plan.specs.declared.plans.Output.TheVariants.{Column, Count, Sum}
+use Rattle.tq_plan.specs.declared.plans.Plan.{Plan}
+use Rattle.tq_plan.specs.declared.plans.QueryPlan.{QueryPlan}
+use Rattle.tq_plan.specs.declared.plans.QuerySource.{QuerySource}
+use Rattle.tq_plan.specs.ValidPlans.{AreQueriesOver}
+use Rattle.tq_table.specs.declared.table.Table.{Table}
+use Rattle.tq_exec.specs.Answers.{in_tables, times_at, IsTablesAnswer, ValidRows}
+use Rattle.tq_exec.specs.Fitting.{AreAllFitting, AreFitting}
+
+-- ---- places at which a query looks
+
+-- both rows have the same value at each of these places
+abbrev pub AgreeAt : (ℕ → Bool) → Row → Row → Type 0
+AgreeAt places row other = (place : ℕ) → places place ≡ true → value_at row place ≡ value_at other place
+
+-- the item is made of the values at these places alone
+abbrev pub IsMadeOf : (ℕ → Bool) → Output → Type 0
+IsMadeOf places (Column place) = places place ≡ true
+IsMadeOf places Count = Unit {0}
+IsMadeOf places (Sum place) = places place ≡ true
+
+-- the query looks at these places alone: its condition, its groups and its items
+pub record LooksAt (places : ℕ → Bool) (query : QueryPlan) : Type 0 where
+  pub test : (row other : Row) → AgreeAt places row other → admits query.test row ≡ admits query.test other
+  pub group : All (λ place. places place ≡ true) query.group
+  pub items : All (IsMadeOf places) query.outputs
+
+-- ---- columns that are wanted
+
+-- those columns of the source are wanted that stand at these places
+abbrev pub Wants : List Bool → (ℕ → Bool) → QuerySource → Type 0
+Wants wanted places source = (column : ℕ) → column < source.width → places (source.first + column) ≡ true → is_wanted wanted column ≡ true
+
+-- of each source the columns are wanted at which the query looks
+pub record Serves (wanted : List (List Bool)) (query : QueryPlan) : Type 0 where
+  pub places : ℕ → Bool
+  pub looks : LooksAt places query
+  pub wants : All (λ (source : QuerySource). Wants (wanted_of wanted source.table) places source) query.sources
+
+-- the same for both queries of the plan
+abbrev pub Serve : List (List Bool) → Plan → Type 0
+Serve wanted plan = Serves wanted plan.left × ((query : QueryPlan) → plan.right ≡ Some query → Serves wanted query)
+
+-- ---- rows of which only wanted values are kept
+
+-- what is valid
+abbrev pub projected_in : List (List Bool) → ValidRows → ValidRows
+projected_in wanted valid = λ table t. map (projected_values (wanted_of wanted table)) (valid table t)
+
+-- tables of rows
+abbrev pub AreProjectedLists : List (List Bool) → List (List Fragment) → List (List Fragment) → Type 0
+AreProjectedLists wanted tables kept = (table : ℕ) → rows_in kept table ≡ map (projected_row (wanted_of wanted table)) (rows_in tables table)
+
+-- ---- laws
+
+-- where the wanted columns are those that a plan names, the values of the others change nothing of its answer
+abbrev pub RequiredColumnsSuffice : Type 0
+RequiredColumnsSuffice = (wanted : List (List Bool)) (catalogue : Catalogue) (valid : ValidRows) (plan : Plan) → AreFitting catalogue valid → AreQueriesOver catalogue plan → Serve wanted plan
+    → (v : Row) (t : ℕ) → times_at (projected_in wanted valid) plan v t ≡ times_at valid plan v t
+
+-- where nothing is told of any table, every value is kept
+abbrev pub AllColumnsSuffice : Type 0
+AllColumnsSuffice = (valid : ValidRows) (plan : Plan) (v : Row) (t : ℕ) → times_at (projected_in [] valid) plan v t ≡ times_at valid plan v t
+
+-- rows that fit the tables of a catalogue still fit them
+abbrev pub ProjectedRowsFit : Type 0
+ProjectedRowsFit = (wanted : List (List Bool)) (catalogue : Catalogue) (valid : ValidRows) → AreFitting catalogue valid → AreFitting catalogue (projected_in wanted valid)
+
+-- and so do those of tables of rows
+abbrev pub ProjectedTablesFit : Type 0
+ProjectedTablesFit = (wanted : List (List Bool)) (catalogue : Catalogue) (tables kept : List (List Fragment)) → AreProjectedLists wanted tables kept → AreAllFitting catalogue tables → AreAllFitting catalogue kept
+
+-- and answer a plan as the whole tables do, where the columns are wanted that it names, or nothing is told of any table
+abbrev pub ProjectedTablesAnswer : Type 0
+ProjectedTablesAnswer = (wanted : List (List Bool)) (catalogue : Catalogue) (tables kept : List (List Fragment)) (plan : Plan) (table : Table) → AreProjectedLists wanted tables kept → AreAllFitting catalogue tables → AreQueriesOver catalogue plan → (wanted ≢ [] → Serve wanted plan)
+    → IsTablesAnswer kept plan table → IsTablesAnswer tables plan table
+
+-- in which at each instant those rows are valid that were, of which only wanted values are kept
+abbrev pub ProjectedTablesHold : Type 0
+ProjectedTablesHold = (wanted : List (List Bool)) (tables kept : List (List Fragment)) → AreProjectedLists wanted tables kept → (table t : ℕ) → in_tables kept table t ≡ projected_in wanted (in_tables tables) table t

@@ -1,0 +1,50 @@
+// The answer of a plan as of the first events of a `Db`, made by several workers.
+
+ghost use Rattle.std.specs.Prelude.{◌≤◌, IfOk, length};
+ghost use Rattle.tq_exec.specs.Answers.{IsPlanAnswer};
+ghost use Rattle.tq_plan.specs.ValidPlans.{IsPlanOver};
+
+use crate::as_of::answer;
+use crate::over_tables::owned_answer;
+use crate::reads::read_tables;
+use crate::snapshot::TablesOfRows;
+use std::alloc::{AllocError, Global};
+use std::thread::Threads;
+use tq_plan::Plan;
+use tq_plan::laws::queries_are_valid;
+use tq_run::Gate;
+use tq_store::Db;
+use tq_table::Table;
+
+/// The answer of a plan as of the first `n` events of the `Db`, made by 1 to 16 workers including the calling thread. It is
+/// the answer of `answer`. Several workers first read the rows that the plan needs, in parts of the keys and versions of
+/// each table, and then execute the plan over these rows as `answer_among` does. The gate gets each piece of work before
+/// it runs. `AllocError` if an allocation failed.
+pub fn answer_with<'b, R: Threads + Sync, G: Gate + Sync>(
+    rt: &R,
+    alloc: Global,
+    db: &Db,
+    n: u32,
+    plan: &Plan,
+    workers: u32,
+    gate: &G,
+) -> Result<Table<'b>, AllocError>
+    requires within { n ≤ length db.now.events }
+    requires plan { IsPlanOver db.now.catalogue plan.now }
+    requires some { 1 ≤ workers }
+    requires at_most { workers ≤ 16 }
+    ensures { IfOk result (λ table. IsPlanAnswer db.now.events n plan.now table) }
+{
+    if workers == 1 {
+        return answer(alloc, db, n, plan);
+    }
+    queries_are_valid();
+    let Some(tables) = read_tables(rt, alloc, db, n, plan, workers, gate)? else {
+        return answer(alloc, db, n, plan);
+    };
+    let all = TablesOfRows {
+        catalogue: db.catalogue(),
+        tables: &tables,
+    };
+    owned_answer(rt, alloc, all, plan, workers, gate)
+}

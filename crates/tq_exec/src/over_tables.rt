@@ -1,0 +1,75 @@
+// The answer of a plan over tables of rows, made by several workers.
+
+ghost use Rattle.std.specs.Prelude.{◌≤◌, IfOk};
+ghost use Rattle.tq_event.specs.Tables.{lists_of};
+ghost use Rattle.tq_exec.specs.Answers.{IsTablesAnswer};
+ghost use Rattle.tq_exec.specs.Fitting.{AreAllFitting};
+ghost use Rattle.tq_plan.specs.ValidPlans.{AreQueriesOver, IsPlanOver};
+
+use crate::answer_parts::{Wanted, rows_of};
+use crate::answer_text::FEW_ROWS;
+use crate::execution::answer_tables;
+use crate::parallel::execute_parallel;
+use crate::snapshot::TablesOfRows;
+use std::alloc::{AllocError, Global};
+use std::thread::Threads;
+use tq_base::{Catalogue, List, Relation, Rows};
+use tq_plan::laws::queries_are_valid;
+use tq_plan::{Plan, copy_names};
+use tq_run::Gate;
+use tq_table::{ResultRows, Table, chained};
+
+/// The answer of a plan over tables of rows, made by these workers, with copies of the values. `AllocError` if an
+/// allocation failed.
+pub(crate) fn owned_answer<'b, R: Threads + Sync, G: Gate + Sync>(
+    rt: &R,
+    alloc: Global,
+    all: TablesOfRows<'_>,
+    plan: &Plan,
+    workers: u32,
+    gate: &G,
+) -> Result<Table<'b>, AllocError>
+    requires over { AreQueriesOver all.catalogue.now plan.now }
+    requires some { 1 ≤ workers }
+    requires at_most { workers ≤ 16 }
+    ensures { IfOk result (IsTablesAnswer (lists_of all.entry.tables.now) plan.now) }
+{
+    let made = execute_parallel(rt, alloc, all, plan, workers, FEW_ROWS, Wanted::Rows, gate)?;
+    let lists = rows_of(alloc, made)?;
+    let rows = chained(alloc, plan.left.outputs.get().len(), lists)?;
+    Ok(Table {
+        columns: List::of(copy_names(alloc, plan.columns())?),
+        rows: ResultRows::of(Relation::owned(alloc, rows)?),
+    })
+}
+
+/// The answer of a plan over tables of rows, made by 1 to 16 workers including the calling thread. It is the answer of
+/// `answer_tables`. The gate gets each piece of work before it runs. `AllocError` if an allocation failed.
+pub fn answer_among<'a, R: Threads + Sync, G: Gate + Sync>(
+    rt: &R,
+    alloc: Global,
+    catalogue: &'a Catalogue,
+    tables: &'a [Rows],
+    plan: &Plan,
+    workers: u32,
+    gate: &G,
+) -> Result<Table<'a>, AllocError>
+    requires fit { AreAllFitting catalogue.now (lists_of tables.now) }
+    requires plan { IsPlanOver catalogue.now plan.now }
+    requires some { 1 ≤ workers }
+    requires at_most { workers ≤ 16 }
+    ensures { IfOk result (IsTablesAnswer (lists_of tables.now) plan.now) }
+{
+    if workers == 1 {
+        return answer_tables(alloc, catalogue, tables, plan);
+    }
+    queries_are_valid();
+    owned_answer(
+        rt,
+        alloc,
+        TablesOfRows { catalogue, tables },
+        plan,
+        workers,
+        gate,
+    )
+}

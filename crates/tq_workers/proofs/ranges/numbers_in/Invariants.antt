@@ -1,7 +1,0 @@
--- The numbers of the rows so far are those of the range.
-use Rattle.std.proofs.Common.{◌≡◌}
-use Rattle.tq_workers.specs.Ranges.{numbers_in}
-use Rattle.tq_workers.proofs.ranges.numbers_in.Given as goal
-
-abbrev pub invariant-rows : goal.invariant-rows
-invariant-rows l = l.numbers.items ≡ numbers_in l.told l.count l.number l.range
