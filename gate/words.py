@@ -45,17 +45,17 @@ keeping          with_columns           method
 pick             take                   method      but tq_tests_*
 placed           take                   method
 keep             take                   method      but tq tq_tests_*
-detached         to_owned               method      but tq_eval
+detached         to_owned               method
 
 columns          sources                module      in tq_sql
 
 links_of         equi_join_keys         definition  but tq_mvbt
-decided          pushable               function    in tq_ops tq_plan tq_eval tq_figures tq_tests_*
+decided          pushable               function    in tq_ops tq_plan tq_exec tq_figures tq_tests_*
 folding          join_chain             module
 joining          merge_join             module
 
-told             reported               function    but tq_exec tq_agg tq_eval tq_workers tq_figures
-telling          printing               module      but tq_exec tq_workers tq_figures
+told             reported               function    but tq_agg tq_figures
+telling          printing               module      but tq_figures
 
 Told             Diagnostic             type        in tq
 Kept             RetainedFile           type        in tq
@@ -63,7 +63,7 @@ heads_where      header_copies          definition
 converse         run_session            function
 carry_out        dispatch               function
 
-Naming           StoreId                type        but tq_eval tq_workers tq_figures tq_reference tq_engine
+Naming           StoreId                type        but tq_figures tq_reference tq_engine
 Front            Prefix                 type        in tq_snapshot
 """
 
