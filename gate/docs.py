@@ -35,7 +35,7 @@ MADE = {"bin", "out", "__pycache__"}
 MOST_IN_SENTENCE, MOST_IN_PARAGRAPH = 30, 100
 QUOTING = ["docs/proved.md"]
 # The length and the words of these documents are not checked.
-WAITING = ["crates/tq_eval/README.md", "crates/tq_workers/README.md"]
+WAITING = []
 
 # Names and paths that no tracked file has, the documents that may have them, and the reason.
 EXCEPTIONS = """
