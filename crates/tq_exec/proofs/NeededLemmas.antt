@@ -4,6 +4,7 @@ use Rattle.std.specs.Prelude.{All, IsSomeAnd, IsTrue, slice_get}
 use Rattle.std.proofs.lemmas.Bool.{cases_lt}
 use Rattle.std.proofs.lemmas.List.{get_or_default}
 use Rattle.tq_base.specs.declared.catalogue.Catalogue.{Catalogue}
+use Rattle.tq_base.specs.declared.catalogue.Schema.{Schema}
 use Rattle.tq_base.specs.declared.key_range.KeyRange.{KeyRange}
 use Rattle.tq_base.specs.Fragments.{at, occurrences}
 use Rattle.tq_base.specs.Periods.{holds}
@@ -15,6 +16,7 @@ use Rattle.tq_plan.specs.declared.plans.QueryPlan.{QueryPlan}
 use Rattle.tq_plan.specs.declared.plans.QuerySource.{QuerySource}
 use Rattle.tq_plan.specs.KeyRanges.{HasKeysOf}
 use Rattle.tq_plan.specs.Plans.{tables_in, tables_of}
+use Rattle.tq_plan.specs.Scope.{is_numbered}
 use Rattle.tq_plan.specs.ValidPlans.{AreQueriesOver, HasColumns, IsQueryOver}
 use Rattle.tq_agg.specs.Grouping.{Row}
 use Rattle.tq_exec.specs.Answers.{in_tables, lists_at, times_at, times_by, times_in, times_in_right, ValidRows}
@@ -62,10 +64,10 @@ module _ (catalogue : Catalogue) (valid other : ValidRows) (query : QueryPlan) (
 -- ---- tables that were read
 
 -- a place at which there is something is one of the list
-there : {X : Type 0} {P : X → Type 0} (xs : List X) (k : ℕ) → IsSomeAnd (slice_get xs k) P → k < length xs
-there [] k is = absurd is
-there (x ∷ xs) zero is = omega arith
-there (x ∷ xs) (suc k) is = let rest = there xs k is in omega (arith, rest)
+there : {X : Type 0} (P : X → Type 0) (xs : List X) (k : ℕ) → IsSomeAnd (slice_get xs k) P → k < length xs
+there P [] k is = absurd is
+there P (x ∷ xs) zero is = omega arith
+there P (x ∷ xs) (suc k) is = let rest = there P xs k is in omega (arith, rest)
 
 -- the rows of a table by its number
 rows_by_number : (tables : List RowList) (table : ℕ) (d : RowList) → table < length tables → rows_in (lists_of tables) table ≡ (get_or tables table d).items
@@ -86,7 +88,7 @@ module _ (catalogue : Catalogue) (valid : ValidRows) (plan : Plan) (tables : Lis
       → All (AreNeeded query valid (in_tables (lists_of tables)) t) query.sources
   sources_needed query t inside over has k d less =
       let source : QuerySource = get_or query.sources k d in
-      let rows = table_read source.table no_rows (there catalogue.tables source.table (over.columns k d less)) in
+      let rows = table_read source.table no_rows (there (λ (s : Schema). (source.width ≡ length s.columns) × (source.numbered ≡ is_numbered s.columns)) catalogue.tables source.table (over.columns k d less)) in
       record {
         keys = rows.keys;
         has = has source.table rows k d less refl;

@@ -1,13 +1,14 @@
 // The keys of each table that a plan needs, and a sample of the keys that rows have there.
 
-ghost use Rattle.std.specs.Prelude.{ℤ};
+ghost use Rattle.std.specs.Prelude.{◌≡◌, ℤ};
 ghost use Rattle.tq_base.specs.KeyRanges.{IsInSomeRange};
+ghost use Rattle.tq_plan.specs.KeyRanges.{HasKeysOf};
 ghost use Rattle.tq_exec.specs.Reads.{HasPlanKeys, HasQueryKeys};
 
 use std::alloc::{AllocError, Global};
 use tq_base::{KeyRange, ValueRef, Values};
 use tq_event::Event;
-use tq_plan::{Plan, QueryPlan};
+use tq_plan::{Plan, QueryPlan, QuerySource};
 
 // The number of places of a history, about, at which events are sampled.
 const SAMPLES: usize = 1_024;
@@ -34,15 +35,30 @@ fn hull_of(one: Option<KeyRange>, other: Option<KeyRange>) -> Option<KeyRange>
     }
 }
 
+// The range, widened by the keys of the source's rows that are part of a row which passes the query, if it is a source of
+// the table.
+fn add_keys_of(
+    keys: Option<KeyRange>,
+    query: &QueryPlan,
+    source: &QuerySource,
+    table: u32,
+) -> Option<KeyRange>
+    ensures kept { (key : ℤ) → IsInSomeRange keys key → IsInSomeRange result key }
+    ensures added { source.now.table ≡ table → HasKeysOf query.now source.now result }
+{
+    if source.table != table {
+        return keys;
+    }
+    hull_of(query.keys_of(source), keys)
+}
+
 // A range that holds the keys of the table's rows that are part of a row which passes the query.
 fn query_keys(query: &QueryPlan, table: u32) -> Option<KeyRange>
     ensures { HasQueryKeys table result query.now }
 {
     let mut keys = None;
     'sources: for source in query.sources.get() {
-        if source.table == table {
-            keys = hull_of(keys, query.keys_of(source));
-        }
+        keys = add_keys_of(keys, query, source, table);
     }
     keys
 }

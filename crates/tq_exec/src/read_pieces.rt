@@ -39,15 +39,22 @@ fn cut_table(
     requires { n ≤ length db.now.events }
     ensures { IfOk result (IsCut db.now.events n plan.now table) }
 {
-    let keys = plan_keys(plan, table);
-    let parts = match keys {
+    match plan_keys(plan, table) {
         Some(keys) => {
             let table_keys = TableKeys { table, keys };
-            parts_of(alloc, db, n, &plan.window, table_keys, wanted)?
+            let parts = parts_of(alloc, db, n, &plan.window, table_keys, wanted)?;
+            Ok(TableParts {
+                table,
+                keys: Some(keys),
+                parts,
+            })
         }
-        None => Vec::new(alloc),
-    };
-    Ok(TableParts { table, keys, parts })
+        None => Ok(TableParts {
+            table,
+            keys: None,
+            parts: Vec::new(alloc),
+        }),
+    }
 }
 
 /// The keys of each table that the plan needs, each window cut into about `wanted` parts. `AllocError` if an allocation
@@ -60,7 +67,7 @@ pub(crate) fn cut_tables(
     wanted: usize,
 ) -> Result<Vec<TableParts>, AllocError>
     requires { n ≤ length db.now.events }
-    ensures { IfOk result (AreAllCut db.now.events n plan.now (length db.now.catalogue.tables)) }
+    ensures { IfOk result (λ tables. AreAllCut db.now.events n plan.now (length db.now.catalogue.tables) tables.items) }
 {
     let count = db.catalogue().tables.get().len();
     let mut tables = Vec::with_capacity(alloc, count)?;

@@ -11,6 +11,6 @@ returns-then-some_are_partitioned c is =
     let columns = columns_in c.args.columns.now in
     record {
       place = c.args.place;
-      ids = subst (All (λ (source : QuerySource). HasAt c.args.query.now.test c.args.place source (columns source.table))) c.get-sources.ensures (c.have_at.ensures is);
+      each = subst (All (λ (source : QuerySource). HasAt c.args.query.now.test c.args.place source (columns source.table))) c.get-sources.ensures (c.have_at.ensures is);
       some = ap (list_any (λ (source : QuerySource). is_partitioned (columns source.table))) (sym c.get-sources.ensures) ∙ sym c.some_are_partitioned.ensures ∙ c.if-some_are_partitioned.true;
     }

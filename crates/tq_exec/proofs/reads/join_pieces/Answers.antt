@@ -54,4 +54,7 @@ tables-preserved c =
     }
 
 pub returns : goal.returns
-returns c = record { many = c.todo; each = c.tables.invariant.each }
+returns c = record {
+  many = omega (arith, c.tables.invariant.many, c.tables-test.false, c.tables.auto.table-index-end, c.requires.cut.many);
+  each = c.tables.invariant.each;
+}

@@ -1,4 +1,4 @@
-use Rattle.std.proofs.Common.{◌∙◌, ap, get_or, subst, sym}
+use Rattle.std.proofs.Common.{◌∙◌, ap, get_or, length, subst, sym}
 use Rattle.std.specs.Prelude.{All}
 use Rattle.tq_exec.specs.Answers.{as_of}
 use Rattle.tq_exec.specs.declared.read_pieces.TableParts.{TableParts}
@@ -19,7 +19,9 @@ invariant_of-work-clause-inside g c =
     (pieces_in db.catalogue db.events c.args.n plan.window parts (λ k d less. (c.in_ok-parts.ensures.each k d less).cut))
 
 pub join_pieces-requires-clause-cut : goal.join_pieces-requires-clause-cut
-join_pieces-requires-clause-cut g c = c.todo
+join_pieces-requires-clause-cut g c =
+    let db = c.args.db.now in
+    subst (AreAllCut db.events c.args.n c.args.plan.now (length db.catalogue.tables)) (sym c.deref-3.ensures.value) c.in_ok-parts.ensures
 
 -- the list at each place has the rows of the piece there
 pub join_pieces-requires-clause-read : goal.join_pieces-requires-clause-read
