@@ -43,6 +43,16 @@ module _ (form : Form) (columns : List Column) (reported : List InvalidRecord) (
           ∙ ap (λ l. flat_map (fault_text form columns name bytes) (take 100 reported) ++ text_if (nat_lt (length reported) 100) (record_fault_text form columns name number l fields)) (sym same)
       by false = ap (λ (l : List InvalidRecord). flat_map (fault_text form columns name bytes) (take 100 l)) (append-nil reported) ∙ sym (append-nil (flat_map (fault_text form columns name bytes) (take 100 reported)))
 
+  -- the messages so far, and then with those of one more record
+  pub text_more : (name bytes start text next : List ℕ) (count : ℕ) (line : Option ℕ) → line ≡ record_line bytes number → count ≡ length reported
+      → text ≡ start ++ flat_map (fault_text form columns name bytes) (take 100 reported)
+      → next ≡ text ++ text_if (is_invalid form columns fields && nat_lt count 100) (record_fault_text form columns name number line fields)
+      → next ≡ start ++ flat_map (fault_text form columns name bytes) (take 100 (reported ++ invalid_record form columns number fields))
+  text_more name bytes start text next count line same counted before after =
+      let earlier = flat_map (fault_text form columns name bytes) (take 100 reported) in
+      let more : ℕ → List ℕ = λ n. text_if (is_invalid form columns fields && nat_lt n 100) (record_fault_text form columns name number line fields) in
+      after ∙ ap (λ (l : List ℕ). l ++ more count) before ∙ append_assoc start earlier (more count) ∙ ap (λ n. start ++ (earlier ++ more n)) counted ∙ ap (λ (l : List ℕ). start ++ l) (sym (told_more name bytes line same))
+
   -- and the number of invalid ones then
   pub count_more : length (reported ++ invalid_record form columns number fields) ≡ length reported + invalid_count true (is_invalid form columns fields)
   count_more = by (is_invalid form columns fields)

@@ -1,12 +1,11 @@
 // Messages about each invalid record of a file.
 
-ghost use Rattle.std.specs.Prelude.{◌≡◌, ◌≤◌, ◌++◌, ◌&&◌, ℕ, true, List, IfOk, OnOk, codes, decimal, drop, length, map, nat_lt, take};
+ghost use Rattle.std.specs.Prelude.{◌≡◌, ◌++◌, ℕ, List, IfOk, OnOk, codes, decimal, drop, length, map, nat_lt, take};
 ghost use Rattle.std.specs.List.{flat_map};
 ghost use Rattle.csv.specs.Records.{fields_of};
 ghost use Rattle.tq_event.specs.Loading.{csv_records};
 ghost use Rattle.tq_event.specs.Reading.{HasLeft};
 ghost use Rattle.tq_diagnostics.specs.InvalidRecords.{IsRecordsText, fault_text, record_fault_text, faults_text, invalid_records_of, header_text, record_head, unlisted_text, text_if};
-ghost use Rattle.tq_diagnostics.specs.Faults.{invalid_count, is_invalid};
 ghost use Rattle.tq_diagnostics.specs.Files.{IsColumnIf, is_header_invalid};
 ghost use Rattle.tq_shown.specs.Printable.{printable_text};
 
@@ -24,19 +23,23 @@ use tq_shown::push_printable;
 // The most invalid records that are listed.
 const MAX_LISTED: usize = 100;
 
-// Appends the table, the number of a record, and the line on which it begins.
-fn push_head(
-    text: &mut Vec<u8>,
-    name: &[u8],
+// Where a record is in its file.
+#[derive(Clone, Copy)]
+struct RecordPlace {
+    /// The number of the record, from 1; the header is the first.
     number: usize,
+    /// The line on which the record begins, if it is found.
     line: Option<usize>,
-) -> Result<(), AllocError>
-    ensures { OnOk result (text.new.items ≡ text.old.items ++ record_head name.now number line) }
+}
+
+// Appends the table, the number of a record, and the line on which it begins.
+fn push_head(text: &mut Vec<u8>, name: &[u8], place: RecordPlace) -> Result<(), AllocError>
+    ensures { OnOk result (text.new.items ≡ text.old.items ++ record_head name.now place.number place.line) }
 {
     push_printable(text, name)?;
     text.extend_from_slice(b" record ")?;
-    push_number(text, number)?;
-    push_line(text, line)?;
+    push_number(text, place.number)?;
+    push_line(text, place.line)?;
     text.extend_from_slice(b": ")
 }
 
@@ -46,13 +49,12 @@ fn push_fault(
     form: Form,
     columns: &[Column],
     name: &[u8],
-    number: usize,
-    line: Option<usize>,
+    place: RecordPlace,
     record: &ByteRecord,
 ) -> Result<(), AllocError>
-    ensures { OnOk result (text.new.items ≡ text.old.items ++ record_fault_text form columns.now name.now number line (fields_of record.now)) }
+    ensures { OnOk result (text.new.items ≡ text.old.items ++ record_fault_text form columns.now name.now place.number place.line (fields_of record.now)) }
 {
-    push_head(text, name, number, line)?;
+    push_head(text, name, place)?;
     push_record_detail(text, form, columns, record)?;
     text.extend_from_slice(b"\n")
 }
@@ -64,41 +66,15 @@ fn push_fault_if_listed(
     form: Form,
     columns: &[Column],
     name: &[u8],
-    number: usize,
-    line: Option<usize>,
+    place: RecordPlace,
     record: &ByteRecord,
 ) -> Result<(), AllocError>
-    ensures { OnOk result (text.new.items ≡ text.old.items ++ text_if (nat_lt count 100) (record_fault_text form columns.now name.now number line (fields_of record.now))) }
+    ensures { OnOk result (text.new.items ≡ text.old.items ++ text_if (nat_lt count 100) (record_fault_text form columns.now name.now place.number place.line (fields_of record.now))) }
 {
     if count < MAX_LISTED {
-        return push_fault(text, form, columns, name, number, line, record);
+        return push_fault(text, form, columns, name, place, record);
     }
     Ok(())
-}
-
-// Appends the message for the record if it is invalid, after `count` invalid records. Returns 1 if it is invalid, else
-// 0.
-fn push_if_invalid(
-    alloc: Global,
-    text: &mut Vec<u8>,
-    count: usize,
-    form: Form,
-    columns: &[Column],
-    name: &[u8],
-    number: usize,
-    line: Option<usize>,
-    record: &ByteRecord,
-    values: &mut Vec<Value>,
-) -> Result<usize, AllocError>
-    ensures count { IfOk result (λ one. one ≡ invalid_count true (is_invalid form columns.now (fields_of record.now))) }
-    ensures few { IfOk result (λ one. one ≤ 1) }
-    ensures text { OnOk result (text.new.items ≡ text.old.items ++ text_if (is_invalid form columns.now (fields_of record.now) && nat_lt count 100) (record_fault_text form columns.now name.now number line (fields_of record.now))) }
-{
-    if !is_invalid(alloc, form, columns, record, values)? {
-        return Ok(0);
-    }
-    push_fault_if_listed(text, count, form, columns, name, number, line, record)?;
-    Ok(1)
 }
 
 // Appends the number of further invalid records, more than one.
@@ -156,18 +132,15 @@ fn push_listed_faults(
             return Ok(count);
         }
         let line = next_line(bytes, &mut scanner);
-        count += push_if_invalid(
-            alloc,
-            text,
-            count,
-            form,
-            columns,
-            name,
-            before + 1,
+        if !is_invalid(alloc, form, columns, &record, &mut values)? {
+            continue;
+        }
+        let place = RecordPlace {
+            number: before + 1,
             line,
-            &record,
-            &mut values,
-        )?;
+        };
+        push_fault_if_listed(text, count, form, columns, name, place, &record)?;
+        count += 1;
     }
     Ok(count)
 }
@@ -201,7 +174,11 @@ fn push_header(
 {
     let column = column_if(alloc, is_header_invalid(kind, bytes, 1), bytes)?;
     let mut scanner = line_scanner(bytes);
-    push_head(text, name, 1, next_line(bytes, &mut scanner))?;
+    let place = RecordPlace {
+        number: 1,
+        line: next_line(bytes, &mut scanner),
+    };
+    push_head(text, name, place)?;
     text.extend_from_slice(&column)?;
     text.extend_from_slice(file_meaning(false, has_two_boms(bytes), kind))?;
     text.extend_from_slice(b"\n")
