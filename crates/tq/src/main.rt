@@ -50,7 +50,7 @@ use tq_base::Form;
 use tq_check::check;
 use tq_diagnostics::explain_records;
 use tq_draw::{draw, draw_svg};
-use tq_engine::{AnswerFault, FileFault, Source, query_files};
+use tq_engine::{AnswerFault, AnswerOptions, FileFault, Source, query_files};
 use tq_session::{SessionFault, session};
 use tq_table::Sink;
 use words::read_words;
@@ -88,9 +88,8 @@ fn ask<
         rt,
         tables,
         &statement,
-        workers,
+        AnswerOptions { workers, form },
         &mut sink,
-        form,
         progress,
         is_profiled,
     ) {

@@ -17,8 +17,7 @@ use std::sync::Wait;
 use std::sync::atomic::{AtomicU64, Ordering};
 use std::thread::Threads;
 use std::time::{Clock, Instant};
-use tq_base::Form;
-use tq_engine::{AnswerFault, ExecutedQuery, Observer, write_observed};
+use tq_engine::{AnswerFault, AnswerOptions, ExecutedQuery, Observer, write_observed};
 use tq_event::TableFile;
 use tq_figures::{RunFigures, explain_answer};
 use tq_run::Gate;
@@ -103,13 +102,13 @@ fn run_of<R: Clock>(observer: &RunObserver<'_, R>, workers: u32) -> RunFigures
 fn report_run<R: AllocGlobal + Clock + Wait>(
     observer: &RunObserver<'_, R>,
     executed: &ExecutedQuery,
-    workers: u32,
-    form: Form,
+    options: AnswerOptions,
 )
     requires fit { AreAllFitting executed.now.tables.catalogue (lists_of executed.now.tables.rows) }
     requires over { IsPlanOver executed.now.tables.catalogue executed.now.plan }
 {
     let rt = observer.rt;
+    let AnswerOptions { workers, form } = options;
     let run = run_of(observer, workers);
     if let Ok(text) = explain_answer(rt.alloc(), &executed.tables, &executed.plan, &run, form) {
         observer.progress.print(rt, &text);
@@ -122,19 +121,18 @@ pub fn ask_with_progress<R: AllocGlobal + Clock + Threads + Wait + Sync, W: Writ
     rt: &R,
     tables: Vec<TableFile>,
     statement: &[u8],
-    workers: u32,
+    options: AnswerOptions,
     sink: &mut Sink<W>,
-    form: Form,
     progress: &Progress,
     is_profiled: bool,
 ) -> Result<(), AnswerFault>
-    requires some { 1 ≤ workers }
-    requires few { workers ≤ 16 }
-    ensures answer { OnOk result ((table : AnyTable) × HasAnswer form tables.items statement.now table × Appends (W.contents sink.old.writer) (W.contents sink.new.writer) (text_of form table)) }
+    requires some { 1 ≤ options.workers }
+    requires few { options.workers ≤ 16 }
+    ensures answer { OnOk result ((table : AnyTable) × HasAnswer options.form tables.items statement.now table × Appends (W.contents sink.old.writer) (W.contents sink.new.writer) (text_of options.form table)) }
     ensures unfailed { OnOk result (sink.new.failed ≡ sink.old.failed) }
-    ensures write { result ≡ Err AnswerFault.Write → (table : AnyTable) × HasAnswer form tables.items statement.now table × AppendsPrefix (W.contents sink.old.writer) (W.contents sink.new.writer) (text_of form table) }
+    ensures write { result ≡ Err AnswerFault.Write → (table : AnyTable) × HasAnswer options.form tables.items statement.now table × AppendsPrefix (W.contents sink.old.writer) (W.contents sink.new.writer) (text_of options.form table) }
     ensures failed { result ≡ Err AnswerFault.Write → sink.new.failed ≡ one_more sink.old.failed }
-    ensures fault { IfErr result (λ fault. fault ≢ AnswerFault.Write → IsFault form tables.items statement.now fault × (sink.new ≡ sink.old)) }
+    ensures fault { IfErr result (λ fault. fault ≢ AnswerFault.Write → IsFault options.form tables.items statement.now fault × (sink.new ≡ sink.old)) }
 {
     let observer = RunObserver {
         rt,
@@ -144,19 +142,10 @@ pub fn ask_with_progress<R: AllocGlobal + Clock + Threads + Wait + Sync, W: Writ
         loaded: AtomicU64::new(0),
         answered: AtomicU64::new(0),
     };
-    match write_observed(
-        rt,
-        rt.alloc(),
-        tables,
-        statement,
-        workers,
-        sink,
-        form,
-        &observer,
-    ) {
+    match write_observed(rt, rt.alloc(), tables, statement, options, sink, &observer) {
         Ok(executed) => {
             if is_profiled {
-                report_run(&observer, &executed, workers, form);
+                report_run(&observer, &executed, options);
             }
             // The program ends next and frees all memory; freeing each long text by itself would only take time.
             mem::forget(executed);

@@ -11,6 +11,7 @@ ghost use Rattle.tq_table.specs.Text.{text_of};
 ghost use Rattle.tq_table.specs.declared.table.Table.{Table as AnyTable};
 
 use crate::execution::{AnswerFault, load_query, render};
+use crate::options::AnswerOptions;
 use std::alloc::Global;
 use std::io::Write;
 use std::thread::Threads;
@@ -43,8 +44,7 @@ pub struct ExecutedQuery {
     pub plan: Plan,
 }
 
-/// Writes the answer of the statement over the tables of the files, computed by 1 to 16 workers including the calling
-/// thread. `form` is how files and statement write instants. Returns the tables and the plan.
+/// Writes the answer of the statement over the tables of the files. Returns the tables and the plan.
 ///
 /// After an error other than `Write`, nothing was written: the error is the first fault of files, statement or plan, or
 /// `OutOfMemory`. After `Write` a prefix of the answer was written. The observer gets each piece of work before it
@@ -54,22 +54,22 @@ pub fn write_observed<R: Threads + Sync, W: Write, G: Observer + Sync>(
     alloc: Global,
     files: Vec<TableFile>,
     bytes: &[u8],
-    workers: u32,
+    options: AnswerOptions,
     sink: &mut Sink<W>,
-    form: Form,
     observer: &G,
 ) -> Result<ExecutedQuery, AnswerFault>
-    requires some { 1 ≤ workers }
-    requires few { workers ≤ 16 }
-    ensures answer { OnOk result ((table : AnyTable) × HasAnswer form files.items bytes.now table × Appends (W.contents sink.old.writer) (W.contents sink.new.writer) (text_of form table)) }
-    ensures planned { IfOk result (λ executed. IsPlanned form files.items bytes.now executed.tables executed.plan) }
+    requires some { 1 ≤ options.workers }
+    requires few { options.workers ≤ 16 }
+    ensures answer { OnOk result ((table : AnyTable) × HasAnswer options.form files.items bytes.now table × Appends (W.contents sink.old.writer) (W.contents sink.new.writer) (text_of options.form table)) }
+    ensures planned { IfOk result (λ executed. IsPlanned options.form files.items bytes.now executed.tables executed.plan) }
     ensures fit { IfOk result (λ executed. AreAllFitting executed.tables.catalogue (lists_of executed.tables.rows)) }
     ensures over { IfOk result (λ executed. IsPlanOver executed.tables.catalogue executed.plan) }
     ensures unfailed { OnOk result (sink.new.failed ≡ sink.old.failed) }
-    ensures write { result ≡ Err AnswerFault.Write → (table : AnyTable) × HasAnswer form files.items bytes.now table × AppendsPrefix (W.contents sink.old.writer) (W.contents sink.new.writer) (text_of form table) }
+    ensures write { result ≡ Err AnswerFault.Write → (table : AnyTable) × HasAnswer options.form files.items bytes.now table × AppendsPrefix (W.contents sink.old.writer) (W.contents sink.new.writer) (text_of options.form table) }
     ensures failed { result ≡ Err AnswerFault.Write → sink.new.failed ≡ one_more sink.old.failed }
-    ensures fault { IfErr result (λ fault. fault ≢ AnswerFault.Write → IsFault form files.items bytes.now fault × (sink.new ≡ sink.old)) }
+    ensures fault { IfErr result (λ fault. fault ≢ AnswerFault.Write → IsFault options.form files.items bytes.now fault × (sink.new ≡ sink.old)) }
 {
+    let AnswerOptions { workers, form } = options;
     let query = load_query(rt, alloc, files, bytes, workers, observer, form)?;
     observer.loaded();
     let planned = render(rt, alloc, &query, workers, observer, form)?;
@@ -84,7 +84,8 @@ pub fn write_observed<R: Threads + Sync, W: Write, G: Observer + Sync>(
     }
 }
 
-/// Does what `write_observed` does, without an observer, and returns neither the tables nor the plan.
+/// Does what `write_observed` does, with 1 to 16 workers including the calling thread. `form` is how files and statement
+/// write instants. Has no observer, and returns neither the tables nor the plan.
 pub fn answer_bytes<R: Threads + Sync, W: Write>(
     rt: &R,
     alloc: Global,
@@ -102,7 +103,8 @@ pub fn answer_bytes<R: Threads + Sync, W: Write>(
     ensures failed { result ≡ Err AnswerFault.Write → sink.new.failed ≡ one_more sink.old.failed }
     ensures fault { IfErr result (λ fault. fault ≢ AnswerFault.Write → IsFault form files.items bytes.now fault × (sink.new ≡ sink.old)) }
 {
-    match write_observed(rt, alloc, files, bytes, workers, sink, form, &Open) {
+    let options = AnswerOptions { workers, form };
+    match write_observed(rt, alloc, files, bytes, options, sink, &Open) {
         Ok(_) => Ok(()),
         Err(fault) => Err(fault),
     }

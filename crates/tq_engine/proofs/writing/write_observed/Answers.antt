@@ -6,22 +6,22 @@ use Rattle.tq_engine.proofs.writing.write_observed.Goals as goal
 pub returns-in_err-planned-clause-write : goal.returns-in_err-planned-clause-write
 returns-in_err-planned-clause-write g c e =
     let p = err_from_is_err_and c.from_residual-in_err-planned.result c.from_residual-in_err-planned.ensures.1 in
-    let is : IfErr c.from_residual-in_err-planned.result (IsFault c.args.form c.args.files.items c.args.bytes.now) =
-    rw p.1 (subst (IsFault c.args.form c.args.files.items c.args.bytes.now) (sym p.2) (c.in_err-planned.ensures.fault c.args.files.items c.args.bytes.now c.in_ok-query.ensures.is_query)) in
-    absurd (subst (λ r. IfErr r (IsFault c.args.form c.args.files.items c.args.bytes.now)) e is)
+    let is : IfErr c.from_residual-in_err-planned.result (IsFault c.args.options.form c.args.files.items c.args.bytes.now) =
+    rw p.1 (subst (IsFault c.args.options.form c.args.files.items c.args.bytes.now) (sym p.2) (c.in_err-planned.ensures.fault c.args.files.items c.args.bytes.now c.in_ok-query.ensures.is_query)) in
+    absurd (subst (λ r. IfErr r (IsFault c.args.options.form c.args.files.items c.args.bytes.now)) e is)
 
 pub returns-in_err-planned-clause-failed : goal.returns-in_err-planned-clause-failed
 returns-in_err-planned-clause-failed g c e =
     let p = err_from_is_err_and c.from_residual-in_err-planned.result c.from_residual-in_err-planned.ensures.1 in
-    let is : IfErr c.from_residual-in_err-planned.result (IsFault c.args.form c.args.files.items c.args.bytes.now) =
-    rw p.1 (subst (IsFault c.args.form c.args.files.items c.args.bytes.now) (sym p.2) (c.in_err-planned.ensures.fault c.args.files.items c.args.bytes.now c.in_ok-query.ensures.is_query)) in
-    absurd (subst (λ r. IfErr r (IsFault c.args.form c.args.files.items c.args.bytes.now)) e is)
+    let is : IfErr c.from_residual-in_err-planned.result (IsFault c.args.options.form c.args.files.items c.args.bytes.now) =
+    rw p.1 (subst (IsFault c.args.options.form c.args.files.items c.args.bytes.now) (sym p.2) (c.in_err-planned.ensures.fault c.args.files.items c.args.bytes.now c.in_ok-query.ensures.is_query)) in
+    absurd (subst (λ r. IfErr r (IsFault c.args.options.form c.args.files.items c.args.bytes.now)) e is)
 
 pub returns-in_err-planned-clause-fault : goal.returns-in_err-planned-clause-fault
 returns-in_err-planned-clause-fault g c =
     let p = err_from_is_err_and c.from_residual-in_err-planned.result c.from_residual-in_err-planned.ensures.1 in
-    let is : IfErr c.from_residual-in_err-planned.result (IsFault c.args.form c.args.files.items c.args.bytes.now) =
-    rw p.1 (subst (IsFault c.args.form c.args.files.items c.args.bytes.now) (sym p.2) (c.in_err-planned.ensures.fault c.args.files.items c.args.bytes.now c.in_ok-query.ensures.is_query)) in
+    let is : IfErr c.from_residual-in_err-planned.result (IsFault c.args.options.form c.args.files.items c.args.bytes.now) =
+    rw p.1 (subst (IsFault c.args.options.form c.args.files.items c.args.bytes.now) (sym p.2) (c.in_err-planned.ensures.fault c.args.files.items c.args.bytes.now c.in_ok-query.ensures.is_query)) in
     IfErr-weaker c.from_residual-in_err-planned.result _ _ (λ fault f other. (f, refl)) is
 
 pub returns-in-Ok-clause-answer : goal.returns-in-Ok-clause-answer
@@ -43,4 +43,4 @@ returns-in-Ok-clause-planned g c = record {
 }
 
 pub returns-in-Ok-clause-over : goal.returns-in-Ok-clause-over
-returns-in-Ok-clause-over g c = record { form = c.args.form; statement = c.in_ok-query.query.statement; planned = c.in_ok-planned.ensures.plan }
+returns-in-Ok-clause-over g c = record { form = c.args.options.form; statement = c.in_ok-query.query.statement; planned = c.in_ok-planned.ensures.plan }
