@@ -33,7 +33,7 @@ use files::{paths_of, read_path, read_table_files};
 use profile::ask_with_progress;
 use progress::Progress;
 use prompt::Prompted;
-use refusals::{header_copies, refused, refused_load};
+use refusals::{RefusalOptions, header_copies, refused, refused_load};
 use report::{Diagnostic, Refusal};
 use request::{AskRequest, CheckRequest, DrawRequest, Request, SessionRequest};
 use retained::{RetainedFile, is_listed, retain_files};
@@ -95,9 +95,8 @@ fn ask<
     ) {
         Ok(()) => Ok(()),
         Err(fault) => {
-            let diagnostic = refused(
-                rt, fault, &statement, &paths, headers, form, explain, progress,
-            );
+            let options = RefusalOptions { form, explain };
+            let diagnostic = refused(rt, fault, &statement, &paths, headers, options, progress);
             Err(diagnostic)
         }
     }
@@ -136,9 +135,10 @@ fn draw_answer<
             };
             Ok(print_bytes(rt, &picture)?)
         }
-        Err(fault) => Err(refused(
-            rt, fault, &statement, &paths, headers, form, explain, progress,
-        )),
+        Err(fault) => {
+            let options = RefusalOptions { form, explain };
+            Err(refused(rt, fault, &statement, &paths, headers, options, progress))
+        }
     }
 }
 
@@ -207,7 +207,11 @@ fn check_tables<
                 let _ = print_bytes(rt, &list);
             }
             let fault = AnswerFault::from(fault);
-            Err(refused(rt, fault, b"", &paths, None, form, interactive, progress))
+            let options = RefusalOptions {
+                form,
+                explain: interactive,
+            };
+            Err(refused(rt, fault, b"", &paths, None, options, progress))
         }
     }
 }

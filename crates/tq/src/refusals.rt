@@ -72,22 +72,31 @@ fn refused_plan(
     Diagnostic::of_plan(alloc, fault, statement, &catalogue, form)
 }
 
-/// The refusal for a fault of the files at these paths, of the statement or of its plan, with details if `explain` is
-/// set. `headers` are the files' header lines.
+/// How a refusal is reported.
+#[derive(Clone, Copy)]
+pub struct RefusalOptions {
+    /// How files and statement write instants.
+    pub form: Form,
+    /// Whether the refusal has details.
+    pub explain: bool,
+}
+
+/// The refusal for a fault of the files at these paths, of the statement or of its plan. `headers` are the files' header
+/// lines.
 pub fn refused<R: Files + AllocGlobal + Input>(
     rt: &R,
     fault: AnswerFault,
     statement: &[u8],
     paths: &[Vec<u8>],
     headers: Option<Vec<TableFile>>,
-    form: Form,
-    explain: bool,
+    options: RefusalOptions,
     progress: &Progress,
 ) -> Diagnostic
     ensures refusal { result.refusal ≡ refused_answer fault }
-    ensures detail { IfSome result.detail (λ text. IsQuestionDetail form paths.now headers fault statement.now text.items) }
-    ensures silent { explain ≡ false → result.detail ≡ None }
+    ensures detail { IfSome result.detail (λ text. IsQuestionDetail options.form paths.now headers fault statement.now text.items) }
+    ensures silent { options.explain ≡ false → result.detail ≡ None }
 {
+    let RefusalOptions { form, explain } = options;
     match fault {
         AnswerFault::Load(load) if explain => refused_load(rt, load, paths, form, progress),
         AnswerFault::Load(load) => Diagnostic::from(Refusal::Load(load)),
