@@ -46,25 +46,34 @@ fn render(alloc: Global, table: &Table<'_>, form: Form) -> Reply
     }
 }
 
-/// Executes a statement as of the first `n` of the `published` events, with 1 to 16 workers. The reply is the answer or
-/// why there is none.
+/// How a statement of a session is executed.
+#[derive(Clone, Copy, Debug)]
+pub struct AskOptions {
+    /// How many of the published events it is executed over: the first `n`.
+    pub n: u32,
+    /// The number of workers, from 1 to 16, one of which is the calling thread.
+    pub workers: u32,
+    /// How the statement and the answer write instants.
+    pub form: Form,
+}
+
+/// Executes a statement as of the first `n` of the `published` events. The reply is the answer or why there is none.
 pub fn ask<J: StoreId, R: Threads + Wait + Sync>(
     rt: &R,
     alloc: Global,
     catalogue: &Catalogue,
     published: u32,
     reader: &mut Reader<J>,
-    n: u32,
-    workers: u32,
     bytes: &[u8],
-    form: Form,
+    options: AskOptions,
 ) -> Reply
     requires catalogue { catalogue.now ≡ J.catalogue }
-    requires some { 1 ≤ workers }
-    requires at_most { workers ≤ 16 }
-    ensures reply { (events : List AnyEvent) → (published ≡ length events) → IsPrefix events reader.old → Asks form J.catalogue events n bytes.now result }
+    requires some { 1 ≤ options.workers }
+    requires at_most { options.workers ≤ 16 }
+    ensures reply { (events : List AnyEvent) → (published ≡ length events) → IsPrefix events reader.old → Asks options.form J.catalogue events options.n bytes.now result }
     ensures told { IsPrefix reader.old reader.new }
 {
+    let AskOptions { n, workers, form } = options;
     observed_answers();
     let plan = match planned(alloc, catalogue, bytes, form) {
         Ok(plan) => plan,

@@ -6,7 +6,7 @@ ghost use Rattle.tq_session.specs.Requests.{HasWorkers, requested};
 ghost use Rattle.tq_session.specs.Transcripts.{Executes, Publishes, Replies, opening};
 
 use crate::appending::{end, start};
-use crate::query::ask;
+use crate::query::{AskOptions, ask};
 use crate::reply::{Refusal, Reply};
 use crate::request::{Command, read_command};
 use std::alloc::Global;
@@ -84,16 +84,19 @@ impl<J: StoreId> SessionState<J> {
             Command::Ask(n, workers, bytes) => {
                 let published = self.writer.published();
                 let catalogue = self.writer.catalogue();
+                let options = AskOptions {
+                    n: *n,
+                    workers: *workers,
+                    form,
+                };
                 ask(
                     rt,
                     alloc,
                     catalogue,
                     published,
                     &mut self.reader,
-                    *n,
-                    *workers,
                     bytes,
-                    form,
+                    options,
                 )
             }
         }

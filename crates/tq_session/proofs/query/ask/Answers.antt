@@ -7,22 +7,22 @@ use Rattle.tq_session.proofs.query.ask.Goals as goal
 
 pub returns-then-published-n-clause-reply : goal.returns-then-published-n-clause-reply
 returns-then-published-n-clause-reply g c = λ events count begins.
-    (planned_of c.args.form _ _ _ c.in-Ok.plan c.requires.catalogue c.in-Ok.ensures, count, subst (λ (k : ℕ). k < c.args.n) count c.if-published-n.true)
+    (planned_of c.args.options.form _ _ _ c.in-Ok.plan c.requires.catalogue c.in-Ok.ensures, count, subst (λ (k : ℕ). k < c.args.options.n) count c.if-published-n.true)
 
 pub returns-in-Ok-ask_with-clause-reply : goal.returns-in-Ok-ask_with-clause-reply
 returns-in-Ok-ask_with-clause-reply g c = λ events count begins.
     let found = c.ask_with.new.self in
     let (entered, within, is_answer) = c.in-Ok-ask_with.ensures in
     let statement = c.in-Ok.ensures.statement in
-    asks_told c.args.form g.J.StoreId.catalogue events c.args.n c.args.bytes.now c.in-Ok-ask_with.table c.render.result statement (omega (arith, count, c.if-published-n.false)) c.in-Ok.ensures.makes
+    asks_told c.args.options.form g.J.StoreId.catalogue events c.args.options.n c.args.bytes.now c.in-Ok-ask_with.table c.render.result statement (omega (arith, count, c.if-published-n.false)) c.in-Ok.ensures.makes
     (record {
       plan = c.in-Ok.plan;
-      planned = subst (λ (k : Catalogue). plan_of c.args.form k statement ≡ Ok c.in-Ok.plan) c.requires.catalogue c.in-Ok.ensures.planned;
-      is_answer = c.observed_answers.ensures events found c.args.n c.in-Ok.plan c.in-Ok-ask_with.table (prefix_of_prefix events c.args.reader.now found begins entered.later)
+      planned = subst (λ (k : Catalogue). plan_of c.args.options.form k statement ≡ Ok c.in-Ok.plan) c.requires.catalogue c.in-Ok.ensures.planned;
+      is_answer = c.observed_answers.ensures events found c.args.options.n c.in-Ok.plan c.in-Ok-ask_with.table (prefix_of_prefix events c.args.reader.now found begins entered.later)
           (omega (arith, count, c.if-published-n.false)) is_answer;
     })
     c.render.ensures
 
 pub returns-in-Err-TooNew-clause-reply : goal.returns-in-Err-TooNew-clause-reply
 returns-in-Err-TooNew-clause-reply g c = λ events count begins.
-    (planned_of c.args.form _ _ _ c.in-Ok.plan c.requires.catalogue c.in-Ok.ensures, omega (arith, count, c.if-published-n.false))
+    (planned_of c.args.options.form _ _ _ c.in-Ok.plan c.requires.catalogue c.in-Ok.ensures, omega (arith, count, c.if-published-n.false))
