@@ -16,16 +16,15 @@ use std::alloc::{AllocError, Global};
 use std::thread::Threads;
 use thiserror::Error;
 use tq_base::Form;
-use tq_exec::laws::{held_rows_fit, projected_rows_fit};
-use tq_exec::to_owned;
 use tq_event::laws::{loaded_is_history, tables_are_loaded};
 use tq_event::{LoadFault, LoadFaultKind, MAX_EVENTS, TableFile, Tables};
+use tq_exec::laws::{held_rows_fit, projected_rows_fit};
+use tq_exec::{AnswerText, answer_among, text_among, to_owned};
 use tq_load::{LoadOptions, load_projected_parallel};
 use tq_plan::{Plan, PlanFault, plan};
 use tq_run::{Gate, Open};
 use tq_sql::{SqlFault, SqlFaultKind, Statement, read};
 use tq_table::Table;
-use tq_exec::{AnswerText, answer_among, text_among};
 
 /// Why there is no answer: the first fault of the files, of the statement's text or of its plan; a failed write; or a
 /// failed allocation.

@@ -2,11 +2,11 @@
 
 ghost use Rattle.tq_engine.specs.Answers.{AnswersAreDated, AnswersAreUnique, QueryIsAnswered, QueryIsRefused, OutcomesAreUnique, OutcomesExist};
 
-use tq_exec::laws::{
-    answers_exist, bounds_are_given, held_rows_fit, projected_tables_answer, tables_answer,
-};
 use tq_event::laws::{
     loaded_are_dated, loaded_exists, loaded_is_history, loaded_is_unique, tables_are_loaded,
+};
+use tq_exec::laws::{
+    answers_exist, bounds_are_given, held_rows_fit, projected_tables_answer, tables_answer,
 };
 use tq_plan::laws::{queries_are_valid, windows_are_dated};
 use tq_sql::laws::{

@@ -16,9 +16,9 @@ use std::alloc::Global;
 use std::marker::Brand;
 use std::sync::Wait;
 use tq_base::{Instant, Values};
-use tq_exec::laws::answers_are_unique;
 use tq_event::laws::prefixes_agree;
 use tq_event::{Loaded, MAX_EVENTS};
+use tq_exec::laws::answers_are_unique;
 use tq_plan::Plan;
 use tq_table::Table;
 

@@ -14,13 +14,12 @@ use std::alloc::{AllocError, Global};
 use std::marker::Model;
 use std::thread::Threads;
 use tq_base::Catalogue;
-use tq_exec::answer;
 use tq_event::{Event, MAX_EVENTS};
+use tq_exec::{answer, answer_with};
 use tq_plan::Plan;
 use tq_run::Gate;
 use tq_store::Db;
 use tq_table::Table;
-use tq_exec::answer_with;
 
 /// An event, with the prefix of the history that ends with it.
 #[derive(Drop)]

@@ -5,8 +5,8 @@ use std::alloc::{AllocError, Global};
 use std::fmt::Write;
 use std::str;
 use tq_base::{Form, Name, Schema};
-use tq_exec::required_columns;
 use tq_event::{MAX_EVENTS, TableFile, load_tables};
+use tq_exec::required_columns;
 use tq_plan::plan;
 use tq_sql::read;
 

@@ -7,10 +7,10 @@ ghost use Rattle.tq_plan.specs.ValidPlans.{IsPlanOver};
 
 use std::alloc::{AllocError, Global};
 use tq_base::{Catalogue, Form};
-use tq_exec::answer;
-use tq_exec::laws::held_rows_fit;
 use tq_event::laws::{loaded_is_history, tables_are_loaded};
 use tq_event::{Event, LoadFault, MAX_EVENTS, TableFile, Tables, load, load_tables};
+use tq_exec::answer;
+use tq_exec::laws::held_rows_fit;
 use tq_plan::{Plan, plan};
 use tq_sql::read;
 use tq_store::Db;

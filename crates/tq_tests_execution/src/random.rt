@@ -8,8 +8,8 @@ use crate::statements::{TEXTS, random_statement};
 use std::alloc::{AllocError, Global};
 use std::fmt::Write;
 use tq_base::{FOREVER, List};
-use tq_exec::answer;
 use tq_event::{FileBytes, TableFile};
+use tq_exec::answer;
 use tq_tests_script::Draws;
 
 // A row with a key, a text and a number.

@@ -8,13 +8,12 @@ ghost use Rattle.tq_plan.specs.ValidPlans.{IsPlanOver};
 use std::alloc::{AllocError, Global};
 use std::thread::Threads;
 use tq_base::Form;
-use tq_exec::answer_tables;
 use tq_event::Tables;
+use tq_exec::{answer_among, answer_tables, answer_with, text_by_ranges};
 use tq_plan::Plan;
 use tq_run::Gate;
 use tq_store::Db;
 use tq_table::table_text;
-use tq_exec::{answer_among, answer_with, text_by_ranges};
 
 /// Executed by one thread, over the tables.
 pub(crate) fn text_here(alloc: Global, tables: &Tables, plan: &Plan) -> Result<Vec<u8>, AllocError>
