@@ -39,7 +39,7 @@ Which function keeps each [promise](promises.md), by which clauses, on which def
 `gate/traceability.py --write` makes this page from promises.md and the sources; the full check compares the two.
 
 - **Clauses** are the names of the function's `ensures`. One without a name is written `ensures`.
-- **Definitions** are those in these clauses. Others are behind them: each file of `specs/` imports what it uses.
+- **Definitions** are those in these clauses. They use further ones: each file of `specs/` imports what it uses.
 - **Mutants** are edits of the function's body. Those in italics are in `wrong-bodies/`; the full check applies the others.
 """
 
