@@ -4,7 +4,7 @@
 //! `Tree::insert` and `Tree::delete` each have a version of their own, and the tree is read at every version up to the
 //! last one. The invariant of every tree is `IsTree` in `specs/TreeState.antt`; the law `trees_tile` states what it
 //! means for keys and versions. A change first reserves all nodes that it can need, and then cannot fail.
-//! `docs/tree.md` describes nodes, splits and links.
+//! `docs/design/tree.md` describes nodes, splits and links.
 //!
 //! Open `src/tree.rt` first, then `src/replace.rt`.
 #![tactic(auto)]

@@ -6,7 +6,7 @@
 //! number of workers and every schedule. `Claims` are proved with the crate `atomic_table`. What a piece does, this
 //! crate does not know.
 //!
-//! Open `src/pieces.rt` first, then `src/workers.rt`. `docs/threads.md` describes the steps.
+//! Open `src/pieces.rt` first, then `src/workers.rt`. `docs/design/threads.md` describes the steps.
 #![tactic(auto)]
 
 mod claiming;
