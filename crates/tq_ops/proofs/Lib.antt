@@ -5,6 +5,7 @@ pub mod Selecting
 pub mod Standing
 pub mod Sweeping
 pub mod Bags
+pub mod Branching
 pub mod Changing
 pub mod Following
 pub mod Grouping
@@ -12,6 +13,7 @@ pub mod Linking
 pub mod Meeting
 pub mod Pairing
 pub mod Products
+pub mod Implying
 pub mod Knowing
 pub mod Turns
 pub mod Widths

@@ -5,6 +5,8 @@ pub mod Joins
 pub mod KeyRanges
 pub mod Known
 pub mod EquiJoin
+pub mod Implied
+pub mod JoinBranches
 pub mod Ordinary
 pub mod Steps
 pub mod JoinOrders

@@ -32,7 +32,7 @@ impl Compare {
     }
 
     // The comparison that holds exactly if this one has the truth `wanted`.
-    fn agreeing(self, wanted: bool) -> Compare
+    pub(crate) fn agreeing(self, wanted: bool) -> Compare
         ensures { (order : Ordering) → accepts result order ≡ agrees (accepts self order) wanted }
     {
         if wanted { self } else { self.negated() }

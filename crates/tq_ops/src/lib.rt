@@ -11,6 +11,8 @@
 mod condition;
 mod difference;
 mod equi_join;
+mod implied;
+mod join_branches;
 mod join_chain;
 mod join_order;
 mod key_range;
@@ -23,6 +25,7 @@ mod selection;
 pub use condition::{Compare, Operand, Test};
 pub use difference::except_all;
 pub use equi_join::{EquiJoin, KeyPair, equi_join_keys};
+pub use implied::with_implied_equalities;
 pub use join_chain::{join_all, pushable};
 pub use join_order::{JoinOrder, order_joins};
 pub use merge_join::join;
