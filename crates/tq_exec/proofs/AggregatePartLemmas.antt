@@ -156,14 +156,14 @@ gathered_inside query window keys sums rows groups out keys_are sums_are grouped
     shown_inside places window (λ u. grouped_rows keys sums (at rows u)) groups out grouped is t v inside
     ∙ ap (λ l. occurrences l v) ((λ i. map (projection places) (grouped_rows (keys_are i) (sums_are i) (at rows t))) ∙ map-map (projection places) (group_row own behind_own) (groups_of_values query (at rows t)))
 
--- ---- shares by the first value
+-- ---- partitions by the first value
 
 -- the first of the keys is the first value
 key_first : (group : List ℕ) → no_group group ≡ false → list_any (λ key. key == 0) (range_with_len 0 (length group)) ≡ true
 key_first [] some = cc some
 key_first (first ∷ more) some = refl
 
--- of the rows of a share the groups are those that go there
+-- of the rows of a partition the groups are those that go there
 pub groups_part : PartitionsHaveGroups
 groups_part partition_of number query some rows =
     ap (map (items_of_values query)) (grouped_left partition_of (λ table. None) number 0 (range_with_len 0 (length query.group)) (key_first query.group some) rows)

@@ -1,7 +1,7 @@
 -- At an instant at which nothing starts or ends, what is valid is what was valid at the instant before.
-use Rattle.std.proofs.Common.{◌≡◌, ◌≢◌, ℕ, zero, suc, ◌+◌, ◌-◌, ◌<◌, ◌≤◌, ◌==◌, ◌&&◌, ◌||◌, Bool, true, false, cond, if◌then◌else◌, List, [], ◌∷◌, Option, Some, None, length, map, take, nat_lt, refl, sym, ap, ◌∙◌, arith}
+use Rattle.std.proofs.Common.{◌≡◌, ◌≢◌, ℕ, zero, suc, ◌+◌, ◌-◌, ◌<◌, ◌≤◌, ◌==◌, ◌&&◌, Bool, true, false, cond, if◌then◌else◌, List, [], ◌∷◌, Option, Some, None, map, take, nat_lt, refl, ap, ◌∙◌, arith}
 use Rattle.std.specs.Prelude.{All, Contains, filter, nat_le}
-use Rattle.std.specs.List.{AllZip, list_any}
+use Rattle.std.specs.List.{AllZip}
 use Rattle.std.proofs.lemmas.Bool.Decides.{nat_tests}
 use Rattle.std.proofs.lemmas.List.Elements.{All-nil, All-cons}
 use Rattle.tq_base.specs.declared.fragment.Fragment.{Fragment}
@@ -14,11 +14,10 @@ use Rattle.tq_base.specs.Periods.{holds}
 use Rattle.tq_event.specs.declared.event.Event.{Event}
 use Rattle.tq_event.specs.declared.event.Event.TheVariants.{Start, End}
 use Rattle.tq_event.specs.History.{Row, end_of, rows_from, time_of, valid_at}
-use Rattle.tq_table.specs.declared.table.Table.{Table}
 use Rattle.tq_plan.specs.declared.plans.Plan.{Plan}
 use Rattle.tq_plan.specs.declared.plans.QueryPlan.{QueryPlan}
 use Rattle.tq_plan.specs.Plans.{tables_of}
-use Rattle.tq_exec.specs.Answers.{as_of, times_at, times_in, times_in_right, IsPlanAnswer}
+use Rattle.tq_exec.specs.Answers.{as_of, times_at, times_in, times_in_right}
 use Rattle.tq_exec.specs.Bounds.{given_bounds, BoundsAreGiven, IsBoundedBy}
 use Rattle.tq_exec.specs.Ordinary.{ordinary}
 

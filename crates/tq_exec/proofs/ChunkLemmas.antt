@@ -1,4 +1,4 @@
--- Stretches of the rows of a table: what is told of them is told of the table.
+-- Chunks of the rows of a table: their partition ids are together those of the table.
 use Rattle.std.proofs.Common.{◌≡◌, ◌+◌, ◌/◌, ◌<◌, ◌++◌, ◌∷◌, ◌∙◌, ℕ, zero, suc, List, [], ap, append-nil, append_assoc, arith, get_or, length, map, sym, take}
 use Rattle.std.specs.Global.{Vec}
 use Rattle.std.proofs.lemmas.List.{take_all}
@@ -13,7 +13,7 @@ module _ (partition : Fragment → ℕ) (rows : List Fragment) where
   abbrev up_to : ℕ → List ℕ
   up_to chunk = map partition (take (chunk_start (length rows) chunk) rows)
 
-  -- stretches that follow one another
+  -- chunks that follow one another
   follow : (i : ℕ) (chunks : List (Vec ℕ)) → ((k : ℕ) (d : Vec ℕ) → k < length chunks → up_to (i + k) ++ (get_or chunks k d).items ≡ up_to (i + k + 1))
       → up_to i ++ bytes_of chunks ≡ up_to (i + length chunks)
   follow i [] each = let same : i ≡ i + 0 = omega arith in append-nil (up_to i) ∙ ap up_to same
@@ -30,11 +30,11 @@ module _ (partition : Fragment → ℕ) (rows : List Fragment) where
       ap (λ n. up_to n ++ (get_or chunks k d).items) (sym at) ∙ each (suc k) d (omega (arith, less)) ∙ ap (λ n. up_to (n + 1)) at)
       ∙ ap up_to end
 
--- all stretches of a table
-pub stretches_told : (cuts : List ℕ) (column : ℕ) (rows : List Fragment) (chunks : List (Vec ℕ))
+-- all chunks of a table
+pub chunks_are : (cuts : List ℕ) (column : ℕ) (rows : List Fragment) (chunks : List (Vec ℕ))
     → IsResultList (λ i ids. IsChunk cuts column rows i ids.items) (length rows / 65536 + 1) chunks
     → bytes_of chunks ≡ map (λ (row : Fragment). partition_of cuts (value_at row.values column)) rows
-stretches_told cuts column rows chunks are =
+chunks_are cuts column rows chunks are =
     let partition = λ (row : Fragment). partition_of cuts (value_at row.values column) in
     let whole : chunk_start (length rows) (0 + length chunks) ≡ length rows = omega (arith, are.0) in
     let none : 0 ≡ chunk_start (length rows) 0 = omega arith in

@@ -54,7 +54,7 @@ module _ (places : ℕ → Bool) (test : Test) where
 
 -- ---- columns
 
--- the columns of one more table are told
+-- the columns of one more table
 pub tables_more : (named : ℕ → ℕ → Bool) (lists : List (List Bool)) (wanted : List Bool) → ((table : ℕ) → AreNamed (named table) (wanted_of lists table)) → AreNamed (named (length lists)) wanted
     → (table : ℕ) → AreNamed (named table) (wanted_of (lists ++ wanted ∷ []) table)
 tables_more named [] wanted are is zero = is

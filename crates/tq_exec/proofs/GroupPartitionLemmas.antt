@@ -1,4 +1,4 @@
--- The rows of the groups of all shares are together those of the groups of all rows.
+-- The rows of the groups of all partitions are together those of the groups of all rows.
 use Rattle.std.proofs.Common.{◌≡◌, ◌<◌, ◌+◌, ◌==◌, ◌++◌, ◌∙◌, ℕ, suc, false, true, Bool, List, [], ◌∷◌, ap, arith, filter, get_or, length, map, refl, sum_by, take}
 use Rattle.std.specs.Prelude.{All, nat_le}
 use Rattle.std.specs.List.{range_with_len}
@@ -27,7 +27,7 @@ use Rattle.tq_exec.specs.Partitions.{partition_of}
 use Rattle.tq_exec.proofs.JoinPartitionLemmas.{all_counted, each_number}
 use Rattle.tq_exec.proofs.PartitionPartLemmas.{at_left, few_left}
 
--- ---- the rows of a share
+-- ---- the rows of a partition
 
 -- of one list more
 pub left_of_more : (p : Fragment → Bool) (lists : List RowList) (place : ℕ) (d : RowList) → place < length lists
@@ -37,7 +37,7 @@ left_of_more p lists place d within =
     ∙ ap (filter p) (all_and_next (take place lists) (get_or lists place d))
     ∙ filter-append p (all_rows (take place lists)) (get_or lists place d).items
 
--- ---- the rows that the shares make
+-- ---- the rows that the partitions make
 
 -- at no instant outside the window one is valid
 none_outside : (window : Period) (lists : List RowList) → ((i : ℕ) (e : RowList) → i < length lists → IsEmptyOutside window (get_or lists i e).items) → IsEmptyOutside window (all_rows lists)

@@ -28,4 +28,5 @@ pub mod PartitionPartLemmas
 pub mod ChunkLemmas
 pub mod PartitionRows
 pub mod AnswerPartLemmas
+pub mod KeyLemmas
 pub mod NeededLemmas

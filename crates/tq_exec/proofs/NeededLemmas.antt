@@ -1,20 +1,17 @@
 -- The rows that a plan needs are enough for its answer.
-use Rattle.std.proofs.Common.{◌≡◌, ◌<◌, ◌-◌, ℕ, zero, suc, Bool, true, false, if◌then◌else◌, List, [], ◌∷◌, Option, None, Some, ap, arith, get_or, inl, inr, length, refl, subst, sym}
+use Rattle.std.proofs.Common.{◌≡◌, ◌<◌, ◌≤◌, ◌-◌, ℕ, zero, suc, Bool, true, false, if◌then◌else◌, List, [], ◌∷◌, Option, None, Some, arith, get_or, inl, inr, length, refl, subst, sym}
 use Rattle.std.specs.Prelude.{All, IsSomeAnd, IsTrue, slice_get}
 use Rattle.std.proofs.lemmas.Bool.{cases_lt}
 use Rattle.std.proofs.lemmas.List.{get_or_default}
 use Rattle.tq_base.specs.declared.catalogue.Catalogue.{Catalogue}
 use Rattle.tq_base.specs.declared.catalogue.Schema.{Schema}
 use Rattle.tq_base.specs.declared.key_range.KeyRange.{KeyRange}
-use Rattle.tq_base.specs.Fragments.{at, occurrences}
 use Rattle.tq_base.specs.Periods.{holds}
 use Rattle.tq_base.specs.RowLists.{RowList}
-use Rattle.tq_event.specs.Recorded.{HasTable}
 use Rattle.tq_event.specs.Tables.{lists_of, rows_in}
 use Rattle.tq_plan.specs.declared.plans.Plan.{Plan}
 use Rattle.tq_plan.specs.declared.plans.QueryPlan.{QueryPlan}
 use Rattle.tq_plan.specs.declared.plans.QuerySource.{QuerySource}
-use Rattle.tq_plan.specs.KeyRanges.{HasKeysOf}
 use Rattle.tq_plan.specs.Plans.{tables_in, tables_of}
 use Rattle.tq_plan.specs.Scope.{is_numbered}
 use Rattle.tq_plan.specs.ValidPlans.{AreQueriesOver, HasColumns, IsQueryOver}
@@ -22,7 +19,7 @@ use Rattle.tq_agg.specs.Grouping.{Row}
 use Rattle.tq_exec.specs.Answers.{in_tables, lists_at, times_at, times_by, times_in, times_in_right, ValidRows}
 use Rattle.tq_exec.specs.Fitting.{AreAllFitting, AreFitting}
 use Rattle.tq_exec.specs.Ordinary.{ordinary}
-use Rattle.tq_exec.specs.Reads.{AreReadTables, AreSomeRowsIn, FitsTable, HasNeededRows, HasQueryKeys, IsReadTable}
+use Rattle.tq_exec.specs.Reads.{AreReadTables, AreSomeRowsIn, FitsTable, HasNeededRows, HasQueryKeys, HasSourceKeys, ranges_with}
 use Rattle.tq_exec.specs.Scan.{AreOfSources, AreRowsOf, SameCounts}
 use Rattle.tq_exec.proofs.NumberLemmas.{first_of, none_of, others_of}
 use Rattle.tq_exec.proofs.PartitionPartLemmas.{no_table, table_rows}
@@ -34,27 +31,21 @@ use Rattle.tq_exec.proofs.TableLemmas.{ordinary_same}
 
 -- the rows of the source's table are enough for the query
 record AreNeeded (query : QueryPlan) (valid other : ValidRows) (t : ℕ) (source : QuerySource) : Type 0 where
-  keys : Option KeyRange
-  has : HasKeysOf query source keys
-  rows : AreSomeRowsIn keys (valid source.table t) (other source.table t)
+  ranges : List KeyRange
+  has : HasSourceKeys query source ranges
+  rows : AreSomeRowsIn ranges (valid source.table t) (other source.table t)
 
 module _ (catalogue : Catalogue) (valid other : ValidRows) (query : QueryPlan) (t : ℕ) (fit : AreFitting catalogue valid) where
-  rows_of_source : (source : QuerySource) → HasColumns catalogue source → (keys : Option KeyRange) → HasKeysOf query source keys → AreSomeRowsIn keys (valid source.table t) (other source.table t)
-      → AreRowsOf query.test source (valid source.table t) (other source.table t)
-  rows_of_source source has None keys rows =
-      rows_needed catalogue query source None (valid source.table t) (other source.table t) has (fit source.table t) keys
-      (λ v some. absurd some)
-      (λ v. let none : occurrences (other source.table t) v ≡ 0 = ap (λ l. occurrences l v) rows in omega (arith, none))
-  rows_of_source source has (Some range) keys rows =
-      rows_needed catalogue query source (Some range) (valid source.table t) (other source.table t) has (fit source.table t) keys rows.same rows.at_most
+  rows_of_source : (source : QuerySource) → HasColumns catalogue source → AreNeeded query valid other t source → AreRowsOf query.test source (valid source.table t) (other source.table t)
+  rows_of_source source has needed =
+      rows_needed catalogue query source (λ key. 1 ≤ ranges_with needed.ranges key) (valid source.table t) (other source.table t) has (fit source.table t) needed.has needed.rows.same needed.rows.at_most
 
   rows_of_sources : (sources : List QuerySource) → All (HasColumns catalogue) sources → All (AreNeeded query valid other t) sources → AreOfSources query.test valid t sources (lists_at other t (tables_in sources))
   rows_of_sources [] has needed = tt
-  rows_of_sources (source ∷ sources) has needed =
-      let first = first_of (AreNeeded query valid other t) source sources needed in (
-        rows_of_source source (first_of (HasColumns catalogue) source sources has) first.keys first.has first.rows,
-        rows_of_sources sources (others_of (HasColumns catalogue) source sources has) (others_of (AreNeeded query valid other t) source sources needed),
-      )
+  rows_of_sources (source ∷ sources) has needed = (
+    rows_of_source source (first_of (HasColumns catalogue) source sources has) (first_of (AreNeeded query valid other t) source sources needed),
+    rows_of_sources sources (others_of (HasColumns catalogue) source sources has) (others_of (AreNeeded query valid other t) source sources needed),
+  )
 
   ordinary_needed : IsQueryOver catalogue query → All (AreNeeded query valid other t) query.sources → SameCounts (ordinary query (lists_at other t (tables_of query))) (ordinary query (lists_at valid t (tables_of query)))
   ordinary_needed over needed =
@@ -84,25 +75,25 @@ module _ (catalogue : Catalogue) (valid : ValidRows) (plan : Plan) (tables : Lis
   no_rows = record { width = 0; items = [] }
 
   sources_needed : (query : QueryPlan) (t : ℕ) → IsTrue (holds plan.window t) → IsQueryOver catalogue query
-      → ((table : ℕ) → (rows : HasNeededRows valid plan table (rows_in (lists_of tables) table)) → HasQueryKeys table rows.keys query)
+      → ((table : ℕ) → (rows : HasNeededRows valid plan table (rows_in (lists_of tables) table)) → HasQueryKeys table rows.ranges query)
       → All (AreNeeded query valid (in_tables (lists_of tables)) t) query.sources
   sources_needed query t inside over has k d less =
       let source : QuerySource = get_or query.sources k d in
       let rows = table_read source.table no_rows (there (λ (s : Schema). (source.width ≡ length s.columns) × (source.numbered ≡ is_numbered s.columns)) catalogue.tables source.table (over.columns k d less)) in
       record {
-        keys = rows.keys;
+        ranges = rows.ranges;
         has = has source.table rows k d less refl;
         rows = rows.same t inside;
       }
 
   times_needed : (query : QueryPlan) (v : Row) (t : ℕ) → IsTrue (holds plan.window t) → AreFitting catalogue valid → IsQueryOver catalogue query
-      → ((table : ℕ) → (rows : HasNeededRows valid plan table (rows_in (lists_of tables) table)) → HasQueryKeys table rows.keys query)
+      → ((table : ℕ) → (rows : HasNeededRows valid plan table (rows_in (lists_of tables) table)) → HasQueryKeys table rows.ranges query)
       → times_in (in_tables (lists_of tables)) query v t ≡ times_in valid query v t
   times_needed query v t inside fit over has =
       ordinary_needed catalogue valid (in_tables (lists_of tables)) query t fit over (sources_needed query t inside over has) v
 
   right_needed : (right : Option QueryPlan) (v : Row) (t : ℕ) → IsTrue (holds plan.window t) → AreFitting catalogue valid → ((query : QueryPlan) → right ≡ Some query → IsQueryOver catalogue query)
-      → ((query : QueryPlan) → right ≡ Some query → (table : ℕ) → (rows : HasNeededRows valid plan table (rows_in (lists_of tables) table)) → HasQueryKeys table rows.keys query)
+      → ((query : QueryPlan) → right ≡ Some query → (table : ℕ) → (rows : HasNeededRows valid plan table (rows_in (lists_of tables) table)) → HasQueryKeys table rows.ranges query)
       → times_in_right (in_tables (lists_of tables)) right v t ≡ times_in_right valid right v t
   right_needed None v t inside fit over has = refl
   right_needed (Some query) v t inside fit over has = times_needed query v t inside fit (over query refl) (has query refl)

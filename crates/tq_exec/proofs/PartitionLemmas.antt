@@ -1,4 +1,4 @@
--- Over a share of what is valid a query has the rows of its answer whose first value goes to the share.
+-- Over a partition of what is valid a query has the rows of its answer whose first value goes to the partition.
 use Rattle.std.proofs.Common.{◌≡◌, ℕ, suc, ◌+◌, ◌-◌, ◌*◌, ◌<◌, ◌==◌, Bool, true, false, not, cond, if◌then◌else◌, List, [], ◌∷◌, map, length, take, drop, Option, Some, None, refl, sym, ap, ◌∙◌, subst, arith}
 use Rattle.std.specs.Prelude.{All, filter}
 use Rattle.std.specs.List.{list_all, list_any}
@@ -123,7 +123,7 @@ key_column place (key ∷ keys) some = by (key == place) refl (λ later. key_col
         (suc j, at)
 
 module _ (partition_of : Value → ℕ) (columns : Columns) (number : ℕ) where
-  -- whether a row goes to the share by its value at the place
+  -- whether a row goes to the partition by its value at the place
   abbrev goes : ℕ → Row → Bool
   goes place row = partition_of (value_at row place) == number
 
@@ -155,7 +155,7 @@ module _ (partition_of : Value → ℕ) (columns : Columns) (number : ℕ) where
                   let there : goes place row ≡ goes (key_column place keys some).0 key = ap (λ (v : Value). partition_of v == number) (sym ((key_column place keys some).1 row)) ∙ ap (goes (key_column place keys some).0) is_key in
                   cc (there, other, is)
 
-  -- the groups of the rows that go to the share
+  -- the groups of the rows that go to the partition
   groups_left : (place : ℕ) (items : List Output) (group : List ℕ) → list_all (is_valid_item (list_any is_aggregate (Column place ∷ items)) group) (Column place ∷ items) ≡ true → (rows : List Row)
       → groups group (Column place ∷ items) (filter (goes place) rows) ≡ filter (λ one. goes place (first_row one)) (groups group (Column place ∷ items) rows)
   groups_left place items [] stand rows = by (list_any is_aggregate (Column place ∷ items)) refl
@@ -169,7 +169,7 @@ module _ (partition_of : Value → ℕ) (columns : Columns) (number : ℕ) where
       by true is = is
       by false is = cc (rw is at stand)
 
-  -- what a query makes of the rows that go to the share
+  -- what a query makes of the rows that go to the partition
   made_left : (query : QueryPlan) (place : ℕ) (items : List Output) → query.outputs ≡ Column place ∷ items → are_valid_items query ≡ true → (rows : List Row)
       → map (λ group. map (output_value group) query.outputs) (groups query.group query.outputs (filter (goes place) rows)) ≡ filter (goes 0) (map (λ group. map (output_value group) query.outputs) (groups query.group query.outputs rows))
   made_left query place items first stand rows =
@@ -202,8 +202,8 @@ module _ (partition_of : Value → ℕ) (columns : Columns) (number : ℕ) where
     abbrev Wide : ℕ → QuerySource → Type 0
     Wide t source = AreWide source.width (valid source.table t)
 
-    share_wide : (t : ℕ) (source : QuerySource) → Wide t source → AreWide source.width (partition source.table t)
-    share_wide t source wide = All-filter (goes_to partition_of number (columns source.table)) (λ (row : Row). length row ≡ source.width) (valid source.table t) wide
+    partition_wide : (t : ℕ) (source : QuerySource) → Wide t source → AreWide source.width (partition source.table t)
+    partition_wide t source wide = All-filter (goes_to partition_of number (columns source.table)) (λ (row : Row). length row ≡ source.width) (valid source.table t) wide
 
     module _ (test : Option Test) (t place : ℕ) (row : Row) (passes : admits test row ≡ true) where
       abbrev Has : QuerySource → Type 0
@@ -224,7 +224,7 @@ module _ (partition_of : Value → ℕ) (columns : Columns) (number : ℕ) where
           let rest : occurrences (product_of (lists_at partition t (tables_in sources))) (drop source.width part) ≡ occurrences (product_of (lists_at valid t (tables_in sources))) (drop source.width part) =
           subst (λ r. occurrences (product_of (lists_at partition t (tables_in sources))) r ≡ occurrences (product_of (lists_at valid t (tables_in sources))) r) (sym (drop-drop source.width begin row))
           (same_in there (begin + source.width) sources stand.1 (others_of (Wide t) source sources wide) (others_of Has source sources has)) in
-          counted_first source.width (partition source.table t) (lists_at partition t (tables_in sources)) part (share_wide t source own)
+          counted_first source.width (partition source.table t) (lists_at partition t (tables_in sources)) part (partition_wide t source own)
           ∙ (λ i. first i * rest i)
           ∙ sym (counted_first source.width (valid source.table t) (lists_at valid t (tables_in sources)) part own)
 
@@ -242,7 +242,7 @@ module _ (partition_of : Value → ℕ) (columns : Columns) (number : ℕ) where
           rest = lists_at partition t (tables_in sources)
 
           counted : occurrences (product_of (lists_at partition t (tables_in (source ∷ sources)))) part ≡ occurrences (partition source.table t) (take source.width part) * occurrences (product_of rest) (drop source.width part)
-          counted = counted_first source.width (partition source.table t) rest part (share_wide t source (first_of (Wide t) source sources wide))
+          counted = counted_first source.width (partition source.table t) rest part (partition_wide t source (first_of (Wide t) source sources wide))
 
           by : (b : Bool) → is_partitioned (columns source.table) ≡ b
               → (list_any (λ (source : QuerySource). is_partitioned (columns source.table)) sources ≡ true → occurrences (product_of rest) (drop (begin + source.width) row) ≡ 0)
@@ -317,9 +317,9 @@ module _ (partition_of : Value → ℕ) (columns : Columns) (number : ℕ) where
         by false = refl
     right_left (Some query) catalogue fit over partitioned v t = times_left query catalogue fit (over query refl) (partitioned query refl) v t
 
--- over a share a plan has the rows of its answer that go there
-pub shares_part : PartitionsHaveAnswers
-shares_part partition_of columns number catalogue valid plan fit over partitioned v t =
+-- over a partition a plan has the rows of its answer that go there
+pub partitions_answer : PartitionsHaveAnswers
+partitions_answer partition_of columns number catalogue valid plan fit over partitioned v t =
     let left = times_left partition_of columns number valid plan.left catalogue fit over.0 partitioned.0 v t in
     let right = right_left partition_of columns number valid plan.right catalogue fit over.1 partitioned.1 v t in
     (λ i. if holds plan.window t then left i - right i else 0) ∙ by (holds plan.window t) (partition_of (value_at v 0) == number)
@@ -330,7 +330,7 @@ shares_part partition_of columns number catalogue valid plan fit over partitione
     by false true = refl
     by false false = refl
 
--- over a share those rows pass whose value goes there
+-- over a partition those rows pass whose value goes there
 pub rows_part : PartitionsHaveRows
 rows_part partition_of columns number catalogue valid query fit over linked v t =
     passing_in partition_of columns number valid query t linked.place over.sources (valid_wide catalogue valid query.sources fit over.columns t) linked.each linked.some v

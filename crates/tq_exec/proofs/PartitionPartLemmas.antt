@@ -1,4 +1,4 @@
--- Shares of the rows of tables: each value goes to one of them, and the texts of the answers over them are that of the answer.
+-- Partitions of the rows of tables: each value goes to one of them, and the texts of the answers over them are that of the answer.
 use Rattle.std.proofs.Common.{◌≡◌, ◌<◌, ◌≤◌, ◌+◌, ◌-◌, ◌==◌, ℕ, zero, suc, true, false, Bool, cond, List, [], ◌∷◌, ◌∙◌, ap, arith, get_or, length, map, filter, drop, None, Some, Option, refl, subst, sum_by, sym}
 use Rattle.std.specs.Prelude.{All, nat_le}
 use Rattle.std.specs.Global.{Vec}
@@ -34,7 +34,7 @@ use Rattle.tq_exec.specs.Partitions.{ArePartitionIds, IsPartitionPart, IsPartiti
 use Rattle.tq_exec.proofs.AnswerPartLemmas.{parts_answer}
 use Rattle.tq_exec.proofs.RangeLemmas.{counted_once}
 
--- a value goes to one of the shares
+-- a value goes to one of the partitions
 pub few_left : (p : ℕ → Bool) (cuts : List ℕ) → length (filter p cuts) < length cuts + 1
 few_left p [] = omega arith
 few_left p (cut ∷ cuts) = by (p cut) (few_left p cuts)
@@ -58,7 +58,7 @@ have_answer law wanted catalogue valid plan cuts columns partitions fit over par
     ∙ ap (λ (f : ℕ → ℕ). sum_by f (range_with_len 0 count)) (λ k i. law (partition_of cuts) (columns_in columns) i catalogue valid plan fit over partitioned v t k)
     ∙ counted_once (partition_of cuts (value_at v 0)) (times_at valid plan v t) 0 count (omega arith) (omega (arith, few_left (λ cut. nat_le cut (normalized_key (value_at v 0))) cuts)))
 
--- ---- the rows of a share
+-- ---- the rows of a partition
 
 -- what is valid of the rows that are left
 pub at_left : (p : List Value → Bool) (rows : List Fragment) (t : ℕ) → at (filter (λ (row : Fragment). p row.values) rows) t ≡ filter p (at rows t)
@@ -87,31 +87,31 @@ no_table [] table past = refl
 no_table (first ∷ tables) zero past = absurd (omega (arith, past))
 no_table (first ∷ tables) (suc table) past = no_table tables table (omega (arith, past))
 
--- what is told of the rows of a table that is parted
+-- what is told of the rows of a table that is partitioned
 pub ids_are : (cuts : List ℕ) (columns : List (Option ℕ)) (tables : List RowList) (ids : List (Vec ℕ)) (table column : ℕ) (rows : RowList) (d : Vec ℕ) → ArePartitionIds cuts columns (lists_of tables) ids → columns_in columns table ≡ Some column
     → table < length tables → ((e : RowList) → rows ≡ get_or tables table e) → (get_or ids table d).items ≡ map (λ (row : Fragment). partition_of cuts (value_at row.values column)) rows.items
 ids_are cuts columns tables ids table column rows d are some within is =
     subst (λ c. IsPartitionIds cuts c (rows_in (lists_of tables) table) (get_or ids table d).items) some (are.each table d (omega (arith, within, length-map tables (λ (r : RowList). r.items))))
     ∙ ap (map (λ (row : Fragment). partition_of cuts (value_at row.values column))) (table_rows tables table rows within is)
 
--- rows that are not parted go to each share
+-- rows that are not partitioned go to each partition
 pub whole_held : (partition : Value → ℕ) (number : ℕ) (columns : List (Option ℕ)) (valid : ValidRows) (table : ℕ) (window : Period) (keys : KeyRange) (rows : List Fragment) → columns_in columns table ≡ None
     → HasRowsIn window keys (valid table) rows → HasRowsIn window keys (in_partition partition (columns_in columns) number valid table) rows
 whole_held partition number columns valid table window keys rows none has =
     λ t inside. subst (λ l. AreRowsIn keys l (at rows t)) (sym (ap (λ c. filter (goes_to partition number c) (valid table t)) none ∙ all_left (valid table t))) (has t inside)
 
--- rows that are parted
-pub share_held : (cuts : List ℕ) (number column : ℕ) (columns : List (Option ℕ)) (tables : List (List Fragment)) (table : ℕ) (window : Period) (keys : KeyRange) (rows : List Fragment) → columns_in columns table ≡ Some column
+-- rows that are partitioned
+pub partition_held : (cuts : List ℕ) (number column : ℕ) (columns : List (Option ℕ)) (tables : List (List Fragment)) (table : ℕ) (window : Period) (keys : KeyRange) (rows : List Fragment) → columns_in columns table ≡ Some column
     → rows ≡ filter (λ (row : Fragment). partition_of cuts (value_at row.values column) == number) (rows_in tables table)
     → HasRowsIn window keys (in_partition (partition_of cuts) (columns_in columns) number (in_tables tables) table) rows
-share_held cuts number column columns tables table window keys rows some is =
+partition_held cuts number column columns tables table window keys rows some is =
     λ t inside.
     whole_table keys (in_partition (partition_of cuts) (columns_in columns) number (in_tables tables) table t) (at rows t)
     (ap (λ l. at l t) is
     ∙ at_left (λ values. partition_of cuts (value_at values column) == number) (rows_in tables table) t
     ∙ ap (λ c. filter (goes_to (partition_of cuts) number c) (at (rows_in tables table) t)) (sym some))
 
--- ---- the rows at the places at which the number of a share is told
+-- ---- the rows at the places at which the number of a partition is told
 
 -- an item that is put in front, or left out
 first_or_none : {X Y : Type 0} (f : X → Y) (b : Bool) (x : X) (xs : List X) (ys : List Y) → map f xs ≡ ys → map f (cond b (x ∷ xs) xs) ≡ cond b (f x ∷ ys) ys

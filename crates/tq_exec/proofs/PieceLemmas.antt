@@ -4,7 +4,6 @@ use Rattle.std.specs.Prelude.{◌&&◌, nat_le, nat_lt, All}
 use Rattle.std.proofs.lemmas.Bool.Decides.{nat_tests}
 use Rattle.std.proofs.lemmas.List.Elements.{All-nil, All-cons}
 use Rattle.tq_base.specs.Copies.{copies-append}
-use Rattle.tq_base.specs.declared.fragment.Fragment.{Fragment}
 use Rattle.tq_base.specs.declared.period.Period.{Period}
 use Rattle.tq_base.specs.Fragments.{copies}
 use Rattle.tq_base.specs.RowLists.{RowList}

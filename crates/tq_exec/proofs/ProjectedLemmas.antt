@@ -26,7 +26,7 @@ use Rattle.tq_exec.proofs.NumberLemmas.{zero_fits}
 use Rattle.tq_exec.specs.Answers.{in_tables, times_at, ValidRows}
 use Rattle.tq_exec.specs.Required.{AllColumnsSuffice, ProjectedRowsFit, ProjectedTablesAnswer, ProjectedTablesFit, ProjectedTablesHold, RequiredColumnsSuffice, Serve, projected_in}
 
--- ---- nothing is told
+-- ---- no list of wanted columns
 
 all_values : (row : Row) → projected_values [] row ≡ row
 unfolding projected_values

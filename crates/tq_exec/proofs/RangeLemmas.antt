@@ -1,10 +1,10 @@
--- Rows parted into ranges of values: together the ranges have each row once, and their texts are that of all.
-use Rattle.std.proofs.Common.{◌≡◌, ◌+◌, ◌<◌, ◌≤◌, ◌++◌, ◌∷◌, ◌∙◌, ℕ, zero, suc, Bool, true, false, cond, List, [], ap, arith, filter, get_or, inl, inr, length, map, refl, rules, sum_by, sym}
+-- Rows partitioned into ranges of values: together the ranges have each row once, and their texts are that of all.
+use Rattle.std.proofs.Common.{◌≡◌, ◌+◌, ◌<◌, ◌≤◌, ◌++◌, ◌∷◌, ◌∙◌, ℕ, zero, suc, Bool, true, false, cond, List, [], ap, arith, filter, inl, inr, length, map, refl, rules, sum_by, sym}
 use Rattle.std.specs.List.{range_with_len}
 use Rattle.std.specs.Prelude.{◌==◌, All}
 use Rattle.std.proofs.lemmas.Bool.{cases_lt}
 use Rattle.std.proofs.lemmas.Bool.Decides.{nat_tests}
-use Rattle.std.proofs.lemmas.List.{get_or-map, get_or_default, length-map, map-id, same_lists}
+use Rattle.std.proofs.lemmas.List.{get_or_default, map-id, same_lists}
 use Rattle.std.proofs.lemmas.List.FromFn.{filter_of_map_range_with_len_more, get_or-map-range_with_len, get_or-range_with_len, length-map-range_with_len, length-range_with_len}
 use Rattle.std.proofs.lemmas.List.Elements.{All-filter}
 use Rattle.std.proofs.lemmas.List.Sums.{sum_by-cons}

@@ -1,9 +1,12 @@
 -- The rows of tables that are read in pieces.
-use Rattle.std.proofs.Common.{◌≡◌, ℕ, zero, suc, ◌+◌, ◌<◌, ◌≤◌, Bool, true, false, cond, List, [], ◌∷◌, ◌++◌, drop, get_or, length, map, take, Option, None, Some, refl, sym, ap, ◌∙◌, arith, subst}
-use Rattle.std.specs.Prelude.{◌≤ℤ◌, All, Contains, IsTrue}
+use Rattle.std.proofs.Common.{◌≡◌, ℕ, zero, suc, ◌+◌, ◌*◌, ◌<◌, ◌≤◌, ◌⊎◌, Bool, true, false, cond, List, [], ◌∷◌, ◌++◌, append-nil, append_assoc, drop, get_or, inl, inr, length, take, refl, sym, ap, ◌∙◌, arith, subst}
+use Rattle.std.specs.Prelude.{◌&&◌, All, Contains, IsTrue, T, int_le}
+use Rattle.std.specs.Int.Signed.{le_z_yes}
+use Rattle.std.proofs.Math.Nat.{add-mul}
 use Rattle.std.specs.Ordering.{eq_by_cmp}
 use Rattle.std.proofs.lemmas.Bool.Decides.{nat_tests}
-use Rattle.std.proofs.lemmas.List.{get_or-map, get_or_default, length-map}
+use Rattle.std.proofs.lemmas.Grind.{flat_map-append}
+use Rattle.std.proofs.lemmas.List.{get_or-map, get_or_default, length-map, take-append-drop}
 use Rattle.std.proofs.lemmas.List.Concat.{flat_map-cons}
 use Rattle.std.proofs.lemmas.List.Elements.{All-append, All-cons, All-head, All-map, All-nil, All-tail}
 use Rattle.std.proofs.lemmas.List.Sums.{sum_by-cons}
@@ -11,7 +14,7 @@ use Rattle.tq_base.specs.declared.catalogue.Catalogue.{Catalogue}
 use Rattle.tq_base.specs.declared.fragment.Fragment.{Fragment}
 use Rattle.tq_base.specs.declared.key_range.KeyRange.{KeyRange}
 use Rattle.tq_base.specs.declared.period.Period.{Period}
-use Rattle.tq_base.specs.Copies.{copies-sum_by, tally}
+use Rattle.tq_base.specs.Copies.{copies-append, copies-sum_by, tally}
 use Rattle.tq_base.specs.Fragments.{at, copies, occurrences}
 use Rattle.tq_base.specs.KeyRanges.{key_of}
 use Rattle.tq_base.specs.Periods.{holds}
@@ -22,17 +25,16 @@ use Rattle.tq_event.specs.History.{IsHistory, Row as AnyRow, rows_of, valid_at}
 use Rattle.tq_event.specs.Recorded.{HasTable}
 use Rattle.tq_scan.specs.declared.window.Part.{Part}
 use Rattle.tq_store.specs.Rows.{whole_window, within_window}
-use Rattle.tq_store.specs.Laws.{PartsAreValid}
+use Rattle.tq_store.specs.Laws.{PartsAreValid, TileWindow}
 use Rattle.tq_store.specs.Valid.{ArePart, AreParts, AreValidIn, HasKeyIn, RowAtInstant, fragment_at, row_at, width_of}
 use Rattle.tq_plan.specs.declared.plans.Plan.{Plan}
 use Rattle.tq_agg.specs.Grouping.{Row}
 use Rattle.tq_table.specs.Merging.{all_rows, AreOfWidth}
 use Rattle.tq_exec.specs.Answers.{as_of}
-use Rattle.tq_exec.specs.Scan.{AreRowsIn}
 use Rattle.tq_exec.specs.declared.key_ranges.TableKeys.{TableKeys}
 use Rattle.tq_exec.specs.declared.read_pieces.ReadPiece.{ReadPiece}
-use Rattle.tq_exec.specs.declared.read_pieces.TableParts.{TableParts}
-use Rattle.tq_exec.specs.Reads.{AreCut, AreRead, FitsTable, HasPlanKeys, IsPieceIn, IsRead, IsReadTable, all_pieces, pieces_for, table_pieces}
+use Rattle.tq_exec.specs.declared.read_pieces.TablePieces.{TablePieces}
+use Rattle.tq_exec.specs.Reads.{AreApart, AreCut, AreRead, AreSomeRowsIn, FitsTable, IsCut, IsPieceIn, IsRead, IsReadTable, all_pieces, is_key_in, pieces_for, ranges_with}
 use Rattle.tq_exec.proofs.HeldRows.{rows_of_fit}
 
 -- ---- rows of other keys have no copies
@@ -54,16 +56,32 @@ has_key keys v (row ∷ rows) t all some = by_first (has_key keys v rows t (All-
 
 -- ---- rows of a range of keys
 
-module _ (history : List Event) (n table : ℕ) (window : Period) (keys : KeyRange) (rows : List Fragment) (valid : AreValidIn history n table keys window rows) (all : All (λ (row : Fragment). HasKeyIn keys row.values) rows) where
-  pub rows_in_range : (t : ℕ) → IsTrue (holds window t) → AreRowsIn keys (valid_at history n table t) (at rows t)
-  rows_in_range t inside = record { same = same; at_most = λ v. by_count v (copies rows v t) refl }
-    where
-      same : (v : Row) → (keys.low ≤ℤ key_of v) × (key_of v ≤ℤ keys.high) → copies rows v t ≡ occurrences (valid_at history n table t) v
-      same v has = valid t v (record { low = has.0; high = has.1 }) inside
+-- the key of a row is in the range, or it is not
+key_cases : (v : Row) (keys : KeyRange) → (HasKeyIn keys v × (is_key_in (key_of v) keys ≡ 1)) ⊎ ((HasKeyIn keys v → ⊥) × (is_key_in (key_of v) keys ≡ 0))
+key_cases v keys = by (int_le keys.low (key_of v)) (int_le (key_of v) keys.high) refl refl
+  where
+    by : (a b : Bool) → int_le keys.low (key_of v) ≡ a → int_le (key_of v) keys.high ≡ b → (HasKeyIn keys v × (is_key_in (key_of v) keys ≡ 1)) ⊎ ((HasKeyIn keys v → ⊥) × (is_key_in (key_of v) keys ≡ 0))
+    by true true low high = inl (record { low = le_z_yes (subst (λ b. T b) (sym low) tt); high = le_z_yes (subst (λ b. T b) (sym high) tt) }, λ i. cond (low i && high i) 1 0)
+    by true false low high = inr (λ has. absurd (subst (λ b. T b) high has.high.le), λ i. cond (low i && high i) 1 0)
+    by false b low high = inr (λ has. absurd (subst (λ b. T b) low has.low.le), λ i. cond (low i && int_le (key_of v) keys.high) 1 0)
 
-      by_count : (v : Row) (k : ℕ) → copies rows v t ≡ k → copies rows v t ≤ occurrences (valid_at history n table t) v
-      by_count v zero e = omega (arith, e)
-      by_count v (suc k) e = omega (arith, valid t v (has_key keys v rows t all (omega (arith, e))) inside)
+no_times : (n : ℕ) → 0 ≡ 0 * n
+no_times n = omega arith
+
+module _ (history : List Event) (n table : ℕ) (window : Period) (keys : KeyRange) (rows : List Fragment) (valid : AreValidIn history n table keys window rows) (all : All (λ (row : Fragment). HasKeyIn keys row.values) rows) where
+  -- a row with a key of the range is valid as often, and no other one is
+  rows_in_range : (t : ℕ) → IsTrue (holds window t) → (v : Row) → copies rows v t ≡ is_key_in (key_of v) keys * occurrences (valid_at history n table t) v
+  rows_in_range t inside v = elim (key_cases v keys) [
+    | inl has ↦ valid t v has.0 inside ∙ sym (once (occurrences (valid_at history n table t) v)) ∙ ap (λ k. k * occurrences (valid_at history n table t) v) (sym has.1)
+    | inr lacks ↦ by_count (copies rows v t) refl lacks.0 ∙ no_times (occurrences (valid_at history n table t) v) ∙ ap (λ k. k * occurrences (valid_at history n table t) v) (sym lacks.1)
+  ]
+    where
+      once : (k : ℕ) → 1 * k ≡ k
+      once k = omega arith
+
+      by_count : (k : ℕ) → copies rows v t ≡ k → (HasKeyIn keys v → ⊥) → copies rows v t ≡ 0
+      by_count zero e lacks = e
+      by_count (suc k) e lacks = absurd (lacks (has_key keys v rows t all (omega (arith, e))))
 
 -- ---- rows of parts fit their table
 
@@ -126,18 +144,15 @@ module _ (c : Catalogue) (es : List Event) (n : ℕ) (window : Period) where
   read_rest (piece ∷ first) rest [] read = absurd read
   read_rest (piece ∷ first) rest (rows ∷ lists) read = read_rest first rest lists read.1
 
-  -- those of the pieces of one table
+  -- those of the parts of one range
   module _ (table_keys : TableKeys) where
-    abbrev piece_of : Part → ReadPiece
-    piece_of part = record { table_keys = table_keys; part = part }
-
-    pub parts_read : (parts : List Part) (lists : List RowList) → AreRead c es n window (map piece_of parts) lists → AreParts es n table_keys.table table_keys.keys window parts lists
+    pub parts_read : (parts : List Part) (lists : List RowList) → AreRead c es n window (pieces_for table_keys parts) lists → AreParts es n table_keys.table table_keys.keys window parts lists
     parts_read [] [] read = tt
     parts_read [] (rows ∷ lists) read = absurd read
     parts_read (part ∷ parts) [] read = absurd read
     parts_read (part ∷ parts) (rows ∷ lists) read = (read.0.part, parts_read parts lists read.1)
 
-    pub parts_wide : (parts : List Part) (lists : List RowList) → AreRead c es n window (map piece_of parts) lists → All (AreOfWidth (width_of c table_keys.table)) lists
+    pub parts_wide : (parts : List Part) (lists : List RowList) → AreRead c es n window (pieces_for table_keys parts) lists → All (AreOfWidth (width_of c table_keys.table)) lists
     parts_wide [] [] read = All-nil (AreOfWidth (width_of c table_keys.table))
     parts_wide [] (rows ∷ lists) read = absurd read
     parts_wide (part ∷ parts) [] read = absurd read
@@ -155,59 +170,71 @@ module _ (c : Catalogue) (es : List Event) (n : ℕ) (window : Period) where
 
   -- ---- pieces of tables that are cut
 
-  pieces_of_table_in : (table : ℕ) (keys : Option KeyRange) (parts : List Part) → AreCut es n window keys parts → All (IsPieceIn es n window) (pieces_for table keys parts)
-  pieces_of_table_in table None parts cut = All-nil (IsPieceIn es n window)
-  pieces_of_table_in table (Some keys) parts cut =
-      All-map (IsPieceIn es n window) (λ (part : Part). record { table_keys = record { table = table; keys = keys }; part = part }) parts
-      (λ k d less. within_window cut.window (whole_window es n keys window) (get_or parts k d) cut.whole (cut.tiles.inside k d less))
+  pieces_of_range_in : (table_keys : TableKeys) (parts : List Part) → TileWindow es n table_keys.keys window parts → All (IsPieceIn es n window) (pieces_for table_keys parts)
+  pieces_of_range_in table_keys parts tile =
+      All-map (IsPieceIn es n window) (λ (part : Part). record { table_keys = table_keys; part = part }) parts
+      (λ k d less. within_window tile.window (whole_window es n table_keys.keys window) (get_or parts k d) tile.whole (tile.tiles.inside k d less))
 
-  abbrev Cut : TableParts → Type 0
-  Cut table = AreCut es n window table.keys table.parts.items
+  pub pieces_of_table_in : (table : ℕ) (ranges : List KeyRange) (pieces : List ReadPiece) → AreCut es n window table ranges pieces → All (IsPieceIn es n window) pieces
+  pieces_of_table_in table [] pieces cut = subst (All (IsPieceIn es n window)) (sym cut) (All-nil (IsPieceIn es n window))
+  pieces_of_table_in table (keys ∷ ranges) pieces cut =
+      let table_keys : TableKeys = record { table = table; keys = keys } in
+      let first = cut.0 in
+      subst (All (IsPieceIn es n window)) (sym first.are)
+      (All-append (IsPieceIn es n window) (pieces_for table_keys first.parts) first.rest (pieces_of_range_in table_keys first.parts first.tile) (pieces_of_table_in table ranges first.rest cut.1))
 
-  pub pieces_in : (tables : List TableParts) → All Cut tables → All (IsPieceIn es n window) (all_pieces tables)
-  pieces_in [] cut = All-nil (IsPieceIn es n window)
-  pieces_in (table ∷ tables) cut =
-      subst (All (IsPieceIn es n window)) (sym (flat_map-cons table_pieces table tables))
-      (All-append (IsPieceIn es n window) (table_pieces table) (all_pieces tables)
-      (pieces_of_table_in table.table table.keys table.parts.items (All-head Cut table tables cut))
-      (pieces_in tables (All-tail Cut table tables cut)))
+  -- the pieces of some ranges, and those of one more
+  pub cut_more : (table : ℕ) (ranges : List KeyRange) (keys : KeyRange) (pieces : List ReadPiece) (parts : List Part) → AreCut es n window table ranges pieces → TileWindow es n keys window parts
+      → AreCut es n window table (ranges ++ keys ∷ []) (pieces ++ pieces_for (record { table = table; keys = keys }) parts)
+  cut_more table [] keys pieces parts cut tile =
+      let mine : List ReadPiece = pieces_for (record { table = table; keys = keys }) parts in
+      (record { parts = parts; tile = tile; rest = []; are = ap (λ l. l ++ mine) cut ∙ sym (append-nil mine) }, refl)
+  cut_more table (first ∷ ranges) keys pieces parts cut tile =
+      let mine : List ReadPiece = pieces_for (record { table = table; keys = keys }) parts in
+      let one = cut.0 in (
+        record {
+          parts = one.parts;
+          tile = one.tile;
+          rest = one.rest ++ mine;
+          are = ap (λ l. l ++ mine) one.are ∙ append_assoc (pieces_for (record { table = table; keys = first }) one.parts) one.rest mine;
+        },
+        cut_more table ranges keys one.rest parts cut.1 tile,
+      )
 
-  pub piece_count : (table : ℕ) (keys : Option KeyRange) (parts : List Part) → AreCut es n window keys parts → length (pieces_for table keys parts) ≡ length parts
-  piece_count table None parts cut = sym (ap length cut)
-  piece_count table (Some keys) parts cut = length-map parts (λ (part : Part). record { table_keys = record { table = table; keys = keys }; part = part })
+  abbrev ArePiecesIn : TablePieces → Type 0
+  ArePiecesIn table = All (IsPieceIn es n window) table.pieces.items
+
+  pub pieces_in : (tables : List TablePieces) → All ArePiecesIn tables → All (IsPieceIn es n window) (all_pieces tables)
+  pieces_in [] inside = All-nil (IsPieceIn es n window)
+  pieces_in (table ∷ tables) inside =
+      subst (All (IsPieceIn es n window)) (sym (flat_map-cons (λ (t : TablePieces). t.pieces.items) table tables))
+      (All-append (IsPieceIn es n window) table.pieces.items (all_pieces tables) (All-head ArePiecesIn table tables inside) (pieces_in tables (All-tail ArePiecesIn table tables inside)))
 
 -- the pieces from a table on
-pieces_from : (tables : List TableParts) (i : ℕ) (d : TableParts) → i < length tables → all_pieces (drop i tables) ≡ table_pieces (get_or tables i d) ++ all_pieces (drop (suc i) tables)
+pieces_from : (tables : List TablePieces) (i : ℕ) (d : TablePieces) → i < length tables → all_pieces (drop i tables) ≡ (get_or tables i d).pieces.items ++ all_pieces (drop (suc i) tables)
 pieces_from [] i d less = absurd (omega (arith, less))
-pieces_from (table ∷ tables) zero d less = flat_map-cons table_pieces table tables
+pieces_from (table ∷ tables) zero d less = flat_map-cons (λ (t : TablePieces). t.pieces.items) table tables
 pieces_from (table ∷ tables) (suc i) d less = pieces_from tables i d (omega (arith, less))
 
 -- the lists of one table, if those of the tables from it on are left
-module _ (c : Catalogue) (es : List Event) (n : ℕ) (window : Period) (tables : List TableParts) (i : ℕ) (d : TableParts) (less : i < length tables) (cut : AreCut es n window (get_or tables i d).keys (get_or tables i d).parts.items)
+module _ (c : Catalogue) (es : List Event) (n : ℕ) (window : Period) (tables : List TablePieces) (i : ℕ) (d : TablePieces) (less : i < length tables)
     (lists : List RowList) (read : AreRead c es n window (all_pieces (drop i tables)) lists) where
-  pieces : length (table_pieces (get_or tables i d)) ≡ length (get_or tables i d).parts.items
-  pieces = piece_count c es n window (get_or tables i d).table (get_or tables i d).keys (get_or tables i d).parts.items cut
+  abbrev own : List ReadPiece
+  own = (get_or tables i d).pieces.items
 
-  here : AreRead c es n window (table_pieces (get_or tables i d) ++ all_pieces (drop (i + 1) tables)) lists
+  here : AreRead c es n window (own ++ all_pieces (drop (i + 1) tables)) lists
   here =
       let next : suc i ≡ i + 1 = omega arith in
-      subst (λ ps. AreRead c es n window ps lists) (pieces_from tables i d less ∙ ap (λ k. table_pieces (get_or tables i d) ++ all_pieces (drop k tables)) next) read
+      subst (λ ps. AreRead c es n window ps lists) (pieces_from tables i d less ∙ ap (λ k. own ++ all_pieces (drop k tables)) next) read
 
-  pub lists_long : length (get_or tables i d).parts.items ≤ length lists
-  lists_long =
-      let long = read_long c es n window (table_pieces (get_or tables i d)) (all_pieces (drop (i + 1) tables)) lists here in
-      let many = pieces in
-      omega (arith, long, many)
+  pub lists_long : length (get_or tables i d).pieces.items ≤ length lists
+  lists_long = read_long c es n window own (all_pieces (drop (i + 1) tables)) lists here
 
-  pub table_read : AreRead c es n window (table_pieces (get_or tables i d)) (take (length (get_or tables i d).parts.items) lists)
-  table_read =
-      subst (λ k. AreRead c es n window (table_pieces (get_or tables i d)) (take k lists)) pieces
-      (read_first c es n window (table_pieces (get_or tables i d)) (all_pieces (drop (i + 1) tables)) lists here)
+  pub table_read : AreRead c es n window (get_or tables i d).pieces.items (take (length (get_or tables i d).pieces.items) lists)
+  table_read = read_first c es n window own (all_pieces (drop (i + 1) tables)) lists here
 
-  pub later_read : AreRead c es n window (all_pieces (drop (i + 1) tables)) (drop (length (get_or tables i d).parts.items) lists)
-  later_read =
-      subst (λ k. AreRead c es n window (all_pieces (drop (i + 1) tables)) (drop k lists)) pieces
-      (read_rest c es n window (table_pieces (get_or tables i d)) (all_pieces (drop (i + 1) tables)) lists here)
+  pub later_read : AreRead c es n window (all_pieces (drop (i + 1) tables)) (drop (length (get_or tables i d).pieces.items) lists)
+  later_read = read_rest c es n window own (all_pieces (drop (i + 1) tables)) lists here
 
 -- ---- the rows of a table
 
@@ -216,34 +243,104 @@ none_read : (c : Catalogue) (es : List Event) (n : ℕ) (window : Period) (lists
 none_read c es n window [] read = refl
 none_read c es n window (rows ∷ lists) read = absurd read
 
+-- the lists of some pieces, and the others
+all_rows_split : (k : ℕ) (lists : List RowList) → all_rows lists ≡ all_rows (take k lists) ++ all_rows (drop k lists)
+all_rows_split k lists = ap all_rows (sym (take-append-drop k lists)) ∙ flat_map-append (λ (rows : RowList). rows.items) (take k lists) (drop k lists)
+
+module _ (c : Catalogue) (es : List Event) (n : ℕ) (window : Period) (table : ℕ) (history : IsHistory c es) (few : length es ≤ 16777216) (within : n ≤ length es) (law : PartsAreValid) where
+  -- the lists of the first range, and those of the others
+  module _ (keys : KeyRange) (ranges : List KeyRange) (pieces : List ReadPiece) (lists : List RowList) (cut : AreCut es n window table (keys ∷ ranges) pieces) (read : AreRead c es n window pieces lists) where
+    abbrev range : TableKeys
+    range = record { table = table; keys = keys }
+
+    in_order : AreRead c es n window (pieces_for range cut.0.parts ++ cut.0.rest) lists
+    in_order = subst (λ ps. AreRead c es n window ps lists) cut.0.are read
+
+    abbrev many : ℕ
+    many = length (pieces_for range cut.0.parts)
+
+    first_read : AreRead c es n window (pieces_for range cut.0.parts) (take many lists)
+    first_read = read_first c es n window (pieces_for range cut.0.parts) cut.0.rest lists in_order
+
+    others_read : AreRead c es n window cut.0.rest (drop many lists)
+    others_read = read_rest c es n window (pieces_for range cut.0.parts) cut.0.rest lists in_order
+
+    first_parts : AreParts es n table keys window cut.0.parts (take many lists)
+    first_parts = parts_read c es n window range cut.0.parts (take many lists) first_read
+
+    first_copies : (t : ℕ) → IsTrue (holds window t) → (v : Row) → copies (all_rows (take many lists)) v t ≡ is_key_in (key_of v) keys * occurrences (valid_at es n table t) v
+    first_copies =
+        let valid = law c es n table keys window cut.0.parts (take many lists) history few within cut.0.tile first_parts in
+        rows_in_range es n table window keys (all_rows (take many lists)) valid.0 valid.1
+
+  -- a row is valid as often as it is in the table, in each range with its key
+  copies_in_ranges : (ranges : List KeyRange) (pieces : List ReadPiece) (lists : List RowList) → AreCut es n window table ranges pieces → AreRead c es n window pieces lists
+      → (t : ℕ) → IsTrue (holds window t) → (v : Row) → copies (all_rows lists) v t ≡ ranges_with ranges (key_of v) * occurrences (valid_at es n table t) v
+  copies_in_ranges [] pieces lists cut read t inside v =
+      ap (λ rows. copies rows v t) (none_read c es n window lists (subst (λ ps. AreRead c es n window ps lists) cut read)) ∙ no_times (occurrences (valid_at es n table t) v)
+  copies_in_ranges (keys ∷ ranges) pieces lists cut read t inside v =
+      let k : ℕ = many keys ranges pieces lists cut read in
+      let valid : ℕ = occurrences (valid_at es n table t) v in
+      ap (λ rows. copies rows v t) (all_rows_split k lists)
+      ∙ copies-append (all_rows (take k lists)) (all_rows (drop k lists)) v t
+      ∙ ap (λ m. m + copies (all_rows (drop k lists)) v t) (first_copies keys ranges pieces lists cut read t inside v)
+      ∙ ap (λ m. is_key_in (key_of v) keys * valid + m) (copies_in_ranges ranges cut.0.rest (drop k lists) cut.1 (others_read keys ranges pieces lists cut read) t inside v)
+      ∙ sym (add-mul (is_key_in (key_of v) keys) (ranges_with ranges (key_of v)) valid)
+      ∙ ap (λ m. m * valid) (sym (sum_by-cons (is_key_in (key_of v)) keys ranges))
+
+  -- if the ranges are apart, each row with a key of one of them is there as often as it is valid
+  some_rows : (ranges : List KeyRange) (pieces : List ReadPiece) (lists : List RowList) (rows : List Fragment) → AreApart ranges → AreCut es n window table ranges pieces → AreRead c es n window pieces lists → rows ≡ all_rows lists
+      → (t : ℕ) → IsTrue (holds window t) → AreSomeRowsIn ranges (valid_at es n table t) (at rows t)
+  some_rows ranges pieces lists rows apart cut read are t inside = record {
+    same = λ v has. by_number v (ranges_with ranges (key_of v)) refl has (apart (key_of v));
+    at_most = λ v. at_most v (ranges_with ranges (key_of v)) refl (apart (key_of v));
+  }
+    where
+      counted : (v : Row) (k : ℕ) → ranges_with ranges (key_of v) ≡ k → copies rows v t ≡ k * occurrences (valid_at es n table t) v
+      counted v k e = ap (λ l. copies l v t) are ∙ copies_in_ranges ranges pieces lists cut read t inside v ∙ ap (λ m. m * occurrences (valid_at es n table t) v) e
+
+      by_number : (v : Row) (k : ℕ) → ranges_with ranges (key_of v) ≡ k → 1 ≤ ranges_with ranges (key_of v) → ranges_with ranges (key_of v) ≤ 1 → copies rows v t ≡ occurrences (valid_at es n table t) v
+      by_number v zero e some one = absurd (omega (arith, e, some))
+      by_number v (suc zero) e some one = let all = counted v 1 e in omega (arith, all)
+      by_number v (suc (suc k)) e some one = absurd (omega (arith, e, one))
+
+      at_most : (v : Row) (k : ℕ) → ranges_with ranges (key_of v) ≡ k → ranges_with ranges (key_of v) ≤ 1 → copies rows v t ≤ occurrences (valid_at es n table t) v
+      at_most v zero e one = let none = counted v 0 e in omega (arith, none)
+      at_most v (suc zero) e one = let all = counted v 1 e in omega (arith, all)
+      at_most v (suc (suc k)) e one = absurd (omega (arith, e, one))
+
+  rows_fit : (ranges : List KeyRange) (pieces : List ReadPiece) (lists : List RowList) → AreCut es n window table ranges pieces → AreRead c es n window pieces lists → All (FitsTable c table) (all_rows lists)
+  rows_fit [] pieces lists cut read = subst (All (FitsTable c table)) (sym (none_read c es n window lists (subst (λ ps. AreRead c es n window ps lists) cut read))) (All-nil (FitsTable c table))
+  rows_fit (keys ∷ ranges) pieces lists cut read =
+      let k : ℕ = many keys ranges pieces lists cut read in
+      subst (All (FitsTable c table)) (sym (all_rows_split k lists))
+      (All-append (FitsTable c table) (all_rows (take k lists)) (all_rows (drop k lists))
+      (parts_fit c es n table keys window history cut.0.parts (take k lists) (first_parts keys ranges pieces lists cut read))
+      (rows_fit ranges cut.0.rest (drop k lists) cut.1 (others_read keys ranges pieces lists cut read)))
+
+  -- the lists are as wide as the table
+  pub table_is_wide : (ranges : List KeyRange) (pieces : List ReadPiece) (lists : List RowList) → AreCut es n window table ranges pieces → AreRead c es n window pieces lists → All (AreOfWidth (width_of c table)) lists
+  table_is_wide [] pieces lists cut read = no_lists lists (subst (λ ps. AreRead c es n window ps lists) cut read)
+    where
+      no_lists : (lists : List RowList) → AreRead c es n window [] lists → All (AreOfWidth (width_of c table)) lists
+      no_lists [] read = All-nil (AreOfWidth (width_of c table))
+      no_lists (rows ∷ lists) read = absurd read
+  table_is_wide (keys ∷ ranges) pieces lists cut read =
+      let k : ℕ = many keys ranges pieces lists cut read in
+      subst (All (AreOfWidth (width_of c table))) (take-append-drop k lists)
+      (All-append (AreOfWidth (width_of c table)) (take k lists) (drop k lists)
+      (parts_wide c es n window (record { table = table; keys = keys }) cut.0.parts (take k lists) (first_read keys ranges pieces lists cut read))
+      (table_is_wide ranges cut.0.rest (drop k lists) cut.1 (others_read keys ranges pieces lists cut read)))
+
 module _ (c : Catalogue) (es : List Event) (n : ℕ) (plan : Plan) (history : IsHistory c es) (few : length es ≤ 16777216) (within : n ≤ length es) (law : PartsAreValid) where
   -- the rows of the pieces of a table, one after the other, are those that the plan needs, and fit the table
-  pub table_is_read : (table : ℕ) (keys : Option KeyRange) (parts : List Part) (lists : List RowList) (rows : RowList) → HasPlanKeys table keys plan → AreCut es n plan.window keys parts
-      → AreRead c es n plan.window (pieces_for table keys parts) lists → rows.items ≡ all_rows lists → IsReadTable c (as_of es n) plan table rows
-  table_is_read table None parts lists rows needed cut read are =
-      let none = are ∙ none_read c es n plan.window lists read in
-      record {
-        needed = record { keys = None; needed = needed; same = λ t inside. ap (λ l. at l t) none };
-        fit = subst (All (FitsTable c table)) (sym none) (All-nil (FitsTable c table));
-      }
-  table_is_read table (Some keys) parts lists rows needed cut read are =
-      let table_keys : TableKeys = record { table = table; keys = keys } in
-      let in_parts = parts_read c es n plan.window table_keys parts lists read in
-      let valid = law c es n table keys plan.window parts lists history few within cut in_parts in
-      record {
-        needed = record {
-          keys = Some keys;
-          needed = needed;
-          same = λ t inside. rows_in_range es n table plan.window keys rows.items
-              (subst (AreValidIn es n table keys plan.window) (sym are) valid.0)
-              (subst (All (λ (row : Fragment). HasKeyIn keys row.values)) (sym are) valid.1)
-              t inside;
-        };
-        fit = subst (All (FitsTable c table)) (sym are) (parts_fit c es n table keys plan.window history parts lists in_parts);
-      }
-
-  -- they are as wide as the table
-  pub table_is_wide : (table : ℕ) (keys : Option KeyRange) (parts : List Part) (lists : List RowList) → AreRead c es n plan.window (pieces_for table keys parts) lists → All (AreOfWidth (width_of c table)) lists
-  table_is_wide table None parts [] read = All-nil (AreOfWidth (width_of c table))
-  table_is_wide table None parts (rows ∷ lists) read = absurd read
-  table_is_wide table (Some keys) parts lists read = parts_wide c es n plan.window (record { table = table; keys = keys }) parts lists read
+  pub table_is_read : (table : TablePieces) (lists : List RowList) (rows : RowList) → IsCut es n plan table.table table → AreRead c es n plan.window table.pieces.items lists → rows.items ≡ all_rows lists
+      → IsReadTable c (as_of es n) plan table.table rows
+  table_is_read table lists rows cut read are = record {
+    needed = record {
+      ranges = cut.ranges;
+      needed = cut.needed;
+      same = some_rows c es n plan.window table.table history few within law cut.ranges table.pieces.items lists rows.items cut.apart cut.cut read are;
+    };
+    fit = subst (All (FitsTable c table.table)) (sym are) (rows_fit c es n plan.window table.table history few within law cut.ranges table.pieces.items lists cut.cut read);
+  }

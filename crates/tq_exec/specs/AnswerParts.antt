@@ -1,9 +1,7 @@
 -- What is made of the parts of an answer. This project's own.
 use Rattle.std.specs.Prelude.{◌≡◌, ℕ, All, List, map}
-use Rattle.std.specs.Global.{Vec}
 use Rattle.tq_base.specs.declared.fragment.Fragment.{Fragment}
 use Rattle.tq_base.specs.Layers.{IsLayers}
-use Rattle.tq_base.specs.RowLists.{RowList}
 use Rattle.tq_agg.specs.Grouping.{Row}
 use Rattle.tq_table.specs.Merging.{all_rows, AreOfWidth}
 use Rattle.tq_table.specs.Sink.{bytes_of}

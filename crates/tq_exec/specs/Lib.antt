@@ -13,6 +13,7 @@ pub mod PeriodPieces
 pub mod Reads
 pub mod OutputRanges
 pub mod Partitions
+pub mod PartitioningRules
 pub mod JoinPartitions
 pub mod GroupPartitions
 pub mod AnswerParts

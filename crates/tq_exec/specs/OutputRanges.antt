@@ -1,5 +1,5 @@
 -- Rows in ranges of values. This project's own.
-use Rattle.std.specs.Prelude.{◌≡◌, ℕ, ◌-◌, ◌==◌, min, List, filter, length, map, slice_index_or}
+use Rattle.std.specs.Prelude.{ℕ, ◌-◌, ◌==◌, min, List, filter, length, map, slice_index_or}
 use Rattle.std.specs.List.{range_with_len}
 use Rattle.tq_base.specs.declared.fragment.Fragment.{Fragment}
 use Rattle.tq_base.specs.Fragments.{copies}

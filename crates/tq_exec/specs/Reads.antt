@@ -1,57 +1,73 @@
 -- The rows that a plan needs of each table of a `Db`, and the parts in which they are read. This project's own.
-use Rattle.std.specs.Prelude.{◌≡◌, ◌<◌, ℕ, IsTrue, List, [], ◌∷◌, All, Option, None, Some, length, map, slice_index_or, ⊤}
+use Rattle.std.specs.Prelude.{◌≡◌, ◌<◌, ◌≤◌, ◌&&◌, ◌++◌, ℕ, ℤ, cond, int_le, IsTrue, List, [], ◌∷◌, All, Some, length, map, slice_index_or, ⊤}
 use Rattle.std.proofs.Props.{props}
-use Rattle.std.specs.List.{flat_map}
+use Rattle.std.specs.List.{flat_map, sum_by}
 use Rattle.tq_base.specs.declared.catalogue.Catalogue.{Catalogue}
 use Rattle.tq_base.specs.declared.fragment.Fragment.{Fragment}
 use Rattle.tq_base.specs.declared.key_range.KeyRange.{KeyRange}
 use Rattle.tq_base.specs.declared.period.Period.{Period}
-use Rattle.tq_base.specs.Fragments.{at}
+use Rattle.tq_base.specs.Fragments.{at, occurrences}
+use Rattle.tq_base.specs.KeyRanges.{key_of}
 use Rattle.tq_base.specs.Periods.{holds}
 use Rattle.tq_base.specs.RowLists.{RowList}
 use Rattle.tq_event.specs.declared.event.Event.{Event}
-use Rattle.tq_event.specs.History.{valid_at}
 use Rattle.tq_event.specs.Recorded.{HasTable}
 use Rattle.tq_plan.specs.declared.plans.Plan.{Plan}
 use Rattle.tq_plan.specs.declared.plans.QueryPlan.{QueryPlan}
 use Rattle.tq_plan.specs.declared.plans.QuerySource.{QuerySource}
-use Rattle.tq_plan.specs.KeyRanges.{HasKeysOf}
+use Rattle.tq_ops.specs.Ordinary.{admits}
+use Rattle.tq_plan.specs.KeyRanges.{HasKey, key_at}
 use Rattle.tq_agg.specs.Grouping.{Row}
 use Rattle.tq_store.specs.Laws.{TileWindow}
 use Rattle.tq_store.specs.Rows.{IsWithin, whole_window}
 use Rattle.tq_scan.specs.declared.window.Part.{Part}
 use Rattle.tq_store.specs.Valid.{ArePart, width_of}
 use Rattle.tq_table.specs.Merging.{AreOfWidth}
-use Rattle.tq_exec.specs.Answers.{in_tables, times_at, ValidRows}
-use Rattle.tq_exec.specs.Fitting.{AreAllFitting, AreFitting}
-use Rattle.tq_exec.specs.Scan.{AreRowsIn}
+use Rattle.tq_exec.specs.Answers.{ValidRows}
 use Rattle.tq_exec.specs.declared.key_ranges.TableKeys.{TableKeys}
 use Rattle.tq_exec.specs.declared.read_pieces.ReadPiece.{ReadPiece}
-use Rattle.tq_exec.specs.declared.read_pieces.TableParts.{TableParts}
+use Rattle.tq_exec.specs.declared.read_pieces.TablePieces.{TablePieces}
+
+-- ---- keys and ranges
+
+-- 1 if the key is in the range, else 0
+abbrev pub is_key_in : ℤ → KeyRange → ℕ
+is_key_in key range = cond (int_le range.low key && int_le key range.high) 1 0
+
+-- the number of the ranges with the key
+abbrev pub ranges_with : List KeyRange → ℤ → ℕ
+ranges_with ranges key = sum_by (is_key_in key) ranges
+
+-- no key is in two ranges
+abbrev pub AreApart : List KeyRange → Type 0
+AreApart ranges = (key : ℤ) → ranges_with ranges key ≤ 1
 
 -- ---- the keys that a plan needs
 
--- the range holds the keys of the table's rows that are part of a joined row that passes the query; without a range
--- there is no such row
-abbrev pub HasQueryKeys : ℕ → Option KeyRange → QueryPlan → Type 0
-HasQueryKeys table keys query = All (λ (source : QuerySource). source.table ≡ table → HasKeysOf query source keys) query.sources
+-- for each joined row that passes the query's condition, the key of the source's row is in one of the ranges
+abbrev pub HasSourceKeys : QueryPlan → QuerySource → List KeyRange → Type 0
+HasSourceKeys query source ranges = (row : Row) → HasKey source row → IsTrue (admits query.test row) → 1 ≤ ranges_with ranges (key_at source row)
 
--- both queries of the plan
-abbrev pub HasPlanKeys : ℕ → Option KeyRange → Plan → Type 0
-HasPlanKeys table keys plan = HasQueryKeys table keys plan.left × ((query : QueryPlan) → plan.right ≡ Some query → HasQueryKeys table keys query)
+-- of each source of the table
+abbrev pub HasQueryKeys : ℕ → List KeyRange → QueryPlan → Type 0
+HasQueryKeys table ranges query = All (λ (source : QuerySource). source.table ≡ table → HasSourceKeys query source ranges) query.sources
+
+-- of both queries of the plan
+abbrev pub HasPlanKeys : ℕ → List KeyRange → Plan → Type 0
+HasPlanKeys table ranges plan = HasQueryKeys table ranges plan.left × ((query : QueryPlan) → plan.right ≡ Some query → HasQueryKeys table ranges query)
 
 -- ---- rows that are enough for a plan
 
--- the valid rows with a key of the range, each as often, and maybe others; none without a range
-abbrev pub AreSomeRowsIn : Option KeyRange → List Row → List Row → Type 0
-AreSomeRowsIn None valid rows = rows ≡ []
-AreSomeRowsIn (Some keys) valid rows = AreRowsIn keys valid rows
+-- of these valid rows each with a key of a range stands as often in the list, and each other at most as often
+pub record AreSomeRowsIn (ranges : List KeyRange) (valid rows : List Row) : Type 0 where
+  pub same : (v : Row) → 1 ≤ ranges_with ranges (key_of v) → occurrences rows v ≡ occurrences valid v
+  pub at_most : (v : Row) → occurrences rows v ≤ occurrences valid v
 
 -- at each instant of the window, the list has the valid rows of the table that the plan needs
 pub record HasNeededRows (valid : ValidRows) (plan : Plan) (table : ℕ) (rows : List Fragment) : Type 0 where
-  pub keys : Option KeyRange
-  pub needed : HasPlanKeys table keys plan
-  pub same : (t : ℕ) → IsTrue (holds plan.window t) → AreSomeRowsIn keys (valid table t) (at rows t)
+  pub ranges : List KeyRange
+  pub needed : HasPlanKeys table ranges plan
+  pub same : (t : ℕ) → IsTrue (holds plan.window t) → AreSomeRowsIn ranges (valid table t) (at rows t)
 
 -- a row of the table's rows that fit it
 abbrev pub FitsTable : Catalogue → ℕ → Fragment → Type 0
@@ -67,35 +83,41 @@ pub record AreReadTables (catalogue : Catalogue) (valid : ValidRows) (plan : Pla
   pub many : length tables ≡ length catalogue.tables
   pub each : (table : ℕ) (d : RowList) → table < length tables → IsReadTable catalogue valid plan table (slice_index_or tables table d)
 
--- ---- rows that are read in parts
+-- ---- rows that are read in pieces
 
--- the parts tile the window of the table's keys; without keys there are none
-abbrev pub AreCut : List Event → ℕ → Period → Option KeyRange → List Part → Type 0
-AreCut history n window None parts = parts ≡ []
-AreCut history n window (Some keys) parts = TileWindow history n keys window parts
+-- a piece for each of the parts
+abbrev pub pieces_for : TableKeys → List Part → List ReadPiece
+pieces_for table_keys parts = map (λ part. record { table_keys = table_keys; part = part }) parts
 
--- the keys of a table that the plan needs, and the parts of their window
-pub record IsCut (history : List Event) (n : ℕ) (plan : Plan) (table : ℕ) (parts : TableParts) : Type 0 where
-  pub same : parts.table ≡ table
-  pub needed : HasPlanKeys table parts.keys plan
-  pub cut : AreCut history n plan.window parts.keys parts.parts.items
+-- parts that tile the window of the keys, and the pieces that come after theirs
+pub record StartsWith (history : List Event) (n : ℕ) (window : Period) (table_keys : TableKeys) (pieces : List ReadPiece) : Type 0 where
+  pub parts : List Part
+  pub tile : TileWindow history n table_keys.keys window parts
+  pub rest : List ReadPiece
+  pub are : pieces ≡ pieces_for table_keys parts ++ rest
+
+-- the pieces are parts that tile the window of the first range, then those of the next range, and so on
+abbrev pub AreCut : List Event → ℕ → Period → ℕ → List KeyRange → List ReadPiece → Type 0
+AreCut history n window table [] pieces = pieces ≡ []
+AreCut history n window table (keys ∷ ranges) pieces =
+    (first : StartsWith history n window (record { table = table; keys = keys }) pieces) × AreCut history n window table ranges first.rest
+
+-- the keys of a table that the plan needs, in pieces
+pub record IsCut (history : List Event) (n : ℕ) (plan : Plan) (table : ℕ) (pieces : TablePieces) : Type 0 where
+  pub same : pieces.table ≡ table
+  pub ranges : List KeyRange
+  pub apart : AreApart ranges
+  pub needed : HasPlanKeys table ranges plan
+  pub cut : AreCut history n plan.window table ranges pieces.pieces.items
 
 -- those of each of `count` tables
-pub record AreAllCut (history : List Event) (n : ℕ) (plan : Plan) (count : ℕ) (tables : List TableParts) : Type 0 where
+pub record AreAllCut (history : List Event) (n : ℕ) (plan : Plan) (count : ℕ) (tables : List TablePieces) : Type 0 where
   pub many : length tables ≡ count
-  pub each : (table : ℕ) (d : TableParts) → table < length tables → IsCut history n plan table (slice_index_or tables table d)
+  pub each : (table : ℕ) (d : TablePieces) → table < length tables → IsCut history n plan table (slice_index_or tables table d)
 
--- the pieces of a table, one for each part
-abbrev pub pieces_for : ℕ → Option KeyRange → List Part → List ReadPiece
-pieces_for table None parts = []
-pieces_for table (Some keys) parts = map (λ part. record { table_keys = record { table = table; keys = keys }; part = part }) parts
-
-abbrev pub table_pieces : TableParts → List ReadPiece
-table_pieces parts = pieces_for parts.table parts.keys parts.parts.items
-
--- those of all tables, one table after the other
-abbrev pub all_pieces : List TableParts → List ReadPiece
-all_pieces tables = flat_map table_pieces tables
+-- the pieces of all tables, one table after the other
+abbrev pub all_pieces : List TablePieces → List ReadPiece
+all_pieces tables = flat_map (λ (table : TablePieces). table.pieces.items) tables
 
 -- the piece has keys and versions of the window of its keys
 abbrev pub IsPieceIn : List Event → ℕ → Period → ReadPiece → Type 0

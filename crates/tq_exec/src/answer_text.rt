@@ -12,6 +12,7 @@ ghost use Rattle.tq_table.specs.Sink.{bytes_of};
 use crate::answer_parts::{Made, Wanted, texts_of};
 use crate::parallel::execute_parallel;
 use crate::snapshot::TablesOfRows;
+use crate::workers::Workers;
 use std::alloc::{AllocError, Global};
 use std::marker::Model;
 use std::thread::Threads;
@@ -81,7 +82,14 @@ pub fn text_by_ranges<R: Threads + Sync, G: Gate + Sync>(
     let header = header_text(alloc, plan.columns())?;
     let all = TablesOfRows { catalogue, tables };
     let wanted = Wanted::Text(form);
-    let made = execute_parallel(rt, alloc, all, plan, workers, few, wanted, gate)?;
+    let workers = Workers {
+        rt,
+        alloc,
+        count: workers,
+        few,
+        gate,
+    };
+    let made = execute_parallel(&workers, all, plan, wanted)?;
     with_header(alloc, header, made)
 }
 

@@ -15,7 +15,7 @@ use tq_table::Table;
 /// The tables of a `Db` as of its first `n` events. A table that does not exist has no rows. Only rows with keys of the
 /// range are read, and their values are borrowed.
 #[derive(Clone, Copy)]
-pub struct AsOf<'a> {
+pub(crate) struct AsOf<'a> {
     pub db: &'a Db,
     pub n: u32,
     ghost within: { n ≤ length db.now.events },

@@ -9,14 +9,17 @@ ghost use Rattle.tq_plan.specs.ValidPlans.{AreQueriesOver, are_valid_items};
 ghost use Rattle.tq_exec.specs.Answers.{in_tables, times_at};
 ghost use Rattle.tq_exec.specs.AggregateParts.{CountsOne};
 ghost use Rattle.tq_exec.specs.Partitions.{columns_in, chunk_start, IsPartitionPart};
+ghost use Rattle.tq_exec.specs.PartitioningRules.{IsByValue};
 ghost use Rattle.tq_exec.specs.AnswerParts.{HaveAnswer};
 
 use crate::aggregate_parts::{counted_column, rows_of_counts};
 use crate::answer_parts::{AnswerPart, Made, Wanted, are_ascending, made_of, make_part};
 use crate::laws::partitions_have_answers;
-use crate::partition_columns::{column_in, columns_to_partition_by};
+use crate::partition_columns::column_in;
 use crate::partition_ids::{CHUNK_ROWS, chunk_start};
+use crate::partitioning::ColumnCuts;
 use crate::snapshot::{Snapshot, TablesOfRows};
+use crate::workers::Workers;
 use std::alloc::{AllocError, Global};
 use std::thread::Threads;
 use tq_agg::{Tally, are_whole, count_share, ranks_of, tally_rows};
@@ -107,25 +110,21 @@ impl<'p> Work for Values<'p, '_> {
 // The rows of the table in the buckets of their values, chunk by chunk, made by these workers. `None` if there are too many
 // values, or a value that its normalized key does not identify.
 fn tallies_of<R: Threads + Sync, G: Gate + Sync>(
-    rt: &R,
-    alloc: Global,
+    workers: &Workers<'_, R, G>,
     rows: &Relation<'_>,
     window: &Period,
     column: u32,
-    workers: u32,
-    gate: &G,
 ) -> Result<Option<Vec<Tally>>, AllocError>
-    requires some { 1 ≤ workers }
-    requires at_most { workers ≤ 16 }
     ensures { IfOk result (λ found. IfSome found (λ tallies. AreTallies rows.now.items window.now column tallies.items)) }
 {
+    let alloc = workers.alloc;
     let work = Chunks {
         alloc,
         rows,
         window,
         column,
     };
-    let tallies = run_with(rt, alloc, workers, &work, gate)?;
+    let tallies = run_with(workers.rt, alloc, workers.count, &work, workers.gate)?;
     if are_whole(&tallies) {
         Ok(Some(tallies))
     } else {
@@ -146,19 +145,17 @@ fn is_partitioned_by(columns: &[Option<u32>], table: u32, column: u32) -> bool
 /// The parts of the plan's answer, one for each value, made by these workers. `None` if the plan does not count the rows of
 /// one table by its first column, or if this column has too many values.
 pub(crate) fn parts_by_bucket<'p, R: Threads + Sync, G: Gate + Sync>(
-    rt: &R,
-    alloc: Global,
+    workers: &Workers<'_, R, G>,
     all: TablesOfRows<'p>,
     plan: &'p Plan,
-    workers: u32,
+    by: &'p ColumnCuts,
     wanted: Wanted,
-    gate: &G,
 ) -> Result<Option<Vec<Made>>, AllocError>
     requires over { AreQueriesOver all.catalogue.now plan.now }
-    requires some { 1 ≤ workers }
-    requires at_most { workers ≤ 16 }
+    requires by { IsByValue (length all.tables.now) plan.now by.now }
     ensures { IfOk result (λ made. IfSome made (λ parts. HaveAnswer wanted (length plan.now.left.outputs) (times_at (in_tables (lists_of all.entry.tables.now)) plan.now) parts.items)) }
 {
+    let alloc = workers.alloc;
     partitions_have_answers();
     all.fit();
     if plan.right.is_some() {
@@ -167,17 +164,14 @@ pub(crate) fn parts_by_bucket<'p, R: Threads + Sync, G: Gate + Sync>(
     let Some((table, column)) = counted_column(&plan.left) else {
         return Ok(None);
     };
-    let Some(columns) = columns_to_partition_by(alloc, plan, all.tables.len())? else {
-        return Ok(None);
-    };
-    if !is_partitioned_by(&columns, table, column) {
+    if !is_partitioned_by(&by.columns, table, column) {
         return Ok(None);
     }
     let Some(table_rows) = all.tables.get(table as usize) else {
         return Ok(None);
     };
     let rows = Relation::of(alloc, table_rows)?;
-    let Some(tallies) = tallies_of(rt, alloc, &rows, &plan.window, column, workers, gate)? else {
+    let Some(tallies) = tallies_of(workers, &rows, &plan.window, column)? else {
         return Ok(None);
     };
     let Some(ranks) = ranks_of(alloc, &tallies, MOST_VALUES)? else {
@@ -188,14 +182,14 @@ pub(crate) fn parts_by_bucket<'p, R: Threads + Sync, G: Gate + Sync>(
         all,
         plan,
         wanted,
-        columns: &columns,
+        columns: &by.columns,
         table,
         column,
         rows: &rows,
         tallies: &tallies,
         ranks: &ranks,
     };
-    let values = run_with(rt, alloc, workers, &work, gate)?;
+    let values = run_with(workers.rt, alloc, workers.count, &work, workers.gate)?;
     if !are_ascending(&values) {
         return Ok(None);
     }

@@ -90,7 +90,7 @@ fn query_rows<'a, S: Snapshot<'a>>(
 
 /// The rows of a plan at each instant of a period: those of the left query, less those of the right one. Requires that both
 /// queries of the plan are queries over the snapshot's catalogue. `AllocError` if an allocation failed.
-pub fn execute<'a, S: Snapshot<'a>>(
+pub(crate) fn execute<'a, S: Snapshot<'a>>(
     alloc: Global,
     snapshot: &S,
     plan: &Plan,
@@ -113,7 +113,7 @@ pub fn execute<'a, S: Snapshot<'a>>(
 
 /// The answer of a plan over a snapshot. Requires that `plan` made the plan over the snapshot's catalogue. `AllocError` if an
 /// allocation failed.
-pub fn answer_over<'a, S: Snapshot<'a>>(
+pub(crate) fn answer_over<'a, S: Snapshot<'a>>(
     alloc: Global,
     snapshot: &S,
     plan: &Plan,

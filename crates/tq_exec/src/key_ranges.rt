@@ -1,9 +1,7 @@
 // The keys of each table that a plan needs, and a sample of the keys that rows have there.
 
-ghost use Rattle.std.specs.Prelude.{◌≡◌, ℤ};
-ghost use Rattle.tq_base.specs.KeyRanges.{IsInSomeRange};
-ghost use Rattle.tq_plan.specs.KeyRanges.{HasKeysOf};
-ghost use Rattle.tq_exec.specs.Reads.{HasPlanKeys, HasQueryKeys};
+ghost use Rattle.std.specs.Prelude.{◌≡◌, ◌≤◌, ◌+◌, ℤ, IfOk, IfSome, None};
+ghost use Rattle.tq_exec.specs.Reads.{AreApart, HasPlanKeys, HasQueryKeys, HasSourceKeys, is_key_in, ranges_with};
 
 use std::alloc::{AllocError, Global};
 use tq_base::{KeyRange, ValueRef, Values};
@@ -23,55 +21,110 @@ pub struct TableKeys {
     pub keys: KeyRange,
 }
 
-// The smallest range that contains both; the one that there is if the other is missing.
-fn hull_of(one: Option<KeyRange>, other: Option<KeyRange>) -> Option<KeyRange>
-    ensures one { (key : ℤ) → IsInSomeRange one key → IsInSomeRange result key }
-    ensures other { (key : ℤ) → IsInSomeRange other key → IsInSomeRange result key }
+// The smallest range that contains both, if they have a key in common: it has the keys of both and no others.
+fn united(one: KeyRange, other: KeyRange) -> Option<KeyRange>
+    ensures first { (key : ℤ) → IfSome result (λ range. is_key_in key one ≤ is_key_in key range) }
+    ensures second { (key : ℤ) → IfSome result (λ range. is_key_in key other ≤ is_key_in key range) }
+    ensures just { (key : ℤ) → IfSome result (λ range. is_key_in key range ≤ is_key_in key one + is_key_in key other) }
+    ensures apart { (key : ℤ) → result ≡ None → is_key_in key one + is_key_in key other ≤ 1 }
 {
-    match (one, other) {
-        (Some(one), Some(other)) => Some(one.hull(other)),
-        (Some(one), None) => Some(one),
-        (None, other) => other,
+    if one.low <= other.high && other.low <= one.high {
+        Some(one.hull(other))
+    } else {
+        None
     }
 }
 
-// The range, widened by the keys of the source's rows that are part of a row which passes the query, if it is a source of
-// the table.
-fn add_keys_of(
-    keys: Option<KeyRange>,
+// The range, united with the next one if they have a key in common. If they have none, the next one goes to the others.
+fn unite(
+    others: &mut Vec<KeyRange>,
+    range: KeyRange,
+    next: KeyRange,
+) -> Result<KeyRange, AllocError>
+    ensures apart { (key : ℤ) → ranges_with others.old.items key + is_key_in key range ≤ 1 → ranges_with others.old.items key + is_key_in key next ≤ 1 → IfOk result (λ all. ranges_with others.new.items key + is_key_in key all ≤ 1) }
+    ensures just { (key : ℤ) → IfOk result (λ _. ranges_with others.new.items key ≤ ranges_with others.old.items key + is_key_in key next) }
+    ensures keys { (key : ℤ) → 1 ≤ ranges_with others.old.items key + is_key_in key range + is_key_in key next → IfOk result (λ all. 1 ≤ ranges_with others.new.items key + is_key_in key all) }
+{
+    match united(range, next) {
+        Some(both) => Ok(both),
+        None => {
+            others.push(next)?;
+            Ok(range)
+        }
+    }
+}
+
+// The ranges and one more. Those that have a key in common with it are united with it.
+fn add_range(
+    alloc: Global,
+    ranges: &[KeyRange],
+    range: KeyRange,
+) -> Result<Vec<KeyRange>, AllocError>
+    requires { AreApart ranges.now }
+    ensures apart { IfOk result (λ more. AreApart more.items) }
+    ensures keys { (key : ℤ) → 1 ≤ is_key_in key range + ranges_with ranges.now key → IfOk result (λ more. 1 ≤ ranges_with more.items key) }
+{
+    let mut others = Vec::new(alloc);
+    let mut all = range;
+    'each: for next in ranges {
+        all = unite(&mut others, all, *next)?;
+    }
+    others.push(all)?;
+    Ok(others)
+}
+
+// The ranges, with the keys of the source's rows that are part of a row which passes the query, if it is a source of the
+// table.
+fn add_source(
+    alloc: Global,
+    ranges: Vec<KeyRange>,
     query: &QueryPlan,
     source: &QuerySource,
     table: u32,
-) -> Option<KeyRange>
-    ensures kept { (key : ℤ) → IsInSomeRange keys key → IsInSomeRange result key }
-    ensures added { source.now.table ≡ table → HasKeysOf query.now source.now result }
+) -> Result<Vec<KeyRange>, AllocError>
+    requires { AreApart ranges.items }
+    ensures apart { IfOk result (λ more. AreApart more.items) }
+    ensures kept { (key : ℤ) → 1 ≤ ranges_with ranges.items key → IfOk result (λ more. 1 ≤ ranges_with more.items key) }
+    ensures added { source.now.table ≡ table → IfOk result (λ more. HasSourceKeys query.now source.now more.items) }
 {
     if source.table != table {
-        return keys;
+        return Ok(ranges);
     }
-    hull_of(query.keys_of(source), keys)
+    match query.keys_of(source) {
+        Some(keys) => add_range(alloc, &ranges, keys),
+        None => Ok(ranges),
+    }
 }
 
-// A range that holds the keys of the table's rows that are part of a row which passes the query.
-fn query_keys(query: &QueryPlan, table: u32) -> Option<KeyRange>
-    ensures { HasQueryKeys table result query.now }
+// The ranges, with the keys of the table's rows that are part of a row which passes the query.
+fn add_query(
+    alloc: Global,
+    ranges: Vec<KeyRange>,
+    query: &QueryPlan,
+    table: u32,
+) -> Result<Vec<KeyRange>, AllocError>
+    requires { AreApart ranges.items }
+    ensures apart { IfOk result (λ more. AreApart more.items) }
+    ensures kept { (key : ℤ) → 1 ≤ ranges_with ranges.items key → IfOk result (λ more. 1 ≤ ranges_with more.items key) }
+    ensures added { IfOk result (λ more. HasQueryKeys table more.items query.now) }
 {
-    let mut keys = None;
+    let mut more = ranges;
     'sources: for source in query.sources.get() {
-        keys = add_keys_of(keys, query, source, table);
+        more = add_source(alloc, more, query, source, table)?;
     }
-    keys
+    Ok(more)
 }
 
-/// A range that holds the keys of the table's rows that are part of a row which passes a query of the plan. `None` only if
-/// there is no such row.
-pub(crate) fn plan_keys(plan: &Plan, table: u32) -> Option<KeyRange>
-    ensures { HasPlanKeys table result plan.now }
+/// Ranges that hold the keys of the table's rows that are part of a row which passes a query of the plan. No key is in two
+/// of them. `AllocError` if an allocation failed.
+pub(crate) fn plan_keys(alloc: Global, plan: &Plan, table: u32) -> Result<Vec<KeyRange>, AllocError>
+    ensures apart { IfOk result (λ ranges. AreApart ranges.items) }
+    ensures needed { IfOk result (λ ranges. HasPlanKeys table ranges.items plan.now) }
 {
-    let left = query_keys(&plan.left, table);
+    let left = add_query(alloc, Vec::new(alloc), &plan.left, table)?;
     match &plan.right {
-        Some(right) => hull_of(left, query_keys(right, table)),
-        None => left,
+        Some(right) => add_query(alloc, left, right, table),
+        None => Ok(left),
     }
 }
 

@@ -8,7 +8,7 @@
 //! `execution.rt` (projection, EXCEPT ALL and coalescing). Several workers run them over partitions of the rows
 //! (`partitions.rt`, `bucket_counts.rt`, `join_partitions.rt`, `group_partitions.rt`), over periods of the window
 //! (`period_pieces.rt`) or over ranges of the answer's values (`output_ranges.rt`). The rows of a `Db` are first read in
-//! parts of its keys and versions (`reads.rt`). Start with `parallel.rt`, which chooses among these.
+//! parts of its keys and versions (`reads.rt`). Start with `partitioning.rt`, which chooses among these, and `parallel.rt`.
 #![tactic(auto)]
 
 mod aggregate;
@@ -30,6 +30,7 @@ mod parallel;
 mod partition;
 mod partition_columns;
 mod partition_ids;
+mod partitioning;
 mod partitions;
 mod period_pieces;
 mod range_bounds;
@@ -40,10 +41,11 @@ mod reads;
 mod required;
 mod scan;
 mod snapshot;
+mod workers;
 
 pub use answer_text::{AnswerText, text_among, text_by_ranges};
-pub use as_of::{AsOf, answer};
-pub use execution::{answer_over, answer_tables, to_owned};
+pub use as_of::answer;
+pub use execution::{answer_tables, to_owned};
 pub use over_store::answer_with;
 pub use over_tables::answer_among;
 pub use required::required_columns;

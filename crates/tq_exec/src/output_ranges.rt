@@ -7,6 +7,7 @@ ghost use Rattle.tq_exec.specs.OutputRanges.{numbers_in, range_at, IsRange};
 
 use crate::answer_parts::{AnswerPart, Made, Wanted, are_ascending, made_of, make_part};
 use crate::range_ids::ids_by_range;
+use crate::workers::Workers;
 use std::alloc::{AllocError, Global};
 use std::thread::Threads;
 use tq_base::Relation;
@@ -78,19 +79,15 @@ impl<'p> Work for Ranges<'p, '_> {
 /// The parts of the layers of the rows, one for each range of their values, made by these workers. `None` if the ranges
 /// are not in order.
 pub(crate) fn parts_by_range<R: Threads + Sync, G: Gate + Sync>(
-    rt: &R,
-    alloc: Global,
+    workers: &Workers<'_, R, G>,
     rows: &Relation<'_>,
     wanted: Wanted,
-    workers: u32,
-    gate: &G,
 ) -> Result<Option<Vec<Made>>, AllocError>
-    requires some { 1 ≤ workers }
-    requires at_most { workers ≤ 16 }
     ensures { IfOk result (λ made. IfSome made (λ parts. HaveAnswer wanted rows.now.width (copies rows.now.items) parts.items)) }
 {
-    let count = RANGES_EACH * workers;
-    let ids = ids_by_range(rt, alloc, rows, count, workers, gate)?;
+    let alloc = workers.alloc;
+    let count = RANGES_EACH * workers.count;
+    let ids = ids_by_range(workers, rows, count)?;
     let work = Ranges {
         alloc,
         rows,
@@ -98,7 +95,7 @@ pub(crate) fn parts_by_range<R: Threads + Sync, G: Gate + Sync>(
         count,
         wanted,
     };
-    let ranges = run_with(rt, alloc, workers, &work, gate)?;
+    let ranges = run_with(workers.rt, alloc, workers.count, &work, workers.gate)?;
     if !are_ascending(&ranges) {
         return Ok(None);
     }

@@ -4,10 +4,12 @@ ghost use Rattle.std.specs.Prelude.{◌≤◌, IfOk, length};
 ghost use Rattle.tq_exec.specs.Answers.{IsPlanAnswer};
 ghost use Rattle.tq_plan.specs.ValidPlans.{IsPlanOver};
 
+use crate::answer_text::FEW_ROWS;
 use crate::as_of::answer;
 use crate::over_tables::owned_answer;
 use crate::reads::read_tables;
 use crate::snapshot::TablesOfRows;
+use crate::workers::Workers;
 use std::alloc::{AllocError, Global};
 use std::thread::Threads;
 use tq_plan::Plan;
@@ -39,12 +41,19 @@ pub fn answer_with<'b, R: Threads + Sync, G: Gate + Sync>(
         return answer(alloc, db, n, plan);
     }
     queries_are_valid();
-    let Some(tables) = read_tables(rt, alloc, db, n, plan, workers, gate)? else {
+    let workers = Workers {
+        rt,
+        alloc,
+        count: workers,
+        few: FEW_ROWS,
+        gate,
+    };
+    let Some(tables) = read_tables(&workers, db, n, plan)? else {
         return answer(alloc, db, n, plan);
     };
     let all = TablesOfRows {
         catalogue: db.catalogue(),
         tables: &tables,
     };
-    owned_answer(rt, alloc, all, plan, workers, gate)
+    owned_answer(&workers, all, plan)
 }

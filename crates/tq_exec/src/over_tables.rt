@@ -11,6 +11,7 @@ use crate::answer_text::FEW_ROWS;
 use crate::execution::answer_tables;
 use crate::parallel::execute_parallel;
 use crate::snapshot::TablesOfRows;
+use crate::workers::Workers;
 use std::alloc::{AllocError, Global};
 use std::thread::Threads;
 use tq_base::{Catalogue, List, Relation, Rows};
@@ -22,19 +23,15 @@ use tq_table::{ResultRows, Table, chained};
 /// The answer of a plan over tables of rows, made by these workers, with copies of the values. `AllocError` if an
 /// allocation failed.
 pub(crate) fn owned_answer<'b, R: Threads + Sync, G: Gate + Sync>(
-    rt: &R,
-    alloc: Global,
+    workers: &Workers<'_, R, G>,
     all: TablesOfRows<'_>,
     plan: &Plan,
-    workers: u32,
-    gate: &G,
 ) -> Result<Table<'b>, AllocError>
     requires over { AreQueriesOver all.catalogue.now plan.now }
-    requires some { 1 ≤ workers }
-    requires at_most { workers ≤ 16 }
     ensures { IfOk result (IsTablesAnswer (lists_of all.entry.tables.now) plan.now) }
 {
-    let made = execute_parallel(rt, alloc, all, plan, workers, FEW_ROWS, Wanted::Rows, gate)?;
+    let alloc = workers.alloc;
+    let made = execute_parallel(workers, all, plan, Wanted::Rows)?;
     let lists = rows_of(alloc, made)?;
     let rows = chained(alloc, plan.left.outputs.get().len(), lists)?;
     Ok(Table {
@@ -64,12 +61,12 @@ pub fn answer_among<'a, R: Threads + Sync, G: Gate + Sync>(
         return answer_tables(alloc, catalogue, tables, plan);
     }
     queries_are_valid();
-    owned_answer(
+    let workers = Workers {
         rt,
         alloc,
-        TablesOfRows { catalogue, tables },
-        plan,
-        workers,
+        count: workers,
+        few: FEW_ROWS,
         gate,
-    )
+    };
+    owned_answer(&workers, TablesOfRows { catalogue, tables }, plan)
 }

@@ -8,6 +8,7 @@ ghost use Rattle.tq_table.specs.Sink.{bytes_of};
 ghost use Rattle.tq_exec.specs.Partitions.{columns_in, partition_of, chunk_start, ArePartitionIds, IsChunk, IsPartitionIds};
 
 use crate::partition_columns::column_in;
+use crate::workers::Workers;
 use std::alloc::{AllocError, Global};
 use std::thread::Threads;
 use tq_base::{Rows, Value, normalized_key};
@@ -115,19 +116,15 @@ fn chained_chunks(alloc: Global, len: usize, chunks: Vec<Vec<u8>>) -> Result<Vec
 
 // The partition of each row, found by these workers if there is more than one chunk.
 fn ids_of_rows<R: Threads + Sync, G: Gate + Sync>(
-    rt: &R,
-    alloc: Global,
+    workers: &Workers<'_, R, G>,
     cuts: &[u128],
     rows: &Rows,
     column: u32,
-    workers: u32,
-    gate: &G,
 ) -> Result<Vec<u8>, AllocError>
     requires short { length cuts.now ≤ 63 }
-    requires some { 1 ≤ workers }
-    requires at_most { workers ≤ 16 }
     ensures { IfOk result (λ ids. ids.items ≡ map (λ (row : Fragment). partition_of cuts.now (value_at row.values column)) rows.now.items) }
 {
+    let alloc = workers.alloc;
     let len = rows.len();
     if len <= CHUNK_ROWS {
         return ids_between(alloc, cuts, rows, column, 0, len);
@@ -138,31 +135,27 @@ fn ids_of_rows<R: Threads + Sync, G: Gate + Sync>(
         rows,
         column,
     };
-    let chunks = run_with(rt, alloc, workers, &work, gate)?;
+    let chunks = run_with(workers.rt, alloc, workers.count, &work, workers.gate)?;
     chained_chunks(alloc, len, chunks)
 }
 
 // The partition of each row of a table; no ids if the table is not partitioned.
 fn ids_of_table<R: Threads + Sync, G: Gate + Sync>(
-    rt: &R,
-    alloc: Global,
+    workers: &Workers<'_, R, G>,
     cuts: &[u128],
     columns: &[Option<u32>],
     tables: &[Rows],
     table: u32,
-    workers: u32,
-    gate: &G,
 ) -> Result<Vec<u8>, AllocError>
     requires short { length cuts.now ≤ 63 }
     requires here { table < length tables.now }
-    requires some { 1 ≤ workers }
-    requires at_most { workers ≤ 16 }
     ensures { IfOk result (λ ids. IsPartitionIds cuts.now (columns_in columns.now table) (rows_in (lists_of tables.now) table) ids.items) }
 {
+    let alloc = workers.alloc;
     match column_in(columns, table) {
         Some(column) => {
             let rows = &tables[table as usize];
-            ids_of_rows(rt, alloc, cuts, rows, column, workers, gate)
+            ids_of_rows(workers, cuts, rows, column)
         }
         None => Ok(Vec::new(alloc)),
     }
@@ -170,24 +163,20 @@ fn ids_of_table<R: Threads + Sync, G: Gate + Sync>(
 
 /// For each table that is partitioned, the partition of each row, found by these workers.
 pub(crate) fn ids_of_tables<R: Threads + Sync, G: Gate + Sync>(
-    rt: &R,
-    alloc: Global,
+    workers: &Workers<'_, R, G>,
     cuts: &[u128],
     columns: &[Option<u32>],
     tables: &[Rows],
-    workers: u32,
-    gate: &G,
 ) -> Result<Vec<Vec<u8>>, AllocError>
     requires short { length cuts.now ≤ 63 }
     requires few { length tables.now ≤ 64 }
-    requires some { 1 ≤ workers }
-    requires at_most { workers ≤ 16 }
     ensures { IfOk result (λ ids. ArePartitionIds cuts.now columns.now (lists_of tables.now) ids.items) }
 {
+    let alloc = workers.alloc;
     let mut ids = Vec::with_capacity(alloc, tables.len())?;
     'tables: for table in 0..tables.len() {
         let table = table as u32;
-        ids.push(ids_of_table(rt, alloc, cuts, columns, tables, table, workers, gate)?)?;
+        ids.push(ids_of_table(workers, cuts, columns, tables, table)?)?;
     }
     Ok(ids)
 }

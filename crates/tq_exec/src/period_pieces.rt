@@ -9,7 +9,8 @@ ghost use Rattle.tq_exec.specs.PeriodPieces.{ArePieces, IsPiece};
 ghost use Rattle.tq_plan.specs.ValidPlans.{AreQueriesOver, queries_prop};
 
 use crate::execution::execute;
-use crate::snapshot::{Snapshot, TablesOfRows};
+use crate::snapshot::TablesOfRows;
+use crate::workers::Workers;
 use std::alloc::{AllocError, Global};
 use std::thread::Threads;
 use tq_base::{Period, Rows};
@@ -18,14 +19,14 @@ use tq_run::{Gate, Work, run_with};
 use tq_table::coalesce;
 
 // Copies of the plan's rows in the period, coalesced.
-fn piece_rows<'a, S: Snapshot<'a>>(
+fn piece_rows(
     alloc: Global,
-    snapshot: &S,
+    snapshot: &TablesOfRows<'_>,
     plan: &Plan,
     period: &Period,
 ) -> Result<Rows, AllocError>
-    requires { AreQueriesOver (S.catalogue snapshot.now) plan.now }
-    ensures { IfOk result (IsPiece (S.valid snapshot.now) plan.now period.now) }
+    requires { AreQueriesOver snapshot.now.catalogue.now plan.now }
+    ensures { IfOk result (IsPiece (in_tables (lists_of snapshot.now.tables.now)) plan.now period.now) }
 {
     let rows = execute(alloc, snapshot, plan, period)?;
     coalesce(alloc, rows)?.copied(alloc)
@@ -33,7 +34,7 @@ fn piece_rows<'a, S: Snapshot<'a>>(
 
 // A plan's rows over tables of rows, a piece for each period.
 #[derive(Drop)]
-struct TablePieces<'p> {
+struct PeriodRows<'p> {
     alloc: Global,
     snapshot: TablesOfRows<'p>,
     plan: &'p Plan,
@@ -42,7 +43,7 @@ struct TablePieces<'p> {
     ghost over: { AreQueriesOver snapshot.catalogue.now plan.now } by { Prim.hlevel (props, queries_prop) },
 }
 
-impl Work for TablePieces<'_> {
+impl Work for PeriodRows<'_> {
     type Out = Rows;
 
     ghost count = { λ w. length w.periods.now };
@@ -65,26 +66,22 @@ impl Work for TablePieces<'_> {
 
 /// The plan's rows in each of the periods, found by these workers.
 pub(crate) fn pieces_of<'p, R: Threads + Sync, G: Gate + Sync>(
-    rt: &R,
-    alloc: Global,
+    workers: &Workers<'_, R, G>,
     snapshot: TablesOfRows<'p>,
     plan: &'p Plan,
     periods: &'p [Period],
-    workers: u32,
-    gate: &G,
 ) -> Result<Vec<Rows>, AllocError>
     requires over { AreQueriesOver snapshot.catalogue.now plan.now }
     requires few { length periods.now ≤ 64 }
-    requires some { 1 ≤ workers }
-    requires at_most { workers ≤ 16 }
     ensures many { IfOk result (λ pieces. length pieces.items ≡ length periods.now) }
     ensures pieces { IfOk result (λ pieces. ArePieces (in_tables (lists_of snapshot.entry.tables.now)) plan.now periods.now pieces.items) }
 {
-    let work = TablePieces {
+    let alloc = workers.alloc;
+    let work = PeriodRows {
         alloc,
         snapshot,
         plan,
         periods,
     };
-    run_with(rt, alloc, workers, &work, gate)
+    run_with(workers.rt, alloc, workers.count, &work, workers.gate)
 }

@@ -3,6 +3,7 @@
 ghost use Rattle.std.specs.Prelude.{◌≤◌};
 
 use crate::range_bounds::{RangeBounds, bounds_of};
+use crate::workers::Workers;
 use std::alloc::{AllocError, Global};
 use std::thread::Threads;
 use tq_base::Relation;
@@ -54,41 +55,36 @@ fn put_together(alloc: Global, pieces: Vec<Vec<u8>>) -> Result<Vec<u8>, AllocErr
 
 // The range of each row by the bounds.
 fn ids_by_bounds<R: Threads + Sync, G: Gate + Sync>(
-    rt: &R,
-    alloc: Global,
+    workers: &Workers<'_, R, G>,
     rows: &Relation<'_>,
     bounds: &RangeBounds<'_>,
     ranges: u32,
-    workers: u32,
-    gate: &G,
 ) -> Result<Vec<u8>, AllocError>
     requires ranges { (1 ≤ ranges) × (ranges ≤ 64) }
-    requires some { 1 ≤ workers }
-    requires at_most { workers ≤ 16 }
 {
+    let alloc = workers.alloc;
     let work = RangeIds {
         alloc,
         rows,
         bounds,
         pieces: ranges,
     };
-    put_together(alloc, run_with(rt, alloc, workers, &work, gate)?)
+    put_together(
+        alloc,
+        run_with(workers.rt, alloc, workers.count, &work, workers.gate)?,
+    )
 }
 
 /// The range of each row, so that ranges have about equal numbers of rows, and rows of a higher range are not below rows of a
 /// lower one. No clause promises this: callers compare the ranges.
 pub(crate) fn ids_by_range<R: Threads + Sync, G: Gate + Sync>(
-    rt: &R,
-    alloc: Global,
+    workers: &Workers<'_, R, G>,
     rows: &Relation<'_>,
     ranges: u32,
-    workers: u32,
-    gate: &G,
 ) -> Result<Vec<u8>, AllocError>
     requires ranges { (1 ≤ ranges) × (ranges ≤ 64) }
-    requires some { 1 ≤ workers }
-    requires at_most { workers ≤ 16 }
 {
+    let alloc = workers.alloc;
     let bounds = bounds_of(alloc, rows, ranges as usize)?;
-    ids_by_bounds(rt, alloc, rows, &bounds, ranges, workers, gate)
+    ids_by_bounds(workers, rows, &bounds, ranges)
 }

@@ -1,33 +1,70 @@
 // The pieces in which the rows that a plan needs are read.
 
 ghost use Rattle.std.specs.Prelude.{◌≡◌, ◌≤◌, ◌++◌, IfOk, OnOk, length};
-ghost use Rattle.tq_exec.specs.Reads.{AreAllCut, IsCut, all_pieces, table_pieces};
+ghost use Rattle.tq_exec.specs.Reads.{AreAllCut, AreCut, IsCut, all_pieces, pieces_for};
 
 use crate::key_ranges::{TableKeys, plan_keys};
 use crate::read_parts::parts_of;
 use std::alloc::{AllocError, Global};
-use tq_base::KeyRange;
+use tq_base::{KeyRange, Period};
 use tq_plan::Plan;
 use tq_scan::Part;
 use tq_store::Db;
 
-/// The keys of a table that a plan needs, and the parts of their window in which the rows are read. Without keys there are
-/// no parts.
+/// The pieces in which the rows of a table are read: those keys and versions that a plan needs.
 #[derive(Drop, Debug)]
-pub struct TableParts {
+pub struct TablePieces {
     pub table: u32,
-    pub keys: Option<KeyRange>,
-    pub parts: Vec<Part>,
+    pub pieces: Vec<ReadPiece>,
 }
 
-/// One of the parts of a table.
+/// Keys of a table, and a part of their window.
 #[derive(Clone, Copy, Debug)]
 pub struct ReadPiece {
     pub table_keys: TableKeys,
     pub part: Part,
 }
 
-// The keys of the table that the plan needs, their window cut into about `wanted` parts.
+// Appends a piece for each of the parts.
+fn add_pieces(
+    pieces: &mut Vec<ReadPiece>,
+    table_keys: TableKeys,
+    parts: &[Part],
+) -> Result<(), AllocError>
+    ensures { OnOk result (pieces.new.items ≡ pieces.old.items ++ pieces_for table_keys parts.now) }
+{
+    'parts: for part in parts {
+        pieces.push(ReadPiece {
+            table_keys,
+            part: *part,
+        })?;
+    }
+    Ok(())
+}
+
+// The window of each range of keys of the table, cut into about `wanted` parts, one range after the other.
+fn cut_ranges(
+    alloc: Global,
+    db: &Db,
+    n: u32,
+    period: &Period,
+    table: u32,
+    ranges: &[KeyRange],
+    wanted: usize,
+) -> Result<Vec<ReadPiece>, AllocError>
+    requires { n ≤ length db.now.events }
+    ensures { IfOk result (λ pieces. AreCut db.now.events n period.now table ranges.now pieces.items) }
+{
+    let mut pieces = Vec::new(alloc);
+    'each: for keys in ranges {
+        let table_keys = TableKeys { table, keys: *keys };
+        let parts = parts_of(alloc, db, n, period, table_keys, wanted)?;
+        add_pieces(&mut pieces, table_keys, &parts)?;
+    }
+    Ok(pieces)
+}
+
+// The keys of the table that the plan needs, in about `wanted` pieces.
 fn cut_table(
     alloc: Global,
     db: &Db,
@@ -35,29 +72,19 @@ fn cut_table(
     plan: &Plan,
     table: u32,
     wanted: usize,
-) -> Result<TableParts, AllocError>
+) -> Result<TablePieces, AllocError>
     requires { n ≤ length db.now.events }
     ensures { IfOk result (IsCut db.now.events n plan.now table) }
 {
-    match plan_keys(plan, table) {
-        Some(keys) => {
-            let table_keys = TableKeys { table, keys };
-            let parts = parts_of(alloc, db, n, &plan.window, table_keys, wanted)?;
-            Ok(TableParts {
-                table,
-                keys: Some(keys),
-                parts,
-            })
-        }
-        None => Ok(TableParts {
-            table,
-            keys: None,
-            parts: Vec::new(alloc),
-        }),
-    }
+    let ranges = plan_keys(alloc, plan, table)?;
+    let each = wanted / ranges.len().max(1);
+    Ok(TablePieces {
+        table,
+        pieces: cut_ranges(alloc, db, n, &plan.window, table, &ranges, each)?,
+    })
 }
 
-/// The keys of each table that the plan needs, each window cut into about `wanted` parts. `AllocError` if an allocation
+/// The keys of each table that the plan needs, in about `wanted` pieces for each table. `AllocError` if an allocation
 /// failed.
 pub(crate) fn cut_tables(
     alloc: Global,
@@ -65,7 +92,7 @@ pub(crate) fn cut_tables(
     n: u32,
     plan: &Plan,
     wanted: usize,
-) -> Result<Vec<TableParts>, AllocError>
+) -> Result<Vec<TablePieces>, AllocError>
     requires { n ≤ length db.now.events }
     ensures { IfOk result (λ tables. AreAllCut db.now.events n plan.now (length db.now.catalogue.tables) tables.items) }
 {
@@ -80,33 +107,16 @@ pub(crate) fn cut_tables(
     Ok(tables)
 }
 
-// Appends the pieces of the table.
-fn add_pieces(pieces: &mut Vec<ReadPiece>, table: &TableParts) -> Result<(), AllocError>
-    ensures { OnOk result (pieces.new.items ≡ pieces.old.items ++ table_pieces table.now) }
-{
-    let Some(keys) = table.keys else {
-        return Ok(());
-    };
-    let table_keys = TableKeys {
-        table: table.table,
-        keys,
-    };
-    'parts: for part in &table.parts {
-        pieces.push(ReadPiece {
-            table_keys,
-            part: *part,
-        })?;
-    }
-    Ok(())
-}
-
 /// The pieces of all tables, one table after the other. `AllocError` if an allocation failed.
-pub(crate) fn pieces_of(alloc: Global, tables: &[TableParts]) -> Result<Vec<ReadPiece>, AllocError>
+pub(crate) fn all_pieces(
+    alloc: Global,
+    tables: &[TablePieces],
+) -> Result<Vec<ReadPiece>, AllocError>
     ensures { IfOk result (λ pieces. pieces.items ≡ all_pieces tables.now) }
 {
     let mut pieces = Vec::new(alloc);
     'tables: for table in tables {
-        add_pieces(&mut pieces, table)?;
+        pieces.extend_from_slice(&table.pieces)?;
     }
     Ok(pieces)
 }

@@ -9,9 +9,10 @@ ghost use Rattle.tq_store.specs.Valid.{width_of};
 ghost use Rattle.tq_exec.specs.Answers.{as_of, in_tables, times_at};
 ghost use Rattle.tq_exec.specs.Fitting.{AreAllFitting};
 ghost use Rattle.tq_exec.specs.declared.read_pieces.ReadPiece.{ReadPiece as AnyPiece};
-ghost use Rattle.tq_exec.specs.Reads.{AreAllCut, AreRead, AreReadTables, IsCut, IsPieceIn, IsRead, IsReadTable, all_pieces, piece_prop, table_pieces};
+ghost use Rattle.tq_exec.specs.Reads.{AreAllCut, AreRead, AreReadTables, IsCut, IsPieceIn, IsRead, IsReadTable, all_pieces, piece_prop};
 
-use crate::read_pieces::{ReadPiece, TableParts, cut_tables, pieces_of};
+use crate::read_pieces::{ReadPiece, TablePieces, all_pieces, cut_tables};
+use crate::workers::Workers;
 use std::alloc::{AllocError, Global};
 use std::thread::Threads;
 use tq_base::{Catalogue, Period, Rows};
@@ -75,23 +76,23 @@ fn width_of(catalogue: &Catalogue, table: u32) -> usize
     }
 }
 
-// The rows of the table: those of its parts, one part after the other. No value is copied.
+// The rows of the table: those of its pieces, one piece after the other. No value is copied.
 fn read_table(
     alloc: Global,
     db: &Db,
     n: u32,
     plan: &Plan,
-    parts: &TableParts,
+    pieces: &TablePieces,
     lists: Vec<Rows>,
 ) -> Result<Rows, AllocError>
     requires within { n ≤ length db.now.events }
-    requires cut { IsCut db.now.events n plan.now parts.now.table parts.now }
-    requires read { AreRead db.now.catalogue db.now.events n plan.now.window (table_pieces parts.now) lists.items }
-    ensures { IfOk result (IsReadTable db.now.catalogue (as_of db.now.events n) plan.now parts.now.table) }
+    requires cut { IsCut db.now.events n plan.now pieces.now.table pieces.now }
+    requires read { AreRead db.now.catalogue db.now.events n plan.now.window pieces.now.pieces.items lists.items }
+    ensures { IfOk result (IsReadTable db.now.catalogue (as_of db.now.events n) plan.now pieces.now.table) }
 {
     let _count = db.count();
     parts_are_valid();
-    chained(alloc, width_of(db.catalogue(), parts.table), lists)
+    chained(alloc, width_of(db.catalogue(), pieces.table), lists)
 }
 
 // The rows of each table, whose pieces were read one table after the other.
@@ -100,18 +101,18 @@ fn join_pieces(
     db: &Db,
     n: u32,
     plan: &Plan,
-    parts: &[TableParts],
+    pieces: &[TablePieces],
     lists: Vec<Rows>,
 ) -> Result<Vec<Rows>, AllocError>
     requires within { n ≤ length db.now.events }
-    requires cut { AreAllCut db.now.events n plan.now (length db.now.catalogue.tables) parts.now }
-    requires read { AreRead db.now.catalogue db.now.events n plan.now.window (all_pieces parts.now) lists.items }
+    requires cut { AreAllCut db.now.events n plan.now (length db.now.catalogue.tables) pieces.now }
+    requires read { AreRead db.now.catalogue db.now.events n plan.now.window (all_pieces pieces.now) lists.items }
     ensures { IfOk result (λ tables. AreReadTables db.now.catalogue (as_of db.now.events n) plan.now tables.items) }
 {
-    let mut tables = Vec::with_capacity(alloc, parts.len())?;
+    let mut tables = Vec::with_capacity(alloc, pieces.len())?;
     let mut lists = lists;
-    'tables: for table in parts {
-        let later = lists.split_off(table.parts.len())?;
+    'tables: for table in pieces {
+        let later = lists.split_off(table.pieces.len())?;
         tables.push(read_table(alloc, db, n, plan, table, lists)?)?;
         lists = later;
     }
@@ -121,24 +122,20 @@ fn join_pieces(
 /// For each table of the `Db`, the rows that the plan needs as of the first `n` events, read in pieces by these workers:
 /// the plan has the same answer over them. `None` if there would be too many pieces. `AllocError` if an allocation failed.
 pub(crate) fn read_tables<R: Threads + Sync, G: Gate + Sync>(
-    rt: &R,
-    alloc: Global,
+    workers: &Workers<'_, R, G>,
     db: &Db,
     n: u32,
     plan: &Plan,
-    workers: u32,
-    gate: &G,
 ) -> Result<Option<Vec<Rows>>, AllocError>
     requires within { n ≤ length db.now.events }
     requires over { AreQueriesOver db.now.catalogue plan.now }
-    requires some { 1 ≤ workers }
-    requires at_most { workers ≤ 16 }
     ensures fit { IfOk result (λ read. IfSome read (λ tables. AreAllFitting db.now.catalogue (lists_of tables.items))) }
     ensures same { (v : Row) (t : ℕ) → IfOk result (λ read. IfSome read (λ tables. times_at (in_tables (lists_of tables.items)) plan.now v t ≡ times_at (as_of db.now.events n) plan.now v t)) }
 {
+    let alloc = workers.alloc;
     let _count = db.count();
-    let parts = cut_tables(alloc, db, n, plan, 2 * workers as usize)?;
-    let pieces = pieces_of(alloc, &parts)?;
+    let tables = cut_tables(alloc, db, n, plan, 2 * workers.count as usize)?;
+    let pieces = all_pieces(alloc, &tables)?;
     if pieces.len() > MOST_PIECES {
         return Ok(None);
     }
@@ -149,6 +146,6 @@ pub(crate) fn read_tables<R: Threads + Sync, G: Gate + Sync>(
         window: &plan.window,
         pieces: &pieces,
     };
-    let lists = run_with(rt, alloc, workers, &work, gate)?;
-    Ok(Some(join_pieces(alloc, db, n, plan, &parts, lists)?))
+    let lists = run_with(workers.rt, alloc, workers.count, &work, workers.gate)?;
+    Ok(Some(join_pieces(alloc, db, n, plan, &tables, lists)?))
 }

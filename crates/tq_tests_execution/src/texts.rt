@@ -52,7 +52,7 @@ fn joined(alloc: Global, parts: &[Vec<u8>]) -> Result<Vec<u8>, AllocError> {
     Ok(bytes)
 }
 
-/// Executed by these workers over the tables, in shares and ranges of values from the first row on.
+/// Executed by these workers over the tables, in partitions and ranges of values from the first row on.
 pub(crate) fn text_in_ranges<R: Threads + Sync, G: Gate + Sync>(
     rt: &R,
     alloc: Global,

@@ -1,4 +1,4 @@
--- Behind the others stand rows that, with those at the places that are left, are the ones that go to the share.
+-- The rows that were appended, with those at the places that are left, are the rows of the partition.
 use Rattle.std.proofs.Common.{◌≡◌, ◌<◌, ◌++◌, length, map}
 use Rattle.std.specs.Prelude.{All}
 use Rattle.tq_base.specs.Relations.{row_at}

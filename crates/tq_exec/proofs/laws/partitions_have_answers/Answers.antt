@@ -1,5 +1,5 @@
-use Rattle.tq_exec.proofs.PartitionLemmas.{shares_part}
+use Rattle.tq_exec.proofs.PartitionLemmas.{partitions_answer}
 use Rattle.tq_exec.proofs.laws.partitions_have_answers.Goals as goal
 
 pub returns : goal.returns
-returns c = shares_part
+returns c = partitions_answer

@@ -11,5 +11,5 @@ returns g c =
     let rows = c.args.rows.now in
     let ranges = c.in_ok-ranges.ranges.items in
     subst (HaveAnswer c.args.wanted rows.width (copies rows.items)) (sym c.in_ok-made_of.ensures)
-    (have_layers c.args.wanted rows.width rows.items c.deref.result.now (4 * c.args.workers) ranges (omega (arith, c.requires.some)) c.in_ok-ranges.ensures
+    (have_layers c.args.wanted rows.width rows.items c.deref.result.now (4 * c.args.workers.now.count) ranges (omega (arith, c.args.workers.now.some)) c.in_ok-ranges.ensures
     (subst (λ (l : List AnswerPart). AreAscending (map (λ (r : AnswerPart). r.rows) l)) c.deref-2.ensures.value (c.if-not-are_ascending.ensures refl)))

@@ -1,4 +1,4 @@
--- The stretches so far.
+-- The chunks so far.
 use Rattle.std.proofs.Common.{◌≡◌, ◌++◌}
 use Rattle.std.specs.Vec.Iter.{into_iter_items}
 use Rattle.tq_table.specs.Sink.{bytes_of}

@@ -1,4 +1,4 @@
--- The shares of the rows so far.
+-- The partitions of the rows so far.
 use Rattle.std.proofs.Common.{◌≡◌, ◌++◌, map, take}
 use Rattle.tq_base.specs.declared.fragment.Fragment.{Fragment}
 use Rattle.tq_base.specs.RowValues.{value_at}

@@ -4,7 +4,7 @@ use Rattle.std.proofs.lemmas.Result.{IfOk-weaker}
 use Rattle.tq_base.specs.declared.fragment.Fragment.{Fragment}
 use Rattle.tq_base.specs.RowValues.{value_at}
 use Rattle.tq_exec.specs.Partitions.{partition_of}
-use Rattle.tq_exec.proofs.ChunkLemmas.{stretches_told}
+use Rattle.tq_exec.proofs.ChunkLemmas.{chunks_are}
 use Rattle.tq_exec.proofs.partition_ids.ids_of_rows.Goals as goal
 
 pub returns-then-len-le-CHUNK_ROWS : goal.returns-then-len-le-CHUNK_ROWS
@@ -15,4 +15,4 @@ returns-then-len-le-CHUNK_ROWS g c =
 
 pub returns : goal.returns
 returns g c =
-    IfOk-weaker c.chained_chunks.result _ _ (λ ids is. is ∙ stretches_told c.args.cuts.now c.args.column c.args.rows.now.items c.in_ok-chunks.chunks.items c.in_ok-chunks.ensures) c.chained_chunks.ensures
+    IfOk-weaker c.chained_chunks.result _ _ (λ ids is. is ∙ chunks_are c.args.cuts.now c.args.column c.args.rows.now.items c.in_ok-chunks.chunks.items c.in_ok-chunks.ensures) c.chained_chunks.ensures

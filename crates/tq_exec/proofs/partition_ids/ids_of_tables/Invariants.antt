@@ -1,4 +1,4 @@
--- Of the tables so far the shares are told.
+-- The partition ids of the rows of the tables so far.
 use Rattle.std.proofs.Common.{◌≡◌, ◌<◌, ℕ, length, slice_index_or}
 use Rattle.std.specs.Global.{Vec}
 use Rattle.tq_event.specs.Tables.{lists_of, rows_in}

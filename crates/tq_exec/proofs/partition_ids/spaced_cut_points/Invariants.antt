@@ -1,4 +1,4 @@
--- There is at most one cut less than shares.
+-- There is at most one cut less than partitions.
 use Rattle.std.proofs.Common.{◌≤◌, ◌+◌, length}
 use Rattle.tq_exec.proofs.partition_ids.spaced_cut_points.Given as goal
 

@@ -1,6 +1,4 @@
-use Rattle.std.proofs.Common.{ℕ, List, Option, length, map, refl, subst, sym}
-use Rattle.std.specs.Global.{Vec}
-use Rattle.std.specs.Prelude.{IfSome}
+use Rattle.std.proofs.Common.{List, length, map, refl, subst, sym}
 use Rattle.tq_base.specs.Ranges.{AreAscending}
 use Rattle.tq_event.specs.Tables.{lists_of}
 use Rattle.tq_exec.specs.Answers.{in_tables, times_at}
@@ -16,9 +14,8 @@ returns g c =
     let all = c.args.all in
     let plan = c.args.plan.now in
     let valid = in_tables (lists_of all.tables.now) in
-    let columns = c.deref-6.result.now in
-    let found = subst (λ (o : Option (Vec (Option ℕ))). IfSome o (λ columns. ArePartitionedBy (columns_in columns.items) plan)) c.in-Some.is c.in_ok-columns.ensures in
-    let partitioned = subst (λ l. ArePartitionedBy (columns_in l) plan) (sym c.deref-6.ensures.value) found in
+    let columns = c.deref-5.result.now in
+    let partitioned = subst (λ l. ArePartitionedBy (columns_in l) plan) (sym c.deref-5.ensures.value) c.requires.by.partitioned in
     subst (HaveAnswer c.args.wanted (length plan.left.outputs) (times_at valid plan)) (sym c.in_ok-made_of.ensures)
-    (have_answer c.partitions_have_answers.ensures c.args.wanted all.catalogue.now valid plan c.deref-5.result.now columns c.in_ok-partitions.partitions.items c.fit.ensures c.requires.over partitioned c.in_ok-partitions.ensures
-    (subst (λ (l : List AnswerPart). AreAscending (map (λ (r : AnswerPart). r.rows) l)) c.deref-8.ensures.value (c.if-not-are_ascending.ensures refl)))
+    (have_answer c.partitions_have_answers.ensures c.args.wanted all.catalogue.now valid plan c.deref-4.result.now columns c.in_ok-partitions.partitions.items c.fit.ensures c.requires.over partitioned c.in_ok-partitions.ensures
+    (subst (λ (l : List AnswerPart). AreAscending (map (λ (r : AnswerPart). r.rows) l)) c.deref-7.ensures.value (c.if-not-are_ascending.ensures refl)))

@@ -1,8 +1,14 @@
-use Rattle.std.proofs.Common.{refl}
+use Rattle.std.proofs.Common.{refl, subst}
+use Rattle.tq_exec.specs.Reads.{AreCut}
 use Rattle.tq_exec.proofs.read_pieces.cut_table.Goals as goal
 
-pub returns-in_ok-parts-in-Some : goal.returns-in_ok-parts-in-Some
-returns-in_ok-parts-in-Some c = record { same = refl; needed = c.in-Some.ensures; cut = c.in_ok-parts-in-Some.ensures.tile }
-
-pub returns-in-None : goal.returns-in-None
-returns-in-None c = record { same = refl; needed = c.in-None.ensures; cut = c.new.ensures.items }
+pub returns : goal.returns
+returns c =
+    let db = c.args.db.now in
+    record {
+      same = refl;
+      ranges = c.in_ok-ranges.ranges.items;
+      apart = c.in_ok-ranges.ensures.apart;
+      needed = c.in_ok-ranges.ensures.needed;
+      cut = subst (λ rs. AreCut db.events c.args.n c.args.plan.now.window c.args.table rs c.in_ok-cut_ranges.field-0.items) c.deref.ensures.value c.in_ok-cut_ranges.ensures;
+    }

@@ -7,7 +7,7 @@ use Rattle.tq_exec.proofs.reads.join_pieces.Given as goal
 
 abbrev pub invariant-tables : goal.invariant-tables
 invariant-tables l = record {
-  read : AreRead l.db.catalogue l.db.events l.n l.plan.window (all_pieces (drop l.table-index l.parts)) l.lists.items;
+  read : AreRead l.db.catalogue l.db.events l.n l.plan.window (all_pieces (drop l.table-index l.pieces)) l.lists.items;
   many : length l.tables.items ≡ l.table-index;
   each : (k : ℕ) (d : RowList) → k < length l.tables.items → IsReadTable l.db.catalogue (as_of l.db.events l.n) l.plan k (get_or l.tables.items k d);
 }

@@ -1,12 +1,10 @@
 use Rattle.std.proofs.Common.{◌∙◌, ap, get_or, length, subst, sym}
 use Rattle.std.specs.Prelude.{All}
 use Rattle.tq_exec.specs.Answers.{as_of}
-use Rattle.tq_exec.specs.declared.read_pieces.TableParts.{TableParts}
-use Rattle.tq_exec.specs.Reads.{AreAllCut, AreCut, AreRead, IsPieceIn, all_pieces}
+use Rattle.tq_exec.specs.Reads.{AreAllCut, AreRead, IsPieceIn, all_pieces}
 use Rattle.tq_exec.proofs.HeldRows.{fit_as_of}
 use Rattle.tq_exec.proofs.NeededLemmas.{answer_needed, tables_read_fit}
-use Rattle.tq_exec.proofs.PartitionRows.{lent}
-use Rattle.tq_exec.proofs.ReadLemmas.{pieces_in, read_in_order}
+use Rattle.tq_exec.proofs.ReadLemmas.{pieces_in, pieces_of_table_in, read_in_order}
 use Rattle.tq_exec.proofs.reads.read_tables.Goals as goal
 
 -- the pieces have keys and versions of the windows of their tables
@@ -14,14 +12,15 @@ pub invariant_of-work-clause-inside : goal.invariant_of-work-clause-inside
 invariant_of-work-clause-inside g c =
     let db = c.args.db.now in
     let plan = c.args.plan.now in
-    let parts = c.in_ok-parts.parts.items in
+    let tables = c.in_ok-tables.tables.items in
     subst (All (IsPieceIn db.events c.args.n plan.window)) (sym (c.deref-2.ensures.value ∙ c.in_ok-pieces.ensures ∙ ap all_pieces c.deref.ensures.value))
-    (pieces_in db.catalogue db.events c.args.n plan.window parts (λ k d less. (c.in_ok-parts.ensures.each k d less).cut))
+    (pieces_in db.catalogue db.events c.args.n plan.window tables
+    (λ k d less. let here = c.in_ok-tables.ensures.each k d less in pieces_of_table_in db.catalogue db.events c.args.n plan.window k here.ranges (get_or tables k d).pieces.items here.cut))
 
 pub join_pieces-requires-clause-cut : goal.join_pieces-requires-clause-cut
 join_pieces-requires-clause-cut g c =
     let db = c.args.db.now in
-    subst (AreAllCut db.events c.args.n c.args.plan.now (length db.catalogue.tables)) (sym c.deref-3.ensures.value) c.in_ok-parts.ensures
+    subst (AreAllCut db.events c.args.n c.args.plan.now (length db.catalogue.tables)) (sym c.deref-3.ensures.value) c.in_ok-tables.ensures
 
 -- the list at each place has the rows of the piece there
 pub join_pieces-requires-clause-read : goal.join_pieces-requires-clause-read

@@ -1,4 +1,4 @@
--- So many columns are told, and each that is named is wanted.
+-- So many columns are marked, and each that the plan names is wanted.
 use Rattle.std.proofs.Common.{◌≡◌, length}
 use Rattle.tq_exec.specs.ColumnUse.{AreNamed, plan_names}
 use Rattle.tq_exec.proofs.required.columns_of.Given as goal

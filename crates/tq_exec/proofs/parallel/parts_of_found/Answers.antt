@@ -1,10 +1,10 @@
-use Rattle.std.proofs.Common.{◌∙◌, length, subst}
+use Rattle.std.proofs.Common.{◌∙◌, subst}
 use Rattle.std.proofs.lemmas.Result.{IfOk-weaker}
 use Rattle.tq_exec.specs.AnswerParts.{AreMade}
-use Rattle.tq_exec.proofs.parallel.execute_parallel.Goals as goal
+use Rattle.tq_exec.proofs.parallel.parts_of_found.Goals as goal
 
-pub returns-2 : goal.returns-2
-returns-2 g c =
+pub returns : goal.returns
+returns g c =
     IfOk-weaker c.parts_of_rows.result _ _
     (λ made have. record {
       rows = have.rows;
