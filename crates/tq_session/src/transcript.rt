@@ -138,7 +138,6 @@ fn run<J: StoreId, R: Threads + Wait + Sync, I: Read, W: Write>(
     alloc: Global,
     opened: Opened,
     loaded: Loaded,
-    mut input: Input,
     source: &mut Source<I>,
     sink: &mut Sink<W>,
     form: Form,
@@ -146,7 +145,6 @@ fn run<J: StoreId, R: Threads + Wait + Sync, I: Read, W: Write>(
     requires named { (opened ≡ J.book) × (loaded.catalogue ≡ J.catalogue) }
     requires history { IsHistory loaded.catalogue loaded.events }
     requires few { length loaded.events ≤ 16777216 }
-    requires input { (input.unconsumed ≡ []) × (input.left ≡ 1073741824) }
     ensures all { OnOk result (RepliesToAll form loaded.catalogue (opening loaded.events) (streams (I.remaining source.old.reader) (W.contents sink.old.writer)) (streams (I.remaining source.new.reader) (W.contents sink.new.writer))) }
     ensures unfailed { OnOk result ((source.new.failed ≡ source.old.failed) × (sink.new.failed ≡ sink.old.failed)) }
     ensures read { result ≡ Err SessionFault.Read → RepliesToEnded form loaded.catalogue (opening loaded.events) (streams (I.remaining source.old.reader) (W.contents sink.old.writer)) (streams (I.remaining source.new.reader) (W.contents sink.new.writer)) }
@@ -157,6 +155,9 @@ fn run<J: StoreId, R: Threads + Wait + Sync, I: Read, W: Write>(
     ensures start { IfErr result (λ fault. fault ≢ SessionFault.Read → fault ≢ SessionFault.Write → ((fault ≡ SessionFault.NoPlace) ⊎ (fault ≡ SessionFault.OutOfMemory)) × (source.new ≡ source.old) × (sink.new ≡ sink.old)) }
     ensures reads { source.new.reads ≤ source.old.reads + 1073741824 }
 {
+    let Ok(mut input) = Input::new(alloc) else {
+        return Err(SessionFault::OutOfMemory);
+    };
     let mut session_state = SessionState::<J>::open(alloc, opened, loaded)?;
     let ended = reply_to_lines(
         rt,
@@ -197,8 +198,5 @@ pub fn session<R: Threads + Wait + Sync, I: Read, W: Write>(
     loaded_is_history();
     loaded_is_within();
     let loaded = load(alloc, files, MAX_EVENTS, form)?;
-    let Ok(input) = Input::new(alloc) else {
-        return Err(SessionFault::OutOfMemory);
-    };
-    run::<Brand, R, I, W>(rt, alloc, Opened::new(), loaded, input, source, sink, form)
+    run::<Brand, R, I, W>(rt, alloc, Opened::new(), loaded, source, sink, form)
 }

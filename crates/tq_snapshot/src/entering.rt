@@ -1,33 +1,22 @@
 // The steps of a reader on the shared value.
 
-ghost use Rattle.std.specs.Prelude.{◌≡◌, ◌<◌, ◌≤◌, length, IfErr, IfOk, MatchBool, MatchResult};
+ghost use Rattle.std.specs.Prelude.{◌≡◌, ◌<◌, ◌≤◌, length, IfErr, IfOk, MatchBool};
 ghost use mathlib.Core.List.{IsPrefix};
 ghost use Rattle.left_right.specs.Sides.{view};
 ghost use Rattle.tq_event.specs.History.{IsHistory};
-ghost use Rattle.tq_plan.specs.ValidPlans.{IsPlanOver};
-ghost use Rattle.tq_exec.specs.Answers.{IsPlanAnswer};
-ghost use Rattle.tq_snapshot.specs.Calls.{Entered, FitsFault};
+ghost use Rattle.tq_snapshot.specs.Calls.{Entered};
 ghost use Rattle.tq_snapshot.specs.StoreValue.{IsOf};
 ghost use Rattle.tq_snapshot.specs.Sound.{FindsOwn};
 
 use crate::book::{Prefix, StoreId};
-use crate::faults::{AskFault, Missed};
+use crate::faults::Missed;
 use crate::published::{LastFind, Published};
 use crate::shared::SharedStore;
 use left_right::reader::{Reader, Reading};
-use std::alloc::Global;
-use std::sync::Wait;
-use std::thread::Threads;
-use tq_plan::Plan;
-use tq_run::Gate;
-use tq_table::Table;
 
 pub(crate) type SharedReader<J> = Reader<SharedStore, LastFind, Published<J>>;
 
 type StoreGuard<J> = Reading<SharedStore, LastFind, Published<J>>;
-
-/// What was found, and the result of the query there.
-pub(crate) type Found<'b> = Result<(Prefix, Result<Table<'b>, AskFault>), Missed>;
 
 // Whether the shown value begins with the events that the reader knows. It does begin with the first `own` of them,
 // which the reader found itself. They are compared only if a note has more events: no proof knows whether the note was
@@ -61,8 +50,8 @@ fn found_in(shared: &SharedStore, observed: &Prefix, own: u64) -> Result<Prefix,
     }
 }
 
-// Enters the shared value; returns it with the events found, or returns the reader if nothing is found.
-fn begin<J: StoreId>(
+/// Enters the shared value; returns it with the events found, or returns the reader if nothing is found.
+pub(crate) fn begin<J: StoreId>(
     reader: SharedReader<J>,
     observed: &Prefix,
     own: u64,
@@ -115,63 +104,5 @@ pub(crate) fn enter_first<J: StoreId>(
     match found {
         Ok(_) => (reader, observed.len()),
         Err(_) => (reader, 0),
-    }
-}
-
-/// Enters the shared value and executes the plan as of the first `n` events found. The value is held only during this
-/// call.
-pub(crate) fn ask<'b, J: StoreId>(
-    reader: SharedReader<J>,
-    observed: &Prefix,
-    own: u64,
-    alloc: Global,
-    n: u32,
-    plan: &Plan,
-) -> (SharedReader<J>, Found<'b>)
-    requires book { observed.now.book ≡ J.book }
-    requires own { FindsOwn observed.now.list own (view reader.place) }
-    requires plan { IsPlanOver J.catalogue plan.now }
-    ensures found { IfOk result.1 (λ r. (r.0.book ≡ J.book) × Entered J.catalogue observed.now.list r.0.list × MatchResult r.1 (λ table. (n ≤ length r.0.list) × IsPlanAnswer r.0.list n plan.now table) (λ f. FitsFault (length r.0.list) n f)) }
-    ensures own { IfOk result.1 (λ r. view result.0.place ≡ r.0.list) }
-    ensures kept { IfErr result.1 (λ _. FindsOwn observed.now.list own (view result.0.place)) }
-    ensures stale { IfErr result.1 (λ missed. missed ≡ Missed.Stale → own < length observed.now.list) }
-{
-    match begin(reader, observed, own) {
-        Ok((reading, prefix)) => {
-            let answer = reading.get().ask(alloc, n, plan);
-            (reading.leave(), Ok((prefix, answer)))
-        }
-        Err((reader, missed)) => (reader, Err(missed)),
-    }
-}
-
-/// Does what `ask` does, with `workers` workers that share the events found.
-pub(crate) fn ask_with<'b, J: StoreId, R: Threads + Wait + Sync, G: Gate + Sync>(
-    rt: &R,
-    reader: SharedReader<J>,
-    observed: &Prefix,
-    own: u64,
-    alloc: Global,
-    n: u32,
-    plan: &Plan,
-    workers: u32,
-    gate: &G,
-) -> (SharedReader<J>, Found<'b>)
-    requires book { observed.now.book ≡ J.book }
-    requires own { FindsOwn observed.now.list own (view reader.place) }
-    requires plan { IsPlanOver J.catalogue plan.now }
-    requires some { 1 ≤ workers }
-    requires at_most { workers ≤ 16 }
-    ensures found { IfOk result.1 (λ r. (r.0.book ≡ J.book) × Entered J.catalogue observed.now.list r.0.list × MatchResult r.1 (λ table. (n ≤ length r.0.list) × IsPlanAnswer r.0.list n plan.now table) (λ f. FitsFault (length r.0.list) n f)) }
-    ensures own { IfOk result.1 (λ r. view result.0.place ≡ r.0.list) }
-    ensures kept { IfErr result.1 (λ _. FindsOwn observed.now.list own (view result.0.place)) }
-    ensures stale { IfErr result.1 (λ missed. missed ≡ Missed.Stale → own < length observed.now.list) }
-{
-    match begin(reader, observed, own) {
-        Ok((reading, prefix)) => {
-            let answer = reading.get().ask_with(rt, alloc, n, plan, workers, gate);
-            (reading.leave(), Ok((prefix, answer)))
-        }
-        Err((reader, missed)) => (reader, Err(missed)),
     }
 }

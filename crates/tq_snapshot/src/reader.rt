@@ -5,7 +5,7 @@ ghost use Rattle.tq_plan.specs.ValidPlans.{IsPlanOver};
 ghost use Rattle.tq_snapshot.specs.Calls.{Answers, Entered, IsLearned, Refuses};
 
 use crate::book::{Prefix, StoreId};
-use crate::entering::{SharedReader, ask, ask_with, enter};
+use crate::entering::{SharedReader, begin, enter};
 use crate::faults::{AskFault, Closed};
 use crate::note::Note;
 use std::alloc::Global;
@@ -67,15 +67,18 @@ impl<J: StoreId> Reader<J> {
         ensures { MatchResult result (λ table. Answers J.catalogue self.old n plan.now self.new table) (Refuses J.catalogue self.old n self.new) }
     {
         let inner = self.inner.take().unwrap();
-        let (inner, found) = ask(inner, &self.observed, self.own, alloc, n, plan);
-        self.inner = Some(inner);
-        match found {
-            Ok((prefix, answer)) => {
+        match begin(inner, &self.observed, self.own) {
+            Ok((reading, prefix)) => {
+                let answer = reading.get().ask(alloc, n, plan);
+                self.inner = Some(reading.leave());
                 self.own = prefix.len();
                 self.observed = prefix;
                 answer
             }
-            Err(_) => Err(AskFault::Closed),
+            Err((inner, _)) => {
+                self.inner = Some(inner);
+                Err(AskFault::Closed)
+            }
         }
     }
 
@@ -96,25 +99,18 @@ impl<J: StoreId> Reader<J> {
         ensures { MatchResult result (λ table. Answers J.catalogue self.old n plan.now self.new table) (Refuses J.catalogue self.old n self.new) }
     {
         let inner = self.inner.take().unwrap();
-        let (inner, found) = ask_with(
-            rt,
-            inner,
-            &self.observed,
-            self.own,
-            alloc,
-            n,
-            plan,
-            workers,
-            gate,
-        );
-        self.inner = Some(inner);
-        match found {
-            Ok((prefix, answer)) => {
+        match begin(inner, &self.observed, self.own) {
+            Ok((reading, prefix)) => {
+                let answer = reading.get().ask_with(rt, alloc, n, plan, workers, gate);
+                self.inner = Some(reading.leave());
                 self.own = prefix.len();
                 self.observed = prefix;
                 answer
             }
-            Err(_) => Err(AskFault::Closed),
+            Err((inner, _)) => {
+                self.inner = Some(inner);
+                Err(AskFault::Closed)
+            }
         }
     }
 
