@@ -2,7 +2,7 @@
 # is the full check, and `make bench` measures the program. All three that prove share what was proved.
 SHELL := /bin/bash
 .SHELLFLAGS := -eu -o pipefail -c
-.PHONY: answer first build quick test words docs wrong-bodies soak bench install tools
+.PHONY: answer first build quick test words docs wrong-bodies soak bench plots install tools
 
 PREFIX := /usr/local
 SHARE := $(DESTDIR)$(PREFIX)/share
@@ -58,6 +58,13 @@ soak: tools
 
 bench: build
 	bench/run.sh
+
+# Measures what docs/plots/ shows, and draws it.
+PLOTTED := 10000 100000 1000000 4000000
+plots: build
+	python3 bench/versus.py --rows $(PLOTTED) --csv docs/plots/peers.csv
+	python3 bench/workers.py --rows 1000000 --csv docs/plots/workers.csv
+	python3 bench/plots.py
 
 # The program, its page of the manual, and what shells complete.
 install: build

@@ -1,6 +1,7 @@
 """Runs commands for the measurements: their time, their peak memory, and whether their bytes are equal."""
 
 import argparse
+import csv
 import filecmp
 import math
 import os
@@ -8,9 +9,66 @@ import resource
 import subprocess
 import sys
 import time
+from dataclasses import asdict, dataclass, fields
 
 HERE = os.path.dirname(os.path.abspath(__file__))
 TRIES = 3
+
+# What is asked of the two tables of a payroll.
+QUESTIONS = {
+    "name": "VALIDTIME SELECT name FROM emp",
+    "counts": "VALIDTIME SELECT dept, COUNT(*) FROM emp GROUP BY dept",
+    "join": "VALIDTIME SELECT emp.emp, name, dept, amount FROM emp, sal WHERE emp.emp = sal.emp",
+    "sums": "VALIDTIME SELECT dept, SUM(amount) FROM emp, sal WHERE emp.emp = sal.emp GROUP BY dept",
+    "difference": "VALIDTIME SELECT emp FROM emp EXCEPT ALL SELECT emp FROM sal",
+}
+
+
+@dataclass
+class Measurement:
+    """A line of the CSV files of measurements. What is not known is None."""
+
+    tables: str
+    question: str
+    rows: int  # of each table
+    program: str
+    workers: int
+    seconds: float  # the least, from start to end, reading and writing included
+    processor_seconds: float | None  # the least
+    peak_bytes: int | None  # the greatest
+    file_bytes: int  # of the tables that the question reads
+    table_count: int
+
+    def bytes_a_row(self):
+        """The peak memory beyond the files for each row of the tables."""
+        if self.peak_bytes is None:
+            return None
+        return (self.peak_bytes - self.file_bytes) / (self.rows * self.table_count)
+
+
+def write_measurements(path, measurements):
+    os.makedirs(os.path.dirname(os.path.abspath(path)), exist_ok=True)
+    with open(path, "w", newline="", encoding="utf-8") as file:
+        writer = csv.DictWriter(file, [field.name for field in fields(Measurement)], lineterminator="\n")
+        writer.writeheader()
+        for measurement in measurements:
+            line = asdict(measurement)
+            writer.writerow({name: round(value, 6) if isinstance(value, float) else value for name, value in line.items()})
+
+
+def read_measurements(path):
+    with open(path, newline="", encoding="utf-8") as file:
+        return [Measurement(**{name: value_of(value) for name, value in line.items()}) for line in csv.DictReader(file)]
+
+
+def value_of(text):
+    """The number of a text or, if it is none, the text; None for an empty one."""
+    for kind in (int, float):
+        try:
+            return kind(text)
+        except ValueError:
+            pass
+    return text or None
 
 
 def read_options(sizes):
@@ -40,6 +98,46 @@ def run(command, output):
     return seconds, peak
 
 
+def run_in_turn(commands, folder, tries):
+    """Runs commands in turn, each as often, and compares their bytes: of each the least seconds, the least user and system
+    seconds, and the greatest peak memory. The commands go by their names."""
+    outputs = {name: os.path.join(folder, f"answer-{number}.csv") for number, name in enumerate(commands)}
+    runs = {name: [] for name in commands}
+    for _ in range(tries):
+        for name, command in commands.items():
+            runs[name].append(run_watched(command, outputs[name]))
+    first, *others = commands
+    for name in others:
+        if not filecmp.cmp(outputs[first], outputs[name], shallow=False):
+            sys.exit(f"{name} gives other bytes than {first}: {' '.join(commands[first])}")
+    found = {}
+    for name, its in runs.items():
+        seconds, processor, peaks = zip(*its)
+        found[name] = min(seconds), min(processor), max(peaks)
+    return found
+
+
+def files_read(tables, statement):
+    """Of the files of tables, by their names, those that the statement reads."""
+    sources = statement.split(" FROM ", 1)[1].replace(",", " ").split()
+    return {name: path for name, path in tables.items() if name in sources}
+
+
+def ask_words(program, tables, statement, workers=1):
+    """The command with which a program of tq answers a statement over the files of tables."""
+    words = [f"--table={name}={path}" for name, path in files_read(tables, statement).items()]
+    return [program, "ask", *words, f"--workers={workers}", statement]
+
+
+def write_payroll(folder, rows):
+    """The files of a payroll of so many rows each, by the names of the tables."""
+    tables = {}
+    for name, words in {"emp": ["1"], "sal": ["2", "pay"]}.items():
+        tables[name] = os.path.join(folder, f"{name}.csv")
+        run([sys.executable, os.path.join(HERE, "payroll.py"), str(rows), *words], tables[name])
+    return tables
+
+
 def ask(tq, name, table, columns, output):
     """Asks for the columns of a table: the least seconds and the greatest peak of some tries."""
     statement = f"VALIDTIME SELECT {', '.join(columns)} FROM {name}"
@@ -47,11 +145,12 @@ def ask(tq, name, table, columns, output):
     return min(seconds for seconds, _ in tries), max(peak for _, peak in tries)
 
 
-def sweep(script, table, columns, answer, output):
-    """The seconds of a script of this folder for the same answer, whose bytes have to be equal."""
-    seconds, _ = run([sys.executable, os.path.join(HERE, script), table, *columns], output)
+def sweep(table, columns, answer, output):
+    """The seconds of the plain Python script for the same answer, whose bytes have to be equal."""
+    script = os.path.join(HERE, "questions_python.py")
+    seconds, _ = run([sys.executable, script, table, "", ",".join(columns)], output)
     if not filecmp.cmp(answer, output, shallow=False):
-        sys.exit(f"{script} gives other bytes for {', '.join(columns)} of {table}")
+        sys.exit(f"questions_python.py gives other bytes for {', '.join(columns)} of {table}")
     return seconds
 
 
@@ -68,11 +167,15 @@ def held_in_one(rows):
     return peak
 
 
-def bytes_per_row(peak, table, rows):
-    """The peak memory a row beyond the file, as text. A child begins with this script's own peak, below
-    which nothing is known of it."""
+def known_peak(peak):
+    """The peak memory of a child, or None: a child begins with this script's own peak, below which nothing is known of it."""
     own = resource.getrusage(resource.RUSAGE_SELF).ru_maxrss * 1024
-    return f"{(peak - os.path.getsize(table)) / rows:.0f}" if peak > 1.5 * own else "-"
+    return peak if peak > 1.5 * own else None
+
+
+def bytes_per_row(peak, table, rows):
+    """The peak memory a row beyond the file, as text."""
+    return "-" if known_peak(peak) is None else f"{(peak - os.path.getsize(table)) / rows:.0f}"
 
 
 def growth(seconds):

@@ -5,7 +5,9 @@
     --joined N ..  the sizes of the tables that are joined (1000 2000 4000)
 
 Answers over one source have to be the bytes of the plain Python script. Of a join only the number of rows at one instant is
-asked for, and compared with the number that the shape gives. How the time grows is printed and asserted nowhere.
+asked for, and compared with the number that the shape gives. How the time grows is printed and asserted nowhere. So are
+user and system seconds for texts that begin alike, for a join of three tables, and for a join of which all rows have one
+key.
 """
 
 import argparse
@@ -14,7 +16,7 @@ import os
 import sys
 import tempfile
 
-from measuring import HERE, TRIES, ask, bytes_per_row, each_size, run, sweep
+from measuring import HERE, TRIES, ask, ask_words, bytes_per_row, each_size, files_read, run, run_in_turn, sweep
 
 # The value, the start and the end of row i of n.
 SHAPES = {
@@ -36,6 +38,18 @@ JOINS = {
     "equal by two bounds": ("s a, s b", "a.k <= b.k AND a.k >= b.k", lambda n: n),
     "few values, none less": ("s a, s b", "a.g = b.g AND a.v < b.k", lambda n: 0),
 }
+
+# What the texts of a column begin with, so that no key prefix of a few bytes divides them.
+BEGINNING = "b" * 60
+
+# How many rows of one key a side has of which all pairs are summed.
+ONE_KEY = 4_000
+
+# How many rows each table has of which two and three are joined.
+CHAIN_ROWS = 100_000
+
+# As often is a question asked whose user and system seconds are printed.
+PROCESSOR_TRIES = 5
 
 
 def read_options():
@@ -87,6 +101,72 @@ def measure_joins(options):
             each_size(options.joined, functools.partial(measure_join, options, folder, name))
 
 
+def ask_watched(tq, tables, statement, folder, tries=PROCESSOR_TRIES):
+    """Asks some times: the least user and system seconds, and the peak memory beyond the files."""
+    _, seconds, peak = run_in_turn({"tq": ask_words(tq, tables, statement)}, folder, tries)["tq"]
+    return seconds, peak - sum(map(os.path.getsize, files_read(tables, statement).values()))
+
+
+def show_watched(label, rows, tables, seconds, memory):
+    print(f"{label:<24} {rows:>9,} {seconds:>8.2f} s of the processor {memory / rows / tables:>6,.0f} bytes a row", flush=True)
+
+
+def write_texts(path, rows, beginning):
+    """One text of six digits or more a row, after the beginning, in no order."""
+    with open(path, "w", encoding="utf-8") as file:
+        file.write("k:int,v:text,from,to\n")
+        for i in range(rows):
+            file.write(f"{i},{beginning}{i * 7919 % rows:06},{i},{i + 9}\n")
+
+
+def long_beginnings(tq, rows, folder):
+    """Prints how many times as long texts take of which the first 60 bytes are alike."""
+    statement = "VALIDTIME SELECT v FROM t"
+    times = []
+    for label, beginning in {"six digits": "", "after 60 equal bytes": BEGINNING}.items():
+        path = os.path.join(folder, "t.csv")
+        write_texts(path, rows, beginning)
+        seconds, memory = ask_watched(tq, {"t": path}, statement, folder)
+        show_watched(label, rows, 1, seconds, memory)
+        times.append(seconds)
+    print(f"{BEGINNING[:3]}..: {times[1] / times[0]:.2f} times as long as six digits alone")
+
+
+def pairs_of_one_key(tq, folder):
+    """Prints the memory a pair where all rows of two tables have one key and all pairs are summed."""
+    tables = {}
+    for name in ["a", "b"]:
+        tables[name] = os.path.join(folder, f"{name}.csv")
+        with open(tables[name], "w", encoding="utf-8") as file:
+            file.write("k:int,n:int,from,to\n")
+            for i in range(ONE_KEY):
+                file.write(f"7,{i % 10},{i},{i + ONE_KEY}\n")
+    statement = "VALIDTIME SELECT a.k, SUM(b.n) FROM a, b WHERE a.k = b.k GROUP BY a.k"
+    seconds, memory = ask_watched(tq, tables, statement, folder, tries=1)
+    pairs = ONE_KEY * ONE_KEY
+    print(f"{'pairs of one key':<24} {pairs:>9,} {seconds:>8.2f} s of the processor {memory / pairs:>6,.0f} bytes a pair", flush=True)
+
+
+def chains_of_sources(tq, rows, folder):
+    """Prints how many times as long a join of three tables takes as one of two: unique keys, all rows valid at once."""
+    tables = {}
+    for name in ["a", "b", "c"]:
+        tables[name] = os.path.join(folder, f"{name}.csv")
+        with open(tables[name], "w", encoding="utf-8") as file:
+            file.write("k:int,n:int,from,to\n")
+            for i in range(rows):
+                file.write(f"{i * 7919 % rows},{i},{i % 10},forever\n")
+    times = []
+    for label, statement in {
+        "join of two": "VALIDTIME SELECT a.k, a.n, b.n FROM a, b WHERE a.k = b.k",
+        "join of three": "VALIDTIME SELECT a.k, b.n, c.n FROM a, b, c WHERE a.k = b.k AND b.k = c.k",
+    }.items():
+        seconds, memory = ask_watched(tq, tables, statement, folder)
+        show_watched(label, rows, len(files_read(tables, statement)), seconds, memory)
+        times.append(seconds)
+    print(f"three: {times[1] / times[0]:.2f} times as long as two")
+
+
 def main():
     options = read_options()
     print("tq ask on tables of one shape each (Python: how many times as long the plain script takes)")
@@ -97,7 +177,7 @@ def main():
         def measure(name, shape, rows):
             write_table(table, shape, rows)
             seconds, peak = ask(options.tq, "t", table, ["v"], answer)
-            python = sweep("sweep_python.py", table, ["v"], answer, other) / seconds
+            python = sweep(table, ["v"], answer, other) / seconds
             memory = bytes_per_row(peak, table, rows)
             print(f"{name:<20} {rows:>9,} {python:>7.1f}x {rows / seconds:>12,.0f} {memory:>10}", flush=True)
             return seconds
@@ -105,6 +185,11 @@ def main():
         for name, shape in SHAPES.items():
             each_size(options.rows, functools.partial(measure, name, shape))
     measure_joins(options)
+    print("\ntq ask where texts begin alike, rows have one key, or three tables are joined")
+    with tempfile.TemporaryDirectory() as folder:
+        long_beginnings(options.tq, max(options.rows), folder)
+        pairs_of_one_key(options.tq, folder)
+        chains_of_sources(options.tq, min(CHAIN_ROWS, max(options.rows)), folder)
 
 
 if __name__ == "__main__":

@@ -4,8 +4,9 @@
     --rows N ..       the sizes of each table (10000 1000000)
     --workers W ..    the numbers of workers beside one (2 4)
     --tries N         how often each is asked (15)
+    --csv FILE        where the measurements are written too, for bench/plots.py
 
-The questions of versus.py are asked of a payroll, and of tables whose rows have all not ended, by one worker and by more
+The questions of measuring.py are asked of a payroll, and of tables whose rows have all not ended, by one worker and by more
 in turn. The bytes have to be equal. The least of all tries counts: seconds from start to end, loading and output
 included, as ratios to those of one worker, and the greatest peak memory, as a ratio too.
 
@@ -15,15 +16,23 @@ little more than 1; where it is more, the cores have other work, and the ratios 
 """
 
 import argparse
-import filecmp
 import os
 import subprocess
 import sys
 import tempfile
 import time
 
-from measuring import HERE, run
-from versus import QUESTIONS, files_read
+from measuring import (
+    HERE,
+    QUESTIONS,
+    Measurement,
+    ask_words,
+    files_read,
+    known_peak,
+    run_in_turn,
+    write_measurements,
+    write_payroll,
+)
 
 # The question that processes at once are asked.
 ALONE = "counts"
@@ -31,7 +40,7 @@ ALONE = "counts"
 # On a host that has other work a core is quiet for a moment only, and several at once are more seldom.
 TRIES = 15
 
-OPEN = {name: QUESTIONS[name] for name in ("name", "counts", "sums")}
+OPEN = ["name", "counts", "sums"]
 
 
 def read_options():
@@ -40,16 +49,8 @@ def read_options():
     parser.add_argument("--rows", type=int, nargs="+", default=[10_000, 1_000_000])
     parser.add_argument("--workers", type=int, nargs="+", default=[2, 4])
     parser.add_argument("--tries", type=int, default=TRIES)
+    parser.add_argument("--csv")
     return parser.parse_args()
-
-
-def write_payroll(folder, rows):
-    """The files of a payroll of so many rows each."""
-    tables = {name: os.path.join(folder, f"{name}.csv") for name in ("emp", "sal")}
-    for name, seed, more in (("emp", "1", []), ("sal", "2", ["pay"])):
-        with open(tables[name], "wb") as file:
-            subprocess.run([sys.executable, os.path.join(HERE, "payroll.py"), str(rows), seed, *more], stdout=file, check=True)
-    return tables
 
 
 def write_open(folder, rows):
@@ -64,19 +65,10 @@ def write_open(folder, rows):
     return tables
 
 
-def command(program, tables, statement, workers):
-    words = [f"--table={name}={path}" for name, path in files_read(tables, statement).items()]
-    return [program, "ask", *words, f"--workers={workers}", statement]
-
-
-def ask(program, tables, statement, workers, output):
-    return run(command(program, tables, statement, workers), output)
-
-
 def seconds_at_once(program, tables, count):
     """The seconds of so many processes of one worker at once, from the start of the first to the end of the last."""
     begin = time.perf_counter()
-    words = command(program, tables, QUESTIONS[ALONE], 1)
+    words = ask_words(program, tables, QUESTIONS[ALONE])
     running = [subprocess.Popen(words, stdout=subprocess.DEVNULL) for _ in range(count)]
     if any([child.wait() for child in running]):
         sys.exit(f"{' '.join(words)} failed")
@@ -92,36 +84,45 @@ def tell_machine(options, tables, rows):
     print(f"{rows} rows, processes of one worker, {ALONE}: {said}", flush=True)
 
 
-def measure(options, tables, statement, folder):
-    """The least seconds and the greatest peak by the number of workers, in turn."""
-    numbers = [1, *options.workers]
-    outputs = {number: os.path.join(folder, f"answer-{number}") for number in numbers}
-    seconds, peaks = {number: [] for number in numbers}, {number: [] for number in numbers}
-    for _ in range(options.tries):
-        for number in numbers:
-            took, peak = ask(options.tq, tables, statement, number, outputs[number])
-            seconds[number].append(took)
-            peaks[number].append(peak)
-    for number in options.workers:
-        if not filecmp.cmp(outputs[1], outputs[number], shallow=False):
-            sys.exit(f"{number} workers give other bytes for {statement}")
-    return {number: min(seconds[number]) for number in numbers}, {number: max(peaks[number]) for number in numbers}
+def measure(options, kind, tables, rows, question, folder):
+    """The measurements of a question by each number of workers, in turn."""
+    statement = QUESTIONS[question]
+    commands = {number: ask_words(options.tq, tables, statement, number) for number in (1, *options.workers)}
+    paths = files_read(tables, statement).values()
+    files = sum(map(os.path.getsize, paths))
+    measured = run_in_turn(commands, folder, options.tries)
+    return [
+        Measurement(kind, question, rows, "tq", number, seconds, processor, known_peak(peak), files, len(paths))
+        for number, (seconds, processor, peak) in measured.items()
+    ]
+
+
+def show(one, others):
+    """Prints a line: the seconds of one worker, and what part of its time and memory more of them take."""
+    said = [f"{it.workers} workers {it.seconds / one.seconds:.2f} of the time{memory_of(it, one)}" for it in others]
+    print(f"{one.rows} rows, {one.tables}, {one.question}: one worker {one.seconds:.3f} s; {', '.join(said)}", flush=True)
+
+
+def memory_of(it, one):
+    if it.peak_bytes is None or one.peak_bytes is None:
+        return ""
+    return f", {it.peak_bytes / one.peak_bytes:.2f} of the memory"
 
 
 def main():
     options = read_options()
+    found = []
     for rows in options.rows:
         with tempfile.TemporaryDirectory(prefix="tq-") as folder:
             payroll = write_payroll(folder, rows)
             tell_machine(options, payroll, rows)
             for kind, tables, questions in (("payroll", payroll, QUESTIONS), ("open", write_open(folder, rows), OPEN)):
-                for name, statement in questions.items():
-                    seconds, peaks = measure(options, tables, statement, folder)
-                    said = ", ".join(
-                        f"{number} workers {seconds[number] / seconds[1]:.2f} of the time, {peaks[number] / peaks[1]:.2f} of the memory"
-                        for number in options.workers
-                    )
-                    print(f"{rows} rows, {kind}, {name}: one worker {seconds[1]:.3f} s; {said}", flush=True)
+                for question in questions:
+                    one, *others = measure(options, kind, tables, rows, question, folder)
+                    show(one, others)
+                    found += [one, *others]
+    if options.csv:
+        write_measurements(options.csv, found)
 
 
 if __name__ == "__main__":
