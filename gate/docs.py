@@ -9,6 +9,8 @@
 - Words: no document has an old word of WORDS.
 - Quotes, in the documents of QUOTING: each line of a code block is a line of a .rt or .antt file.
 - docs/traceability.md is what gate/traceability.py prints.
+- The plots in docs/plots/ are what bench/plots.py draws of the measurements there.
+- docs/proved.md names the files that gate/definitions.py prints, and how many definitions, files and lines there are.
 
 Each fault has one line, 'FAILED: FILE:LINE: what'. The last line is 'N passed, M failed': N documents without a fault, and
 M faults. The exit status is 1 if there is a fault.
@@ -24,9 +26,12 @@ from itertools import zip_longest
 from pathlib import Path
 from posixpath import dirname, join, normpath
 
+import definitions
 import traceability
 
 ROOT = Path(__file__).resolve().parent.parent
+sys.path.append(str(ROOT / "bench"))
+import plots  # noqa: E402
 DOCUMENT = re.compile(r"[A-Z]+\.md|docs/.*\.md|crates/[^/]+/README\.md|examples/[^/]+\.md")
 
 # Folders with files that commands make.
@@ -272,6 +277,48 @@ class Generated:
             yield number, "this is not what gate/traceability.py prints: run it with --write"
 
 
+class Plots:
+    """The plots of docs/performance.md."""
+
+    PAGE, FOLDER = "docs/performance.md", ROOT / "docs" / "plots"
+
+    def faults(self, of):
+        if of.path != self.PAGE:
+            return
+        for name, drawing in plots.plots(self.FOLDER / "peers.csv", self.FOLDER / "workers.csv"):
+            file = self.FOLDER / name
+            if not file.exists() or file.read_text(encoding="utf-8") != drawing:
+                yield 1, f"{file.relative_to(ROOT)} is not what bench/plots.py draws: run it"
+
+
+class Reading:
+    """What docs/proved.md says that a reader has to read."""
+
+    PAGE = "docs/proved.md"
+    SAID = re.compile(r"(\d+) definitions in (\d+) files .*?([\d,]+) lines")
+    FILES = re.compile(r"\| (`[\w/]+/specs/.*?) \|")
+
+    def faults(self, of):
+        if of.path != self.PAGE:
+            return
+        found = definitions.definitions_read()
+        counted = "{} definitions in {} files, {:,} lines".format(*definitions.counts(found))
+        said = [(number, "{} definitions in {} files, {} lines".format(*it)) for number, line in of.lines for it in self.SAID.findall(line)]
+        yield from ((number, f"gate/definitions.py counts {counted}") for number, it in said if it != counted)
+        if not said:
+            yield 1, f"the page does not say '{counted}'"
+        files = {f"crates/{file}": number for number, line in of.lines for file in self.files_in(line)}
+        yield from ((1, f"{file} is not in the table of definitions") for file in found if file not in files)
+        yield from ((number, f"{file} has no definition to read") for file, number in files.items() if file not in found)
+
+    def files_in(self, line):
+        """The files of a row of the table. One without a folder is in that of the file before."""
+        folder = ""
+        for name in SPAN.findall(cells[1]) if (cells := self.FILES.match(line)) else []:
+            folder = dirname(name) or folder
+            yield join(folder, name.split("/")[-1])
+
+
 def folders_of(path):
     """The folders above a path."""
     return [path[:at] for at, letter in enumerate(path) if letter == "/"]
@@ -298,7 +345,7 @@ def tracked_files():
 
 def main():
     files = tracked_files()
-    checks = [Links(files), Names(files), Length(), Words(), Quotes(files), Generated()]
+    checks = [Links(files), Names(files), Length(), Words(), Quotes(files), Generated(), Plots(), Reading()]
     passed = failed = 0
     for path in filter(DOCUMENT.fullmatch, files):
         faults = sorted(set(fault for check in checks for fault in check.faults(document(path))))

@@ -1,6 +1,6 @@
 #!/usr/bin/env python3
 """Puts the cases of gate/cases/ and gate/generated.py, and each command that README.md, examples/ and the documents for
-users print, to the program.
+users print, to the program. Those of examples/terminal.md run in a terminal.
 
     gate/program.py PROGRAM
 
@@ -8,11 +8,14 @@ A case is right where standard output, standard error and the status are as it s
 has one line; the last line is 'N passed, M failed'.
 """
 
+import fcntl
 import os
 import pty
 import re
 import resource
+import select
 import shlex
+import struct
 import subprocess
 import sys
 import tempfile
@@ -37,6 +40,10 @@ SHELL_PAGES = [
     "docs/reference/files.md",
     "docs/reference/language.md",
 ]
+# The page whose commands are run in a terminal, and that terminal's columns.
+TERMINAL_PAGE = "examples/terminal.md"
+COLUMNS = 100
+PROMPT = b"tq> "
 FORM = re.compile(r"    bin/tq (.*) STATEMENT")
 # The seconds that a run took, which no case names.
 TOOK = re.compile(rb"(?<= )\d+\.\d{3} s$", re.MULTILINE)
@@ -224,6 +231,54 @@ def commands_by_shell(program, page):
                 yield f"{page}: {command}", faults + ([] if out == wanted else [f"output {out[:200]!r}, not {wanted[:200]!r}"])
 
 
+def commands_with_blank_lines(text):
+    """The commands of a page with the lines below each, some of which may be empty, up to the next command or paragraph."""
+    command, lines = None, []
+    for line in [*text.split("\n"), "the end"]:
+        found = COMMAND.match(line)
+        if not found and (not line or line.startswith("    ")):
+            lines.append(line)
+            continue
+        if command:
+            yield command, text_of(lines).rstrip("\n")
+        command, lines = found and found[1], []
+
+
+def run_in_terminal(words, lines):
+    """Runs a command whose input and outputs are one terminal, and types a line at each prompt and then the end: its status
+    and what the terminal shows."""
+    terminal, end = pty.openpty()
+    fcntl.ioctl(end, termios.TIOCSWINSZ, struct.pack("HHHH", 24, COLUMNS, 0, 0))
+    typed, said = [*(line.encode() + b"\n" for line in lines), b"\x04"], b""
+    with subprocess.Popen(words, cwd=ROOT, stdin=end, stdout=end, stderr=end) as running:
+        os.close(end)
+        while True:
+            if not select.select([terminal], [], [], SECONDS)[0]:
+                running.kill()
+                break
+            try:
+                said += os.read(terminal, 65_536)
+            except OSError:  # what a terminal gives at its end
+                break
+            if said.endswith(PROMPT) and typed:
+                os.write(terminal, typed.pop(0))
+    os.close(terminal)
+    return running.returncode, said.replace(b"\r\n", b"\n")
+
+
+def commands_in_terminal(program):
+    """Each command of the page for terminals, with what is wrong with it. What follows a prompt is typed. The seconds that
+    steps took are not compared."""
+    for command, wanted in commands_with_blank_lines((ROOT / TERMINAL_PAGE).read_text()):
+        lines = [line.removeprefix("tq> ") for line in wanted.split("\n") if line.startswith("tq> ")]
+        status, said = run_in_terminal([program, *shlex.split(command)], lines)
+        shown = TOOK.sub(b"SECONDS", said).decode().rstrip()
+        faults = [] if status == status_of(wanted) else [f"status {status}, not {status_of(wanted)}"]
+        if shown != TOOK.sub(b"SECONDS", wanted.encode()).decode():
+            faults.append(f"the terminal shows {shown!r}, not {wanted!r}")
+        yield f"{TERMINAL_PAGE}: {command}", faults
+
+
 def made_pages(program):
     """Each page that is made of the program's helps, with what is wrong with it: each option stands in it."""
     options = {"--help"}
@@ -298,6 +353,7 @@ def main():
     table = [*(case for part in shown.values() for case in part), *generated.table()]
     tried = [(case.name, faults_of(program, case)) for case in table]
     by_shell = {page: list(commands_by_shell(program, page)) for page in SHELL_PAGES}
+    by_shell[TERMINAL_PAGE] = list(commands_in_terminal(program))
     shown |= by_shell
     tried += [command for page in by_shell.values() for command in page]
     tried += [*made_pages(program), *session_at_a_terminal(program), *question_that_takes_long(program)]
