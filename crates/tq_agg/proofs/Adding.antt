@@ -21,7 +21,7 @@ pub added-same : {X : Type 0} (v w : X → ℤ) → ((x : X) → v x ≡ w x) �
 added-same v w same [] = refl
 added-same v w same (x ∷ xs) = omega (arith, ints, same x, added-same v w same xs)
 
--- as many as there are, where each weighs 1
+-- the number of elements, if each weighs 1
 pub added-ones : {X : Type 0} (xs : List X) → added (λ (x : X). pos 1) xs ≡ pos (length xs)
 added-ones [] = refl
 added-ones {X} (x ∷ xs) = omega (arith, ints, added-ones xs)

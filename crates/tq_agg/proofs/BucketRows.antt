@@ -12,14 +12,14 @@ use Rattle.tq_base.specs.Fragments.{at, copies, occurrences}
 use Rattle.tq_base.specs.Periods.{holds}
 use Rattle.tq_base.specs.NormalizedKeys.{normalized_key}
 use Rattle.tq_base.specs.ValueOrder.{eq_from_same, same_from_eq}
-use Rattle.tq_agg.specs.declared.few.Bucket.{Bucket}
+use Rattle.tq_agg.specs.declared.buckets.Bucket.{Bucket}
 use Rattle.tq_agg.specs.declared.summands.Summand.TheVariants.{One}
 use Rattle.tq_agg.specs.Buckets.{bucket_count, counted, keyed_count, value_of, AreRanked}
-use Rattle.tq_agg.specs.Edges.{count_upto}
+use Rattle.tq_agg.specs.Endpoints.{count_upto}
 use Rattle.tq_agg.specs.Grouping.{grouped_rows, same_row}
 use Rattle.tq_agg.specs.Totals.{shown_copies}
 use Rattle.tq_agg.proofs.Adding.{added-step}
-use Rattle.tq_agg.proofs.Buckets.{as_many}
+use Rattle.tq_agg.proofs.Bucketing.{as_many}
 use Rattle.tq_agg.proofs.Gathering.{all_add}
 use Rattle.tq_agg.proofs.GroupRows.{grouped_occurrences}
 use Rattle.tq_agg.proofs.Grouping.{nothing, of_key, other_shown}
@@ -30,7 +30,7 @@ none_counted column t key [] apart = refl
 none_counted column t key (b ∷ buckets) apart =
     omega (arith, ints, first (same_row (value_of column b ∷ []) key) refl, none_counted column t key buckets (All-tail (λ b. value_of column b ∷ [] ≢ key) b buckets apart))
   where
-    first : (s : Bool) → same_row (value_of column b ∷ []) key ≡ s → cond s (count_upto b.edges.starts.items b.edges.ends.items t) (pos 0) ≡ pos 0
+    first : (s : Bool) → same_row (value_of column b ∷ []) key ≡ s → cond s (count_upto b.endpoints.starts.items b.endpoints.ends.items t) (pos 0) ≡ pos 0
     first true is = absurd (All-head (λ b. value_of column b ∷ [] ≢ key) b buckets apart (same_from_eq (value_of column b ∷ []) key is))
     first false is = refl
 
@@ -53,13 +53,13 @@ module _ (column : List Value) (window : Period) (ranks : List ℕ) (buckets : L
 
   -- so what the bucket counts is shown, and all others as before
   pub adds_bucket : (t : ℕ) (v : List Value) (old new : ℕ) → old ≡ cond (holds window t) (shown_copies (take 1 v) (counted column t (take 1 v) (take i buckets) ∷ []) v) 0
-      → new ≡ old + cond (holds window t) (shown_copies (value_of column b ∷ []) (count_upto b.edges.starts.items b.edges.ends.items t ∷ []) v) 0
+      → new ≡ old + cond (holds window t) (shown_copies (value_of column b ∷ []) (count_upto b.endpoints.starts.items b.endpoints.ends.items t ∷ []) v) 0
       → new ≡ cond (holds window t) (shown_copies (take 1 v) (counted column t (take 1 v) (take (i + 1) buckets) ∷ []) v) 0
   adds_bucket t v old new before more =
       split (same_row (value_of column b ∷ []) (take 1 v)) refl
     where
       count : ℤ
-      count = count_upto b.edges.starts.items b.edges.ends.items t
+      count = count_upto b.endpoints.starts.items b.endpoints.ends.items t
 
       step : counted column t (take 1 v) (take (i + 1) buckets) ≡ counted column t (take 1 v) (take i buckets) +ℤ bucket_count column t (take 1 v) b
       step = added-step (bucket_count column t (take 1 v)) buckets i b lt is
@@ -68,20 +68,20 @@ module _ (column : List Value) (window : Period) (ranks : List ℕ) (buckets : L
       split true equal =
           let same : value_of column b ∷ [] ≡ take 1 v = same_from_eq (value_of column b ∷ []) (take 1 v) equal in
           let none : counted column t (take 1 v) (take i buckets) ≡ pos 0 = none_counted column t (take 1 v) (take i buckets) (subst (λ k. All (λ x. value_of column x ∷ [] ≢ k) (take i buckets)) same others_before) in
-          let all : counted column t (take 1 v) (take (i + 1) buckets) ≡ count_upto b.edges.starts.items b.edges.ends.items t =
-          omega (arith, ints, step, none, ap (λ s. cond s (count_upto b.edges.starts.items b.edges.ends.items t) (pos 0)) equal) in
+          let all : counted column t (take 1 v) (take (i + 1) buckets) ≡ count_upto b.endpoints.starts.items b.endpoints.ends.items t =
+          omega (arith, ints, step, none, ap (λ s. cond s (count_upto b.endpoints.starts.items b.endpoints.ends.items t) (pos 0)) equal) in
           let no_old : old ≡ 0 = before ∙ ap (λ n. cond (holds window t) (shown_copies (take 1 v) (n ∷ []) v) 0) none ∙ nothing (holds window t) in
-          let shown : cond (holds window t) (shown_copies (value_of column b ∷ []) (count_upto b.edges.starts.items b.edges.ends.items t ∷ []) v) 0
+          let shown : cond (holds window t) (shown_copies (value_of column b ∷ []) (count_upto b.endpoints.starts.items b.endpoints.ends.items t ∷ []) v) 0
           ≡ cond (holds window t) (shown_copies (take 1 v) (counted column t (take 1 v) (take (i + 1) buckets) ∷ []) v) 0 =
-          ap (λ k. cond (holds window t) (shown_copies k (count_upto b.edges.starts.items b.edges.ends.items t ∷ []) v) 0) same
+          ap (λ k. cond (holds window t) (shown_copies k (count_upto b.endpoints.starts.items b.endpoints.ends.items t ∷ []) v) 0) same
           ∙ ap (λ n. cond (holds window t) (shown_copies (take 1 v) (n ∷ []) v) 0) (sym all) in
           omega (arith, more, no_old, shown)
       split false differ =
           let differs : value_of column b ∷ [] ≢ take 1 v = λ same. false≢true (sym differ ∙ eq_from_same (value_of column b ∷ []) (take 1 v) same) in
           let all : counted column t (take 1 v) (take (i + 1) buckets) ≡ counted column t (take 1 v) (take i buckets) =
-          omega (arith, ints, step, ap (λ s. cond s (count_upto b.edges.starts.items b.edges.ends.items t) (pos 0)) differ) in
-          let other : cond (holds window t) (shown_copies (value_of column b ∷ []) (count_upto b.edges.starts.items b.edges.ends.items t ∷ []) v) 0 ≡ 0 =
-          ap (λ n. cond (holds window t) n 0) (other_shown (value_of column b ∷ []) 1 (count_upto b.edges.starts.items b.edges.ends.items t ∷ []) v refl differs) ∙ nothing (holds window t) in
+          omega (arith, ints, step, ap (λ s. cond s (count_upto b.endpoints.starts.items b.endpoints.ends.items t) (pos 0)) differ) in
+          let other : cond (holds window t) (shown_copies (value_of column b ∷ []) (count_upto b.endpoints.starts.items b.endpoints.ends.items t ∷ []) v) 0 ≡ 0 =
+          ap (λ n. cond (holds window t) n 0) (other_shown (value_of column b ∷ []) 1 (count_upto b.endpoints.starts.items b.endpoints.ends.items t ∷ []) v refl differs) ∙ nothing (holds window t) in
           omega (arith, more, other, before, ap (λ n. cond (holds window t) (shown_copies (take 1 v) (n ∷ []) v) 0) all)
 
 -- what all rows count are the rows of their groups

@@ -10,7 +10,7 @@ use Rattle.tq_base.specs.declared.value.Value.{Value}
 use Rattle.tq_base.specs.Fragments.{at, copies, occurrences}
 use Rattle.tq_base.specs.Periods.{holds}
 use Rattle.tq_base.specs.ValueOrder.{eq_from_same, same_from_eq}
-use Rattle.tq_agg.specs.declared.few.Bucket.{Bucket}
+use Rattle.tq_agg.specs.declared.buckets.Bucket.{Bucket}
 use Rattle.tq_agg.specs.declared.summands.Summand.TheVariants.{Column, One}
 use Rattle.tq_agg.specs.Buckets.{value_of, AreRanked}
 use Rattle.tq_agg.specs.Changes.{bucket_change, changed_upto, keyed_weight, one, own, totals_changed, weighed}

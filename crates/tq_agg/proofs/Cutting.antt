@@ -13,7 +13,7 @@ holds_both a b c d t = grind (arith, nat_tests)
 pub holds-overlap : (p q both : Period) → IsOverlap p q both → (t : ℕ) → holds both t ≡ (holds p t && holds q t)
 holds-overlap p q both is t = ap (λ s. nat_le s t && nat_lt t both.end) is.0 ∙ ap (λ e. nat_le (max p.start q.start) t && nat_lt t e) is.1 ∙ holds_both p.start p.end q.start q.end t
 
--- the overlap lies within the second period
+-- the overlap is within the second period
 pub overlap_within : (p q both : Period) → IsOverlap p q both → (q.start ≤ both.start) × (both.start ≤ q.end) × (q.start ≤ both.end) × (both.end ≤ q.end)
 overlap_within p q both is =
     let ordered : both.start < both.end = both.ordered in

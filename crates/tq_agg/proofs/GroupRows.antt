@@ -1,4 +1,4 @@
--- The rows that groups make, counted: each key that stands there makes one row.
+-- The rows that groups make, counted: each key that occurs makes one row.
 use Rattle.std.proofs.Common.{◌≡◌, ℕ, suc, ◌+◌, pos, ◌+ℤ◌, Bool, true, false, ◌||◌, cond, List, [], ◌∷◌, ◌++◌, length, take, map, sum_by, refl, sym, ap, ◌∙◌, arith}
 use Rattle.std.specs.Prelude.{All, filter, not}
 use Rattle.std.specs.Ordering.{eq_by_cmp, int_eq}
@@ -107,7 +107,7 @@ or_true : (b : Bool) → (b || true) ≡ true
 or_true true = refl
 or_true false = refl
 
--- each key stands among the keys
+-- each key is among the keys
 all_stand : (keys : List (List Value)) → All (λ k. stands_in keys k ≡ true) keys
 unfolding stands_in
 all_stand [] = All-nil (λ k. stands_in [] k ≡ true)
@@ -119,7 +119,7 @@ module _ (keys sums : List ℕ) where
   abbrev group_of : List (List Value) → List Value → List (List Value)
   group_of rows key = filter (λ row. same_row (projection keys row) key) rows
 
-  -- a key that stands there is that of the first row of its group
+  -- a key that occurs is that of the first row of its group
   first_has_key : (rows : List (List Value)) (key : List Value) → stands_in (map (projection keys) rows) key ≡ true → projection keys (first_row (group_of rows key)) ≡ key
   unfolding stands_in
   first_has_key [] key is = cc
@@ -138,7 +138,7 @@ module _ (keys sums : List ℕ) where
       split true is = let zero' = (Decides-int_eq (pos (suc n)) (pos 0)).0 is in absurd (omega (arith, ints, zero'))
       split false is = refl
 
-  -- whether a key stands there tells whether its group has a row
+  -- a key occurs exactly if its group has a row
   stands_counted : (rows : List (List Value)) (key : List Value) → not (int_eq (pos (length (group_of rows key))) (pos 0)) ≡ stands_in (map (projection keys) rows) key
   unfolding stands_in
   stands_counted [] key = refl
@@ -170,7 +170,7 @@ module _ (keys sums : List ℕ) where
     abbrev made : List Value → List Value
     made key = group_row keys sums (group_of rows key)
 
-    -- the values of the key, which stand first
+    -- the values of the key, which come first
     abbrev key_of_row : List Value
     key_of_row = take (length keys) v
 
@@ -202,7 +202,7 @@ module _ (keys sums : List ℕ) where
         sum_by-cons (λ u. one_if (eq_by_cmp values_cmp u v)) (made k) (map (group_row keys sums) (map (λ key. group_of rows key) ks))
         ∙ ap (λ n. one_if (same_row (made k) v) + n) (occurrences-map ks) ∙ sym (sum_by-cons (λ key. one_if (same_row (made key) v)) k ks)
 
-    -- the row stands once among those of the groups where its key is there and the rest are count and sums
+    -- the row occurs once among those of the groups if its key occurs and the rest are count and sums
     pub grouped_occurrences : occurrences (grouped_rows keys sums rows) v
         ≡ shown_copies key_of_row (map (λ s. added (of_key keys key_of_row s) rows) (One ∷ map Column sums)) v
     grouped_occurrences =

@@ -11,11 +11,11 @@ use Rattle.tq_base.specs.Periods.{holds}
 use Rattle.tq_base.specs.Fragments.{at, copies, occurrences}
 use Rattle.tq_ops.specs.Ordinary.{HasInside, IsEmptyOutside}
 
--- 1 where the test holds, else 0
+-- 1 if the test holds, otherwise 0
 abbrev pub one_if : Bool → ℕ
 one_if b = cond b 1 0
 
--- where no row stands there once, there is no row
+-- if no row occurs there, there is no row
 none_there : (rows : List (List Value)) → ((v : List Value) → occurrences rows v ≡ 0) → rows ≡ []
 none_there [] none = refl
 none_there (u ∷ rows) none =

@@ -1,8 +1,8 @@
 pub mod Adding
 pub mod BucketRows
 pub mod BucketSums
-pub mod Buckets
-pub mod ChangeSweeps
+pub mod Bucketing
+pub mod ChangeTotals
 pub mod Changing
 pub mod Cutting
 pub mod Gathering
@@ -17,6 +17,6 @@ pub mod Totals
 pub mod Starts
 pub mod Moving
 pub mod OneRank
-pub mod Shown
+pub mod Passing
 pub mod WeighedBuckets
 pub mod Weighing

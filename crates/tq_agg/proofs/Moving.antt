@@ -20,9 +20,9 @@ use Rattle.tq_base.specs.Sweep.{pairs_tail, upto, upto-cons, upto_none, Rises}
 use Rattle.tq_agg.specs.declared.bounds.End.{End}
 use Rattle.tq_agg.specs.declared.summands.Summand.{Summand}
 use Rattle.tq_agg.specs.Bounds.{end_in, moved, start_in}
+use Rattle.tq_agg.specs.Endpoints.{AreInOrder}
 use Rattle.tq_agg.specs.Totals.{added, end_key, held_weight, key_weight, total_held, total_of, weight_of, AreSmallEnds, AreSmallKeys, HaveSmall, IsSmall}
 use Rattle.tq_agg.proofs.Adding.{added-IsPermutation, added-map}
-use Rattle.tq_agg.proofs.Starts.{AreInOrder}
 
 pub no_end : End
 no_end = record { at = 0; row = 0; side = Left }
@@ -59,7 +59,7 @@ ends_in_order window ends sorted within = (
   All-map (λ b. (window.start ≤ b) × (b ≤ window.end)) (λ (e : End). e.at) ends within,
 )
 
--- ---- what is made of the keys of a group
+-- ---- the keys and ends of a group
 
 module _ (sort_input : SortInputState) (window : Period) (keys : List SortKey) (ends : List End) (same : IsPermutation (map (end_in sort_input window) keys) ends) where
   pub ends_within : All (λ (e : End). (window.start ≤ e.at) × (e.at ≤ window.end)) ends

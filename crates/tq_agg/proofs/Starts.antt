@@ -1,6 +1,6 @@
--- The sweep over starts and ends, one bound after another: what holds between two bounds.
-use Rattle.std.proofs.Common.{◌≡◌, ℕ, ◌+◌, ◌-◌, ◌<◌, ◌≤◌, pos, ◌-ℤ◌, inl, inr, Bool, ◌&&◌, cond, nat_le, nat_lt, List, [], ◌∷◌, length, take, drop, get_or, refl, sym, subst, ap, ◌∙◌, arith, length-drop, length-take}
-use Rattle.std.specs.Prelude.{All}
+-- The invariant of a sweep over starts and ends: it holds before the first bound, and each step preserves it.
+use Rattle.std.proofs.Common.{◌≡◌, ℕ, ℤ, ◌+◌, ◌-◌, ◌<◌, ◌≤◌, inl, inr, Bool, ◌&&◌, cond, nat_le, nat_lt, List, [], ◌∷◌, length, take, drop, get_or, refl, sym, subst, ap, ◌∙◌, arith, length-drop, length-take}
+use Rattle.std.specs.Prelude.{◌⊎◌, All}
 use Rattle.std.proofs.Math.Seq.{take-add}
 use Rattle.std.proofs.lemmas.Bool.{cases_lt}
 use Rattle.std.proofs.lemmas.Bool.Decides.{nat_tests}
@@ -14,7 +14,8 @@ use Rattle.tq_base.specs.declared.fragment.Fragment.{Fragment}
 use Rattle.tq_base.specs.Periods.{holds}
 use Rattle.tq_base.specs.Fragments.{copies}
 use Rattle.tq_base.specs.Sweep.{upto, upto-cons, upto_none, all_after, Rises}
-use Rattle.tq_agg.specs.Edges.{count_copies, AreEdges, IsAtFront}
+use Rattle.tq_agg.specs.Endpoints.{AreEndpoints, AreInOrder, AreUpTo}
+use Rattle.tq_agg.specs.Totals.{result_copies}
 
 -- the rows up to a bound, and those of the totals from there to a later one
 pub extended : (from since to t x y : ℕ) → from ≤ since → since ≤ to → (since ≤ t → t < to → x ≡ y)
@@ -27,7 +28,7 @@ extended from since to t x y low high same = elim (cases_lt t since) [
   ]
 ]
 
--- ---- one list of bounds in order, gone through up to a place
+-- ---- one list of bounds in order, passed up to a place
 
 upto_all : (bounds : List ℕ) (t : ℕ) → All (λ b. b ≤ t) bounds → upto bounds t ≡ length bounds
 upto_all [] t by = refl
@@ -43,7 +44,7 @@ pub record Reached (bounds : List ℕ) (last place : ℕ) : Type 0 where
   pub by : All (λ b. b ≤ last) (take place bounds)
   pub ahead : All (λ b. last ≤ b) (drop place bounds)
 
--- so many have passed, where the others are later
+-- this is the number of bounds up to an instant before all others
 reached_upto : (bounds : List ℕ) (last place : ℕ) → Reached bounds last place → (t : ℕ) → last ≤ t → All (λ b. t < b) (drop place bounds) → upto bounds t ≡ place
 reached_upto bounds last place r t past later =
     let whole = ap (λ l. upto l t) (take-append-drop place bounds) in
@@ -51,21 +52,17 @@ reached_upto bounds last place r t past later =
     let front = upto_all (take place bounds) t (All-weaker (λ b. b ≤ last) (λ b. b ≤ t) (λ b le. omega (arith, le, past)) (take place bounds) r.by) in
     omega (arith, whole, parts, front, upto_none (drop place bounds) t later, length-take place bounds, r.within)
 
--- bounds of the window that rise
-abbrev pub AreInOrder : Period → List ℕ → Type 0
-AreInOrder window bounds = Rises bounds × All (λ b. (window.start ≤ b) × (b ≤ window.end)) bounds
+pub sorted_rise : (window : Period) (bounds : List ℕ) → AreEndpoints window bounds → AreInOrder window bounds
+sorted_rise window bounds in_order = (λ i j d lt below. IsNonDecreasingBy-from_sort (λ (b : ℕ). b) bounds in_order.0 i j d (omega (arith, lt)) below, in_order.1)
 
-pub sorted_rise : (window : Period) (bounds : List ℕ) → AreEdges window bounds → AreInOrder window bounds
-sorted_rise window bounds edges = (λ i j d lt below. IsNonDecreasingBy-from_sort (λ (b : ℕ). b) bounds edges.0 i j d (omega (arith, lt)) below, edges.1)
-
-module _ (window : Period) (bounds : List ℕ) (edges : AreInOrder window bounds) where
+module _ (window : Period) (bounds : List ℕ) (in_order : AreInOrder window bounds) where
   rest_rises : (place : ℕ) → Rises (drop place bounds)
   rest_rises place i j d lt below =
       let there : place + j < length bounds = omega (arith, length-drop place bounds, below) in
-      let order = edges.0 (place + i) (place + j) d (omega (arith, lt)) there in
+      let order = in_order.0 (place + i) (place + j) d (omega (arith, lt)) there in
       omega (arith, order, get_or-drop place bounds i d, get_or-drop place bounds j d)
 
-  -- all left are later, where the first of them is
+  -- all left are later if the first of them is
   later : (place t : ℕ) → ((d : ℕ) → 0 < length (drop place bounds) → t < get_or (drop place bounds) 0 d) → All (λ b. t < b) (drop place bounds)
   later place t first =
       all_after bounds place t (rest_rises place)
@@ -94,14 +91,21 @@ module _ (window : Period) (bounds : List ℕ) (edges : AreInOrder window bounds
       ahead = All-weaker (λ b. at < b) (λ b. at ≤ b) (λ b lt. omega (arith, lt)) (drop (place + len) bounds) then_later;
     }
 
--- of a count, how many have begun and not ended
-abbrev pub counts_shown : Bool → List Value → ℕ → ℕ → List Value → ℕ
-counts_shown is_none_shown key begun ended v = count_copies is_none_shown key (pos begun -ℤ pos ended) v
+-- the copies of a row that the totals have after that many starts and ends
+abbrev pub totals_shown : Bool → List Value → (ℕ → ℕ → List ℤ) → ℕ → ℕ → List Value → ℕ
+totals_shown shows_zero key totals begun ended v = result_copies shows_zero key (totals begun ended) v
+
+-- the bound is the first of a list, and not after the first of the other
+abbrev pub IsAtFront : ℕ → List ℕ → List ℕ → Type 0
+IsAtFront at starts ends =
+    ((d : ℕ) → 0 < length starts → at ≤ get_or starts 0 d)
+    × ((d : ℕ) → 0 < length ends → at ≤ get_or ends 0 d)
+    × (((d : ℕ) → (0 < length starts) × (get_or starts 0 d ≤ at)) ⊎ ((d : ℕ) → (0 < length ends) × (get_or ends 0 d ≤ at)))
 
 -- ---- both lists
 
--- what is shown where so many have begun and so many have ended: up to `since` that stands in the list, and from there on it stays
--- what is shown after those that were gone through
+-- between two bounds of a sweep, up to `last`: the result rows before `since` are in the list, and those from there on are the
+-- same until the next bound
 pub record Counting (shown : ℕ → ℕ → List Value → ℕ) (starts ends : List ℕ) (window : Period) (old : List Fragment) (begun ended since : ℕ) (out : List Fragment) : Type 0 where
   pub last : ℕ
   pub counted : (t : ℕ) (v : List Value) → copies out v t ≡ copies old v t + cond (nat_le window.start t && nat_lt t since) (shown (upto starts t) (upto ends t) v) 0
@@ -112,13 +116,13 @@ pub record Counting (shown : ℕ → ℕ → List Value → ℕ) (starts ends : 
   pub behind : since ≤ last
   pub until : since ≤ window.end
 
-module _ (shown : ℕ → ℕ → List Value → ℕ) (starts ends : List ℕ) (window : Period) (old : List Fragment) (start_edges : AreInOrder window starts) (end_edges : AreInOrder window ends) where
-  -- nothing is gone through yet
+module _ (shown : ℕ → ℕ → List Value → ℕ) (starts ends : List ℕ) (window : Period) (old : List Fragment) (starts_in_order : AreInOrder window starts) (ends_in_order : AreInOrder window ends) where
+  -- no bound is passed yet
   nothing_reached : (bounds : List ℕ) → AreInOrder window bounds → Reached bounds window.start 0
-  nothing_reached bounds edges = record {
+  nothing_reached bounds in_order = record {
     within = omega arith;
     by = All-nil (λ b. b ≤ window.start);
-    ahead = All-weaker (λ (b : ℕ). (window.start ≤ b) × (b ≤ window.end)) (λ b. window.start ≤ b) (λ b is. is.0) bounds edges.1;
+    ahead = All-weaker (λ (b : ℕ). (window.start ≤ b) × (b ≤ window.end)) (λ b. window.start ≤ b) (λ b is. is.0) bounds in_order.1;
   }
 
   pub begins : Counting shown starts ends window old 0 0 window.start old
@@ -129,8 +133,8 @@ module _ (shown : ℕ → ℕ → List Value → ℕ) (starts ends : List ℕ) (
         counted = λ t v. nothing (shown (upto starts t) (upto ends t) v) t (copies old v t);
         settled = λ t v past starts_later ends_later.
             ap (λ n. shown n (upto ends t) v) (upto_none starts t starts_later) ∙ ap (λ n. shown 0 n v) (upto_none ends t ends_later);
-        starts_reached = nothing_reached starts start_edges;
-        ends_reached = nothing_reached ends end_edges;
+        starts_reached = nothing_reached starts starts_in_order;
+        ends_reached = nothing_reached ends ends_in_order;
         from = omega arith;
         behind = omega arith;
         until = omega (arith, ordered);
@@ -148,33 +152,31 @@ module _ (shown : ℕ → ℕ → List Value → ℕ) (starts ends : List ℕ) (
     goes_on = elim front.2 [ inl there ↦ from_last starts begun w.starts_reached there | inr there ↦ from_last ends ended w.ends_reached there ]
 
     by_end : (bounds : List ℕ) (place : ℕ) → AreInOrder window bounds → ((d : ℕ) → 0 < length (drop place bounds) → at ≤ get_or (drop place bounds) 0 d) → 0 < length (drop place bounds) → at ≤ window.end
-    by_end bounds place edges low some =
-        let inside = edges.1 place 0 (omega (arith, length-drop place bounds, some)) in
+    by_end bounds place in_order low some =
+        let inside = in_order.1 place 0 (omega (arith, length-drop place bounds, some)) in
         omega (arith, low 0 some, inside.1, get_or-drop place bounds 0 0, ap (λ i. get_or bounds i 0) there)
       where
         there : place + 0 ≡ place
         there = omega arith
 
     in_window : at ≤ window.end
-    in_window = elim front.2 [ inl there ↦ by_end starts begun start_edges front.0 (there 0).0 | inr there ↦ by_end ends ended end_edges front.1 (there 0).0 ]
+    in_window = elim front.2 [ inl there ↦ by_end starts begun starts_in_order front.0 (there 0).0 | inr there ↦ by_end ends ended ends_in_order front.1 (there 0).0 ]
 
     -- up to it nothing changes
     before : (t : ℕ) (v : List Value) → since ≤ t → t < at → shown (upto starts t) (upto ends t) v ≡ shown begun ended v
     before t v past lt =
         w.settled t v past
-        (later window starts start_edges begun t (λ d some. let low = front.0 d some in omega (arith, low, lt)))
-        (later window ends end_edges ended t (λ d some. let low = front.1 d some in omega (arith, low, lt)))
+        (later window starts starts_in_order begun t (λ d some. let low = front.0 d some in omega (arith, low, lt)))
+        (later window ends ends_in_order ended t (λ d some. let low = front.1 d some in omega (arith, low, lt)))
 
-    module _ (m n : ℕ) (within_starts : m ≤ length (drop begun starts)) (within_ends : n ≤ length (drop ended ends))
-        (starts_by : All (λ b. b ≤ at) (take m (drop begun starts))) (ends_by : All (λ b. b ≤ at) (take n (drop ended ends)))
-        (starts_then : (d : ℕ) → m < length (drop begun starts) → at < get_or (drop begun starts) m d) (ends_then : (d : ℕ) → n < length (drop ended ends) → at < get_or (drop ended ends) n d) where
+    module _ (m n : ℕ) (starts_to : AreUpTo at (drop begun starts) m) (ends_to : AreUpTo at (drop ended ends) n) where
       starts_on : Reached starts at (begun + m)
-      starts_on = reaches window starts start_edges w.last begun at m w.starts_reached goes_on within_starts starts_by starts_then
+      starts_on = reaches window starts starts_in_order w.last begun at m w.starts_reached goes_on starts_to.0 starts_to.1 starts_to.2
 
       ends_on : Reached ends at (ended + n)
-      ends_on = reaches window ends end_edges w.last ended at n w.ends_reached goes_on within_ends ends_by ends_then
+      ends_on = reaches window ends ends_in_order w.last ended at n w.ends_reached goes_on ends_to.0 ends_to.1 ends_to.2
 
-      -- from it on so many have begun, and so many have ended
+      -- from it on that many have begun, and that many have ended
       after : (t : ℕ) (v : List Value) → at ≤ t → All (λ b. t < b) (drop (begun + m) starts) → All (λ b. t < b) (drop (ended + n) ends) → shown (upto starts t) (upto ends t) v ≡ shown (begun + m) (ended + n) v
       after t v past starts_later ends_later =
           ap (λ i. shown i (upto ends t) v) (reached_upto starts at (begun + m) starts_on t past starts_later)
@@ -196,7 +198,7 @@ module _ (shown : ℕ → ℕ → List Value → ℕ) (starts ends : List ℕ) (
         until = w.until;
       }
 
-      -- something else is shown after them, and what was shown before goes to the end of the list
+      -- something else is shown after them, and the rows before were added
       pub turns : (new : List Fragment) → ((t : ℕ) (v : List Value) → copies new v t ≡ copies out v t + cond (nat_le since t && nat_lt t at) (shown begun ended v) 0)
           → Counting shown starts ends window old (begun + m) (ended + n) at new
       turns new more = record {
@@ -216,8 +218,8 @@ module _ (shown : ℕ → ℕ → List Value → ℕ) (starts ends : List ℕ) (
       -- one of the lists is a bound shorter
       pub fewer : (length starts - (begun + m)) + (length ends - (ended + n)) < (length starts - begun) + (length ends - ended)
       fewer = elim front.2 [
-        | inl there ↦ let some = moves starts begun m there starts_then in omega (arith, length-drop begun starts, length-drop ended ends, within_starts, within_ends, some, (there 0).0)
-        | inr there ↦ let some = moves ends ended n there ends_then in omega (arith, length-drop begun starts, length-drop ended ends, within_starts, within_ends, some, (there 0).0)
+        | inl there ↦ let some = moves starts begun m there starts_to.2 in omega (arith, length-drop begun starts, length-drop ended ends, starts_to.0, ends_to.0, some, (there 0).0)
+        | inr there ↦ let some = moves ends ended n there ends_to.2 in omega (arith, length-drop begun starts, length-drop ended ends, starts_to.0, ends_to.0, some, (there 0).0)
       ]
         where
           moves : (bounds : List ℕ) (place len : ℕ) → ((d : ℕ) → (0 < length (drop place bounds)) × (get_or (drop place bounds) 0 d ≤ at)) → ((d : ℕ) → len < length (drop place bounds) → at < get_or (drop place bounds) len d) → 0 < len
@@ -229,7 +231,7 @@ module _ (shown : ℕ → ℕ → List Value → ℕ) (starts ends : List ℕ) (
                 absurd (omega (arith, is.1, then 0 (omega (arith, is.0, zero')), ap (λ i. get_or (drop place bounds) i 0) zero'))
           ]
 
-  -- after all bounds, what is shown goes to the end of the list
+  -- after all bounds, when the last rows were added
   pub ends_with : (begun ended since : ℕ) (out new : List Fragment) → Counting shown starts ends window old begun ended since out → drop begun starts ≡ [] → drop ended ends ≡ []
       → ((t : ℕ) (v : List Value) → copies new v t ≡ copies out v t + cond (nat_le since t && nat_lt t window.end) (shown begun ended v) 0)
       → (t : ℕ) (v : List Value) → copies new v t ≡ copies old v t + cond (holds window t) (shown (upto starts t) (upto ends t) v) 0

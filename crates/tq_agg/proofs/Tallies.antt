@@ -1,4 +1,4 @@
--- The rows of one rank, of the buckets of all stretches, are those of the groups of its share.
+-- The rows of one prefix, of the buckets of all partial aggregates, are those of the groups of its partition.
 use Rattle.std.proofs.Common.{◌≡◌, ◌≢◌, ℕ, zero, suc, ◌+◌, ◌<◌, ◌≤◌, ℤ, pos, inl, inr, Bool, true, false, ◌==◌, ◌&&◌, ◌||◌, cond, nat_le, List, [], ◌∷◌, length, take, filter, get_or, refl, sym, subst, ap, ◌∙◌, arith}
 use Rattle.std.specs.Prelude.{All}
 use Rattle.std.specs.List.{list_any}
@@ -17,20 +17,20 @@ use Rattle.tq_base.specs.Relations.{column_of}
 use Rattle.tq_base.specs.Sweep.{pairs_head, pairs_tail}
 use Rattle.tq_base.specs.ValueOrder.{eq_from_same, same_from_eq}
 use Rattle.tq_base.specs.RowValues.{value_at}
-use Rattle.tq_agg.specs.declared.few.Bucket.{Bucket}
-use Rattle.tq_agg.specs.declared.few.Tally.{Tally}
+use Rattle.tq_agg.specs.declared.buckets.Bucket.{Bucket}
+use Rattle.tq_agg.specs.declared.buckets.Tally.{Tally}
 use Rattle.tq_agg.specs.Buckets.{bucket_count, counted, counted_at, counted_in, keyed_count, rank_share, value_of, AreRanked, AreRanksOf, AreTallies, IsAmong, IsTally}
-use Rattle.tq_agg.specs.Edges.{count_upto}
+use Rattle.tq_agg.specs.Endpoints.{count_upto}
 use Rattle.tq_agg.specs.Grouping.{grouped_rows, same_row}
 use Rattle.tq_agg.specs.Totals.{added, shown_copies}
 use Rattle.tq_agg.proofs.Adding.{added-filter, added-same, added-step}
 use Rattle.tq_agg.proofs.BucketRows.{all_shown}
-use Rattle.tq_agg.proofs.Buckets.{as_many, Rising}
+use Rattle.tq_agg.proofs.Bucketing.{as_many, Rising}
 use Rattle.tq_agg.proofs.Grouping.{other_shown}
 
--- ---- ranks that rise
+-- ---- prefixes that ascend
 
--- of numbers that are all above the one, none is at most it
+-- of numbers that are all above one, none is at most it
 none_upto : (x : ℕ) (xs : List ℕ) → All (λ r. x < r) xs → length (filter (λ cut. nat_le cut x) xs) ≡ 0
 none_upto x [] all = refl
 none_upto x (r ∷ xs) all =
@@ -43,7 +43,7 @@ first_least : (r : ℕ) (xs : List ℕ) → Rising (r ∷ xs) → (i : ℕ) → 
 first_least r xs rise zero lt = omega arith
 first_least r xs rise (suc i) lt = let less : r < get_or xs i 0 = pairs_head (λ r q. r < q) r xs rise i 0 (omega (arith, lt)) in omega (arith, less)
 
--- as many of them, without the first, are at most the one at a place as the number of the place says
+-- without the first, the number of those that are at most the one at a place is the place
 rank_place : (r : ℕ) (xs : List ℕ) → Rising (r ∷ xs) → (i : ℕ) → i < length (r ∷ xs) → length (filter (λ cut. nat_le cut (get_or (r ∷ xs) i 0)) xs) ≡ i
 rank_place r xs rise zero lt = none_upto r xs (pairs_head (λ r q. r < q) r xs rise)
 rank_place r [] rise (suc i) lt = absurd (omega (arith, lt))
@@ -54,12 +54,12 @@ rank_place r (q ∷ xs) rise (suc i) lt =
     let upto : nat_le q x ≡ true = grind (arith, nat_tests) in
     ap (λ b. length (cond b (q ∷ filter (λ cut. nat_le cut x) xs) (filter (λ cut. nat_le cut x) xs))) upto ∙ ap suc (rank_place q xs rest i (omega (arith, lt)))
 
--- so a value whose rank stands at a place is of the share of the number of the place
+-- so a value whose prefix is at a place is of the partition with the number of the place
 share_place : (ranks : List ℕ) → Rising ranks → (w : Value) (i : ℕ) → i < length ranks → get_or ranks i 0 ≡ normalized_key w → rank_share ranks w ≡ i
 share_place [] rise w i lt is = absurd (omega (arith, lt))
 share_place (r ∷ ranks) rise w i lt is = subst (λ n. length (filter (λ cut. nat_le cut n) ranks) ≡ i) is (rank_place r ranks rise i lt)
 
--- two of them are the same exactly where their places are
+-- two of them are the same exactly if their places are
 same_place : (ranks : List ℕ) → Rising ranks → (i j : ℕ) → i < length ranks → j < length ranks → (get_or ranks i 0 == get_or ranks j 0) ≡ (i == j)
 same_place ranks rise i j i_lt j_lt = elim (cases_lt i j) [
   | inl before ↦ let less : get_or ranks i 0 < get_or ranks j 0 = rise i j 0 before j_lt in grind (arith, nat_tests)
@@ -72,7 +72,7 @@ same_place ranks rise i j i_lt j_lt = elim (cases_lt i j) [
   ]
 ]
 
--- where one of them stands
+-- the place of one of them
 pub place_of_one : (ranks : List ℕ) (prefix : ℕ) → IsAmong ranks prefix → (i : ℕ) × (i < length ranks) × (get_or ranks i 0 ≡ prefix)
 place_of_one [] prefix among = absurd (false≢true among)
 place_of_one (r ∷ ranks) prefix among = by (r == prefix) refl (λ later. place_of_one ranks prefix later)
@@ -83,7 +83,7 @@ place_of_one (r ∷ ranks) prefix among = by (r == prefix) refl (λ later. place
         let (i, lt, there) = later (sym (ap (λ b. b || list_any (λ q. q == prefix) ranks) is) ∙ among) in
         (suc i, omega (arith, lt), there)
 
--- what stands at a place is one of them
+-- the one at a place is one of them
 pub one_at : (ranks : List ℕ) (prefix i : ℕ) → i < length ranks → get_or ranks i 0 ≡ prefix → IsAmong ranks prefix
 one_at [] prefix i lt is = absurd (omega (arith, lt))
 one_at (r ∷ ranks) prefix zero lt is = let same : (r == prefix) ≡ true = grind (arith, nat_tests) in ap (λ b. b || list_any (λ q. q == prefix) ranks) same
@@ -93,7 +93,7 @@ one_at (r ∷ ranks) prefix (suc i) lt is = ap (λ b. (r == prefix) || b) (one_a
     either true = refl
     either false = refl
 
--- a value whose rank is one of the ranks has the rank at a place exactly where it is of the share of this place
+-- a value whose prefix is one of them has the prefix at a place exactly if it is of the partition of this place
 same_test : (ranks : List ℕ) → Rising ranks → (number : ℕ) → number < length ranks → (w : Value) → IsAmong ranks (normalized_key w) → (normalized_key w == get_or ranks number 0) ≡ (rank_share ranks w == number)
 same_test ranks rise number lt w among =
     let (i, within, is) = place_of_one ranks (normalized_key w) among in
@@ -108,29 +108,29 @@ none : (b : Bool) → cond b (pos 0) (pos 0) ≡ pos 0
 none true = refl
 none false = refl
 
--- the sum where each weighs nothing
+-- the sum if each weighs nothing
 added-nothing : {X : Type 0} (xs : List X) → added (λ (x : X). pos 0) xs ≡ pos 0
 added-nothing [] = refl
 added-nothing {X} (x ∷ xs) = omega (arith, ints, added-nothing xs)
 
--- two sums are the same where each element of the list weighs the same in both
+-- two sums are the same if each element of the list weighs the same in both
 added-alike : {X : Type 0} (v w : X → ℤ) (xs : List X) → All (λ x. v x ≡ w x) xs → added v xs ≡ added w xs
 added-alike v w [] alike = refl
 added-alike v w (x ∷ xs) alike = omega (arith, ints, All-head (λ x. v x ≡ w x) x xs alike, added-alike v w xs (All-tail (λ x. v x ≡ w x) x xs alike))
 
--- where one test decides for all elements, the sum is that of all or of none
+-- if one test decides for all elements, the sum is that of all or of none
 added-test : {X : Type 0} (b : Bool) (w : X → ℤ) (xs : List X) → added (λ x. cond b (w x) (pos 0)) xs ≡ cond b (added w xs) (pos 0)
 added-test true w xs = refl
 added-test false w xs = added-nothing xs
 
--- ---- the rows of a share
+-- ---- the rows of a partition
 
--- the answer to whether a value of the key is of the share of the number; a key without a value can have either answer
+-- whether a value of the key is of the partition; for a key without a value, either
 abbrev IsShareOf : List ℕ → ℕ → List Value → Bool → Type 0
 IsShareOf ranks number key is = (w : Value) → same_row (w ∷ []) key ≡ true → (rank_share ranks w == number) ≡ is
 
 module _ (ranks : List ℕ) (number : ℕ) (key : List Value) (is : Bool) (tells : IsShareOf ranks number key is) where
-  -- what is counted of a value is of the share where the key is, since a value of another key counts nothing
+  -- what is counted of a value is of the partition if the key is, since a value of another key counts nothing
   value_left : (w : Value) (count : ℤ) → cond (rank_share ranks w == number) (cond (same_row (w ∷ []) key) count (pos 0)) (pos 0) ≡ cond is (cond (same_row (w ∷ []) key) count (pos 0)) (pos 0)
   value_left w count = split (same_row (w ∷ []) key) refl
     where
@@ -138,7 +138,7 @@ module _ (ranks : List ℕ) (number : ℕ) (key : List Value) (is : Bool) (tells
       split true same = ap (λ b. cond b count (pos 0)) (tells w same)
       split false differ = none (rank_share ranks w == number) ∙ sym (none is)
 
-  -- the rows of the share are all rows of the key or none of them
+  -- the rows of the partition are all rows of the key or none of them
   rows_left : (column : ℕ) (window : Period) (t : ℕ) (rows : List Fragment)
       → keyed_count column window t key (filter (λ (row : Fragment). rank_share ranks (value_at row.values column) == number) rows) ≡ cond is (keyed_count column window t key rows) (pos 0)
   rows_left column window t rows =
@@ -154,14 +154,14 @@ module _ (ranks : List ℕ) (number : ℕ) (key : List Value) (is : Bool) (tells
       each row false = none (rank_share ranks (value_at row.values column) == number) ∙ sym (none is)
 
   module _ (rise : Rising ranks) (lt : number < length ranks) (column : List Value) (t : ℕ) where
-    -- so is what a bucket counts, where its rank is the one of this number
+    -- so is what a bucket counts, if its prefix is the one with this number
     bucket_left : (b : Bucket) → IsAmong ranks (normalized_key (value_of column b))
         → cond (normalized_key (value_of column b) == get_or ranks number 0) (bucket_count column t key b) (pos 0) ≡ cond is (bucket_count column t key b) (pos 0)
     bucket_left b among =
         ap (λ s. cond s (bucket_count column t key b) (pos 0)) (same_test ranks rise number lt (value_of column b) among)
-        ∙ value_left (value_of column b) (count_upto b.edges.starts.items b.edges.ends.items t)
+        ∙ value_left (value_of column b) (count_upto b.endpoints.starts.items b.endpoints.ends.items t)
 
-    -- what the buckets of one stretch count
+    -- what the buckets of one partial aggregate count
     buckets_left : (own : List ℕ) (buckets : List Bucket) → AreRanked column own buckets → All (IsAmong ranks) own
         → counted_at column (get_or ranks number 0) t key buckets ≡ cond is (counted column t key buckets) (pos 0)
     buckets_left own buckets are among =
@@ -171,7 +171,7 @@ module _ (ranks : List ℕ) (number : ℕ) (key : List Value) (is : Bool) (tells
         (among k 0 (omega (arith, inside, as_many column own buckets are k)))))
         ∙ added-test is (bucket_count column t key) buckets
 
-    -- and those of all stretches
+    -- and those of all
     tallies_left : (tallies : List Tally) → All (λ (b : Tally). AreRanked column b.ranks.items b.list.items) tallies → All (λ (b : Tally). All (IsAmong ranks) b.ranks.items) tallies
         → counted_in column (get_or ranks number 0) t key tallies ≡ cond is (added (λ (b : Tally). counted column t key b.list.items) tallies) (pos 0)
     tallies_left tallies are among =
@@ -179,12 +179,12 @@ module _ (ranks : List ℕ) (number : ℕ) (key : List Value) (is : Bool) (tells
         (λ k d inside. buckets_left (get_or tallies k d).ranks.items (get_or tallies k d).list.items (are k d inside) (among k d inside))
         ∙ added-test is (λ (b : Tally). counted column t key b.list.items) tallies
 
--- the first value of a row; the other value where there is none
+-- the first value of a row; the other value if there is none
 abbrev first_of : Value → List Value → Value
 first_of w [] = w
 first_of w (x ∷ row) = x
 
--- whether a row has a first value, and this is of the share of the number
+-- whether a row has a first value, and it is of the partition
 abbrev begins_in_share : List ℕ → ℕ → List Value → Bool
 begins_in_share ranks number [] = false
 begins_in_share ranks number (x ∷ v) = rank_share ranks x == number
@@ -194,7 +194,7 @@ first_tells : (ranks : List ℕ) (number : ℕ) (v : List Value) → IsShareOf r
 first_tells ranks number [] w same = absurd (false≢true same)
 first_tells ranks number (x ∷ v) w same = ap (λ row. rank_share ranks (first_of w row) == number) (same_from_eq (w ∷ []) (take 1 (x ∷ v)) same)
 
--- the counts of the rows of a rank are those of the groups of its share
+-- the counts of the rows of a prefix are those of the groups of its partition
 pub share_shown : (rows : List Fragment) (window : Period) (column : ℕ) (tallies : List Tally) (ranks : List ℕ) (number : ℕ) → AreTallies rows window column tallies → AreRanksOf ranks tallies → number < length ranks → (out : List Fragment)
     → ((t : ℕ) (v : List Value) → copies out v t ≡ cond (holds window t) (shown_copies (take 1 v) (counted_in (column_of rows column) (get_or ranks number 0) t (take 1 v) tallies ∷ []) v) 0)
     → (t : ℕ) (v : List Value) → copies out v t ≡ cond (holds window t) (occurrences (grouped_rows (column ∷ []) [] (at (filter (λ (row : Fragment). rank_share ranks (value_at row.values column) == number) rows) t)) v) 0
@@ -212,31 +212,31 @@ share_shown rows window column tallies ranks number are of lt out shown t v =
         ∙ ap (λ n. cond (begins_in_share ranks number v) n (pos 0)) (are.counts t (take 1 v))
         ∙ sym (rows_left ranks number (take 1 v) (begins_in_share ranks number v) tells column window t rows)
 
--- what the bucket of one value shows is what is counted of its rank
+-- the result rows of the bucket of one value are what is counted of its prefix
 pub value_shown : (column : List Value) (window : Period) (prefix : ℕ) (tallies : List Tally) (b : Bucket) → ((t : ℕ) (key : List Value) → bucket_count column t key b ≡ counted_in column prefix t key tallies) → (out : List Fragment)
-    → ((t : ℕ) (v : List Value) → copies out v t ≡ cond (holds window t) (shown_copies (value_of column b ∷ []) (count_upto b.edges.starts.items b.edges.ends.items t ∷ []) v) 0)
+    → ((t : ℕ) (v : List Value) → copies out v t ≡ cond (holds window t) (shown_copies (value_of column b ∷ []) (count_upto b.endpoints.starts.items b.endpoints.ends.items t ∷ []) v) 0)
     → (t : ℕ) (v : List Value) → copies out v t ≡ cond (holds window t) (shown_copies (take 1 v) (counted_in column prefix t (take 1 v) tallies ∷ []) v) 0
 value_shown column window prefix tallies b counts out shown t v = shown t v ∙ split (same_row (value_of column b ∷ []) (take 1 v)) refl
   where
-    -- where the row's first value is that of the bucket, all of the bucket counts, else nothing does
+    -- if the row's first value is that of the bucket, all of the bucket counts, otherwise nothing does
     split : (s : Bool) → same_row (value_of column b ∷ []) (take 1 v) ≡ s
-        → cond (holds window t) (shown_copies (value_of column b ∷ []) (count_upto b.edges.starts.items b.edges.ends.items t ∷ []) v) 0
+        → cond (holds window t) (shown_copies (value_of column b ∷ []) (count_upto b.endpoints.starts.items b.endpoints.ends.items t ∷ []) v) 0
         ≡ cond (holds window t) (shown_copies (take 1 v) (counted_in column prefix t (take 1 v) tallies ∷ []) v) 0
     split true equal =
-        let all : count_upto b.edges.starts.items b.edges.ends.items t ≡ counted_in column prefix t (take 1 v) tallies =
-        sym (ap (λ s. cond s (count_upto b.edges.starts.items b.edges.ends.items t) (pos 0)) equal) ∙ counts t (take 1 v) in
-        ap (λ key. cond (holds window t) (shown_copies key (count_upto b.edges.starts.items b.edges.ends.items t ∷ []) v) 0) (same_from_eq (value_of column b ∷ []) (take 1 v) equal)
+        let all : count_upto b.endpoints.starts.items b.endpoints.ends.items t ≡ counted_in column prefix t (take 1 v) tallies =
+        sym (ap (λ s. cond s (count_upto b.endpoints.starts.items b.endpoints.ends.items t) (pos 0)) equal) ∙ counts t (take 1 v) in
+        ap (λ key. cond (holds window t) (shown_copies key (count_upto b.endpoints.starts.items b.endpoints.ends.items t ∷ []) v) 0) (same_from_eq (value_of column b ∷ []) (take 1 v) equal)
         ∙ ap (λ n. cond (holds window t) (shown_copies (take 1 v) (n ∷ []) v) 0) all
     split false differ =
         let differs : value_of column b ∷ [] ≢ take 1 v = λ same. false≢true (sym differ ∙ eq_from_same (value_of column b ∷ []) (take 1 v) same) in
         let no_count : pos 0 ≡ counted_in column prefix t (take 1 v) tallies =
-        sym (ap (λ s. cond s (count_upto b.edges.starts.items b.edges.ends.items t) (pos 0)) differ) ∙ counts t (take 1 v) in
-        ap (λ n. cond (holds window t) n 0) (other_shown (value_of column b ∷ []) 1 (count_upto b.edges.starts.items b.edges.ends.items t ∷ []) v refl differs)
+        sym (ap (λ s. cond s (count_upto b.endpoints.starts.items b.endpoints.ends.items t) (pos 0)) differ) ∙ counts t (take 1 v) in
+        ap (λ n. cond (holds window t) n 0) (other_shown (value_of column b ∷ []) 1 (count_upto b.endpoints.starts.items b.endpoints.ends.items t ∷ []) v refl differs)
         ∙ ap (λ n. cond (holds window t) (shown_copies (take 1 v) (n ∷ []) v) 0) no_count
 
--- ---- stretches, one after the other
+-- ---- parts of the rows, one after the other
 
--- where each stretch begins at the end of the one before it, and the last one ends behind all rows, all of these lie in their buckets
+-- if each part begins at the end of the one before it, and the last one ends after all rows, all rows are in their buckets
 pub stretches_tile : (rows : List Fragment) (window : Period) (column : ℕ) (start : ℕ → ℕ) (tallies : List Tally) → start 0 ≡ 0 → length rows ≤ start (length tallies)
     → ((i : ℕ) (d : Tally) → i < length tallies → IsTally rows window column (start i) (start (i + 1)) (get_or tallies i d)) → AreTallies rows window column tallies
 stretches_tile rows window column start tallies first last each = record {

@@ -1,6 +1,7 @@
 -- What the buckets add of a key stays the same when an empty one is put among them, and grows by a row that goes into one.
-use Rattle.std.proofs.Common.{◌≡◌, ℕ, ◌+◌, ◌<◌, ◌≤◌, ℤ, pos, ◌+ℤ◌, ◌-ℤ◌, Bool, true, false, ◌&&◌, cond, nat_le, nat_lt, List, [], ◌∷◌, ◌++◌, length, take, set, get_or, refl, sym, subst, ap, ◌∙◌, arith}
+use Rattle.std.proofs.Common.{◌≡◌, ℕ, ◌+◌, ◌<◌, ◌≤◌, ℤ, pos, ◌+ℤ◌, ◌-ℤ◌, Bool, true, false, ◌&&◌, cond, nat_le, nat_lt, FitsSigned, List, [], ◌∷◌, ◌++◌, length, take, set, get_or, refl, sym, subst, ap, ◌∙◌, arith}
 use Rattle.std.specs.Prelude.{All}
+use Rattle.std.specs.Int.{w64}
 use Rattle.std.specs.List.{insert}
 use Rattle.std.proofs.lemmas.Bool.Decides.{nat_tests}
 use Rattle.std.proofs.lemmas.Int.{ints}
@@ -14,7 +15,7 @@ use Rattle.tq_base.specs.Keys.{no_row}
 use Rattle.tq_base.specs.Periods.{holds}
 use Rattle.tq_base.specs.Relations.{column_of, values_at_number}
 use Rattle.tq_agg.specs.declared.changes.Change.{Change}
-use Rattle.tq_agg.specs.declared.few.Bucket.{Bucket}
+use Rattle.tq_agg.specs.declared.buckets.Bucket.{Bucket}
 use Rattle.tq_agg.specs.declared.summands.Summand.{Summand}
 use Rattle.tq_agg.specs.declared.summands.Summand.TheVariants.{Column}
 use Rattle.tq_agg.specs.Buckets.{value_of}
@@ -22,7 +23,7 @@ use Rattle.tq_agg.specs.Changes.{bounds_of, bucket_change, changed_by, changed_u
 use Rattle.tq_agg.specs.Grouping.{same_row}
 use Rattle.tq_agg.specs.Totals.{added, weight_of}
 use Rattle.tq_agg.proofs.Adding.{added-append, added-step}
-use Rattle.tq_agg.proofs.Buckets.{added-insert, added-set, number_at, All-insert}
+use Rattle.tq_agg.proofs.Bucketing.{added-insert, added-set, number_at, All-insert}
 
 -- ---- changes
 
@@ -51,10 +52,16 @@ changed_more f starts ends p w t =
     omega (arith, ints, changed-push f starts start t, changed-push f ends end t, own_while_it_lasts (f w) p t)
 
 -- one more change inside the window
-pub inside-push : (window : Period) (changes : List Change) (c : Change) → window.start ≤ c.at → c.at ≤ window.end → ChangeInside window changes → ChangeInside window (changes ++ c ∷ [])
-inside-push window changes c least most inside =
-    subst (All (λ b. (window.start ≤ b) × (b ≤ window.end))) (sym (map-append (λ (c : Change). c.at) changes (c ∷ [])))
-    (All-push (λ b. (window.start ≤ b) × (b ≤ window.end)) (bounds_of changes) c.at inside (least, most))
+pub inside-push : (window : Period) (changes : List Change) (c : Change) → window.start ≤ c.at → c.at ≤ window.end → FitsSigned w64 c.weight → ChangeInside window changes → ChangeInside window (changes ++ c ∷ [])
+inside-push window changes c least most small inside = (
+  subst (All (λ b. (window.start ≤ b) × (b ≤ window.end))) (sym (map-append (λ (c : Change). c.at) changes (c ∷ [])))
+      (All-push (λ b. (window.start ≤ b) × (b ≤ window.end)) (bounds_of changes) c.at inside.0 (least, most)),
+  All-push (λ (c : Change). FitsSigned w64 c.weight) changes c inside.1 small,
+)
+
+-- no changes
+none_inside : (window : Period) → ChangeInside window []
+none_inside window = (All-nil (λ x. (window.start ≤ x) × (x ≤ window.end)), All-nil (λ (c : Change). FitsSigned w64 c.weight))
 
 -- ---- buckets
 
@@ -66,7 +73,7 @@ AreCutIn window b = ChangeInside window b.changes.starts.items × ChangeInside w
 pub unchanged_is_cut : (window : Period) (buckets : List Bucket) (place : ℕ) (b : Bucket) → b.changes.starts.items ≡ [] → b.changes.ends.items ≡ [] → AreChangesCut window buckets → AreChangesCut window (insert buckets place b)
 unchanged_is_cut window buckets place b no_starts no_ends cut =
     All-insert (AreCutIn window) buckets place b cut
-    (subst (ChangeInside window) (sym no_starts) (All-nil (λ x. (window.start ≤ x) × (x ≤ window.end))), subst (ChangeInside window) (sym no_ends) (All-nil (λ x. (window.start ≤ x) × (x ≤ window.end))))
+    (subst (ChangeInside window) (sym no_starts) (none_inside window), subst (ChangeInside window) (sym no_ends) (none_inside window))
 
 -- and it adds nothing
 pub unchanged_adds : (f : ℤ → ℤ) (column : List Value) (t : ℕ) (key : List Value) (buckets : List Bucket) (place : ℕ) (b : Bucket) → b.changes.starts.items ≡ [] → b.changes.ends.items ≡ []

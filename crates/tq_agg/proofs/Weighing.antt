@@ -20,7 +20,7 @@ weights_more rows s weights weight place many before is row lt = by (nat_lt row 
         let same : place ≡ row = let more = length-append weights (weight ∷ []) in grind (arith, nat_tests) in
         get_or_push weights weight (pos 0) row (many ∙ same) ∙ is ∙ ap (λ n. weight_of s (values_at_number rows n)) same
 
--- the lists of the summands before a place, of which there are as many
+-- the lists of the summands before a place
 pub record AreListed (rows : List Fragment) (summands : List Summand) (lists : List (List ℤ)) (place : ℕ) : Type 0 where
   pub many : length lists ≡ place
   pub each : (k : ℕ) (d : Summand) → k < place → AreWeights rows (get_or summands k d) (get_or lists k [])

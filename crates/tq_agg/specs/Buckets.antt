@@ -11,9 +11,9 @@ use Rattle.tq_base.specs.Keys.{is_exact}
 use Rattle.tq_base.specs.Periods.{holds}
 use Rattle.tq_base.specs.NormalizedKeys.{normalized_key, HasBytes}
 use Rattle.tq_base.specs.Relations.{column_of}
-use Rattle.tq_agg.specs.declared.few.Bucket.{Bucket}
-use Rattle.tq_agg.specs.declared.few.Tally.{Tally}
-use Rattle.tq_agg.specs.Edges.{count_upto, AreInside}
+use Rattle.tq_agg.specs.declared.buckets.Bucket.{Bucket}
+use Rattle.tq_agg.specs.declared.buckets.Tally.{Tally}
+use Rattle.tq_agg.specs.Endpoints.{count_upto, AreInside}
 use Rattle.tq_agg.specs.Grouping.{same_row}
 use Rattle.tq_agg.specs.Totals.{added}
 
@@ -21,11 +21,11 @@ use Rattle.tq_agg.specs.Totals.{added}
 abbrev pub value_of : List Value → Bucket → Value
 value_of column b = value_at column b.row
 
--- its rank tells the value wholly
+-- its normalized key prefix determines the value
 abbrev pub IsTold : Value → Type 0
 IsTold value = HasBytes value × (is_exact (normalized_key value) ≡ true)
 
--- the ranks are those of the buckets' values, which they tell, and rise
+-- the prefixes are those of the buckets' values, which they determine, and ascend
 abbrev pub AreRanked : List Value → List ℕ → List Bucket → Type 0
 AreRanked column ranks buckets =
     (ranks ≡ map (λ b. normalized_key (value_of column b)) buckets)
@@ -34,41 +34,41 @@ AreRanked column ranks buckets =
 
 -- the bounds of the bucket are of the window
 abbrev pub IsInside : Period → Bucket → Type 0
-IsInside window b = AreInside window b.edges.starts.items × AreInside window b.edges.ends.items
+IsInside window b = AreInside window b.endpoints.starts.items × AreInside window b.endpoints.ends.items
 
 -- those of all buckets are
 abbrev pub AreCut : Period → List Bucket → Type 0
 AreCut window buckets = All (IsInside window) buckets
 
--- how many rows of the key, of those of the bucket, have begun by the instant and not ended
+-- the number of rows of the bucket that have the key, and have begun by the instant and not ended
 abbrev pub bucket_count : List Value → ℕ → List Value → Bucket → ℤ
-bucket_count column t key b = cond (same_row (value_of column b ∷ []) key) (count_upto b.edges.starts.items b.edges.ends.items t) (pos 0)
+bucket_count column t key b = cond (same_row (value_of column b ∷ []) key) (count_upto b.endpoints.starts.items b.endpoints.ends.items t) (pos 0)
 
--- how many rows of the key have begun by the instant and not ended
+-- the same of all buckets
 abbrev pub counted : List Value → ℕ → List Value → List Bucket → ℤ
 counted column t key buckets = added (bucket_count column t key) buckets
 
--- how many rows of the key are valid at the instant, inside the window
+-- the number of rows of the key that are valid at the instant, inside the window
 abbrev pub keyed_count : ℕ → Period → ℕ → List Value → List Fragment → ℤ
 keyed_count column window t key rows =
     added (λ (row : Fragment). cond (holds row.period t && holds window t) (cond (same_row (value_at row.values column ∷ []) key) (pos 1) (pos 0)) (pos 0)) rows
 
--- the rows from one number to another lie in the buckets of their values
+-- the rows from one number to another are in the buckets of their values
 pub record IsTally (rows : List Fragment) (window : Period) (column start end : ℕ) (buckets : Tally) : Type 0 where
   pub ranked : AreRanked (column_of rows column) buckets.ranks.items buckets.list.items
   pub cut : AreCut window buckets.list.items
   pub counts : (t : ℕ) (key : List Value) → keyed_count column window t key (take start rows) +ℤ counted (column_of rows column) t key buckets.list.items ≡ keyed_count column window t key (take end rows)
 
--- the bucket has no rows, or those of the value that the rank tells
+-- the bucket has no rows, or rows of the value that the prefix determines
 abbrev pub IsFound : List Value → ℕ → Bucket → Type 0
-IsFound column prefix b = ((b.edges.starts.items ≡ []) × (b.edges.ends.items ≡ [])) ⊎ (IsTold (value_of column b) × (normalized_key (value_of column b) ≡ prefix))
+IsFound column prefix b = ((b.endpoints.starts.items ≡ []) × (b.endpoints.ends.items ≡ [])) ⊎ (IsTold (value_of column b) × (normalized_key (value_of column b) ≡ prefix))
 
--- how many rows of the key, of those whose value has the rank, have begun by the instant and not ended
+-- the number of rows of the key, of those whose value has the prefix, that have begun by the instant and not ended
 abbrev pub counted_at : List Value → ℕ → ℕ → List Value → List Bucket → ℤ
 counted_at column prefix t key buckets =
     added (λ (b : Bucket). cond (normalized_key (value_of column b) == prefix) (bucket_count column t key b) (pos 0)) buckets
 
--- the same over the buckets of all stretches
+-- the same over all partial aggregates
 abbrev pub counted_in : List Value → ℕ → ℕ → List Value → List Tally → ℤ
 counted_in column prefix t key tallies = added (λ (b : Tally). counted_at column prefix t key b.list.items) tallies
 
@@ -76,23 +76,23 @@ counted_in column prefix t key tallies = added (λ (b : Tally). counted_at colum
 abbrev pub IsAmong : List ℕ → ℕ → Type 0
 IsAmong ranks prefix = list_any (λ r. r == prefix) ranks ≡ true
 
--- the ranks, which rise, are those of all values in buckets
+-- the prefixes ascend, and those of all buckets are among them
 pub record AreRanksOf (ranks : List ℕ) (tallies : List Tally) : Type 0 where
   pub some : 0 < length ranks
   pub rise : AllPairs (λ r q. r < q) ranks
   pub among : All (λ (b : Tally). All (IsAmong ranks) b.ranks.items) tallies
 
--- all rows lie in the buckets of stretches
+-- all rows are in the buckets of the partial aggregates
 pub record AreTallies (rows : List Fragment) (window : Period) (column : ℕ) (tallies : List Tally) : Type 0 where
   pub ranked : All (λ (b : Tally). AreRanked (column_of rows column) b.ranks.items b.list.items) tallies
   pub cut : All (λ (b : Tally). AreCut window b.list.items) tallies
   pub counts : (t : ℕ) (key : List Value) → added (λ (b : Tally). counted (column_of rows column) t key b.list.items) tallies ≡ keyed_count column window t key rows
 
--- the share of a value, by the ranks: as many of them, without the first, as are not above its own
+-- the number of the partition of a value: how many prefixes, without the first, are not above its own
 abbrev pub rank_share : List ℕ → Value → ℕ
 rank_share ranks value = length (filter (λ cut. nat_le cut (normalized_key value)) (drop 1 ranks))
 
--- ---- this is known in one way at most
+-- ---- these are propositions
 
 pub ranks_prop : (ranks : List ℕ) (tallies : List Tally) → IsProp (AreRanksOf ranks tallies)
 ranks_prop ranks tallies = hlevel props

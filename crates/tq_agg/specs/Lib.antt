@@ -1,7 +1,7 @@
 pub mod Bounds
 pub mod Buckets
 pub mod Changes
-pub mod Edges
+pub mod Endpoints
 pub mod GroupKeys
 pub mod Grouping
 pub mod Totals

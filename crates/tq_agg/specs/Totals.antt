@@ -1,5 +1,5 @@
--- Totals over a group of rows: what each row adds, and what those add that have begun and not ended.
-use Rattle.std.specs.Prelude.{◌≡◌, ◌<◌, ℕ, ℤ, pos, ◌+ℤ◌, ◌-ℤ◌, FitsSigned, Bool, false, not, cond, ◌&&◌, List, [], ◌∷◌, ◌++◌, length, map, slice_index_or, take, All}
+-- Totals over the rows of a group: what each row adds, and the totals of the rows that have begun and not ended.
+use Rattle.std.specs.Prelude.{◌≡◌, ◌<◌, ℕ, ℤ, pos, ◌+ℤ◌, ◌-ℤ◌, FitsSigned, Bool, false, not, cond, ◌&&◌, ◌||◌, List, [], ◌∷◌, ◌++◌, length, map, slice_index_or, take, All}
 use Rattle.std.specs.Int.{w64}
 use Rattle.std.specs.Ordering.{eq_by_cmp, int_eq}
 use Rattle.tq_base.specs.declared.value.Value.{Value}
@@ -57,7 +57,7 @@ abbrev pub totals_upto : SortInputState → Period → List Summand → List Sor
 totals_upto sort_input window summands keys ends t =
     totals_of sort_input summands (take (upto (map (start_in window) keys) t) keys) (take (upto (map (λ e. e.at) ends) t) ends)
 
--- what the row adds where it is valid at the instant, inside the window, else 0
+-- what the row adds if it is valid at the instant, inside the window; otherwise 0
 abbrev pub held_weight : Summand → Period → ℕ → Fragment → ℤ
 held_weight s window t row = cond (holds row.period t && holds window t) (weight_of s row.values) (pos 0)
 
@@ -84,15 +84,25 @@ AreSmallKeys sort_input s keys = All (λ k. IsSmall s (key_row sort_input k).val
 abbrev pub AreSmallEnds : SortInputState → Summand → List End → Type 0
 AreSmallEnds sort_input s ends = All (λ e. IsSmall s (key_row sort_input (end_key e)).values) ends
 
+-- the rows of the keys and of the ends add numbers of 64 signed bits to each summand, as its list says
+pub record AreSummed (rows : List Fragment) (sort_input : SortInputState) (summands : List Summand) (keys : List SortKey) (ends : List End) (lists : List (List ℤ)) : Type 0 where
+  pub small : All (λ s. AreSmallKeys sort_input s keys) summands
+  pub ends_small : All (λ s. AreSmallEnds sort_input s ends) summands
+  pub weights : HaveWeights rows summands lists
+
 -- whether the first of the totals, the count of rows, is not 0
 abbrev pub has_rows : List ℤ → Bool
 has_rows [] = false
 has_rows (count ∷ totals) = not (int_eq count (pos 0))
 
--- 1 where these are the values of the row of the totals, else 0
+-- 1 if these are the values of the result row of the totals, otherwise 0
 abbrev pub row_copies : List Value → List ℤ → List Value → ℕ
 row_copies key totals v = cond (eq_by_cmp values_cmp (key ++ map Int totals) v) 1 0
 
--- the same where the totals count any row, else 0
+-- the same if the totals count any row, otherwise 0
 abbrev pub shown_copies : List Value → List ℤ → List Value → ℕ
 shown_copies key totals v = cond (has_rows totals) (row_copies key totals v) 0
+
+-- the same, and a result row for totals that count no row if `shows_zero`
+abbrev pub result_copies : Bool → List Value → List ℤ → List Value → ℕ
+result_copies shows_zero key totals v = cond (shows_zero || has_rows totals) (row_copies key totals v) 0

@@ -1,18 +1,18 @@
-//! Where the rows of a group begin and where they end.
+//! The bounds of the rows of a group, cut to the window.
 
-ghost use Rattle.std.specs.Prelude.{◌≡◌, ◌<◌, ◌≤◌, ℕ, [], All, IfSome, IsPermutation, IsSortedByKey, OnOk, length, map, slice_index_or, take};
+ghost use Rattle.std.specs.Prelude.{◌≡◌, IsPermutation, IsSortedByKey, OnOk, map};
 ghost use Rattle.std.specs.Ordering.{nat_cmp};
 ghost use Rattle.tq_base.specs.declared.fragment.Fragment.{Fragment};
 ghost use Rattle.tq_base.specs.SortInputs.{state_of};
 ghost use Rattle.tq_base.specs.Keys.{key_row};
 ghost use Rattle.tq_base.specs.declared.sort_input.SortKey.{SortKey};
 ghost use Rattle.tq_agg.specs.declared.bounds.End.{End};
-ghost use Rattle.tq_agg.specs.Bounds.{end_in, moved, start_in, IsBoundAtFront};
+ghost use Rattle.tq_agg.specs.Bounds.{end_in, moved, start_in};
 
 use std::alloc::AllocError;
 use tq_base::{Bound, Instant, Period, Side, SortInput, SortKey};
 
-// Where a row ends, and which row it is.
+// The end of a row, and the row.
 #[derive(Clone, Copy)]
 pub(crate) struct End {
     pub(crate) at: Bound,
@@ -20,7 +20,7 @@ pub(crate) struct End {
     pub(crate) side: Side,
 }
 
-// The bound of this number, or the end of the window that is nearer. There is no branch to guess.
+// The bound of this number, or the nearer end of the window. It has no branch that the processor could predict wrongly.
 fn moved(number: u64, window: &Period) -> Bound
     ensures { result ≡ moved window.now number }
 {
@@ -31,15 +31,15 @@ fn moved(number: u64, window: &Period) -> Bound
     }
 }
 
-// Where the row of a key begins, in the window.
-fn start_in(key: &SortKey, window: &Period) -> Bound
+// The start of the row of the key, in the window.
+pub(crate) fn start_in(key: &SortKey, window: &Period) -> Bound
     ensures { result ≡ start_in window.now key.now }
 {
     moved(key.start, window)
 }
 
-// Where the row of the key ends. Rows of a group lie anywhere, so their ends are read out of one list: in a loop that does
-// little more than this, the processor waits for many of them at once.
+// The end of the row of the key. The rows of a group are scattered in memory. So the ends are read in a loop of their own, in
+// which the processor can wait for several of them concurrently.
 fn end_of(sort_input: &SortInput<'_>, lefts: &[Period], key: &SortKey) -> Bound
     requires { lefts.now ≡ map (λ (row : Fragment). row.period) sort_input.now.left.now.items }
     ensures { result ≡ (key_row (state_of sort_input.now) key.now).period.end }
@@ -50,7 +50,7 @@ fn end_of(sort_input: &SortInput<'_>, lefts: &[Period], key: &SortKey) -> Bound
     }
 }
 
-// Where the rows of the keys end, in the window and in order, takes the place of what stands in the list.
+// Replaces the list by the ends of the rows of the keys, in the window and in order of time.
 pub(crate) fn fill_ends(
     sort_input: &SortInput<'_>,
     keys: &[SortKey],
@@ -72,56 +72,4 @@ pub(crate) fn fill_ends(
     }
     ends.sort_unstable_by_key(|end| end.at);
     Ok(())
-}
-
-// The first bound at which a row begins or ends.
-pub(crate) fn first_bound(keys: &[SortKey], ends: &[End], window: &Period) -> Option<Bound>
-    ensures first { IfSome result (λ at. IsBoundAtFront window.now at keys.now ends.now) }
-    ensures none { result ≡ None → (keys.now ≡ []) × (ends.now ≡ []) }
-{
-    match (keys.first(), ends.first()) {
-        (Some(key), Some(end)) => {
-            let start = start_in(key, window);
-            if end.at < start {
-                Some(end.at)
-            } else {
-                Some(start)
-            }
-        }
-        (Some(key), None) => Some(start_in(key, window)),
-        (None, Some(end)) => Some(end.at),
-        (None, None) => None,
-    }
-}
-
-// How many rows at the front begin by the bound.
-pub(crate) fn starts_by(keys: &[SortKey], at: Bound, window: &Period) -> usize
-    ensures within { result ≤ length keys.now }
-    ensures by { All (λ k. start_in window.now k ≤ at) (take result keys.now) }
-    ensures then { (d : SortKey) → result < length keys.now → at < start_in window.now (slice_index_or keys.now result d) }
-{
-    let mut len = 0;
-    'keys: for key in keys {
-        if start_in(key, window) > at {
-            return len;
-        }
-        len += 1;
-    }
-    len
-}
-
-// How many rows at the front end by the bound.
-pub(crate) fn ends_by(ends: &[End], at: Bound) -> usize
-    ensures within { result ≤ length ends.now }
-    ensures by { All (λ e. e.at ≤ at) (take result ends.now) }
-    ensures then { (d : End) → result < length ends.now → at < (slice_index_or ends.now result d).at }
-{
-    let mut len = 0;
-    'ends: for end in ends {
-        if end.at > at {
-            return len;
-        }
-        len += 1;
-    }
-    len
 }

@@ -1,30 +1,22 @@
-//! How many rows are valid, and what they add up to: where they begin and where they end, and what each adds, is all that
-//! this needs to know of them.
+//! Rows that are counted and of which one column is summed: a sweep needs their bounds, and the number that each row adds.
 
 ghost use Rattle.std.specs.Ordering.{nat_cmp};
-ghost use Rattle.std.specs.Prelude.{None, ◌≡◌, ◌+◌, ◌++◌, ◌≤ℤ◌, ◌<◌, ◌≤◌, ◌*◌, ◌^◌, ℕ, neg_ℤ, pos, [], ◌∷◌, All, IfSome, IsPermutation, IsSorted, List, OnOk, if◌then◌else◌, length, slice_index_or, take};
-ghost use Rattle.tq_base.specs.declared.value.Value.{Value};
-ghost use Rattle.tq_base.specs.Fragments.{copies};
-ghost use Rattle.tq_base.specs.Periods.{holds};
-ghost use Rattle.tq_agg.specs.declared.changes.Change.{Change as AnyChange};
-ghost use Rattle.tq_agg.specs.Changes.{bounds_of, totals_changed, AreChanges};
-ghost use Rattle.tq_agg.specs.Edges.{IsAtFront};
-ghost use Rattle.tq_agg.specs.Totals.{added, shown_copies};
-ghost use Rattle.tq_ops.specs.Ordinary.{projection};
+ghost use Rattle.std.specs.Prelude.{◌≡◌, ◌++◌, [], ◌∷◌, IsPermutation, IsSorted, OnOk};
+ghost use Rattle.tq_agg.specs.Changes.{bounds_of, totals_after, weights, HaveSmallWeights};
 
-use crate::edges::left;
-use crate::sweeping::{Head, add_shown};
+use crate::endpoints::{count_at, set_totals};
+use crate::sweeping::{Place, Timeline};
 use std::alloc::{AllocError, Global};
-use tq_base::{Bound, Period, Rows};
+use tq_base::{Bound, Period};
 
-// A bound at which a row begins or ends, and what the row adds.
+// A bound at which a row begins or ends, and the number that the row adds to the sum.
 #[derive(Clone, Copy)]
 pub(crate) struct Change {
     pub(crate) at: Bound,
     pub(crate) weight: i64,
 }
 
-// Where rows begin, and where they end.
+// The starts and the ends of rows.
 #[derive(Drop)]
 pub(crate) struct Changes {
     pub(crate) starts: Vec<Change>,
@@ -32,7 +24,7 @@ pub(crate) struct Changes {
 }
 
 impl Changes {
-    // No rows.
+    // Empty lists.
     pub(crate) fn none(alloc: Global) -> Changes
         ensures starts { result.starts.items ≡ [] }
         ensures ends { result.ends.items ≡ [] }
@@ -43,7 +35,7 @@ impl Changes {
         }
     }
 
-    // Where the period begins and ends goes to the ends of the lists, with what its row adds.
+    // Appends the start and the end of the period, with the number that its row adds.
     pub(crate) fn add(&mut self, period: &Period, weight: i64) -> Result<(), AllocError>
         ensures starts { OnOk result (self.new.starts.items ≡ self.old.starts.items ++ record { at = period.now.start; weight = weight } ∷ []) }
         ensures ends { OnOk result (self.new.ends.items ≡ self.old.ends.items ++ record { at = period.now.end; weight = weight } ∷ []) }
@@ -59,7 +51,7 @@ impl Changes {
         Ok(())
     }
 
-    // Puts both lists in order.
+    // Sorts both lists by their bounds.
     pub(crate) fn sort(&mut self)
         ensures starts { IsPermutation self.old.starts.items self.new.starts.items }
         ensures starts_sorted { IsSorted nat_cmp (bounds_of self.new.starts.items) }
@@ -71,39 +63,10 @@ impl Changes {
     }
 }
 
-// The first bound of two lists in order.
-fn first_of(starts: &[Change], ends: &[Change]) -> Option<Bound>
-    ensures first { IfSome result (λ at. IsAtFront at (bounds_of starts.now) (bounds_of ends.now)) }
-    ensures none { result ≡ None → (starts.now ≡ []) × (ends.now ≡ []) }
-{
-    match (starts.first(), ends.first()) {
-        (Some(start), Some(end)) if end.at < start.at => Some(end.at),
-        (Some(change), _) | (None, Some(change)) => Some(change.at),
-        (None, None) => None,
-    }
-}
-
-// How many changes at the front come by the bound.
-fn len_by(changes: &[Change], at: Bound) -> usize
-    ensures within { result ≤ length changes.now }
-    ensures by { All (λ b. b ≤ at) (take result (bounds_of changes.now)) }
-    ensures then { (d : ℕ) → result < length changes.now → at < slice_index_or (bounds_of changes.now) result d }
-{
-    let mut len = 0;
-    'changes: for change in changes {
-        if change.at > at {
-            return len;
-        }
-        len += 1;
-    }
-    len
-}
-
-// What the rows of the changes add.
+// The sum of the numbers of the changes.
 fn weight_in(changes: &[Change]) -> i128
-    requires { length changes.now < 2 ^ 63 }
-    ensures sum { result ≡ added (λ (c : AnyChange). c.weight) changes.now }
-    ensures small { (neg_ℤ (pos (length changes.now * 2 ^ 63)) ≤ℤ result) × (result ≤ℤ pos (length changes.now * 2 ^ 63)) }
+    requires { HaveSmallWeights changes.now }
+    ensures { result ≡ weights changes.now }
 {
     let mut weight: i128 = 0;
     'changes: for change in changes {
@@ -112,43 +75,42 @@ fn weight_in(changes: &[Change]) -> i128
     weight
 }
 
-// How many rows are valid at each instant of the window, while there are any, and what they add up to, as rows of the head
-// and two numbers, goes to the end of the list.
-pub(crate) fn sweep_changes(
-    alloc: Global,
-    head: &Head<'_>,
-    starts: &[Change],
-    ends: &[Change],
-    window: &Period,
-    out: &mut Rows,
-) -> Result<(), AllocError>
-    requires starts { AreChanges window.now starts.now }
-    requires ends { AreChanges window.now ends.now }
-    requires short { length starts.now < 2 ^ 63 }
-    requires ends_short { length ends.now < 2 ^ 63 }
-    requires width { out.old.width ≡ length head.now.keys.now + 2 }
-    ensures width { out.new.width ≡ out.old.width }
-    ensures rows { OnOk result ((t : ℕ) (v : List Value) → copies out.new.items v t ≡ copies out.old.items v t
-        + (if holds window.now t then shown_copies (projection head.now.keys.now head.now.row.now) (totals_changed starts.now ends.now t) v else 0)) }
-{
-    let mut room = Vec::new(alloc);
-    let mut since = Bound::at(window.start);
-    let mut begun = 0;
-    let mut ended = 0;
-    let mut sum: i128 = 0;
-    'changes: while let Some(at) = first_of(&starts[begun..], &ends[ended..]) {
-        let begin = len_by(&starts[begun..], at);
-        let end = len_by(&ends[ended..], at);
-        let more = weight_in(&starts[begun..begun + begin]) - weight_in(&ends[ended..ended + end]);
-        if begin != end || more != 0 {
-            let totals = [left(begun, ended), sum];
-            add_shown(alloc, head, &totals, since, at, &mut room, out)?;
-            since = at;
+impl Timeline for Changes {
+    ghost starts = { λ changes. bounds_of changes.starts.items };
+
+    ghost ends = { λ changes. bounds_of changes.ends.items };
+
+    ghost totals = { λ changes. totals_after changes.starts.items changes.ends.items };
+
+    ghost fits = { λ changes. HaveSmallWeights changes.starts.items × HaveSmallWeights changes.ends.items };
+
+    fn start(&self, place: usize) -> Option<Bound> {
+        match self.starts.get(place) {
+            Some(change) => Some(change.at),
+            None => None,
         }
-        begun += begin;
-        ended += end;
-        sum += more;
     }
-    let totals = [left(begun, ended), sum];
-    add_shown(alloc, head, &totals, since, window.end, &mut room, out)
+
+    fn end(&self, place: usize) -> Option<Bound> {
+        match self.ends.get(place) {
+            Some(change) => Some(change.at),
+            None => None,
+        }
+    }
+
+    fn first_totals(&self, next: &mut Vec<i128>) -> Result<(), AllocError> {
+        set_totals(next, &[0, 0])
+    }
+
+    fn next_totals(
+        &self,
+        from: Place,
+        to: Place,
+        current: &[i128],
+        next: &mut Vec<i128>,
+    ) -> Result<(), AllocError> {
+        let begun = weight_in(&self.starts[from.begun..to.begun]);
+        let ended = weight_in(&self.ends[from.ended..to.ended]);
+        set_totals(next, &[count_at(to), current[1] + (begun - ended)])
+    }
 }

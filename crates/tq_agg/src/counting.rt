@@ -1,4 +1,4 @@
-//! Counts and sums: the rows of each group are counted up and down along the time line.
+//! Counts and sums of groups of rows, and the count of all rows.
 
 ghost use Rattle.std.specs.List.Sorted.{IsNonDecreasingBy};
 ghost use Rattle.std.specs.Prelude.{◌≡◌, ◌+◌, ◌<◌, ◌≤◌, ◌^◌, ℕ, [], if◌then◌else◌, length, map, All, IfOk, List, OnOk};
@@ -15,76 +15,55 @@ ghost use Rattle.tq_agg.specs.GroupKeys.{AreOfKey};
 ghost use Rattle.tq_agg.specs.Totals.{shown_copies, totals_held, HaveSmall, HaveWeights};
 
 use crate::bounds::{End, fill_ends};
-use crate::edges::{Edges, edges_of, sweep_edges};
-use crate::few::count_few;
-use crate::summands::{Summand, summands_of, weights_of};
-use crate::sweeping::{Group, Head, SweepRoom, sweep, sweep_room};
-use crate::weighed::sum_few;
+use crate::bucket_sums::sum_in_buckets;
+use crate::buckets::count_in_buckets;
+use crate::endpoints::endpoints_of;
+use crate::groups::{Group, SortedGroup};
+use crate::summands::{summands_of, weights_of};
+use crate::sweeping::{GroupKey, Scratch, sweep};
 use std::alloc::{AllocError, Global};
 use tq_base::{Period, Relation, Rows, Side, SortInput, SortKey};
 
-// What one group after another is gone through in: where its rows end, and what it is swept in.
-#[derive(Drop)]
-struct Room {
-    ends: Vec<End>,
-    swept: SweepRoom,
-}
-
-// Room with no values.
-fn empty_room(alloc: Global) -> Room
-    ensures { result.swept.values.items ≡ [] }
-{
-    Room {
-        ends: Vec::new(alloc),
-        swept: sweep_room(alloc),
-    }
-}
-
-// The rows that the group makes go to the end of the list. The room is empty of values before and after.
+// Adds the result rows of the group. It replaces the list of ends; the scratch memory has no values before and after.
 fn add_group(
     alloc: Global,
-    sort_input: &SortInput<'_>,
-    keys: &[SortKey],
-    window: &Period,
-    summands: &[Summand],
-    weights: &[Vec<i64>],
-    room: &mut Room,
+    group: &Group<'_>,
+    ends: &mut Vec<End>,
+    scratch: &mut Scratch,
     out: &mut Rows,
 ) -> Result<(), AllocError>
-    requires empty { room.old.swept.values.items ≡ [] }
-    requires keys { All (IsSortKey (state_of sort_input.now)) keys.now }
-    requires starts { IsNonDecreasingBy (λ (k : SortKey). k.start) keys.now }
-    requires short { length keys.now < 2 ^ 63 }
-    requires small { All (λ s. HaveSmall s (map (key_row (state_of sort_input.now)) keys.now)) summands.now }
-    requires weights { HaveWeights sort_input.now.left.now.items summands.now (map (λ list. list.items) weights.now) }
-    requires width { out.old.width ≡ length sort_input.now.left_columns.now + length summands.now }
-    ensures emptied { OnOk result (room.new.swept.values.items ≡ []) }
+    requires empty { scratch.old.values.items ≡ [] }
+    requires keys { All (IsSortKey (state_of group.now.sort_input.now)) group.now.keys.now }
+    requires starts { IsNonDecreasingBy (λ (k : SortKey). k.start) group.now.keys.now }
+    requires short { length group.now.keys.now < 2 ^ 63 }
+    requires small { All (λ s. HaveSmall s (map (key_row (state_of group.now.sort_input.now)) group.now.keys.now)) group.now.summands.now }
+    requires weights { HaveWeights group.now.sort_input.now.left.now.items group.now.summands.now (map (λ list. list.items) group.now.weights.now) }
+    requires width { out.old.width ≡ length group.now.sort_input.now.left_columns.now + length group.now.summands.now }
+    ensures emptied { OnOk result (scratch.new.values.items ≡ []) }
     ensures width { out.new.width ≡ out.old.width }
-    ensures rows { OnOk result ((k : List Value) → AreOfKey sort_input.now.left_columns.now k (map (key_row (state_of sort_input.now)) keys.now) → (t : ℕ) (v : List Value) → copies out.new.items v t
-        ≡ copies out.old.items v t + (if holds window.now t then shown_copies k (totals_held summands.now window.now (map (key_row (state_of sort_input.now)) keys.now) t) v else 0)) }
+    ensures rows { OnOk result ((k : List Value) → AreOfKey group.now.sort_input.now.left_columns.now k (map (key_row (state_of group.now.sort_input.now)) group.now.keys.now) → (t : ℕ) (v : List Value) → copies out.new.items v t
+        ≡ copies out.old.items v t + (if holds group.now.window.now t then shown_copies k (totals_held group.now.summands.now group.now.window.now (map (key_row (state_of group.now.sort_input.now)) group.now.keys.now) t) v else 0)) }
 {
-    let Some(first) = keys.first() else {
+    let Some(first) = group.keys.first() else {
         return Ok(());
     };
-    fill_ends(sort_input, keys, window, &mut room.ends)?;
-    let row = sort_input.row(first);
-    let head = Head {
+    fill_ends(group.sort_input, group.keys, group.window, ends)?;
+    let row = group.sort_input.row(first);
+    let key = GroupKey {
         row: &row,
-        keys: sort_input.left_columns,
+        columns: group.sort_input.left_columns,
+        shows_zero: false,
     };
-    let group = Group {
-        sort_input,
-        keys,
-        ends: &room.ends,
-        weights,
+    let timeline = SortedGroup {
+        group,
+        ends: &*ends,
     };
-    sweep(alloc, &head, summands, &group, window, &mut room.swept, out)
+    sweep(alloc, &key, &timeline, group.window, scratch, out)
 }
 
-/// For each group of rows of equal values in the key columns, while it has any: these values, how many
-/// rows are valid, and the sums of the summed columns, as they change over the window. With no key columns
-/// all rows are one group. A column that a row does not have, and a text that is summed, count as 0. The
-/// summed numbers owe 64 signed bits. `AllocError` where a growth was refused.
+/// A row for each group of equal values in the key columns, while it has valid rows in the window: these values, the count of
+/// rows, and the sum of each summed column. Without key columns all rows are one group. A column that a row does not have and
+/// a text count as 0 in a sum. Summed numbers must have 64 signed bits. `AllocError` if an allocation failed.
 pub fn group_count_sum(
     alloc: Global,
     rows: &Relation<'_>,
@@ -99,12 +78,12 @@ pub fn group_count_sum(
     ensures outside { IfOk result (λ out. IsEmptyOutside window.now out.items) }
 {
     if keys.len() == 1 && sums.is_empty() {
-        if let Some(out) = count_few(alloc, rows, window, keys[0])? {
+        if let Some(out) = count_in_buckets(alloc, rows, window, keys[0])? {
             return Ok(out);
         }
     }
     if keys.len() == 1 && sums.len() == 1 {
-        if let Some(out) = sum_few(alloc, rows, window, keys[0], sums[0])? {
+        if let Some(out) = sum_in_buckets(alloc, rows, window, keys[0], sums[0])? {
             return Ok(out);
         }
     }
@@ -119,41 +98,41 @@ pub fn group_count_sum(
     sort_input.add_keys(Side::Left, Some(window), &mut sorted)?;
     sort_input.sort(&mut sorted)?;
     let weights = weights_of(alloc, rows, &summands)?;
-    let mut room = empty_room(alloc);
+    let mut ends = Vec::new(alloc);
+    let mut scratch = Scratch::new(alloc);
     let mut out = Rows::new(alloc, keys.len() + summands.len());
     let mut start = 0;
     'groups: while start < sorted.len() {
         let end = start + sort_input.run_len(&sorted[start..]);
-        let group = &sorted[start..end];
-        add_group(
-            alloc,
-            &sort_input,
-            group,
+        let group = Group {
+            sort_input: &sort_input,
             window,
-            &summands,
-            &weights,
-            &mut room,
-            &mut out,
-        )?;
+            keys: &sorted[start..end],
+            summands: &summands,
+            weights: &weights,
+        };
+        add_group(alloc, &group, &mut ends, &mut scratch, &mut out)?;
         start = end;
     }
     Ok(out)
 }
 
-/// How many rows are valid, as it changes over the window: one row at each instant of it, with the
-/// number 0 where none is valid. `AllocError` where a growth was refused.
+/// The count of the valid rows: one row at each instant of the window, with the number 0 while no row is valid. `AllocError` if
+/// an allocation failed.
 pub fn count_all(alloc: Global, rows: &Relation<'_>, window: &Period) -> Result<Rows, AllocError>
     ensures width { IfOk result (λ out. out.width ≡ 1) }
     ensures inside { IfOk result (λ out. HasInside window.now out.items (λ t v. occurrences (count_rows (at rows.now.items t)) v)) }
     ensures outside { IfOk result (λ out. IsEmptyOutside window.now out.items) }
 {
-    let Edges { starts, ends } = edges_of(alloc, rows, window)?;
+    let endpoints = endpoints_of(alloc, rows, window)?;
     let row = rows.row(0);
-    let head = Head {
+    let key = GroupKey {
         row: &row,
-        keys: &[],
+        columns: &[],
+        shows_zero: true,
     };
+    let mut scratch = Scratch::new(alloc);
     let mut out = Rows::new(alloc, 1);
-    sweep_edges(alloc, &head, true, &starts, &ends, window, &mut out)?;
+    sweep(alloc, &key, &endpoints, window, &mut scratch, &mut out)?;
     Ok(out)
 }

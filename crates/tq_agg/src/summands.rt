@@ -1,4 +1,4 @@
-//! What a total adds up over the rows of a group.
+//! Summands: what a total adds for each row of a group.
 
 ghost use Rattle.std.specs.Prelude.{◌≡◌, ◌∷◌, map, IfOk};
 ghost use Rattle.tq_agg.specs.declared.summands.Summand.TheVariants.{Column, One};
@@ -8,15 +8,14 @@ ghost use Rattle.tq_agg.specs.Totals.{weight_of, AreWeights, HaveWeights};
 use std::alloc::{AllocError, Global};
 use tq_base::{Relation, Row, Value, ValueRef};
 
-// What each row adds to a total: 1, or the number in the column, which is 0 for a text and where the row
-// has no such column.
+// What each row adds to a total: 1, or the number in the column. A text and a column that the row does not have count as 0.
 #[derive(Clone, Copy)]
 pub(crate) enum Summand {
     One,
     Column(u32),
 }
 
-// The number that the value is, 0 for a text.
+// The number of the value, 0 for a text.
 pub(crate) fn number_of(value: &Value) -> i128
     ensures { result ≡ number_of value.now }
 {
@@ -26,7 +25,7 @@ pub(crate) fn number_of(value: &Value) -> i128
     }
 }
 
-// What the row adds. Where it is counted alone its values are not looked at.
+// What the row adds. A count reads no value.
 pub(crate) fn weight(summand: Summand, row: &Row<'_>) -> i128
     ensures { result ≡ weight_of summand row.now }
 {
@@ -37,8 +36,8 @@ pub(crate) fn weight(summand: Summand, row: &Row<'_>) -> i128
     number_of(row.value(column as usize))
 }
 
-// What the rows add, row after row, in a column; no more of them where one has more than 64 signed bits. A sweep asks
-// each row twice for what it adds, and rows lie anywhere: here the processor waits for many of them at once.
+// What each row adds for a column, in the order of rows, up to the first number of more than 64 signed bits. A sweep needs each
+// number twice, in the order of time. Read here in one loop, they are in cache lines of 8 numbers.
 fn weights_in(alloc: Global, rows: &Relation<'_>, column: u32) -> Result<Vec<i64>, AllocError>
     ensures { IfOk result (λ weights. AreWeights rows.now.items (Column column) weights.items) }
 {
@@ -54,7 +53,7 @@ fn weights_in(alloc: Global, rows: &Relation<'_>, column: u32) -> Result<Vec<i64
     Ok(weights)
 }
 
-// What the rows add to the summand, as far as it is listed: nothing is where each adds 1.
+// What the rows add for the summand. For a count the list is empty.
 fn weights_to(alloc: Global, rows: &Relation<'_>, summand: Summand) -> Result<Vec<i64>, AllocError>
     ensures { IfOk result (λ weights. AreWeights rows.now.items summand weights.items) }
 {
@@ -64,7 +63,7 @@ fn weights_to(alloc: Global, rows: &Relation<'_>, summand: Summand) -> Result<Ve
     }
 }
 
-// What the rows add to each summand, as far as it is listed.
+// The list of each summand.
 pub(crate) fn weights_of(
     alloc: Global,
     rows: &Relation<'_>,

@@ -1,199 +1,147 @@
-//! The sweep over the starts and ends of a group: running totals, and a row wherever they change.
+//! The sweep: one pass over the bounds at which rows begin and end, in order of time, that adds a row to the result for each
+//! period in which no total changes.
 
-ghost use Rattle.std.specs.List.Sorted.{IsNonDecreasingBy};
-ghost use Rattle.std.specs.Prelude.{◌≡◌, ◌++◌, ◌+◌, ◌<◌, ◌≤◌, ◌^◌, ◌&&◌, ℕ, pos, [], if◌then◌else◌, nat_le, nat_lt, length, map, slice_index_or, take, All, IsSortedByKey, List, OnOk};
-ghost use Rattle.std.specs.Bool.{OnTrue};
-ghost use Rattle.std.specs.Ordering.{nat_cmp};
+ghost use Rattle.std.specs.Prelude.{◌≡◌, ◌++◌, ◌+◌, ◌<◌, ◌≤◌, ◌^◌, ◌&&◌, ◌||◌, ℕ, ℤ, [], if◌then◌else◌, nat_le, nat_lt, drop, length, map, slice_get, List, OnOk};
 ghost use Rattle.tq_base.specs.declared.value.Value.{Value};
-ghost use Rattle.tq_base.specs.declared.sort_input.SortKey.{SortKey};
 ghost use Rattle.tq_base.specs.Contents.{Int};
 ghost use Rattle.tq_base.specs.Fragments.{copies};
-ghost use Rattle.tq_base.specs.Keys.{key_row};
-ghost use Rattle.tq_base.specs.SortInputs.{state_of};
 ghost use Rattle.tq_base.specs.Periods.{holds};
+ghost use Rattle.tq_base.specs.Sweep.{upto};
 ghost use Rattle.tq_ops.specs.Ordinary.{projection};
-ghost use Rattle.tq_agg.specs.declared.bounds.End.{End};
-ghost use Rattle.tq_agg.specs.declared.summands.Summand.TheVariants.{One};
-ghost use Rattle.tq_agg.specs.Totals.{added, end_key, has_rows, key_weight, row_copies, shown_copies, totals_of, totals_upto, AreSmallEnds, AreSmallKeys, AreWeights, HaveWeights};
+ghost use Rattle.tq_agg.specs.Endpoints.{earlier, AreInOrder, AreUpTo};
+ghost use Rattle.tq_agg.specs.Totals.{has_rows, result_copies, row_copies};
 
-use crate::bounds::{End, ends_by, first_bound, starts_by};
-use crate::summands::{Summand, weight};
 use std::alloc::{AllocError, Global};
 use std::mem;
-use tq_base::{Bound, Instant, Period, Row, Rows, RunStart, Side, SortInput, SortKey, Value};
+use tq_base::{Bound, Instant, Period, Row, Rows, Value};
 
-// What stands before the totals in the rows of a group: the values of one of its rows in the key
-// columns.
+// How many starts and how many ends a sweep has passed.
 #[derive(Clone, Copy)]
-pub(crate) struct Head<'a> {
-    pub(crate) row: &'a Row<'a>,
-    pub(crate) keys: &'a [u32],
+pub(crate) struct Place {
+    pub(crate) begun: usize,
+    pub(crate) ended: usize,
 }
 
-// What a group is swept in: its totals, the next ones, and the values of a row that is made. All are used
-// again for the next group.
+// Rows as a sweep sees them: the bounds at which they begin, those at which they end, each list in order of time, and totals
+// over the rows that have begun and not ended.
+pub(crate) trait Timeline {
+    // the bounds at which rows begin
+    ghost starts: { Self → List ℕ };
+
+    // the bounds at which rows end
+    ghost ends: { Self → List ℕ };
+
+    // the totals after that many starts and ends; the first is the count of rows
+    ghost totals: { Self → ℕ → ℕ → List ℤ };
+
+    // what totals need to fit into 128 bits
+    ghost fits: { Self → Type 0 };
+
+    // The start at this place in the list, if there is one.
+    fn start(&self, place: usize) -> Option<Bound>
+        ensures { result ≡ slice_get (starts self.now) place };
+
+    // The end at this place in the list, if there is one.
+    fn end(&self, place: usize) -> Option<Bound>
+        ensures { result ≡ slice_get (ends self.now) place };
+
+    // Replaces the list by the totals before any row begins.
+    fn first_totals(&self, next: &mut Vec<i128>) -> Result<(), AllocError>
+        ensures { OnOk result (next.new.items ≡ totals self.now 0 0) };
+
+    // Replaces the list by the totals at a later place, computed from those at the current one.
+    fn next_totals(
+        &self,
+        from: Place,
+        to: Place,
+        current: &[i128],
+        next: &mut Vec<i128>,
+    ) -> Result<(), AllocError>
+        requires fits { fits self.now }
+        requires begun { from.begun ≤ to.begun }
+        requires ended { from.ended ≤ to.ended }
+        requires within { to.begun ≤ length (starts self.now) }
+        requires ends_within { to.ended ≤ length (ends self.now) }
+        requires short { length (starts self.now) < 2 ^ 63 }
+        requires ends_short { length (ends self.now) < 2 ^ 63 }
+        requires current { current.now ≡ totals self.now from.begun from.ended }
+        ensures { OnOk result (next.new.items ≡ totals self.now to.begun to.ended) };
+}
+
+// The values that precede the totals in each result row of a group: those of one of its rows in the key columns.
+#[derive(Clone, Copy)]
+pub(crate) struct GroupKey<'a> {
+    pub(crate) row: &'a Row<'a>,
+    pub(crate) columns: &'a [u32],
+    // Whether there is a result row, with the count 0, while no row is valid.
+    pub(crate) shows_zero: bool,
+}
+
+// Memory of a sweep, which the next one reuses: the totals, the next totals, and the values of a result row.
 #[derive(Drop)]
-pub(crate) struct SweepRoom {
+pub(crate) struct Scratch {
     pub(crate) totals: Vec<i128>,
     pub(crate) next: Vec<i128>,
     pub(crate) values: Vec<Value>,
 }
 
-// Room with no values.
-pub(crate) fn sweep_room(alloc: Global) -> SweepRoom
-    ensures { result.values.items ≡ [] }
+impl Scratch {
+    // Empty lists.
+    pub(crate) fn new(alloc: Global) -> Scratch
+        ensures { result.values.items ≡ [] }
+    {
+        Scratch {
+            totals: Vec::new(alloc),
+            next: Vec::new(alloc),
+            values: Vec::new(alloc),
+        }
+    }
+}
+
+// The earlier of the next start and the next end.
+fn earlier(start: Option<Bound>, end: Option<Bound>) -> Option<Bound>
+    ensures { result ≡ earlier start end }
 {
-    SweepRoom {
-        totals: Vec::new(alloc),
-        next: Vec::new(alloc),
-        values: Vec::new(alloc),
+    match (start, end) {
+        (Some(start), Some(end)) => Some(if end < start { end } else { start }),
+        (Some(bound), None) | (None, Some(bound)) => Some(bound),
+        (None, None) => None,
     }
 }
 
-// A group of rows: their keys in the order of their starts, and where they end, in order.
-#[derive(Clone, Copy)]
-pub(crate) struct Group<'a> {
-    pub(crate) sort_input: &'a SortInput<'a>,
-    pub(crate) keys: &'a [SortKey],
-    pub(crate) ends: &'a [End],
-    // What the rows of the left side add to each summand, as far as it is listed.
-    pub(crate) weights: &'a [Vec<i64>],
-}
-
-// How many rows of a group have begun, and how many have ended.
-#[derive(Clone, Copy)]
-struct Place {
-    begun: usize,
-    ended: usize,
-}
-
-// Whether each row is counted alone.
-fn is_one(summand: Summand) -> bool
-    ensures { OnTrue result (summand ≡ One) }
+// The number of starts from the place on that come by the bound.
+fn starts_by<T: Timeline>(timeline: &T, begun: usize, at: Bound) -> usize
+    requires within { begun ≤ length (T.starts timeline.now) }
+    requires short { length (T.starts timeline.now) < 2 ^ 63 }
+    ensures { AreUpTo at (drop begun (T.starts timeline.now)) result }
 {
-    match summand {
-        Summand::One => true,
-        Summand::Column(_) => false,
+    let mut len = 0;
+    'starts: while let Some(start) = timeline.start(begun + len) {
+        if start > at {
+            return len;
+        }
+        len += 1;
     }
+    len
 }
 
-// The number of so many rows.
-fn number_of(len: usize) -> i128
-    ensures { result ≡ pos len }
+// The number of ends from the place on that come by the bound.
+fn ends_by<T: Timeline>(timeline: &T, ended: usize, at: Bound) -> usize
+    requires within { ended ≤ length (T.ends timeline.now) }
+    requires short { length (T.ends timeline.now) < 2 ^ 63 }
+    ensures { AreUpTo at (drop ended (T.ends timeline.now)) result }
 {
-    len as i128
+    let mut len = 0;
+    'ends: while let Some(end) = timeline.end(ended + len) {
+        if end > at {
+            return len;
+        }
+        len += 1;
+    }
+    len
 }
 
-// What is listed for the summand at the place.
-fn listed(weights: &[Vec<i64>], place: usize) -> &[i64]
-    ensures { result.now ≡ slice_index_or (map (λ list. list.items) weights.entry.now) place [] }
-{
-    match weights.get(place) {
-        Some(list) => list.as_slice(),
-        None => &[],
-    }
-}
-
-// What the row of the key adds, which is looked up where it is not listed.
-fn key_weight(summand: Summand, weights: &[i64], sort_input: &SortInput<'_>, key: &SortKey) -> i128
-    requires { AreWeights sort_input.now.left.now.items summand weights.now }
-    ensures { result ≡ key_weight (state_of sort_input.now) summand key.now }
-{
-    match (key.side, weights.get(key.row as usize)) {
-        (Side::Left, Some(weight)) => i128::from(*weight),
-        _ => weight(summand, &sort_input.row(key)),
-    }
-}
-
-// What the rows of the keys add.
-fn added_keys(
-    summand: Summand,
-    weights: &[i64],
-    sort_input: &SortInput<'_>,
-    keys: &[SortKey],
-) -> i128
-    requires weights { AreWeights sort_input.now.left.now.items summand weights.now }
-    requires small { AreSmallKeys (state_of sort_input.now) summand keys.now }
-    ensures { result ≡ added (key_weight (state_of sort_input.now) summand) keys.now }
-{
-    if is_one(summand) {
-        return number_of(keys.len());
-    }
-    let mut total: i128 = 0;
-    'keys: for key in keys {
-        total += key_weight(summand, weights, sort_input, key);
-    }
-    total
-}
-
-// What the rows that end add.
-fn added_ends(summand: Summand, weights: &[i64], sort_input: &SortInput<'_>, ends: &[End]) -> i128
-    requires weights { AreWeights sort_input.now.left.now.items summand weights.now }
-    requires small { AreSmallEnds (state_of sort_input.now) summand ends.now }
-    ensures { result ≡ added (λ (e : End). key_weight (state_of sort_input.now) summand (end_key e)) ends.now }
-{
-    if is_one(summand) {
-        return number_of(ends.len());
-    }
-    let mut total: i128 = 0;
-    'ends: for end in ends {
-        let key = SortKey {
-            prefix: 0,
-            start: 0,
-            row: end.row,
-            side: end.side,
-            run_start: RunStart::Unknown,
-        };
-        total += key_weight(summand, weights, sort_input, &key);
-    }
-    total
-}
-
-// The totals before any row begins take the place of those in the list.
-fn clear_totals(summands: &[Summand], totals: &mut Vec<i128>) -> Result<(), AllocError>
-    ensures { OnOk result (totals.new.items ≡ map (λ s. pos 0) summands.now) }
-{
-    totals.clear();
-    'summands: for _summand in summands {
-        totals.push(0)?;
-    }
-    Ok(())
-}
-
-// The next totals, from those at a place before.
-fn fill_totals(
-    summands: &[Summand],
-    group: &Group<'_>,
-    from: Place,
-    to: Place,
-    totals: &[i128],
-    next: &mut Vec<i128>,
-) -> Result<(), AllocError>
-    requires begun { from.begun ≤ to.begun }
-    requires ended { from.ended ≤ to.ended }
-    requires within { to.begun ≤ length group.now.keys.now }
-    requires ends_within { to.ended ≤ length group.now.ends.now }
-    requires short { length group.now.keys.now < 2 ^ 63 }
-    requires ends_short { length group.now.ends.now < 2 ^ 63 }
-    requires small { All (λ s. AreSmallKeys (state_of group.now.sort_input.now) s group.now.keys.now) summands.now }
-    requires ends_small { All (λ s. AreSmallEnds (state_of group.now.sort_input.now) s group.now.ends.now) summands.now }
-    requires weights { HaveWeights group.now.sort_input.now.left.now.items summands.now (map (λ list. list.items) group.now.weights.now) }
-    requires totals { totals.now ≡ totals_of (state_of group.now.sort_input.now) summands.now (take from.begun group.now.keys.now) (take from.ended group.now.ends.now) }
-    ensures { OnOk result (next.new.items ≡ totals_of (state_of group.now.sort_input.now) summands.now (take to.begun group.now.keys.now) (take to.ended group.now.ends.now)) }
-{
-    let keys = &group.keys[from.begun..to.begun];
-    let ends = &group.ends[from.ended..to.ended];
-    next.clear();
-    'summands: for (place, summand) in summands.iter().enumerate() {
-        let weights = listed(group.weights, place);
-        let begun = added_keys(*summand, weights, group.sort_input, keys);
-        let ended = added_ends(*summand, weights, group.sort_input, ends);
-        next.push(totals[place] + (begun - ended))?;
-    }
-    Ok(())
-}
-
-// The totals go to the end of the list.
+// Appends the totals to the values.
 fn push_totals(alloc: Global, totals: &[i128], values: &mut Vec<Value>) -> Result<(), AllocError>
     ensures { OnOk result (values.new.items ≡ values.old.items ++ map Int totals.now) }
 {
@@ -213,132 +161,119 @@ fn has_rows(totals: &[i128]) -> bool
     }
 }
 
-// A row of the values in the room, then the totals, from the one bound to the other, if there are instants
-// between, goes to the end of the list. The room is empty after.
+// Whether the totals have a result row.
+fn is_shown(key: &GroupKey<'_>, totals: &[i128]) -> bool
+    ensures { result ≡ (key.now.shows_zero || has_rows totals.now) }
+{
+    key.shows_zero || has_rows(totals)
+}
+
+// Adds a result row of the values and the totals, valid from `since` to `until`, if there is an instant between. It takes the
+// values out of their list.
 fn add_totals(
     alloc: Global,
     totals: &[i128],
     since: Bound,
     until: Bound,
-    room: &mut Vec<Value>,
+    values: &mut Vec<Value>,
     out: &mut Rows,
 ) -> Result<(), AllocError>
-    requires { out.old.width ≡ length room.old.items + length totals.now }
-    ensures emptied { OnOk result (room.new.items ≡ []) }
+    requires { out.old.width ≡ length values.old.items + length totals.now }
+    ensures emptied { OnOk result (values.new.items ≡ []) }
     ensures width { out.new.width ≡ out.old.width }
     ensures rows { OnOk result ((t : ℕ) (v : List Value) → copies out.new.items v t ≡ copies out.old.items v t
-        + (if nat_le since t && nat_lt t until then row_copies room.old.items totals.now v else 0)) }
+        + (if nat_le since t && nat_lt t until then row_copies values.old.items totals.now v else 0)) }
 {
     let Some(start) = Instant::new(since.number()) else {
-        room.clear();
+        values.clear();
         return Ok(());
     };
     let Some(period) = Period::new(start, until) else {
-        room.clear();
+        values.clear();
         return Ok(());
     };
-    push_totals(alloc, totals, room)?;
-    out.push(room, period)
+    push_totals(alloc, totals, values)?;
+    out.push(values, period)
 }
 
-// A row of the key and the totals from the one bound to the other, if there are instants between, goes to the
-// end of the list. The room is empty before and after.
-pub(crate) fn add_row(
+// Adds a result row of the key and the totals, valid from `since` to `until`, if there is an instant between and the totals
+// have a row. The list of values is empty before and after.
+fn add_row(
     alloc: Global,
-    head: &Head<'_>,
+    key: &GroupKey<'_>,
     totals: &[i128],
     since: Bound,
     until: Bound,
-    room: &mut Vec<Value>,
+    values: &mut Vec<Value>,
     out: &mut Rows,
 ) -> Result<(), AllocError>
-    requires empty { room.old.items ≡ [] }
-    requires width { out.old.width ≡ length head.now.keys.now + length totals.now }
-    ensures emptied { OnOk result (room.new.items ≡ []) }
+    requires empty { values.old.items ≡ [] }
+    requires width { out.old.width ≡ length key.now.columns.now + length totals.now }
+    ensures emptied { OnOk result (values.new.items ≡ []) }
     ensures width { out.new.width ≡ out.old.width }
     ensures rows { OnOk result ((t : ℕ) (v : List Value) → copies out.new.items v t ≡ copies out.old.items v t
-        + (if nat_le since t && nat_lt t until then row_copies (projection head.now.keys.now head.now.row.now) totals.now v else 0)) }
+        + (if nat_le since t && nat_lt t until then result_copies key.now.shows_zero (projection key.now.columns.now key.now.row.now) totals.now v else 0)) }
 {
-    head.row.show(head.keys, room)?;
-    add_totals(alloc, totals, since, until, room, out)
-}
-
-// The same where the totals count any row.
-pub(crate) fn add_shown(
-    alloc: Global,
-    head: &Head<'_>,
-    totals: &[i128],
-    since: Bound,
-    until: Bound,
-    room: &mut Vec<Value>,
-    out: &mut Rows,
-) -> Result<(), AllocError>
-    requires empty { room.old.items ≡ [] }
-    requires width { out.old.width ≡ length head.now.keys.now + length totals.now }
-    ensures emptied { OnOk result (room.new.items ≡ []) }
-    ensures width { out.new.width ≡ out.old.width }
-    ensures rows { OnOk result ((t : ℕ) (v : List Value) → copies out.new.items v t ≡ copies out.old.items v t
-        + (if nat_le since t && nat_lt t until then shown_copies (projection head.now.keys.now head.now.row.now) totals.now v else 0)) }
-{
-    if has_rows(totals) {
-        add_row(alloc, head, totals, since, until, room, out)
-    } else {
-        Ok(())
+    if !is_shown(key, totals) {
+        return Ok(());
     }
+    key.row.show(key.columns, values)?;
+    add_totals(alloc, totals, since, until, values, out)
 }
 
-// The rows of the totals at each instant of the window go to the end of the list.
-pub(crate) fn sweep(
+// Adds the result rows of a group: at each instant of the window, the one of the key and of the totals over the rows that
+// have begun by then and not ended, if these totals have a row.
+pub(crate) fn sweep<T: Timeline>(
     alloc: Global,
-    head: &Head<'_>,
-    summands: &[Summand],
-    group: &Group<'_>,
+    key: &GroupKey<'_>,
+    timeline: &T,
     window: &Period,
-    room: &mut SweepRoom,
+    scratch: &mut Scratch,
     out: &mut Rows,
 ) -> Result<(), AllocError>
-    requires starts { IsNonDecreasingBy (λ (k : SortKey). k.start) group.now.keys.now }
-    requires ends { IsSortedByKey (λ (e : End). e.at) nat_cmp group.now.ends.now }
-    requires within { All (λ (e : End). (window.now.start ≤ e.at) × (e.at ≤ window.now.end)) group.now.ends.now }
-    requires short { length group.now.keys.now < 2 ^ 63 }
-    requires ends_short { length group.now.ends.now < 2 ^ 63 }
-    requires small { All (λ s. AreSmallKeys (state_of group.now.sort_input.now) s group.now.keys.now) summands.now }
-    requires ends_small { All (λ s. AreSmallEnds (state_of group.now.sort_input.now) s group.now.ends.now) summands.now }
-    requires weights { HaveWeights group.now.sort_input.now.left.now.items summands.now (map (λ list. list.items) group.now.weights.now) }
-    requires empty { room.old.values.items ≡ [] }
-    requires width { out.old.width ≡ length head.now.keys.now + length summands.now }
-    ensures emptied { OnOk result (room.new.values.items ≡ []) }
+    requires starts { AreInOrder window.now (T.starts timeline.now) }
+    requires ends { AreInOrder window.now (T.ends timeline.now) }
+    requires short { length (T.starts timeline.now) < 2 ^ 63 }
+    requires ends_short { length (T.ends timeline.now) < 2 ^ 63 }
+    requires fits { T.fits timeline.now }
+    requires empty { scratch.old.values.items ≡ [] }
+    requires width { (begun ended : ℕ) → out.old.width ≡ length key.now.columns.now + length (T.totals timeline.now begun ended) }
+    ensures emptied { OnOk result (scratch.new.values.items ≡ []) }
     ensures width { out.new.width ≡ out.old.width }
     ensures rows { OnOk result ((t : ℕ) (v : List Value) → copies out.new.items v t ≡ copies out.old.items v t
-        + (if holds window.now t then shown_copies (projection head.now.keys.now head.now.row.now) (totals_upto (state_of group.now.sort_input.now) window.now summands.now group.now.keys.now group.now.ends.now t) v else 0)) }
+        + (if holds window.now t then result_copies key.now.shows_zero (projection key.now.columns.now key.now.row.now) (T.totals timeline.now (upto (T.starts timeline.now) t) (upto (T.ends timeline.now) t)) v else 0)) }
 {
-    clear_totals(summands, &mut room.totals)?;
+    timeline.first_totals(&mut scratch.totals)?;
     let mut since = Bound::at(window.start);
     let mut place = Place { begun: 0, ended: 0 };
-    'bounds: while let Some(at) = first_bound(
-        &group.keys[place.begun..],
-        &group.ends[place.ended..],
-        window,
-    ) {
+    'bounds: while let Some(at) = earlier(timeline.start(place.begun), timeline.end(place.ended)) {
         let next = Place {
-            begun: place.begun + starts_by(&group.keys[place.begun..], at, window),
-            ended: place.ended + ends_by(&group.ends[place.ended..], at),
+            begun: place.begun + starts_by(timeline, place.begun, at),
+            ended: place.ended + ends_by(timeline, place.ended, at),
         };
-        fill_totals(summands, group, place, next, &room.totals, &mut room.next)?;
-        if room.next != room.totals {
-            add_shown(alloc, head, &room.totals, since, at, &mut room.values, out)?;
-            mem::swap(&mut room.totals, &mut room.next);
+        timeline.next_totals(place, next, &scratch.totals, &mut scratch.next)?;
+        if scratch.next != scratch.totals {
+            add_row(
+                alloc,
+                key,
+                &scratch.totals,
+                since,
+                at,
+                &mut scratch.values,
+                out,
+            )?;
+            mem::swap(&mut scratch.totals, &mut scratch.next);
             since = at;
         }
         place = next;
     }
-    add_shown(
+    add_row(
         alloc,
-        head,
-        &room.totals,
+        key,
+        &scratch.totals,
         since,
         window.end,
-        &mut room.values,
+        &mut scratch.values,
         out,
     )
 }

@@ -17,7 +17,7 @@ use Rattle.tq_ops.specs.contracts.condition.Test.{the_field as test_field, the_r
 use Rattle.tq_ops.proofs.condition.Compare.TheSendSync.{the_field_sync as compare_field_sync}
 use Rattle.tq_ops.proofs.condition.Operand.TheSendSync.{the_field_sync as operand_field_sync}
 use Rattle.tq_ops.proofs.condition.Test.TheLaws.TheKnot.{sync-Test}
-use Rattle.tq_agg.proofs.few.Tally.TheSendSync.{the_sync as tally_sync, the_field_sync as tally_field_sync}
+use Rattle.tq_agg.proofs.buckets.Tally.TheSendSync.{the_sync as tally_sync, the_field_sync as tally_field_sync}
 use Rattle.tq_plan.specs.contracts.plans.Output.{the_row as output_row}
 use Rattle.tq_plan.specs.contracts.plans.Plan.{the_row as plan_row, the_field as plan_field}
 use Rattle.tq_plan.specs.contracts.plans.QueryPlan.{the_field as query_field}

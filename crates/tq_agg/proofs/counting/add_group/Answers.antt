@@ -1,6 +1,5 @@
-use Rattle.std.proofs.Common.{◌≡◌, ◌+◌, ◌≤◌, cond, List, [], ◌∷◌, length, map, refl, sym, subst, ap, ◌∙◌, arith}
-use Rattle.std.specs.Prelude.{All, IsSortedByKey, None, slice_get}
-use Rattle.std.specs.Ordering.{nat_cmp}
+use Rattle.std.proofs.Common.{◌≡◌, ◌+◌, cond, List, [], ◌∷◌, length, map, take, refl, sym, subst, ap, ◌∙◌, arith}
+use Rattle.std.specs.Prelude.{None, slice_get}
 use Rattle.std.proofs.lemmas.List.{get_or-map, length-map}
 use Rattle.std.proofs.lemmas.List.Sorted.{length_permutation}
 use Rattle.std.proofs.lemmas.Result.{on_ok_weaker}
@@ -11,9 +10,10 @@ use Rattle.tq_base.specs.Periods.{holds}
 use Rattle.tq_base.specs.Fragments.{copies}
 use Rattle.tq_ops.specs.Ordinary.{projection}
 use Rattle.tq_agg.specs.declared.bounds.End.{End}
-use Rattle.tq_agg.specs.Bounds.{end_in}
+use Rattle.tq_agg.specs.Bounds.{end_in, start_in}
+use Rattle.tq_agg.specs.Endpoints.{AreInOrder}
 use Rattle.tq_agg.specs.GroupKeys.{key_of}
-use Rattle.tq_agg.specs.Totals.{shown_copies, totals_held, totals_upto}
+use Rattle.tq_agg.specs.Totals.{shown_copies, total_of, totals_held, totals_upto}
 use Rattle.tq_agg.proofs.Grouping.{none_shown, nothing}
 use Rattle.tq_agg.proofs.Maps.{map_same}
 use Rattle.tq_agg.proofs.Moving.{ends_in_order, ends_small, ends_within, keys_small, starts_in_order, upto_held}
@@ -23,38 +23,61 @@ no_keys : (group : List SortKey) → None ≡ slice_get group 0 → group ≡ []
 no_keys [] is = refl
 no_keys (k ∷ group) is = cc
 
-pub sweep-requires-clause-ends : goal.sweep-requires-clause-ends
-sweep-requires-clause-ends c = subst (λ (l : List End). IsSortedByKey (λ (e : End). e.at) nat_cmp l) (sym c.deref.ensures.value) c.in_ok-fill_ends.ensures.sorted
+pub sweep-requires-clause-starts : goal.sweep-requires-clause-starts
+sweep-requires-clause-starts c = starts_in_order c.args.group.now.window.now c.args.group.now.keys.now c.requires.starts
 
-pub sweep-requires-clause-within : goal.sweep-requires-clause-within
-sweep-requires-clause-within c =
-    let s = state_of c.args.sort_input.now in
-    let window = c.args.window.now in
-    let keys = c.args.keys.now in
-    subst (λ (l : List End). All (λ (e : End). (window.start ≤ e.at) × (e.at ≤ window.end)) l) (sym c.deref.ensures.value) (ends_within s window keys c.fill_ends.new.ends.items c.in_ok-fill_ends.ensures.same)
+pub sweep-requires-clause-ends : goal.sweep-requires-clause-ends
+sweep-requires-clause-ends c =
+    let s = state_of c.args.group.now.sort_input.now in
+    let window = c.args.group.now.window.now in
+    let keys = c.args.group.now.keys.now in
+    let ends = c.fill_ends.new.ends.items in
+    subst (λ (l : List End). AreInOrder window (map (λ (e : End). e.at) l)) (sym c.deref.ensures.value)
+    (ends_in_order window ends c.in_ok-fill_ends.ensures.sorted (ends_within s window keys ends c.in_ok-fill_ends.ensures.same))
+
+pub sweep-requires-clause-short : goal.sweep-requires-clause-short
+sweep-requires-clause-short c = omega (arith, c.requires.short, length-map c.args.group.now.keys.now (start_in c.args.group.now.window.now))
 
 pub sweep-requires-clause-ends_short : goal.sweep-requires-clause-ends_short
 sweep-requires-clause-ends_short c =
-    let s = state_of c.args.sort_input.now in
-    let window = c.args.window.now in
-    let keys = c.args.keys.now in
-    omega (arith, ap length c.deref.ensures.value, length_permutation (map (end_in s window) keys) c.fill_ends.new.ends.items c.in_ok-fill_ends.ensures.same, length-map keys (end_in s window), c.requires.short)
+    let s = state_of c.args.group.now.sort_input.now in
+    let window = c.args.group.now.window.now in
+    let keys = c.args.group.now.keys.now in
+    let ends = c.fill_ends.new.ends.items in
+    omega (
+      arith,
+      length-map c.deref.result.now (λ (e : End). e.at),
+      ap length c.deref.ensures.value,
+      length_permutation (map (end_in s window) keys) ends c.in_ok-fill_ends.ensures.same,
+      length-map keys (end_in s window),
+      c.requires.short,
+    )
 
-pub sweep-requires-clause-small : goal.sweep-requires-clause-small
-sweep-requires-clause-small c i d lt =
-    keys_small (state_of c.args.sort_input.now) c.args.window.now c.args.keys.now c.fill_ends.new.ends.items c.in_ok-fill_ends.ensures.same _ (c.requires.small i d lt)
+pub sweep-requires-clause-fits : goal.sweep-requires-clause-fits
+sweep-requires-clause-fits c =
+    let s = state_of c.args.group.now.sort_input.now in
+    let window = c.args.group.now.window.now in
+    let keys = c.args.group.now.keys.now in
+    let ends = c.fill_ends.new.ends.items in
+    let same = c.in_ok-fill_ends.ensures.same in
+    record {
+      small = λ i d lt. keys_small s window keys ends same _ (c.requires.small i d lt);
+      ends_small = λ i d lt. rw c.deref.ensures.value (ends_small s window keys ends same _ (c.requires.small i d lt));
+      weights = c.requires.weights;
+    }
 
-pub sweep-requires-clause-ends_small : goal.sweep-requires-clause-ends_small
-sweep-requires-clause-ends_small c i d lt =
-    rw c.deref.ensures.value (ends_small (state_of c.args.sort_input.now) c.args.window.now c.args.keys.now c.fill_ends.new.ends.items c.in_ok-fill_ends.ensures.same _ (c.requires.small i d lt))
+pub sweep-requires-clause-width : goal.sweep-requires-clause-width
+sweep-requires-clause-width c begun ended =
+    let group = c.args.group.now in
+    omega (arith, c.requires.width, length-map group.summands.now (λ s. total_of (state_of group.sort_input.now) s (take begun group.keys.now) (take ended c.deref.result.now)))
 
 pub returns-clause-rows : goal.returns-clause-rows
 returns-clause-rows c =
-    let s = state_of c.args.sort_input.now in
-    let columns = c.args.sort_input.now.left_columns.now in
-    let window = c.args.window.now in
-    let keys = c.args.keys.now in
-    let summands = c.args.summands.now in
+    let s = state_of c.args.group.now.sort_input.now in
+    let columns = c.args.group.now.sort_input.now.left_columns.now in
+    let window = c.args.group.now.window.now in
+    let keys = c.args.group.now.keys.now in
+    let summands = c.args.group.now.summands.now in
     let ends = c.fill_ends.new.ends.items in
     let first = c.in-Some.first.now in
     let item = c.in-Some.ensures.item in
@@ -76,6 +99,8 @@ returns-clause-rows c =
 
 pub returns-in_default-clause-rows : goal.returns-in_default-clause-rows
 returns-in_default-clause-rows c k alike t v =
-    let s = state_of c.args.sort_input.now in
-    let none = ap (λ l. cond (holds c.args.window.now t) (shown_copies k (totals_held c.args.summands.now c.args.window.now (map (key_row s) l) t) v) 0) (no_keys c.args.keys.now c.in_default.ensures.value) in
-    omega (arith, none, ap (λ m. cond (holds c.args.window.now t) m 0) (none_shown k c.args.summands.now v), nothing (holds c.args.window.now t))
+    let s = state_of c.args.group.now.sort_input.now in
+    let window = c.args.group.now.window.now in
+    let summands = c.args.group.now.summands.now in
+    let none = ap (λ l. cond (holds window t) (shown_copies k (totals_held summands window (map (key_row s) l) t) v) 0) (no_keys c.args.group.now.keys.now c.in_default.ensures.value) in
+    omega (arith, none, ap (λ m. cond (holds window t) m 0) (none_shown k summands v), nothing (holds window t))

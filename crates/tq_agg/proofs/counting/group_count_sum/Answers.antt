@@ -62,7 +62,7 @@ run_len-requires c =
       run_starts = rw c.deref-in-groups.ensures.value (subst (HaveRunStarts s) (sym (take_rest sorted c.groups.start)) (run_starts_rest s sorted c.groups.start c.in_ok-sort.ensures.run_starts));
     }
 
--- the keys that the run_len is asked of
+-- the run at the front of the keys that are left
 pub run : (c : goal.In_ok-add_group)
     → IsRun c.args.keys.now (map (key_row (groups_state c.args.rows.now.items c.args.keys.now)) c.sort.new.keys.items) c.groups.start c.run_len.result (first_row c.args.rows.now.items c.args.keys.now c.sort.new.keys.items c.groups.start c.run_len.result)
 run c =
@@ -181,7 +181,7 @@ no_element : (l : List ℕ) → true ≡ nat_eq (length l) 0 → l ≡ []
 no_element [] is = refl
 no_element (x ∷ l) is = let long : length (x ∷ l) ≡ 0 = grind (arith, nat_tests) in absurd (omega (arith, long))
 
--- what is made for one key and no sums
+-- the result for one key and no sums
 of_one : (window : Period) (rows : List Fragment) (keys sums : List ℕ) (found : Option RowList) (out : RowList) → found ≡ Some out → length keys ≡ 1 → true ≡ nat_eq (length sums) 0
     → IfSome found (λ (out : RowList). HasInside window out.items (λ t v. occurrences (grouped_rows (get_or keys 0 0 ∷ []) [] (at rows t)) v))
     → HasInside window out.items (λ t v. occurrences (grouped_rows keys sums (at rows t)) v)
@@ -194,7 +194,7 @@ pub returns-in-Some-clause-inside : goal.returns-in-Some-clause-inside
 returns-in-Some-clause-inside c =
     of_one c.args.window.now c.args.rows.now.items c.args.keys.now c.args.sums.now c.in_ok-out.field-0 c.in-Some.out c.in-Some.is c.if-keys-eq1.true (c.if-is_empty.ensures) c.in_ok-out.ensures.inside
 
--- what is made for one key and one sum
+-- the result for one key and one sum
 of_both : (window : Period) (rows : List Fragment) (keys sums : List ℕ) (found : Option RowList) (out : RowList) → found ≡ Some out → length keys ≡ 1 → length sums ≡ 1
     → IfSome found (λ (out : RowList). HasInside window out.items (λ t v. occurrences (grouped_rows (get_or keys 0 0 ∷ []) (get_or sums 0 0 ∷ []) (at rows t)) v))
     → HasInside window out.items (λ t v. occurrences (grouped_rows keys sums (at rows t)) v)

@@ -4,7 +4,7 @@ use Rattle.std.specs.Prelude.{IfSome}
 use Rattle.tq_base.specs.Ranges.{AreAscending}
 use Rattle.tq_base.specs.RowLists.{RowList}
 use Rattle.tq_event.specs.Tables.{lists_of}
-use Rattle.tq_agg.specs.declared.few.Tally.{Tally}
+use Rattle.tq_agg.specs.declared.buckets.Tally.{Tally}
 use Rattle.tq_agg.specs.Buckets.{AreRanksOf, AreTallies}
 use Rattle.tq_exec.specs.Answers.{in_tables, times_at}
 use Rattle.tq_exec.specs.Partitioning.{ArePartitionedBy}

@@ -1,6 +1,6 @@
 use Rattle.std.proofs.Common.{◌≡◌, true, refl, subst}
 use Rattle.std.specs.Prelude.{All}
-use Rattle.tq_agg.specs.declared.few.Tally.{Tally}
+use Rattle.tq_agg.specs.declared.buckets.Tally.{Tally}
 use Rattle.tq_exec.proofs.BucketLemmas.{table_tallied}
 use Rattle.tq_exec.proofs.bucket_counts.tallies_of.Goals as goal
 

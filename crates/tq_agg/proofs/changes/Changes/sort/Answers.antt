@@ -2,7 +2,7 @@
 use Rattle.std.proofs.Common.{rules}
 use Rattle.std.proofs.lemmas.List.Sorted.{answers_always}
 use Rattle.tq_agg.specs.declared.changes.Change.{Change}
-use Rattle.tq_agg.proofs.ChangeSweeps.{bounds_sorted}
+use Rattle.tq_agg.proofs.ChangeTotals.{bounds_sorted}
 use Rattle.tq_agg.proofs.changes.Changes.sort.Goals as goal
 
 pub returns-clause-starts_sorted : goal.returns-clause-starts_sorted

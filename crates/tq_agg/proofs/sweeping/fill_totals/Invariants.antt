@@ -1,9 +1,0 @@
--- The next totals so far.
-use Rattle.std.proofs.Common.{◌≡◌, take}
-use Rattle.tq_base.specs.SortInputs.{state_of}
-use Rattle.tq_agg.specs.Totals.{totals_of}
-use Rattle.tq_agg.proofs.sweeping.fill_totals.Given as goal
-
-abbrev pub invariant-summands : goal.invariant-summands
-invariant-summands l =
-    l.next.items ≡ totals_of (state_of l.group.sort_input.now) (take l.place l.summands) (take l.fn.to.begun l.group.keys.now) (take l.fn.to.ended l.group.ends.now)
