@@ -1,5 +1,5 @@
 -- Parts of an answer that follow one another are the whole answer.
-use Rattle.std.proofs.Common.{◌≡◌, ◌<◌, ◌+◌, ◌++◌, ◌∷◌, ◌∙◌, ℕ, suc, List, [], ap, append-nil, arith, get_or, length, map, refl, subst, sum_by, sym}
+use Rattle.std.proofs.Common.{◌≡◌, ◌<◌, ◌+◌, ◌++◌, ◌∷◌, ◌∙◌, ℕ, suc, List, [], ap, append-nil, arith, get_or, length, length-append, map, refl, subst, sum_by, sym}
 use Rattle.std.specs.Global.{Vec}
 use Rattle.std.specs.List.{range_with_len}
 use Rattle.std.specs.Prelude.{All}
@@ -7,6 +7,7 @@ use Rattle.std.proofs.lemmas.Grind.{flat_map-append}
 use Rattle.std.proofs.lemmas.List.{get_or-map, length-map}
 use Rattle.std.proofs.lemmas.List.Concat.{flat_map-cons}
 use Rattle.std.proofs.lemmas.List.Elements.{All-cons, All-nil}
+use Rattle.std.proofs.lemmas.List.Sums.{sum_by-cons}
 use Rattle.tq_base.specs.declared.fragment.Fragment.{Fragment}
 use Rattle.tq_base.specs.Layers.{IsLayers}
 use Rattle.tq_base.specs.Ranges.{layers_of_all, one_after_other, AreAscending}
@@ -35,15 +36,17 @@ made_first Rows width rows others one made first rest = (
       ∙ ap (λ l. rows ++ l) rest.0,
   All-cons (AreOfWidth width) one.rows (map (λ (m : Made). m.rows) made) first.1 rest.1,
 )
-made_first (Text form) width rows others one made first rest =
-    flat_map-cons (λ (t : Vec ℕ). t.items) one.text (map (λ (m : Made). m.text) made)
-    ∙ ap (λ l. l ++ bytes_of (map (λ (m : Made). m.text) made)) first
-    ∙ ap (λ l. rows_text form rows ++ l) rest
-    ∙ sym (flat_map-append _ rows others)
+made_first (Text form) width rows others one made first rest = (
+  flat_map-cons (λ (t : Vec ℕ). t.items) one.text (map (λ (m : Made). m.text) made)
+      ∙ ap (λ l. l ++ bytes_of (map (λ (m : Made). m.text) made)) first.0
+      ∙ ap (λ l. rows_text form rows ++ l) rest.0
+      ∙ sym (flat_map-append _ rows others),
+  omega (arith, first.1, rest.1, length-append rows others, sum_by-cons (λ (m : Made). m.len) one made),
+)
 
 made_nothing : (wanted : Wanted) (width : ℕ) → AreMade wanted width [] []
 made_nothing Rows width = (refl, All-nil (AreOfWidth width))
-made_nothing (Text form) width = refl
+made_nothing (Text form) width = (refl, refl)
 
 -- what is made of the parts, one after the other
 made_of_all : (wanted : Wanted) (width : ℕ) (parts : List AnswerPart) → All (λ (part : AnswerPart). IsMade wanted width part.rows part.made) parts → AreMade wanted width (one_after_other (rows_in_parts parts)) (made_in_parts parts)

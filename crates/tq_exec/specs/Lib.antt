@@ -17,3 +17,4 @@ pub mod PartitioningRules
 pub mod JoinPartitions
 pub mod GroupPartitions
 pub mod AnswerParts
+pub mod Rendered

@@ -1,6 +1,6 @@
 //! Parts of an answer: the ordered rows of each, and what is made of them.
 
-ghost use Rattle.std.specs.Prelude.{◌≡◌, All, IfOk, IsSorted, IsTrue, length, map, ℕ};
+ghost use Rattle.std.specs.Prelude.{◌≡◌, All, IfOk, IsSorted, IsTrue, length, map, sum_by, ℕ};
 ghost use Rattle.tq_agg.specs.Grouping.{Row};
 ghost use Rattle.tq_base.specs.Layers.{IsLayers};
 ghost use Rattle.tq_base.specs.declared.fragment.Fragment.{Fragment};
@@ -26,6 +26,8 @@ pub enum Wanted {
 pub struct Made {
     pub rows: Rows,
     pub text: Vec<u8>,
+    /// The number of the rows.
+    pub len: usize,
 }
 
 /// A part of an answer: its rows in order, and what was made of them.
@@ -45,6 +47,7 @@ fn make(alloc: Global, rows: &ResultRows<'_>, wanted: Wanted) -> Result<Made, Al
             Ok(Made {
                 rows: copies,
                 text: Vec::new(alloc),
+                len: rows.len(),
             })
         }
         Wanted::Text(form) => {
@@ -52,6 +55,7 @@ fn make(alloc: Global, rows: &ResultRows<'_>, wanted: Wanted) -> Result<Made, Al
             Ok(Made {
                 rows: Rows::new(alloc, 0),
                 text,
+                len: rows.len(),
             })
         }
     }
@@ -120,6 +124,17 @@ pub(crate) fn rows_of(alloc: Global, made: Vec<Made>) -> Result<Vec<Rows>, Alloc
         rows.push(rows_of_made(one))?;
     }
     Ok(rows)
+}
+
+/// The number of rows of all parts.
+pub(crate) fn row_count(made: &[Made]) -> u128
+    ensures { result ≡ sum_by (λ (one : AnyMade). one.len) made.now }
+{
+    let mut count: u128 = 0;
+    'each: for one in made {
+        count += one.len as u128;
+    }
+    count
 }
 
 // The text.

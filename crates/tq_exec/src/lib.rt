@@ -1,8 +1,8 @@
 //! Executes plans: over tables of rows and over a `Db` as of its first events, on one thread or on several.
 //!
 //! `specs/Answers.antt` defines the answer of a plan: at each instant of the window, the rows of the ordinary statement
-//! over the rows valid then, coalesced. `answer_tables`, `answer`, `answer_among`, `answer_with` and `text_among` promise
-//! it, for every number of workers.
+//! over the rows valid then, coalesced. `answer_tables`, `answer`, `answer_among`, `answer_with`, `text_among` and
+//! `text_with` promise it, for every number of workers.
 //!
 //! The operators run over any `Snapshot`: `scan.rt` (scan, filter and join), `aggregate.rt` (counts and sums), and
 //! `execution.rt` (projection, EXCEPT ALL and coalescing). Several workers run them over partitions of the rows
@@ -43,11 +43,12 @@ mod scan;
 mod snapshot;
 mod workers;
 
-pub use answer_text::{AnswerText, text_among, text_by_ranges};
+pub use answer_text::{AnswerText, RenderedAnswer, render, text_among};
 pub use as_of::answer;
 pub use execution::{answer_tables, to_owned};
-pub use over_store::answer_with;
+pub use over_store::{answer_with, text_with};
 pub use over_tables::answer_among;
 pub use required::required_columns;
 pub use scan::scan_filter_join;
 pub use snapshot::{Snapshot, TablesOfRows};
+pub use workers::Workers;

@@ -7,7 +7,6 @@ ghost use Rattle.tq_exec.specs.Fitting.{AreAllFitting};
 ghost use Rattle.tq_plan.specs.ValidPlans.{AreQueriesOver, IsPlanOver};
 
 use crate::answer_parts::{Wanted, rows_of};
-use crate::answer_text::FEW_ROWS;
 use crate::execution::answer_tables;
 use crate::parallel::execute_parallel;
 use crate::snapshot::TablesOfRows;
@@ -61,12 +60,6 @@ pub fn answer_among<'a, R: Threads + Sync, G: Gate + Sync>(
         return answer_tables(alloc, catalogue, tables, plan);
     }
     queries_are_valid();
-    let workers = Workers {
-        rt,
-        alloc,
-        count: workers,
-        few: FEW_ROWS,
-        gate,
-    };
+    let workers = Workers::new(rt, alloc, workers, gate);
     owned_answer(&workers, TablesOfRows { catalogue, tables }, plan)
 }

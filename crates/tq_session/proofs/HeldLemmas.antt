@@ -11,6 +11,11 @@ pub where_err : {T E P : Type 0} → (r : Result T E) → P → OnErr r P
 where_err (Ok x) p = tt
 where_err (Err e) p = p
 
+-- a fact that always holds, as one of an `Ok` value
+pub where_ok : {T E P : Type 0} → (r : Result T E) → P → OnOk r P
+where_ok (Ok x) p = p
+where_ok (Err e) p = tt
+
 -- a consequence of the fact of an `Ok` value
 pub where_ok-then : {T E P Q : Type 0} → (r : Result T E) → (P → Q) → OnOk r P → OnOk r Q
 where_ok-then (Ok x) then p = then p

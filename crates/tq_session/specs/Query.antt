@@ -1,5 +1,5 @@
 -- The replies to queries of a session. This project's own.
-use Rattle.std.specs.Prelude.{◌≡◌, ◌≢◌, ℕ, List, length, Ok, Err}
+use Rattle.std.specs.Prelude.{◌≡◌, ◌≢◌, ℕ, List, Ok, Err}
 use Rattle.tq_base.specs.declared.form.Form.{Form}
 use Rattle.tq_base.specs.declared.catalogue.Catalogue.{Catalogue}
 use Rattle.tq_plan.specs.declared.plans.Plan.{Plan}
@@ -7,12 +7,8 @@ use Rattle.tq_plan.specs.Plans.{plan_of}
 use Rattle.tq_sql.specs.declared.fault.SqlFaultKind.TheVariants as sql
 use Rattle.tq_sql.specs.declared.statement.Statement.{Statement}
 use Rattle.tq_sql.specs.Reading.{IsSqlFault, ParsesTo}
-use Rattle.tq_table.specs.declared.table.Table.{Table}
-use Rattle.tq_table.specs.Text.{text_of}
 use Rattle.tq_session.specs.declared.reply.Refusal.{Refusal}
 use Rattle.tq_session.specs.declared.reply.Refusal.TheVariants as refusal
-use Rattle.tq_session.specs.declared.reply.Reply.{Reply}
-use Rattle.tq_session.specs.declared.reply.Reply.TheVariants as reply
 
 -- the plan is that of the statement with these bytes
 pub record IsPlanOf (form : Form) (catalogue : Catalogue) (bytes : List ℕ) (plan : Plan) : Type 0 where
@@ -33,11 +29,3 @@ NotPlanned form catalogue bytes refusal.NoOpenRow = ⊥
 NotPlanned form catalogue bytes refusal.TooManyEvents = ⊥
 NotPlanned form catalogue bytes (refusal.TooNew count) = ⊥
 NotPlanned form catalogue bytes refusal.Closed = ⊥
-
--- the reply has the rows and the text of the table, or an allocation failed
-abbrev pub Renders : Form → Table → Reply → Type 0
-Renders form table (reply.Answer rows text) = (rows ≡ length table.rows) × (text.items ≡ text_of form table)
-Renders form table (reply.Refused why) = why ≡ refusal.OutOfMemory
-Renders form table reply.Nothing = ⊥
-Renders form table (reply.Row row) = ⊥
-Renders form table (reply.Published count) = ⊥

@@ -61,7 +61,7 @@ abbrev pub reply_text : Form → Reply → List ℕ
 reply_text form reply.Nothing = []
 reply_text form (reply.Row row) = line_text [] (codes "row") (Some (decimal row)) []
 reply_text form (reply.Published count) = line_text [] (codes "published") (Some (decimal count)) []
-reply_text form (reply.Answer rows text) = line_text [] (codes "answer") (Some (decimal rows)) text.items
+reply_text form (reply.Answer answer) = line_text [] (codes "answer") (Some (decimal answer.rows)) answer.text
 reply_text form (reply.Refused why) = line_text (codes "refused ") (refusal_name why) (refusal_number form why) []
 
 -- the bytes of slices, one after the other

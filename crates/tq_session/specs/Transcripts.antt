@@ -55,7 +55,7 @@ Starts catalogue before table at values (outcome.Refused why) after =
     (after ≡ before) × (fault : AppendFault) × (why ≡ refused_event fault) × IsStartRefusal catalogue before table values at fault
 Starts catalogue before table at values outcome.Nothing after = ⊥
 Starts catalogue before table at values (outcome.Published count) after = ⊥
-Starts catalogue before table at values (outcome.Answer rows text) after = ⊥
+Starts catalogue before table at values (outcome.Answer answer) after = ⊥
 
 -- the first open row with these values ends, and the reply is its number; or the first reason that applies refuses it
 abbrev pub Ends : Catalogue → WriterState → ℕ → ℕ → List Value → Reply → WriterState → Type 0
@@ -65,7 +65,7 @@ Ends catalogue before table at values (outcome.Refused why) after =
     (after ≡ before) × (fault : AppendFault) × (why ≡ refused_event fault) × IsEndRefusal catalogue before table values at fault
 Ends catalogue before table at values outcome.Nothing after = ⊥
 Ends catalogue before table at values (outcome.Published count) after = ⊥
-Ends catalogue before table at values (outcome.Answer rows text) after = ⊥
+Ends catalogue before table at values (outcome.Answer answer) after = ⊥
 
 -- the values of the fields, for the table with this number
 abbrev pub values_for : Catalogue → ℕ → List ℕ → Option (List Value)
@@ -87,7 +87,7 @@ Publishes before (outcome.Published count) after = (count ≡ length (all_of bef
 Publishes before (outcome.Refused why) after = (after ≡ before) × (why ≡ refusal.OutOfMemory)
 Publishes before outcome.Nothing after = ⊥
 Publishes before (outcome.Row row) after = ⊥
-Publishes before (outcome.Answer rows text) after = ⊥
+Publishes before (outcome.Answer answer) after = ⊥
 
 -- ---- queries
 
@@ -125,7 +125,7 @@ RefusesQuery form catalogue events n bytes refusal.TooManyEvents = ⊥
 
 -- the reply is the answer, or why there is none; the number of workers does not occur in it
 abbrev pub Asks : Form → Catalogue → List Event → ℕ → List ℕ → Reply → Type 0
-Asks form catalogue events n bytes (outcome.Answer rows text) = IsRenderedAnswer form catalogue events n bytes rows text.items
+Asks form catalogue events n bytes (outcome.Answer answer) = IsRenderedAnswer form catalogue events n bytes answer.rows answer.text
 Asks form catalogue events n bytes (outcome.Refused why) = RefusesQuery form catalogue events n bytes why
 Asks form catalogue events n bytes outcome.Nothing = ⊥
 Asks form catalogue events n bytes (outcome.Row row) = ⊥

@@ -3,7 +3,7 @@
 ghost use Rattle.std.specs.Prelude.{◌≡◌, ◌≤◌, List, length, MatchResult};
 ghost use mathlib.Core.List.{IsPrefix};
 ghost use Rattle.tq_event.specs.declared.event.Event.{Event as AnyEvent};
-ghost use Rattle.tq_session.specs.Query.{IsPlanOf, NotPlanned, Renders};
+ghost use Rattle.tq_session.specs.Query.{IsPlanOf, NotPlanned};
 ghost use Rattle.tq_session.specs.Transcripts.{Asks};
 
 use crate::reply::{Refusal, Reply};
@@ -11,12 +11,12 @@ use std::alloc::Global;
 use std::sync::Wait;
 use std::thread::Threads;
 use tq_base::{Catalogue, Form};
+use tq_exec::Workers;
 use tq_plan::{Plan, PlanFault, plan};
 use tq_run::Open;
 use tq_snapshot::laws::observed_answers;
 use tq_snapshot::{AskFault, Reader, StoreId};
 use tq_sql::{SqlFaultKind, read};
-use tq_table::{Table, table_text};
 
 // The plan of the statement, or the first fault of its text or its plan.
 fn planned(alloc: Global, catalogue: &Catalogue, bytes: &[u8], form: Form) -> Result<Plan, Refusal>
@@ -33,16 +33,6 @@ fn planned(alloc: Global, catalogue: &Catalogue, bytes: &[u8], form: Form) -> Re
         Ok(plan) => Ok(plan),
         Err(PlanFault::OutOfMemory) => Err(Refusal::OutOfMemory),
         Err(fault) => Err(Refusal::Plan(fault)),
-    }
-}
-
-// The reply with the number of rows of the table and its text.
-fn render(alloc: Global, table: &Table<'_>, form: Form) -> Reply
-    ensures { Renders form table.now result }
-{
-    match table_text(alloc, table, form) {
-        Ok(text) => Reply::Answer(table.rows.len(), text),
-        Err(_) => Reply::Refused(Refusal::OutOfMemory),
     }
 }
 
@@ -82,8 +72,9 @@ pub fn ask<J: StoreId, R: Threads + Wait + Sync>(
     if published < n {
         return Reply::Refused(Refusal::TooNew { published });
     }
-    match reader.ask_with(rt, alloc, n, &plan, workers, &Open) {
-        Ok(table) => render(alloc, &table, form),
+    let workers = Workers::new(rt, alloc, workers, &Open);
+    match reader.text_with(&workers, n, &plan, form) {
+        Ok(answer) => Reply::Answer(answer),
         Err(AskFault::TooNew { seen: _ }) | Err(AskFault::Closed) => Reply::Refused(
             Refusal::Closed,
         ),

@@ -4,7 +4,7 @@ ghost use Rattle.std.specs.Prelude.{◌≡◌, ◌++◌, [], codes, decimal, opt
 ghost use Rattle.std.specs.Result.{is_err};
 ghost use Rattle.std.specs.Io.KnownBytes.{Appends};
 ghost use Rattle.tq_base.specs.Numbers.{instant_text};
-ghost use Rattle.tq_table.specs.Sink.{AppendsPrefix, one_more};
+ghost use Rattle.tq_table.specs.Sink.{AppendsPrefix, bytes_of, one_more};
 ghost use Rattle.tq_session.specs.Replies.{AppendsAllExcept, joined, line_text, refusal_name, refusal_number, refused_event, reply_text};
 
 use arrayvec::ArrayVec;
@@ -12,6 +12,7 @@ use itoa::Buffer;
 use std::io::Write;
 use tq_base::{Form, Instant, put_instant};
 use tq_engine::{plan_name, sql_name};
+use tq_exec::RenderedAnswer;
 use tq_plan::PlanFault;
 use tq_snapshot::AppendFault;
 use tq_sql::SqlFault;
@@ -54,7 +55,7 @@ pub enum Reply {
     /// The number of published events.
     Published(u32),
     /// The number of rows of the answer, and its text.
-    Answer(usize, Vec<u8>),
+    Answer(RenderedAnswer),
     Refused(Refusal),
 }
 
@@ -115,35 +116,71 @@ fn buffer_part<W: Write>(
     sink.put(part)
 }
 
-// Writes the parts one after the other, in one write if they fit into the buffer, and flushes. Allocates nothing.
-fn send_parts<W: Write>(sink: &mut Sink<W>, parts: &[&[u8]]) -> Result<(), WriteFault>
-    ensures whole { OnOk result (Appends (W.contents sink.old.writer) (W.contents sink.new.writer) (joined parts.now)) }
-    ensures prefix { OnErr result (AppendsPrefix (W.contents sink.old.writer) (W.contents sink.new.writer) (joined parts.now)) }
+// Does what `buffer_part` does, for one part of a line after the other.
+fn buffer_line<W: Write>(
+    sink: &mut Sink<W>,
+    buffer: &mut WriteBuffer,
+    parts: &[&[u8]],
+) -> Result<(), WriteFault>
+    ensures rest { OnOk result (AppendsAllExcept (W.contents sink.old.writer) (W.contents sink.new.writer) (buffer.old.items ++ joined parts.now) buffer.new.items) }
+    ensures prefix { OnErr result (AppendsPrefix (W.contents sink.old.writer) (W.contents sink.new.writer) (buffer.old.items ++ joined parts.now)) }
+    ensures failed { sink.new.failed ≡ (if is_err result then one_more sink.old.failed else sink.old.failed) }
+{
+    'each: for part in parts {
+        buffer_part(sink, buffer, part)?;
+    }
+    Ok(())
+}
+
+// Does what `buffer_part` does, for one part of a text after the other.
+fn buffer_text<W: Write>(
+    sink: &mut Sink<W>,
+    buffer: &mut WriteBuffer,
+    parts: &[Vec<u8>],
+) -> Result<(), WriteFault>
+    ensures rest { OnOk result (AppendsAllExcept (W.contents sink.old.writer) (W.contents sink.new.writer) (buffer.old.items ++ bytes_of parts.now) buffer.new.items) }
+    ensures prefix { OnErr result (AppendsPrefix (W.contents sink.old.writer) (W.contents sink.new.writer) (buffer.old.items ++ bytes_of parts.now)) }
+    ensures failed { sink.new.failed ≡ (if is_err result then one_more sink.old.failed else sink.old.failed) }
+{
+    'each: for part in parts {
+        buffer_part(sink, buffer, part)?;
+    }
+    Ok(())
+}
+
+// Writes the parts of a line and then those of a text, in one write if they fit into the buffer, and flushes. Allocates
+// nothing.
+fn send_parts<W: Write>(
+    sink: &mut Sink<W>,
+    line: &[&[u8]],
+    text: &[Vec<u8>],
+) -> Result<(), WriteFault>
+    ensures whole { OnOk result (Appends (W.contents sink.old.writer) (W.contents sink.new.writer) (joined line.now ++ bytes_of text.now)) }
+    ensures prefix { OnErr result (AppendsPrefix (W.contents sink.old.writer) (W.contents sink.new.writer) (joined line.now ++ bytes_of text.now)) }
     ensures failed { sink.new.failed ≡ (if is_err result then one_more sink.old.failed else sink.old.failed) }
 {
     let mut buffer = WriteBuffer::new();
-    'parts: for part in parts {
-        buffer_part(sink, &mut buffer, part)?;
-    }
+    buffer_line(sink, &mut buffer, line)?;
+    buffer_text(sink, &mut buffer, text)?;
     sink.put(buffer.as_slice())?;
     sink.flush()
 }
 
-// Does what `send_parts` does, for six parts.
-fn send_six_parts<'a, W: Write>(
+// Does what `send_parts` does, for a line of five parts.
+fn send_five_parts<'a, W: Write>(
     sink: &mut Sink<W>,
     first: &'a [u8],
     second: &'a [u8],
     third: &'a [u8],
     fourth: &'a [u8],
     fifth: &'a [u8],
-    sixth: &'a [u8],
+    text: &[Vec<u8>],
 ) -> Result<(), WriteFault>
-    ensures whole { OnOk result (Appends (W.contents sink.old.writer) (W.contents sink.new.writer) (first.now ++ (second.now ++ (third.now ++ (fourth.now ++ (fifth.now ++ sixth.now)))))) }
-    ensures prefix { OnErr result (AppendsPrefix (W.contents sink.old.writer) (W.contents sink.new.writer) (first.now ++ (second.now ++ (third.now ++ (fourth.now ++ (fifth.now ++ sixth.now)))))) }
+    ensures whole { OnOk result (Appends (W.contents sink.old.writer) (W.contents sink.new.writer) (first.now ++ (second.now ++ (third.now ++ (fourth.now ++ (fifth.now ++ bytes_of text.now)))))) }
+    ensures prefix { OnErr result (AppendsPrefix (W.contents sink.old.writer) (W.contents sink.new.writer) (first.now ++ (second.now ++ (third.now ++ (fourth.now ++ (fifth.now ++ bytes_of text.now)))))) }
     ensures failed { sink.new.failed ≡ (if is_err result then one_more sink.old.failed else sink.old.failed) }
 {
-    send_parts(sink, &[first, second, third, fourth, fifth, sixth])
+    send_parts(sink, &[first, second, third, fourth, fifth], text)
 }
 
 // Writes a line of `first`, a word and the digits of a number if there are any, then the text. Allocates nothing.
@@ -152,16 +189,16 @@ fn send_line<W: Write>(
     first: &str,
     word: &str,
     digits: Option<&[u8]>,
-    text: &[u8],
+    text: &[Vec<u8>],
 ) -> Result<(), WriteFault>
-    ensures whole { OnOk result (Appends (W.contents sink.old.writer) (W.contents sink.new.writer) (line_text first.now word.now (option_copied digits.entry) text.now)) }
-    ensures prefix { OnErr result (AppendsPrefix (W.contents sink.old.writer) (W.contents sink.new.writer) (line_text first.now word.now (option_copied digits.entry) text.now)) }
+    ensures whole { OnOk result (Appends (W.contents sink.old.writer) (W.contents sink.new.writer) (line_text first.now word.now (option_copied digits.entry) (bytes_of text.now))) }
+    ensures prefix { OnErr result (AppendsPrefix (W.contents sink.old.writer) (W.contents sink.new.writer) (line_text first.now word.now (option_copied digits.entry) (bytes_of text.now))) }
     ensures failed { sink.new.failed ≡ (if is_err result then one_more sink.old.failed else sink.old.failed) }
 {
     let (first, word) = (first.as_bytes(), word.as_bytes());
     match digits {
-        Some(digits) => send_six_parts(sink, first, word, b" ", digits, b"\n", text),
-        None => send_six_parts(sink, first, word, b"", b"", b"\n", text),
+        Some(digits) => send_five_parts(sink, first, word, b" ", digits, b"\n", text),
+        None => send_five_parts(sink, first, word, b"", b"", b"\n", text),
     }
 }
 
@@ -170,11 +207,11 @@ fn send_number<W: Write>(
     sink: &mut Sink<W>,
     first: &str,
     word: &str,
-    number: u64,
-    text: &[u8],
+    number: u128,
+    text: &[Vec<u8>],
 ) -> Result<(), WriteFault>
-    ensures whole { OnOk result (Appends (W.contents sink.old.writer) (W.contents sink.new.writer) (line_text first.now word.now (Some (decimal number)) text.now)) }
-    ensures prefix { OnErr result (AppendsPrefix (W.contents sink.old.writer) (W.contents sink.new.writer) (line_text first.now word.now (Some (decimal number)) text.now)) }
+    ensures whole { OnOk result (Appends (W.contents sink.old.writer) (W.contents sink.new.writer) (line_text first.now word.now (Some (decimal number)) (bytes_of text.now))) }
+    ensures prefix { OnErr result (AppendsPrefix (W.contents sink.old.writer) (W.contents sink.new.writer) (line_text first.now word.now (Some (decimal number)) (bytes_of text.now))) }
     ensures failed { sink.new.failed ≡ (if is_err result then one_more sink.old.failed else sink.old.failed) }
 {
     let mut digits = Buffer::new();
@@ -201,7 +238,7 @@ fn send_instant<W: Write>(
 {
     let mut text = [0; 12];
     let len = put_instant(instant, form, &mut text);
-    send_line(sink, first, word, Some(&text[..len]), b"")
+    send_line(sink, first, word, Some(&text[..len]), &[])
 }
 
 impl Refusal {
@@ -215,12 +252,12 @@ impl Refusal {
         match self {
             Refusal::TooEarly { last } => send_instant(sink, first, word, *last, form),
             Refusal::Statement(fault) => {
-                send_number(sink, first, word, u64::from(fault.at), b"")
+                send_number(sink, first, word, u128::from(fault.at), &[])
             }
             Refusal::TooNew { published } => {
-                send_number(sink, first, word, u64::from(*published), b"")
+                send_number(sink, first, word, u128::from(*published), &[])
             }
-            _ => send_line(sink, first, word, None, b""),
+            _ => send_line(sink, first, word, None, &[]),
         }
     }
 }
@@ -235,11 +272,13 @@ impl Reply {
     {
         match self {
             Reply::Nothing => Ok(()),
-            Reply::Row(row) => send_number(sink, "", "row", u64::from(*row), b""),
+            Reply::Row(row) => send_number(sink, "", "row", u128::from(*row), &[]),
             Reply::Published(count) => {
-                send_number(sink, "", "published", u64::from(*count), b"")
+                send_number(sink, "", "published", u128::from(*count), &[])
             }
-            Reply::Answer(rows, text) => send_number(sink, "", "answer", *rows as u64, text),
+            Reply::Answer(answer) => {
+                send_number(sink, "", "answer", answer.rows, answer.text.parts())
+            }
             Reply::Refused(why) => why.send(sink, form),
         }
     }

@@ -2,6 +2,7 @@
 use Rattle.std.specs.Prelude.{◌≡◌, ℕ, ◌-◌, ◌<◌, ◌≤◌, ◌⊎◌, List, ◌++◌, length, slice_get, IsSomeAnd, Some, None}
 use mathlib.Core.List.{IsPrefix}
 use Rattle.tq_base.specs.declared.catalogue.Catalogue.{Catalogue}
+use Rattle.tq_base.specs.declared.form.Form.{Form}
 use Rattle.tq_base.specs.declared.value.Value.{Value}
 use Rattle.tq_event.specs.declared.event.Event.{Event}
 use Rattle.tq_event.specs.History.{IsHistory, IsNotBefore, time_of}
@@ -10,6 +11,8 @@ use Rattle.tq_event.specs.Recorded.{HasTable}
 use Rattle.tq_plan.specs.declared.plans.Plan.{Plan}
 use Rattle.tq_table.specs.declared.table.Table.{Table}
 use Rattle.tq_exec.specs.Answers.{IsPlanAnswer}
+use Rattle.tq_exec.specs.Rendered.{IsRendered}
+use Rattle.tq_exec.specs.declared.answer_text.RenderedAnswer.{RenderedAnswer}
 use Rattle.tq_snapshot.specs.declared.faults.AskFault.{AskFault}
 use Rattle.tq_snapshot.specs.declared.faults.AskFault.TheVariants as ask
 use Rattle.tq_snapshot.specs.declared.faults.AppendFault.{AppendFault}
@@ -89,6 +92,10 @@ pub record Entered (catalogue : Catalogue) (observed found : List Event) : Type 
 -- the answer as of the first n events found
 abbrev pub Answers : Catalogue → List Event → ℕ → Plan → List Event → Table → Type 0
 Answers catalogue observed n plan found table = Entered catalogue observed found × (n ≤ length found) × IsPlanAnswer found n plan table
+
+-- the same as text: the number of rows and the text are those of the answer
+abbrev pub AnswersAsText : Form → Catalogue → List Event → ℕ → Plan → List Event → RenderedAnswer → Type 0
+AnswersAsText form catalogue observed n plan found rendered = Entered catalogue observed found × (n ≤ length found) × IsRendered form (IsPlanAnswer found n plan) rendered
 
 -- why there is no answer
 abbrev pub Refuses : Catalogue → List Event → ℕ → List Event → AskFault → Type 0

@@ -2,7 +2,7 @@
 
 ghost use Rattle.std.specs.Prelude.{◌≡◌, ◌≤◌, length, MatchResult};
 ghost use Rattle.tq_plan.specs.ValidPlans.{IsPlanOver};
-ghost use Rattle.tq_snapshot.specs.Calls.{Answers, Entered, IsLearned, Refuses};
+ghost use Rattle.tq_snapshot.specs.Calls.{Answers, AnswersAsText, Entered, IsLearned, Refuses};
 
 use crate::book::{Prefix, StoreId};
 use crate::entering::{SharedReader, begin, enter};
@@ -12,6 +12,8 @@ use std::alloc::Global;
 use std::marker::Model;
 use std::sync::Wait;
 use std::thread::Threads;
+use tq_base::Form;
+use tq_exec::{RenderedAnswer, Workers};
 use tq_plan::Plan;
 use tq_run::Gate;
 use tq_table::Table;
@@ -102,6 +104,34 @@ impl<J: StoreId> Reader<J> {
         match begin(inner, &self.observed, self.own) {
             Ok((reading, prefix)) => {
                 let answer = reading.get().ask_with(rt, alloc, n, plan, workers, gate);
+                self.inner = Some(reading.leave());
+                self.own = prefix.len();
+                self.observed = prefix;
+                answer
+            }
+            Err((inner, _)) => {
+                self.inner = Some(inner);
+                Err(AskFault::Closed)
+            }
+        }
+    }
+
+    /// Returns the text, in the form, of the same answer as `ask`, and its number of rows, made by these workers. Each of
+    /// them writes the text of the rows that it makes. The gate gets each piece of work before it is done.
+    pub fn text_with<R: Threads + Wait + Sync, G: Gate + Sync>(
+        &mut self,
+        workers: &Workers<'_, R, G>,
+        n: u32,
+        plan: &Plan,
+        form: Form,
+    ) -> Result<RenderedAnswer, AskFault>
+        requires { IsPlanOver J.catalogue plan.now }
+        ensures { MatchResult result (λ rendered. AnswersAsText form J.catalogue self.old n plan.now self.new rendered) (Refuses J.catalogue self.old n self.new) }
+    {
+        let inner = self.inner.take().unwrap();
+        match begin(inner, &self.observed, self.own) {
+            Ok((reading, prefix)) => {
+                let answer = reading.get().text_with(workers, n, plan, form);
                 self.inner = Some(reading.leave());
                 self.own = prefix.len();
                 self.observed = prefix;

@@ -4,6 +4,7 @@ ghost use Rattle.std.specs.Prelude.{◌≡◌, ◌≤◌, ◌∷◌, [], ◌++�
 ghost use Rattle.tq_event.specs.History.{IsHistory};
 ghost use Rattle.tq_plan.specs.ValidPlans.{IsPlanOver};
 ghost use Rattle.tq_exec.specs.Answers.{IsPlanAnswer};
+ghost use Rattle.tq_exec.specs.Rendered.{IsRendered};
 ghost use Rattle.tq_snapshot.specs.StoreValue.{absorbed};
 ghost use Rattle.tq_snapshot.specs.Calls.{FitsFault};
 
@@ -13,9 +14,9 @@ use left_right::Absorb;
 use std::alloc::{AllocError, Global};
 use std::marker::Model;
 use std::thread::Threads;
-use tq_base::Catalogue;
+use tq_base::{Catalogue, Form};
 use tq_event::{Event, MAX_EVENTS};
-use tq_exec::{answer, answer_with};
+use tq_exec::{RenderedAnswer, Workers, answer, answer_with, text_with};
 use tq_plan::Plan;
 use tq_run::Gate;
 use tq_store::Db;
@@ -148,6 +149,27 @@ impl SharedStore {
         }
         match answer_with(rt, alloc, &self.db, n, plan, workers, gate) {
             Ok(table) => Ok(table),
+            Err(_) => Err(AskFault::OutOfMemory),
+        }
+    }
+
+    /// The text, in the form, of the answer of `ask`, and its number of rows, made by these workers.
+    pub fn text_with<R: Threads + Sync, G: Gate + Sync>(
+        &self,
+        workers: &Workers<'_, R, G>,
+        n: u32,
+        plan: &Plan,
+        form: Form,
+    ) -> Result<RenderedAnswer, AskFault>
+        requires { IsPlanOver self.now.catalogue plan.now }
+        ensures { MatchResult result (λ rendered. (n ≤ length self.now.events) × IsRendered form (IsPlanAnswer self.now.events n plan.now) rendered) (λ f. FitsFault (length self.now.events) n f) }
+    {
+        let seen = self.db.count();
+        if n > seen {
+            return Err(AskFault::TooNew { seen });
+        }
+        match text_with(workers, &self.db, n, plan, form) {
+            Ok(rendered) => Ok(rendered),
             Err(_) => Err(AskFault::OutOfMemory),
         }
     }

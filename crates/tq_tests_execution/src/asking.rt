@@ -7,7 +7,7 @@ ghost use Rattle.tq_plan.specs.ValidPlans.{IsPlanOver};
 
 use crate::loaded::{history_of, planned, tables_of};
 use crate::seen::Seen;
-use crate::texts::{text_among, text_here, text_in_ranges, text_with};
+use crate::texts::{Answer, among, answer_here, as_of, in_ranges, text_as_of};
 use std::alloc::{AllocError, Global};
 use std::thread::Threads;
 use tq_base::Form;
@@ -23,6 +23,7 @@ pub(crate) enum Way {
     Among,
     Ranges,
     With,
+    Text,
 }
 
 /// A statement, the number of workers, and the call to use, or all calls.
@@ -41,8 +42,8 @@ fn is_asked(question: &Question<'_>, way: Way) -> bool {
     }
 }
 
-// The text of the answer by one of the calls.
-fn text_by<R: Threads + Sync, G: Gate + Sync>(
+// The answer by one of the calls.
+fn answer_by<R: Threads + Sync, G: Gate + Sync>(
     rt: &R,
     alloc: Global,
     tables: &Tables,
@@ -52,7 +53,7 @@ fn text_by<R: Threads + Sync, G: Gate + Sync>(
     way: Way,
     workers: u32,
     gate: &G,
-) -> Result<Vec<u8>, AllocError>
+) -> Result<Answer, AllocError>
     requires fit { AreAllFitting tables.now.catalogue (lists_of tables.now.rows) }
     requires plan { IsPlanOver tables.now.catalogue plan.now }
     requires db_plan { IsPlanOver db.now.catalogue db_plan.now }
@@ -60,9 +61,10 @@ fn text_by<R: Threads + Sync, G: Gate + Sync>(
     requires at_most { workers ≤ 16 }
 {
     match way {
-        Way::Among => text_among(rt, alloc, tables, plan, workers, gate),
-        Way::Ranges => text_in_ranges(rt, alloc, tables, plan, workers, gate),
-        Way::With => text_with(rt, alloc, db, db_plan, workers, gate),
+        Way::Among => among(rt, alloc, tables, plan, workers, gate),
+        Way::Ranges => in_ranges(rt, alloc, tables, plan, workers, gate),
+        Way::With => as_of(rt, alloc, db, db_plan, workers, gate),
+        Way::Text => text_as_of(rt, alloc, db, db_plan, workers, gate),
     }
 }
 
@@ -83,11 +85,11 @@ fn ask_each<R: Threads + Sync, G: Gate + Sync>(
     requires db_plan { IsPlanOver db.now.catalogue db_plan.now }
 {
     let workers = question.workers.clamp(1, 16);
-    let here = text_here(alloc, tables, plan)?;
-    for way in [Way::Among, Way::Ranges, Way::With] {
+    let here = answer_here(alloc, tables, plan)?;
+    for way in [Way::Among, Way::Ranges, Way::With, Way::Text] {
         if is_asked(question, way) {
-            let text = text_by(rt, alloc, tables, plan, db, db_plan, way, workers, gate)?;
-            seen.take(text, &here);
+            let answer = answer_by(rt, alloc, tables, plan, db, db_plan, way, workers, gate)?;
+            seen.take(answer, &here);
         }
     }
     Ok(())

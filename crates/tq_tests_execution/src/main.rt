@@ -36,11 +36,12 @@
 //! By several workers:
 //!
 //!     compare W STATEMENT          the answers by W workers: over the tables of the files, the same in partitions and
-//!                                  ranges of values from the first row on, and as of all events of the files
+//!                                  ranges of values from the first row on, as of all events of the files, and as
+//!                                  text as of all events
 //!     compare-random SEED W STATEMENT    the same over each of fifty random tables of staff, of sixty rows of few keys
 //!     gated CALL STATEMENT         the answer by two workers; each arrival of piece 0 waits until piece 1 has arrived
 //!                                  as often: over the tables (among), in partitions and ranges (ranges), as of all
-//!                                  events (with)
+//!                                  events (with), as text as of all events (text)
 //!
 //! A call by several workers prints the number of answers and how many differ from the answer of one thread. With a
 //! gate it prints how often piece 1 arrived. It also prints the answer, or one that differs. Tables are numbered from

@@ -1,5 +1,6 @@
 //! Results of a statement with several workers.
 
+use crate::texts::Answer;
 use std::alloc::{AllocError, Global};
 use std::fmt::Write;
 use tq_tests_script::push_first_lines;
@@ -24,14 +25,15 @@ impl Seen {
     }
 
     /// Compares an answer with that of one thread.
-    pub(crate) fn take(&mut self, answer: Vec<u8>, here: &[u8]) {
-        let is_same = answer.as_slice() == here;
+    pub(crate) fn take(&mut self, answer: Answer, here: &Answer) {
+        let is_same = answer == *here;
         self.answers = self.answers.saturating_add(1);
         if !is_same {
             self.differences = self.differences.saturating_add(1);
         }
         if !is_same || self.differences == 0 {
-            self.text = answer;
+            let Answer { text, .. } = answer;
+            self.text = text;
         }
     }
 

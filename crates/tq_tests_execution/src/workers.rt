@@ -61,6 +61,7 @@ fn print_gated<R: Threads + Sync>(
     let way = match word {
         "among" => Way::Among,
         "ranges" => Way::Ranges,
+        "text" => Way::Text,
         _ => Way::With,
     };
     let question = Question {

@@ -1,0 +1,10 @@
+-- The parts so far are appended after the bytes that were buffered, except for the buffered bytes, and no call failed yet.
+use Rattle.std.proofs.Common.{◌≡◌, ◌++◌, take}
+use Rattle.tq_session.specs.Replies.{AppendsAllExcept, joined}
+use Rattle.tq_session.proofs.reply.buffer_line.Given as goal
+
+abbrev pub invariant-each : goal.invariant-each
+invariant-each g l = record {
+  appended : AppendsAllExcept (g.W.Write.contents l.initial.sink.writer) (g.W.Write.contents l.sink.writer) (l.initial.buffer.items ++ joined (take l.part-index l.parts)) l.buffer.items;
+  kept : l.sink.failed ≡ l.initial.sink.failed;
+}
