@@ -51,3 +51,11 @@ version = refl
 pub help : fault_of tq_app (codes "draw" ∷ codes "-h" ∷ []) ≡ DisplayHelp ∷ []
 unfolding clap_on_literals
 help = refl
+
+pub gaps_found : option_map (λ sub. is_set (codes "gaps") sub.1) (subcommand_of tq_app (codes "check" ∷ codes "--gaps" ∷ codes "--table=a=b" ∷ [])) ≡ Some true
+unfolding clap_on_literals
+gaps_found = refl
+
+pub overlaps_left_out : option_map (λ sub. is_set (codes "overlaps") sub.1) (subcommand_of tq_app (codes "check" ∷ codes "--gaps" ∷ codes "--table=a=b" ∷ [])) ≡ Some false
+unfolding clap_on_literals
+overlaps_left_out = refl

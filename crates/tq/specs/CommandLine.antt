@@ -88,6 +88,8 @@ pub record IsCheckOf (rows : List Row) (check : CheckRequest) : Type 0 where
   pub tables : IsTablesUpTo 1 rows check.tables.items
   pub workers : check.workers ≡ number_of (codes "workers") rows
   pub form : check.form ≡ form_of rows
+  pub overlaps : check.overlaps ≡ is_set (codes "overlaps") rows
+  pub gaps : check.gaps ≡ is_set (codes "gaps") rows
 
 pub record IsSessionOf (rows : List Row) (session : SessionRequest) : Type 0 where
   pub tables : IsTablesUpTo 0 rows session.tables.items
@@ -168,6 +170,12 @@ dates_rule = flag_rule (codes "dates")
 abbrev pub explain_rule : Rule
 explain_rule = flag_rule (codes "explain")
 
+abbrev pub overlaps_rule : Rule
+overlaps_rule = flag_rule (codes "overlaps")
+
+abbrev pub gaps_rule : Rule
+gaps_rule = flag_rule (codes "gaps")
+
 abbrev pub with_question : App → App
 with_question app = with_rule (with_rule (with_rule (with_rule (with_rule app table_rule) dates_rule)
     explain_rule) workers_rule) statement_rule
@@ -180,7 +188,8 @@ draw_app = with_question (with_rule (with_rule (new_app (codes "draw")) width_ru
 
 abbrev pub check_app : App
 check_app =
-    with_rule (with_rule (with_rule (new_app (codes "check")) table_rule) dates_rule) workers_rule
+    with_rule (with_rule (with_rule (with_rule (with_rule (new_app (codes "check")) table_rule) dates_rule)
+    workers_rule) overlaps_rule) gaps_rule
 
 abbrev pub session_app : App
 session_app = with_rule (with_rule (new_app (codes "session")) table_rule) dates_rule

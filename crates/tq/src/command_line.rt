@@ -8,7 +8,7 @@ ghost use Rattle.tq.specs.CommandLine.{IsTablesOf, IsTablesUpTo, IsAskOf, IsDraw
 ghost use Rattle.tq.specs.CommandLine.{HasInvalidTables, HasInvalidWorkers, IsInvalidQuestion, IsInvalidRequest};
 ghost use Rattle.tq.specs.CommandLine.{IsInvalid, IsPrintOf, IsRequestIn, IsUsageFault};
 ghost use Rattle.tq.specs.CommandLine.{ask_app, check_app, draw_app, session_app, tq_app, with_question};
-ghost use Rattle.tq.specs.CommandLine.{dates_rule, explain_rule, statement_rule, svg_rule, table_rule, width_rule, workers_rule};
+ghost use Rattle.tq.specs.CommandLine.{dates_rule, explain_rule, gaps_rule, overlaps_rule, statement_rule, svg_rule, table_rule, width_rule, workers_rule};
 ghost use Rattle.tq.specs.CommandLine.{bytes_in, form_of, is_set, number_of, stdin_count, text_of};
 
 use crate::request::{AskRequest, CheckRequest, DrawRequest, Request, SessionRequest, TableOption};
@@ -289,6 +289,26 @@ fn svg_argument<'a>(alloc: Global) -> Arg<'a>
         .action(ArgAction::SetTrue)
 }
 
+// Whether overlapping rows of one key are reported.
+fn overlaps_argument<'a>(alloc: Global) -> Arg<'a>
+    ensures { rule_of result ≡ overlaps_rule }
+{
+    Arg::new(alloc, "overlaps")
+        .long("overlaps")
+        .help("Reports rows that start while an earlier row of their key is valid")
+        .action(ArgAction::SetTrue)
+}
+
+// Whether gaps between rows of one key are reported.
+fn gaps_argument<'a>(alloc: Global) -> Arg<'a>
+    ensures { rule_of result ≡ gaps_rule }
+{
+    Arg::new(alloc, "gaps")
+        .long("gaps")
+        .help("Reports periods between rows of one key in which no row of the key is valid")
+        .action(ArgAction::SetTrue)
+}
+
 // What a command asks, and of which tables, with how many workers, and how instants are written.
 fn question_arguments<'a>(alloc: Global, command: Command<'a>) -> Result<Command<'a>, AllocError>
     ensures { IfOk result (λ r. app_of r ≡ with_question (app_of command.entry)) }
@@ -334,7 +354,9 @@ fn check_command<'a>(alloc: Global) -> Result<Command<'a>, AllocError>
         .after_help(CHECK_HELP)
         .arg(table_argument(alloc))?
         .arg(dates_argument(alloc))?
-        .arg(workers_argument(alloc))
+        .arg(workers_argument(alloc))?
+        .arg(overlaps_argument(alloc))?
+        .arg(gaps_argument(alloc))
 }
 
 // The command that holds a session.
@@ -489,6 +511,8 @@ fn read_check(alloc: Global, check: &ArgMatches<'_>) -> Result<CheckRequest, Usa
         tables,
         workers,
         form: read_form(check),
+        overlaps: read_flag(check, "overlaps"),
+        gaps: read_flag(check, "gaps"),
     })
 }
 

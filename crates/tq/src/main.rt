@@ -47,7 +47,7 @@ use std::sync::Wait;
 use std::thread::{self, Threads};
 use std::time::Clock;
 use tq_base::Form;
-use tq_check::check;
+use tq_check::{CheckOptions, KeyChecks, check};
 use tq_diagnostics::explain_records;
 use tq_draw::{draw, draw_svg};
 use tq_engine::{AnswerFault, AnswerOptions, FileFault, Source, query_files};
@@ -189,12 +189,20 @@ fn check_tables<
         tables: options,
         workers,
         form,
+        overlaps,
+        gaps,
     } = request;
+    let keys = KeyChecks { overlaps, gaps };
     let paths = paths_of(rt.alloc(), &options)?;
     let tables = read_table_files(rt, options, workers, interactive, progress)?;
     let retained = retain_files(rt, &tables, &paths)?;
     progress.load();
-    match check(rt, rt.alloc(), tables, workers, form) {
+    let options = CheckOptions {
+        workers,
+        form,
+        keys,
+    };
+    match check(rt, rt.alloc(), tables, options) {
         Ok(text) => {
             progress.end(rt);
             Ok(print_bytes(rt, &text)?)

@@ -34,12 +34,15 @@ pub struct DrawRequest {
     pub svg: bool,
 }
 
-/// What `tq check` was asked: the tables in the order of their options, 1 to 16 workers, and how instants are written.
+/// What `tq check` was asked: the tables in the order of their options, 1 to 16 workers, how instants are written, and
+/// whether to report overlapping rows of one key, and gaps between rows of one key.
 #[derive(Drop)]
 pub struct CheckRequest {
     pub tables: Vec<TableOption>,
     pub workers: u32,
     pub form: Form,
+    pub overlaps: bool,
+    pub gaps: bool,
     ghost some_workers: { 1 ≤ workers },
     ghost few_workers: { workers ≤ 16 },
 }

@@ -1,6 +1,11 @@
 pub mod ApartLemmas
 pub mod EqualRowLemmas
 pub mod Joining
+pub mod KeyListLemmas
+pub mod KeyOrderLemmas
+pub mod KeyPassLemmas
+pub mod KeyRankLemmas
+pub mod KeyTextLemmas
 pub mod SortKeyLemmas
 pub mod Permuting
 pub mod RunLemmas

@@ -1,5 +1,9 @@
 pub mod Checks
 pub mod EqualRows
+pub mod KeyLaws
+pub mod KeyPasses
+pub mod KeyReports
+pub mod KeyRows
 pub mod Numbers
 pub mod Runs
 pub mod Reports

@@ -1,5 +1,5 @@
 -- The summary of tables, as text. This project's own.
-use Rattle.std.specs.Prelude.{ℕ, ◌==◌, if◌then◌else◌, List, [], ◌∷◌, ◌++◌, codes, decimal, length, map}
+use Rattle.std.specs.Prelude.{◌≡◌, ℕ, ◌==◌, if◌then◌else◌, List, [], ◌∷◌, ◌++◌, codes, decimal, length, map}
 use Rattle.std.specs.List.{flat_map}
 use Rattle.tq_base.specs.Numbers.{instant_text}
 use Rattle.tq_base.specs.RowLists.{RowList}
@@ -10,9 +10,10 @@ use Rattle.tq_base.specs.declared.catalogue.Schema.{Schema}
 use Rattle.tq_base.specs.declared.form.Form.{Form}
 use Rattle.tq_base.specs.declared.fragment.Fragment.{Fragment}
 use Rattle.tq_base.specs.declared.period.Period.{Period}
-use Rattle.tq_event.specs.declared.file.Tables.{Tables}
 use Rattle.tq_check.specs.EqualRows.{meeting, overlapping}
+use Rattle.tq_check.specs.KeyReports.{IsKeyText}
 use Rattle.tq_check.specs.Numbers.{first_start, last_change, open_periods}
+use Rattle.tq_check.specs.declared.key_report.KeyChecks.{KeyChecks}
 
 -- the kind of a column, as a header writes it
 abbrev pub kind_text : Kind → List ℕ
@@ -59,16 +60,14 @@ equal_rows_text rows =
 abbrev pub periods_of : List Fragment → List Period
 periods_of rows = map (λ (row : Fragment). row.period) rows
 
--- the summary of a table with these rows
-abbrev pub table_text : Form → Schema → List Fragment → List ℕ
-table_text form schema rows =
-    head_text schema ++ periods_text form (periods_of rows) ++ equal_rows_text rows ++ 10 ∷ []
+-- the summary of a table with these rows; `lines` are those about the rows of one key
+abbrev pub table_text : Form → Schema → List Fragment → List ℕ → List ℕ
+table_text form schema rows lines =
+    head_text schema ++ periods_text form (periods_of rows) ++ equal_rows_text rows ++ lines ++ 10 ∷ []
 
--- the summaries of the tables, in their order
-unfoldable pub tables_text : Form → List Schema → List RowList → List ℕ
-tables_text form (schema ∷ schemas) (rows ∷ tables) = table_text form schema rows.items ++ tables_text form schemas tables
-tables_text form schemas tables = []
-
--- the summary of the tables of a catalogue
-abbrev pub check_of : Form → Tables → List ℕ
-check_of form tables = tables_text form tables.catalogue.tables tables.rows
+-- the text is the summaries of the tables, in their order
+unfoldable pub IsSummaryOf : Form → KeyChecks → List Schema → List RowList → List ℕ → Type 0
+IsSummaryOf form keys (schema ∷ schemas) (rows ∷ tables) text =
+    (lines : List ℕ) × (rest : List ℕ) × IsKeyText form keys rows.items lines
+    × IsSummaryOf form keys schemas tables rest × (text ≡ table_text form schema rows.items lines ++ rest)
+IsSummaryOf form keys schemas tables text = text ≡ []

@@ -1,12 +1,13 @@
 // The summary of tables, as text.
 
-ghost use Rattle.std.specs.Prelude.{◌≡◌, ◌++◌, ◌<◌, IfOk, OnOk, decimal, length};
+ghost use Rattle.std.specs.Prelude.{◌≡◌, ◌++◌, ◌<◌, IfOk, OnOk, length};
 ghost use Rattle.std.specs.List.{flat_map};
-ghost use Rattle.tq_check.specs.Reports.{check_of, column_text, counts_text, equal_rows_text, first_text, head_text, kind_text, last_text, periods_text, table_text, time_text};
+ghost use Rattle.tq_check.specs.Reports.{column_text, counts_text, equal_rows_text, first_text, head_text, kind_text, last_text, periods_text, table_text, time_text, IsSummaryOf};
 
 use crate::equal_rows::tally_of;
+use crate::key_report::{KeyChecks, key_lines};
 use crate::numbers::{first_start, last_change, open_periods};
-use itoa::Buffer;
+use crate::text::push_count;
 use std::alloc::{AllocError, Global};
 use tq_base::{Column, Form, Instant, Kind, Period, Rows, Schema, put_instant};
 use tq_event::Tables;
@@ -46,14 +47,6 @@ fn push_head(text: &mut Vec<u8>, schema: &Schema) -> Result<(), AllocError>
     text.extend_from_slice(schema.name.bytes())?;
     text.extend_from_slice(b"\n  columns     ")?;
     push_columns(text, schema.columns.get())
-}
-
-// A number, after its label.
-fn push_count(text: &mut Vec<u8>, label: &[u8], number: usize) -> Result<(), AllocError>
-    ensures { OnOk result (text.new.items ≡ text.old.items ++ label.now ++ decimal number) }
-{
-    text.extend_from_slice(label)?;
-    text.extend_from_slice(Buffer::new().format(number).as_bytes())
 }
 
 // An instant; `none` if there are no periods.
@@ -129,33 +122,43 @@ fn push_tally(alloc: Global, text: &mut Vec<u8>, rows: &Rows) -> Result<(), Allo
     push_count(text, b"\n  meeting      ", tally.meeting)
 }
 
+// The summary of a table. `lines` are those about the rows of one key.
 fn push_table(
     alloc: Global,
     text: &mut Vec<u8>,
     schema: &Schema,
     rows: &Rows,
+    lines: &[u8],
     form: Form,
 ) -> Result<(), AllocError>
-    ensures { OnOk result (text.new.items ≡ text.old.items ++ table_text form schema.now rows.now.items) }
+    ensures { OnOk result (text.new.items ≡ text.old.items ++ table_text form schema.now rows.now.items lines.now) }
 {
     push_head(text, schema)?;
     push_periods(text, rows.periods(), form)?;
     push_tally(alloc, text, rows)?;
+    text.extend_from_slice(lines)?;
     text.push(b'\n')?;
     Ok(())
 }
 
-/// The summary of the tables, in their order; `form` says how instants are written. Requires rows for each table.
-/// `AllocError` if an allocation failed.
-pub fn check_text(alloc: Global, tables: &Tables, form: Form) -> Result<Vec<u8>, AllocError>
+/// The summary of the tables, in their order; `form` says how instants are written, and `keys` what is said of the rows
+/// of one key. Requires rows for each table. `AllocError` if an allocation failed.
+pub fn check_text(
+    alloc: Global,
+    tables: &Tables,
+    form: Form,
+    keys: KeyChecks,
+) -> Result<Vec<u8>, AllocError>
     requires { length tables.now.rows ≡ length tables.now.catalogue.tables }
-    ensures { IfOk result (λ text. text.items ≡ check_of form tables.now) }
+    ensures { IfOk result (λ text. IsSummaryOf form keys tables.now.catalogue.tables tables.now.rows text.items) }
 {
     let schemas = tables.catalogue.tables.get();
     let rows = tables.rows.get();
     let mut text = Vec::new(alloc);
     'tables: for table in 0..schemas.len() {
-        push_table(alloc, &mut text, &schemas[table], &rows[table], form)?;
+        let held = &rows[table];
+        let lines = key_lines(alloc, held, form, keys)?;
+        push_table(alloc, &mut text, &schemas[table], held, &lines, form)?;
     }
     Ok(text)
 }
