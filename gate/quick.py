@@ -148,14 +148,16 @@ def cases_of_program():
 
 def placed(case, folder):
     """The words and the standard error of a case whose files are in this folder. `rt try` runs all cases in one other folder,
-    so the paths of tables become absolute, except those in examples/."""
+    so the paths of tables and of imports become absolute, except those in examples/."""
     words, err = [], case.err
-    for before, word in zip([None, *case.words], case.words):
+    is_import = case.words[:1] == ["import"]
+    for place, (before, word) in enumerate(zip([None, *case.words], case.words), 1):
         front = "--table=" if word.startswith("--table=") else ""
-        name, _, path = word.removeprefix(front).partition("=")
-        if (front or before == "--table") and path not in ("", "-") and not path.startswith(("/", "examples/")):
-            word = f"{front}{name}={folder}/{path}"
-            line = rb"^(tq: cannot read |  )(?=" + re.escape(path.encode()) + rb"[,:\n])"
+        is_file = is_import and (before == "--output" or place == len(case.words)) and not word.startswith("-")
+        name, _, path = ("", "", word) if is_file else word.removeprefix(front).partition("=")
+        if (front or before == "--table" or is_file) and path not in ("", "-") and not path.startswith(("/", "examples/")):
+            word = f"{folder}/{path}" if is_file else f"{front}{name}={folder}/{path}"
+            line = rb"^(tq: cannot read |tq: cannot write |tq: import |  )(?=" + re.escape(path.encode()) + rb"[,:\n])"
             err = re.sub(line, lambda found: found[1] + f"{folder}/".encode(), err, flags=re.MULTILINE)
         words.append(word)
     return words, err

@@ -13,7 +13,7 @@ use Rattle.std.proofs.lemmas.Bool.{lt-ltb, ltb-true}
 use Rattle.clap.specs.Words.{ReadsOne, Text, all_of, matched_of, raw_values, rows_of}
 use Rattle.clap.specs.declared.parser.matches.Found.{Found}
 use Rattle.clap.proofs.WalkLemmas.{both, raw_values-rows}
-use Rattle.tq.specs.CommandLine.{bytes_in, number_in, table_words}
+use Rattle.tq.specs.CommandLine.{bytes_in, list_of, number_in, table_words}
 
 pub text_read : (r : Option (Bor Text)) (d : Bor Text) (o : Option Text) → option_map (λ s. s.now) r ≡ o → d.now ≡ []
     → (unwrap_or r d).now ≡ unwrap_or o []
@@ -98,6 +98,14 @@ pub table_words_read : (f : Found) (r : Option (Bor (List (Bor Text)))) (d u : B
 table_words_read f r d u e is empty =
     map_bytes u.now ∙ ap (map bytes_in) (ap (λ (b : Bor (List (Bor Text))). map (λ (v : Bor Text). v.now) b.now) is
     ∙ words_read r d (all_of (codes "table") (rows_of f)) (e ∙ raw_values-rows f (codes "table")) empty)
+
+-- The words of any argument that a command reads are those of its rows.
+pub list_words_read : (f : Found) (id : Text) (r : Option (Bor (List (Bor Text)))) (d u : Bor (List (Bor Text)))
+    → option_map (λ s. map (λ v. v.now) s.now) r ≡ option_map raw_values (matched_of f id) → u ≡ unwrap_or r d → d.now ≡ []
+    → map (λ w. bytes_in w.now) u.now ≡ list_of id (rows_of f)
+list_words_read f id r d u e is empty =
+    map_bytes u.now ∙ ap (map bytes_in) (ap (λ (b : Bor (List (Bor Text))). map (λ (v : Bor Text). v.now) b.now) is
+    ∙ words_read r d (all_of id (rows_of f)) (e ∙ raw_values-rows f id) empty)
 
 pub Any-map_at : {X Y : Type 0} (P : Y → Type 0) (f : X → Y) (xs : List X) (i : ℕ) (d : X) → i < length xs → P (f (get_or xs i d))
     → Any P (map f xs)

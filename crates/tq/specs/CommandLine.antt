@@ -18,8 +18,12 @@ use Rattle.tq.specs.declared.request.AskRequest.{AskRequest}
 use Rattle.tq.specs.declared.request.DrawRequest.{DrawRequest}
 use Rattle.tq.specs.declared.request.CheckRequest.{CheckRequest}
 use Rattle.tq.specs.declared.request.SessionRequest.{SessionRequest}
+use Rattle.tq.specs.declared.request.ImportRequest.{ImportRequest}
+use Rattle.tq_import.specs.declared.words.ColumnWords.{ColumnWords}
+use Rattle.tq_import.specs.declared.words.ImportWords.{ImportWords}
+use Rattle.tq_import.specs.declared.words.PeriodWords.{PeriodWords}
 use Rattle.tq.specs.declared.request.Request.{Request}
-use Rattle.tq.specs.declared.request.Request.TheVariants.{Print, Ask, Draw, Check, Session}
+use Rattle.tq.specs.declared.request.Request.TheVariants.{Print, Ask, Draw, Check, Session, Import}
 
 -- The word of a table: its name, an equals sign, its path.
 abbrev pub option_word : TableOption → List ℕ
@@ -95,6 +99,43 @@ pub record IsSessionOf (rows : List Row) (session : SessionRequest) : Type 0 whe
   pub tables : IsTablesUpTo 0 rows session.tables.items
   pub form : session.form ≡ form_of rows
 
+-- The bytes of an argument; empty if it has none.
+abbrev pub word_of : Text → List Row → List ℕ
+word_of id rows = bytes_in (text_of id rows)
+
+-- The bytes of each value of an argument, in the order of the words.
+abbrev pub list_of : Text → List Row → List (List ℕ)
+list_of id rows = map bytes_in (unwrap_or (all_of id rows) [])
+
+pub record IsPeriodOf (rows : List Row) (period : PeriodWords) : Type 0 where
+  pub from : period.from.items ≡ word_of (codes "from") rows
+  pub to : period.to.items ≡ word_of (codes "to") rows
+  pub format : period.format.items ≡ word_of (codes "date-format") rows
+  pub inclusive : period.inclusive ≡ is_set (codes "inclusive") rows
+  pub spellings : map (λ w. w.items) period.open.items ≡ list_of (codes "open") rows
+
+pub record AreColumnsOf (rows : List Row) (columns : ColumnWords) : Type 0 where
+  pub key : columns.key.items ≡ word_of (codes "key") rows
+  pub numbered : columns.numbered ≡ is_set (codes "number") rows
+  pub only : columns.only.items ≡ word_of (codes "columns") rows
+  pub without : columns.without.items ≡ word_of (codes "without") rows
+  pub renames : map (λ w. w.items) columns.renames.items ≡ list_of (codes "rename") rows
+  pub decimals : map (λ w. w.items) columns.decimals.items ≡ list_of (codes "decimal") rows
+  pub ints : map (λ w. w.items) columns.ints.items ≡ list_of (codes "int") rows
+  pub texts : map (λ w. w.items) columns.texts.items ≡ list_of (codes "text") rows
+
+pub record AreWordsOf (rows : List Row) (words : ImportWords) : Type 0 where
+  pub delimiter : words.delimiter.items ≡ word_of (codes "delimiter") rows
+  pub period : IsPeriodOf rows words.period
+  pub columns : AreColumnsOf rows words.columns
+  pub point : words.point.items ≡ word_of (codes "decimal-point") rows
+  pub thousands : words.thousands.items ≡ word_of (codes "thousands") rows
+
+pub record IsImportOf (rows : List Row) (request : ImportRequest) : Type 0 where
+  pub path : request.path.items ≡ word_of (codes "file") rows
+  pub output : request.output.items ≡ word_of (codes "output") rows
+  pub words : AreWordsOf rows request.words
+
 -- The subcommand of a command line has this name, and its rows pass.
 abbrev pub Names : Text → (List Row → Type 0) → Option (Text × List Row) → Type 0
 Names name Passes sub = (rows : List Row) × (sub ≡ Some (name, rows)) × Passes rows
@@ -106,6 +147,7 @@ IsRequestOf sub (Ask ask) = Names (codes "ask") (λ rows. IsAskOf rows ask) sub
 IsRequestOf sub (Draw draw) = Names (codes "draw") (λ rows. IsDrawOf rows draw) sub
 IsRequestOf sub (Check check) = Names (codes "check") (λ rows. IsCheckOf rows check) sub
 IsRequestOf sub (Session session) = Names (codes "session") (λ rows. IsSessionOf rows session) sub
+IsRequestOf sub (Import request) = Names (codes "import") (λ rows. IsImportOf rows request) sub
 
 -- ---- what is refused although clap takes it
 
@@ -122,14 +164,14 @@ HasInvalidWorkers rows =
 abbrev pub IsInvalidQuestion : List Row → Type 0
 IsInvalidQuestion rows = HasInvalidTables 1 rows ⊎ HasInvalidWorkers rows
 
--- The subcommand has invalid values, or is none of the four.
+-- The subcommand has invalid values, or is none of the five.
 abbrev pub IsInvalidRequest : Option (Text × List Row) → Type 0
 IsInvalidRequest sub = Names (codes "ask") IsInvalidQuestion sub
     ⊎ (Names (codes "draw") IsInvalidQuestion sub
     ⊎ (Names (codes "check") IsInvalidQuestion sub
     ⊎ (Names (codes "session") (HasInvalidTables 0) sub
     ⊎ All (λ name. option_map (λ p. p.0) sub ≢ Some name)
-    (codes "ask" ∷ codes "draw" ∷ codes "check" ∷ codes "session" ∷ []))))
+    (codes "ask" ∷ codes "draw" ∷ codes "check" ∷ codes "session" ∷ codes "import" ∷ []))))
 
 -- ---- the command line that clap reads
 
@@ -144,6 +186,15 @@ number_rule name default = record (new_rule name) {
   defaults = default ∷ [];
 }
 
+abbrev pub text_rule : Text → Rule
+text_rule name = record (new_rule name) { long = Some name; value_names = 1 }
+
+abbrev pub required_rule : Text → Rule
+required_rule name = record (new_rule name) { long = Some name; value_names = 1; required = true }
+
+abbrev pub list_rule : Text → Rule
+list_rule name = record (new_rule name) { long = Some name; value_names = 1; action = Some Append }
+
 abbrev pub table_rule : Rule
 table_rule = record (new_rule (codes "table")) {
   long = Some (codes "table");
@@ -154,6 +205,9 @@ table_rule = record (new_rule (codes "table")) {
 
 abbrev pub statement_rule : Rule
 statement_rule = record (new_rule (codes "statement")) { value_names = 1; required = true }
+
+abbrev pub path_rule : Rule
+path_rule = record (new_rule (codes "file")) { value_names = 1; required = true }
 
 abbrev pub workers_rule : Rule
 workers_rule = number_rule (codes "workers") (codes "1")
@@ -194,6 +248,24 @@ check_app =
 abbrev pub session_app : App
 session_app = with_rule (with_rule (new_app (codes "session")) table_rule) dates_rule
 
+abbrev pub with_period : App → App
+with_period app =
+    with_rule (with_rule (with_rule (with_rule (with_rule app (required_rule (codes "from"))) (required_rule (codes "to")))
+    (text_rule (codes "date-format"))) (flag_rule (codes "inclusive"))) (list_rule (codes "open"))
+
+abbrev pub with_columns : App → App
+with_columns app =
+    with_rule (with_rule (with_rule (with_rule (with_rule (with_rule (with_rule (with_rule app (text_rule (codes "key"))) (flag_rule (codes "number")))
+    (text_rule (codes "columns"))) (text_rule (codes "without"))) (list_rule (codes "rename"))) (list_rule (codes "decimal")))
+    (list_rule (codes "int"))) (list_rule (codes "text"))
+
+abbrev pub with_numbers : App → App
+with_numbers app =
+    with_rule (with_rule (with_rule app (text_rule (codes "delimiter"))) (text_rule (codes "decimal-point"))) (text_rule (codes "thousands"))
+
+abbrev pub import_app : App
+import_app = with_rule (with_rule (with_columns (with_period (with_numbers (new_app (codes "import"))))) (text_rule (codes "output"))) path_rule
+
 -- The program itself: its words begin after its name, it has a version, and a subcommand is required.
 abbrev pub program_app : App
 program_app = record (new_app (codes "tq")) {
@@ -206,8 +278,8 @@ program_app = record (new_app (codes "tq")) {
 
 -- The whole command line of tq.
 abbrev pub tq_app : App
-tq_app = with_subcommand (with_subcommand (with_subcommand (with_subcommand program_app ask_app.top)
-    draw_app.top) check_app.top) session_app.top
+tq_app = with_subcommand (with_subcommand (with_subcommand (with_subcommand (with_subcommand program_app ask_app.top)
+    draw_app.top) check_app.top) session_app.top) import_app.top
 
 -- ---- the result for the words after the program's name
 

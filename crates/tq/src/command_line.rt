@@ -7,17 +7,21 @@ ghost use Rattle.clap.specs.Words.{app_of, found_of, kind_of, rows_of, rule_of, 
 ghost use Rattle.tq.specs.CommandLine.{IsTablesOf, IsTablesUpTo, IsAskOf, IsDrawOf, IsCheckOf, IsSessionOf, IsRequestOf};
 ghost use Rattle.tq.specs.CommandLine.{HasInvalidTables, HasInvalidWorkers, IsInvalidQuestion, IsInvalidRequest};
 ghost use Rattle.tq.specs.CommandLine.{IsInvalid, IsPrintOf, IsRequestIn, IsUsageFault};
-ghost use Rattle.tq.specs.CommandLine.{ask_app, check_app, draw_app, session_app, tq_app, with_question};
+ghost use Rattle.tq.specs.CommandLine.{ask_app, check_app, draw_app, import_app, session_app, tq_app, with_columns, with_numbers, with_period, with_question};
+ghost use Rattle.tq.specs.CommandLine.{AreColumnsOf, AreWordsOf, IsImportOf, IsPeriodOf, flag_rule, list_of, list_rule, path_rule, required_rule, text_rule};
 ghost use Rattle.tq.specs.CommandLine.{dates_rule, explain_rule, gaps_rule, overlaps_rule, statement_rule, svg_rule, table_rule, width_rule, workers_rule};
 ghost use Rattle.tq.specs.CommandLine.{bytes_in, form_of, is_set, number_of, stdin_count, text_of};
 
-use crate::request::{AskRequest, CheckRequest, DrawRequest, Request, SessionRequest, TableOption};
+use crate::request::{
+    AskRequest, CheckRequest, DrawRequest, ImportRequest, Request, SessionRequest, TableOption,
+};
 use crate::words::bytes_of;
 use clap::error::ErrorKind;
 use clap::{Arg, ArgAction, ArgMatches, Command, Error, value_parser};
 use std::alloc::{AllocError, Global};
 use thiserror::Error;
 use tq_base::Form;
+use tq_import::{ColumnWords, ImportWords, PeriodWords};
 
 /// The most workers of one answer.
 pub const WORKER_LIMIT: u32 = 16;
@@ -45,6 +49,15 @@ Table file:
   emp:int,name:text,dept:text,from,to
   1,ann,toys,10,20
   2,bob,food,15,forever";
+
+// What the help of an import ends with.
+const IMPORT_HELP: &str = "\
+Example (columns have the names of the file's header):
+  tq import --delimiter ';' --date-format dd.mm.yyyy --from 'Valid from' --to 'Valid to' --inclusive \\
+      --open '' --key 'Employee ID' --decimal Salary=2 --thousands ',' staff.csv > staff.tq.csv
+
+Kinds of columns:
+  --decimal, --int and --text give them. Others are found in the values of the file, and are texts in standard input";
 
 // What the help of a check ends with.
 const CHECK_HELP: &str = "\
@@ -175,6 +188,9 @@ fn read_request(alloc: Global, matches: &ArgMatches<'_>) -> Result<Request, Usag
     if let Some(session) = matches.subcommand_matches("session") {
         return Ok(Request::Session(read_session(alloc, session)?));
     }
+    if let Some(import) = matches.subcommand_matches("import") {
+        return Ok(Request::Import(read_import(alloc, import)?));
+    }
     Err(UsageError::from(CommandLineFault::BadCommandLine))
 }
 
@@ -206,7 +222,8 @@ fn tq_command<'a>(alloc: Global) -> Result<Command<'a>, AllocError>
         .subcommand(ask_command(alloc)?)?
         .subcommand(draw_command(alloc)?)?
         .subcommand(check_command(alloc)?)?
-        .subcommand(session_command(alloc)?)
+        .subcommand(session_command(alloc)?)?
+        .subcommand(import_command(alloc)?)
 }
 
 // The tables that a command is about.
@@ -370,6 +387,156 @@ fn session_command<'a>(alloc: Global) -> Result<Command<'a>, AllocError>
         .arg(dates_argument(alloc))
 }
 
+// An argument that has a value; `name` is what its value is called.
+fn text_argument<'a>(alloc: Global, id: &'a str, name: &'a str, help: &'a str) -> Arg<'a>
+    ensures { rule_of result ≡ text_rule id.entry.now }
+{
+    Arg::new(alloc, id).long(id).value_name(name).help(help)
+}
+
+// The same, of an argument that has to be given.
+fn required_argument<'a>(alloc: Global, id: &'a str, name: &'a str, help: &'a str) -> Arg<'a>
+    ensures { rule_of result ≡ required_rule id.entry.now }
+{
+    Arg::new(alloc, id)
+        .long(id)
+        .value_name(name)
+        .help(help)
+        .required(true)
+}
+
+// The same, of an argument that may be given several times.
+fn list_argument<'a>(alloc: Global, id: &'a str, name: &'a str, help: &'a str) -> Arg<'a>
+    ensures { rule_of result ≡ list_rule id.entry.now }
+{
+    Arg::new(alloc, id)
+        .long(id)
+        .value_name(name)
+        .help(help)
+        .action(ArgAction::Append)
+}
+
+// An argument without a value.
+fn flag_argument<'a>(alloc: Global, id: &'a str, help: &'a str) -> Arg<'a>
+    ensures { rule_of result ≡ flag_rule id.entry.now }
+{
+    Arg::new(alloc, id)
+        .long(id)
+        .help(help)
+        .action(ArgAction::SetTrue)
+}
+
+// The file of an import.
+fn path_argument<'a>(alloc: Global) -> Arg<'a>
+    ensures { rule_of result ≡ path_rule }
+{
+    Arg::new(alloc, "file")
+        .value_name("FILE")
+        .help("Path of the CSV file; `-` is standard input")
+        .required(true)
+}
+
+// How the periods of an import are written.
+fn period_arguments<'a>(alloc: Global, command: Command<'a>) -> Result<Command<'a>, AllocError>
+    ensures { IfOk result (λ r. app_of r ≡ with_period (app_of command.entry)) }
+{
+    command
+        .arg(required_argument(alloc, "from", "NAME", "Column of the start"))?
+        .arg(required_argument(alloc, "to", "NAME", "Column of the end"))?
+        .arg(text_argument(
+            alloc,
+            "date-format",
+            "FORMAT",
+            "How dates are written, as dd.mm.yyyy; without it, times are numbers",
+        ))?
+        .arg(flag_argument(
+            alloc,
+            "inclusive",
+            "The end is the last day or number of the period, not the next one",
+        ))?
+        .arg(list_argument(
+            alloc,
+            "open",
+            "TEXT",
+            "A spelling of an open end, as `--open \"\"`",
+        ))
+}
+
+// Which columns an import has.
+fn column_arguments<'a>(alloc: Global, command: Command<'a>) -> Result<Command<'a>, AllocError>
+    ensures { IfOk result (λ r. app_of r ≡ with_columns (app_of command.entry)) }
+{
+    command
+        .arg(text_argument(
+            alloc,
+            "key",
+            "NAME",
+            "Column of the key, a number, which comes first",
+        ))?
+        .arg(flag_argument(alloc, "number", "The first column is `row`, with 1, 2, .."))?
+        .arg(text_argument(
+            alloc,
+            "columns",
+            "A,B",
+            "Only these columns, besides the key",
+        ))?
+        .arg(text_argument(alloc, "without", "A,B", "All columns but these"))?
+        .arg(list_argument(alloc, "rename", "OLD=NEW", "Name of a column"))?
+        .arg(list_argument(
+            alloc,
+            "decimal",
+            "NAME=PLACES",
+            "A column of numbers with at most so many digits after the point",
+        ))?
+        .arg(list_argument(alloc, "int", "NAME", "A column of whole numbers"))?
+        .arg(list_argument(alloc, "text", "NAME", "A column of texts"))
+}
+
+// How the fields and numbers of an import are written.
+fn number_arguments<'a>(alloc: Global, command: Command<'a>) -> Result<Command<'a>, AllocError>
+    ensures { IfOk result (λ r. app_of r ≡ with_numbers (app_of command.entry)) }
+{
+    command
+        .arg(text_argument(
+            alloc,
+            "delimiter",
+            "C",
+            "Byte between fields; without it, a comma",
+        ))?
+        .arg(text_argument(
+            alloc,
+            "decimal-point",
+            "C",
+            "Byte before the decimals; without it, a point",
+        ))?
+        .arg(text_argument(
+            alloc,
+            "thousands",
+            "C",
+            "Byte between groups of three digits",
+        ))
+}
+
+// The command that imports a file.
+fn import_command<'a>(alloc: Global) -> Result<Command<'a>, AllocError>
+    ensures { IfOk result (λ r. app_of r ≡ import_app) }
+{
+    let command = Command::new(alloc, "import")
+        .about("Writes a table file for a CSV file in another form")
+        .after_help(IMPORT_HELP);
+    let command = number_arguments(alloc, command)?;
+    let command = period_arguments(alloc, command)?;
+    let command = column_arguments(alloc, command)?;
+    command
+        .arg(text_argument(
+            alloc,
+            "output",
+            "PATH",
+            "Path of the table file; without it, standard output",
+        ))?
+        .arg(path_argument(alloc))
+}
+
 // The tables that the words name, in their order.
 fn read_options(alloc: Global, words: &[&str]) -> Result<Vec<TableOption>, CommandLineFault>
     ensures tables { IfOk result (λ tables. IsTablesOf (map (λ w. bytes_in w.now) words.now) tables.items) }
@@ -525,6 +692,96 @@ fn read_session(alloc: Global, session: &ArgMatches<'_>) -> Result<SessionReques
     let tables = read_tables(alloc, session, 0)?;
     let form = read_form(session);
     Ok(SessionRequest { tables, form })
+}
+
+// The bytes of each word.
+fn words_bytes(alloc: Global, words: &[&str]) -> Result<Vec<Vec<u8>>, AllocError>
+    ensures { IfOk result (λ all. map (λ w. w.items) all.items ≡ map (λ w. bytes_in w.now) words.now) }
+{
+    let mut all = Vec::new(alloc);
+    'each: for word in words {
+        all.push(bytes_of(alloc, word)?).map_err(AllocError::from)?;
+    }
+    Ok(all)
+}
+
+// The values of an argument, in their order.
+fn read_list(alloc: Global, command: &ArgMatches<'_>, id: &str) -> Result<Vec<Vec<u8>>, AllocError>
+    ensures { IfOk result (λ words. map (λ w. w.items) words.items ≡ list_of id.now (rows_of (found_of command.now))) }
+{
+    words_bytes(alloc, command.get_strs(id).unwrap_or(&[]))
+}
+
+// How the periods of an import are written.
+fn read_period(alloc: Global, import: &ArgMatches<'_>) -> Result<PeriodWords, AllocError>
+    ensures { IfOk result (IsPeriodOf (rows_of (found_of import.now))) }
+{
+    let from = bytes_of(alloc, read_text(import, "from"))?;
+    let to = bytes_of(alloc, read_text(import, "to"))?;
+    let format = bytes_of(alloc, read_text(import, "date-format"))?;
+    let open = read_list(alloc, import, "open")?;
+    Ok(PeriodWords {
+        from,
+        to,
+        format,
+        inclusive: read_flag(import, "inclusive"),
+        open,
+    })
+}
+
+// Which columns an import has.
+fn read_columns(alloc: Global, import: &ArgMatches<'_>) -> Result<ColumnWords, AllocError>
+    ensures { IfOk result (AreColumnsOf (rows_of (found_of import.now))) }
+{
+    let key = bytes_of(alloc, read_text(import, "key"))?;
+    let only = bytes_of(alloc, read_text(import, "columns"))?;
+    let without = bytes_of(alloc, read_text(import, "without"))?;
+    let renames = read_list(alloc, import, "rename")?;
+    let decimals = read_list(alloc, import, "decimal")?;
+    let ints = read_list(alloc, import, "int")?;
+    let texts = read_list(alloc, import, "text")?;
+    Ok(ColumnWords {
+        key,
+        numbered: read_flag(import, "number"),
+        only,
+        without,
+        renames,
+        decimals,
+        ints,
+        texts,
+    })
+}
+
+// How a file is imported.
+fn read_import_words(alloc: Global, import: &ArgMatches<'_>) -> Result<ImportWords, AllocError>
+    ensures { IfOk result (AreWordsOf (rows_of (found_of import.now))) }
+{
+    let delimiter = bytes_of(alloc, read_text(import, "delimiter"))?;
+    let point = bytes_of(alloc, read_text(import, "decimal-point"))?;
+    let thousands = bytes_of(alloc, read_text(import, "thousands"))?;
+    let period = read_period(alloc, import)?;
+    let columns = read_columns(alloc, import)?;
+    Ok(ImportWords {
+        delimiter,
+        period,
+        columns,
+        point,
+        thousands,
+    })
+}
+
+// What `tq import` was asked.
+fn read_import(alloc: Global, import: &ArgMatches<'_>) -> Result<ImportRequest, AllocError>
+    ensures { IfOk result (IsImportOf (rows_of (found_of import.now))) }
+{
+    let path = bytes_of(alloc, read_text(import, "file"))?;
+    let output = bytes_of(alloc, read_text(import, "output"))?;
+    let words = read_import_words(alloc, import)?;
+    Ok(ImportRequest {
+        path,
+        output,
+        words,
+    })
 }
 
 // A table's name and path: what stands before and after the first `=`. Without one the word is refused.

@@ -23,8 +23,8 @@ use tq_base::List;
 use tq_engine::{FileFault, Source, read_file};
 use tq_event::{FileBytes, TableFile};
 
-// Opens the file at a path. The standard library opens no path that is not valid UTF-8.
-fn open<R: Files>(rt: &R, path: &[u8]) -> Result<R::File, FileFault> {
+/// Opens the file at a path. The standard library opens no path that is not valid UTF-8.
+pub fn open_file<R: Files>(rt: &R, path: &[u8]) -> Result<R::File, FileFault> {
     let Ok(path) = str::from_utf8(path) else {
         return Err(FileFault::Read);
     };
@@ -49,7 +49,7 @@ pub fn read_path<R: Files + AllocGlobal + Input>(
         let reader = rt.reader();
         return read_file(rt.alloc(), &mut Source::over(Counted { reader, progress }));
     }
-    let reader = open(rt, path)?;
+    let reader = open_file(rt, path)?;
     read_file(rt.alloc(), &mut Source::over(Counted { reader, progress }))
 }
 
@@ -64,7 +64,7 @@ fn read_bytes<
     if workers < 2 || path == b"-".as_slice() {
         return Ok(FileBytes::of(read_path(rt, path, progress)?));
     }
-    let file = open(rt, path)?;
+    let file = open_file(rt, path)?;
     let opened = Opened { file: &file };
     if let Some(bytes) = read_pieces(rt, rt.alloc(), &opened, len_of(&file), workers, progress)? {
         return Ok(bytes);

@@ -16,6 +16,7 @@ ghost use Rattle.tq.specs.Refusals.{IsAnswered, IsAskRefusal};
 mod command_line;
 mod files;
 mod headers;
+mod imports;
 mod pieces;
 mod profile;
 mod progress;
@@ -30,6 +31,7 @@ mod words;
 
 use command_line::read_command_line;
 use files::{paths_of, read_path, read_table_files};
+use imports::import_file;
 use profile::ask_with_progress;
 use progress::Progress;
 use prompt::Prompted;
@@ -290,6 +292,7 @@ fn dispatch<
         Request::Session(request) => run_session(rt, request, interactive, prompts, progress),
         Request::Draw(request) => draw_answer(rt, request, interactive, progress),
         Request::Check(request) => check_tables(rt, request, interactive, progress),
+        Request::Import(request) => import_file(rt, request, interactive, progress),
         Request::Print(text) => Ok(print_bytes(rt, text.as_bytes())?),
     }
 }

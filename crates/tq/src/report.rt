@@ -25,6 +25,8 @@ use tq_sql::SqlFault;
 pub enum Refusal {
     BadCommandLine,
     CannotRead(Vec<u8>),
+    CannotWrite(Vec<u8>),
+    Import(Vec<u8>),
     Load(LoadFault),
     Statement(SqlFault),
     Plan(PlanFault),
@@ -114,6 +116,16 @@ impl Refusal {
             Refusal::CannotRead(path) => {
                 errors.write_all(b"tq: cannot read ")?;
                 write_printable(errors, path)?;
+                errors.write_all(b"\n")
+            }
+            Refusal::CannotWrite(path) => {
+                errors.write_all(b"tq: cannot write ")?;
+                write_printable(errors, path)?;
+                errors.write_all(b"\n")
+            }
+            Refusal::Import(text) => {
+                errors.write_all(b"tq: import ")?;
+                write_printable(errors, text)?;
                 errors.write_all(b"\n")
             }
             Refusal::Load(

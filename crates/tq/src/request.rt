@@ -4,6 +4,7 @@
 ghost use Rattle.std.specs.Prelude.{◌≤◌};
 
 use tq_base::Form;
+use tq_import::ImportWords;
 
 /// A table's name, and the path of its file.
 #[derive(Drop)]
@@ -54,8 +55,17 @@ pub struct SessionRequest {
     pub form: Form,
 }
 
-/// What the program was asked: to print this text, to answer a statement, to draw its answer, to check tables, or to
-/// hold a session.
+/// What `tq import` was asked: the paths of the file and of the table file, of which an empty one is standard output,
+/// and how the file is imported.
+#[derive(Drop)]
+pub struct ImportRequest {
+    pub path: Vec<u8>,
+    pub output: Vec<u8>,
+    pub words: ImportWords,
+}
+
+/// What the program was asked: to print this text, to answer a statement, to draw its answer, to check tables, to hold
+/// a session, or to import a file.
 #[derive(Drop)]
 pub enum Request {
     Print(String),
@@ -63,4 +73,5 @@ pub enum Request {
     Draw(DrawRequest),
     Check(CheckRequest),
     Session(SessionRequest),
+    Import(ImportRequest),
 }

@@ -10,6 +10,22 @@ returns-in_ok-write_printable-in-CannotRead g c =
     (λ end. Appends-trans _ _ _ _ _ c.in_ok-write_all-in-CannotRead.ensures.bytes (Appends-trans _ _ _ _ _ path end))
     c.write_all-in-CannotRead-2.ensures.bytes)
 
+pub returns-in_ok-write_printable-in-CannotWrite : goal.returns-in_ok-write_printable-in-CannotWrite
+returns-in_ok-write_printable-in-CannotWrite g c =
+    let path = rw c.deref-in-CannotWrite.ensures.value at c.in_ok-write_printable-in-CannotWrite.ensures in
+    rw c.in-CannotWrite.is
+    (on_ok_weaker c.write_all-in-CannotWrite-2.result
+    (λ end. Appends-trans _ _ _ _ _ c.in_ok-write_all-in-CannotWrite.ensures.bytes (Appends-trans _ _ _ _ _ path end))
+    c.write_all-in-CannotWrite-2.ensures.bytes)
+
+pub returns-in_ok-write_printable-in-Import : goal.returns-in_ok-write_printable-in-Import
+returns-in_ok-write_printable-in-Import g c =
+    let path = rw c.deref-in-Import.ensures.value at c.in_ok-write_printable-in-Import.ensures in
+    rw c.in-Import.is
+    (on_ok_weaker c.write_all-in-Import-2.result
+    (λ end. Appends-trans _ _ _ _ _ c.in_ok-write_all-in-Import.ensures.bytes (Appends-trans _ _ _ _ _ path end))
+    c.write_all-in-Import-2.ensures.bytes)
+
 pub returns-in-NoPlace : goal.returns-in-NoPlace
 returns-in-NoPlace g c = rw c.in-NoPlace.is c.write_all-in-NoPlace.ensures.bytes
 

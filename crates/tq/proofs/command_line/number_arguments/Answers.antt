@@ -1,0 +1,11 @@
+use Rattle.std.proofs.Common.{codes, refl}
+use Rattle.std.proofs.lemmas.Result.{IfOk-weaker}
+use Rattle.tq.specs.CommandLine.{text_rule}
+use Rattle.tq.proofs.AppLemmas.{with_arg}
+use Rattle.tq.proofs.command_line.number_arguments.Goals as goal
+
+pub returns : goal.returns
+returns c =
+    let one = with_arg c.args.command c.in_ok-arg.field-0 c.text_argument.result _ (text_rule (codes "delimiter")) refl c.text_argument.ensures refl c.in_ok-arg.ensures in
+    let two = with_arg c.in_ok-arg.field-0 c.in_ok-arg-2.field-0 c.text_argument-2.result _ (text_rule (codes "decimal-point")) one c.text_argument-2.ensures refl c.in_ok-arg-2.ensures in
+    IfOk-weaker c.arg-3.result _ _ (λ r added. with_arg c.in_ok-arg-2.field-0 r c.text_argument-3.result _ (text_rule (codes "thousands")) two c.text_argument-3.ensures refl added) c.arg-3.ensures

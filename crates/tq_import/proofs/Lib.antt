@@ -1,0 +1,5 @@
+pub mod AmountLemmas
+pub mod DateLemmas
+pub mod LineLemmas
+pub mod ReadBackLemmas
+pub mod MatchLemmas

@@ -1,0 +1,12 @@
+pub mod Amounts
+pub mod Dates
+pub mod Times
+pub mod Reading
+pub mod Records
+pub mod HeaderNames
+pub mod Kinds
+pub mod Imports
+pub mod Plans
+pub mod Files
+pub mod Laws
+pub mod Loads

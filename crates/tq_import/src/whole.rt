@@ -1,0 +1,95 @@
+// A whole file: its header, then its records.
+
+ghost use Rattle.std.specs.Prelude.{◌≡◌, ℕ, IfErr, IfOk, List, Some};
+ghost use Rattle.csv.specs.Records.{fields_of};
+ghost use Rattle.tq_import.specs.Files.{AreKindsOf, IsFileFault, IsImportOf};
+ghost use Rattle.tq_import.specs.Reading.{records_by};
+
+use crate::fault::{ImportFault, InputFault};
+use crate::importing::import_records;
+use crate::kinds::find_kinds;
+use crate::options::ImportOptions;
+use crate::part::Imported;
+use crate::plan::{Conversion, Plan};
+use crate::planning::{PlanFault, plan_import};
+use crate::reading::{next_record, record_reader};
+use csv::ByteRecord;
+use std::alloc::{AllocError, Global};
+use std::io::{Read, Write};
+use tq_table::Sink;
+
+/// Why a file was not imported: reading failed, it has no header, the header does not suit the options, or its records
+/// have a fault or could not be written.
+#[derive(Drop, Debug)]
+pub enum FileFault<'a> {
+    Input(InputFault),
+    NoHeader,
+    Plan(PlanFault),
+    Records(Plan<'a>, ImportFault),
+}
+
+/// The header of a file, and the record that was read last.
+#[derive(Drop)]
+pub struct ReadRecords {
+    pub header: ByteRecord,
+    pub last: ByteRecord,
+}
+
+impl ReadRecords {
+    pub fn new(alloc: Global) -> ReadRecords {
+        ReadRecords {
+            header: ByteRecord::new(alloc),
+            last: ByteRecord::new(alloc),
+        }
+    }
+}
+
+/// The kinds that the values of a file suggest for its columns, one for each field of the header.
+pub fn find_file_kinds<R: Read + Drop>(
+    alloc: Global,
+    options: &ImportOptions,
+    input: R,
+) -> Result<Vec<Conversion>, InputFault>
+    ensures { (text : List ℕ) → R.remaining input ≡ Some text
+        → IfOk result (λ kinds. AreKindsOf options.now.numbers (records_by options.now.delimiter text) kinds.items) }
+{
+    let mut reader = record_reader(alloc, input, options.delimiter);
+    let mut header = ByteRecord::new(alloc);
+    if !next_record(&mut reader, &mut header)? {
+        return Ok(Vec::new(alloc));
+    }
+    find_kinds(alloc, options.numbers, header.len(), &mut reader)
+}
+
+/// Imports a file: writes the table file of its records. `found` has the kinds of columns that are not given. After a
+/// fault, `seen` has the header and the record at fault.
+pub fn import<'a, R: Read + Drop, W: Write>(
+    alloc: Global,
+    options: &'a ImportOptions,
+    found: &[Conversion],
+    input: R,
+    seen: &mut ReadRecords,
+    sink: &mut Sink<W>,
+) -> Result<(Plan<'a>, Imported), FileFault<'a>>
+    ensures ok { (text : List ℕ) → R.remaining input ≡ Some text
+        → IfOk result (λ done. IsImportOf options.entry.now (records_by options.entry.now.delimiter text) found.now (W.contents sink.old.writer) (W.contents sink.new.writer) done.0 done.1) }
+    ensures fault { (text : List ℕ) → R.remaining input ≡ Some text
+        → IfErr result (IsFileFault (records_by options.entry.now.delimiter text) (fields_of seen.new.last)) }
+{
+    let mut reader = record_reader(alloc, input, options.delimiter);
+    let has_header = match next_record(&mut reader, &mut seen.header) {
+        Ok(found) => found,
+        Err(fault) => return Err(FileFault::Input(fault)),
+    };
+    if !has_header {
+        return Err(FileFault::NoHeader);
+    }
+    let plan = match plan_import(alloc, options, &seen.header, found) {
+        Ok(plan) => plan,
+        Err(fault) => return Err(FileFault::Plan(fault)),
+    };
+    match import_records(alloc, &plan, &mut reader, &mut seen.last, sink) {
+        Ok(imported) => Ok((plan, imported)),
+        Err(fault) => Err(FileFault::Records(plan, fault)),
+    }
+}
