@@ -7,8 +7,16 @@
 set -uo pipefail
 cd "$(dirname "$0")/.."
 
+# Without RT_JOBS, `rt ci` reckons with two to three times the memory that a proof takes, and so leaves processors idle. The
+# largest take 4.5 GiB.
+if [[ -z ${RT_JOBS:-} ]]; then
+    fit=$(awk '/^MemAvailable:/ { print int($2 / 5000000) }' /proc/meminfo)
+    RT_JOBS=$((fit < 1 ? 1 : fit < $(nproc) ? fit : $(nproc)))
+    export RT_JOBS
+fi
+
 begin=$(date +%s)
-echo "full check of $(git rev-parse --short HEAD 2> /dev/null || echo 'no commit') on $(date -u +%F), $(nproc) processors"
+echo "full check of $(git rev-parse --short HEAD 2> /dev/null || echo 'no commit') on $(date -u +%F), $(nproc) processors, RT_JOBS=$RT_JOBS"
 said=$(mktemp)
 trap 'rm -f "$said"' EXIT
 passed=0
