@@ -62,7 +62,7 @@ abbrev pub input_fault : InputFault → ImportFault
 input_fault input.Read = import.Read
 input_fault input.OutOfMemory = import.OutOfMemory
 
--- a fault of a record is the first fault of the records, whatever the text so far; `last` is the record at fault
+-- a fault of a record is the first fault of the records, whatever the text so far; `last` is the invalid record
 abbrev pub IsFaultAfter : Plan → ℕ → List (List (List ℕ)) → List (List ℕ) → ImportFault → Type 0
 IsFaultAfter plan number records last (import.Record fault) =
     ((text : List ℕ) → lines_after plan text number records ≡ Err fault) × (import_record plan fault.number last ≡ Err fault.fault)
@@ -70,7 +70,7 @@ IsFaultAfter plan number records last import.Read = Unit {0}
 IsFaultAfter plan number records last import.Write = Unit {0}
 IsFaultAfter plan number records last import.OutOfMemory = Unit {0}
 
--- a fault of a record is the first fault of the file; `last` is the record at fault
+-- a fault of a record is the first fault of the file; `last` is the invalid record
 abbrev pub IsFirstFault : Plan → List (List (List ℕ)) → List (List ℕ) → ImportFault → Type 0
 IsFirstFault plan records last (import.Record fault) = (import_of plan records ≡ Err fault) × (import_record plan fault.number last ≡ Err fault.fault)
 IsFirstFault plan records last import.Read = Unit {0}

@@ -46,7 +46,7 @@ fn begins_with(mark: u8, whole: &[u8]) -> bool
     }
 }
 
-// Whether a byte with so many bytes after it is a mark exactly if one belongs there.
+// Whether a byte with `more` bytes after it is a mark exactly if one belongs there.
 fn is_placed(mark: u8, byte: u8, more: usize) -> bool
     ensures { result ≡ is_placed mark byte more }
 {
@@ -123,7 +123,7 @@ fn push_zeros(count: usize, digits: &mut Vec<u8>) -> Result<(), AllocError>
     Ok(())
 }
 
-// Whether there is something before the point and, if there is a point, something after it, of at most so many places.
+// Whether there is something before the point and, if there is a point, 1 to `places` bytes after it.
 fn are_parts(places: usize, len: usize, whole: &[u8], fraction: &[u8]) -> bool
     ensures { result ≡ are_parts places len whole.now fraction.now }
 {
@@ -167,7 +167,7 @@ fn signed_units(negative: bool, digits: &[u8]) -> Option<i64>
 }
 
 /// The number of units of 10^-places that the bytes write, with digits in `scratch`. `None` if the bytes are not a number
-/// with at most so many digits after the point, or its units do not fit 64 signed bits.
+/// with at most `places` digits after the point, or its units do not fit 64 signed bits.
 pub fn read_units(
     format: NumberFormat,
     places: usize,

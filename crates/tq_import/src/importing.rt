@@ -93,7 +93,7 @@ fn put<W: Write>(sink: &mut Sink<W>, bytes: &[u8]) -> Result<(), ImportFault>
 
 /// Writes the table file of the records that the reader has still to read, which come after the header, record 1. Lines
 /// are written as records are read, so memory does not grow with their number. Returns the first fault in the order of
-/// records and checks, with the record at fault in `record`; `Read` if the reader failed, `Write` if the writer failed, `OutOfMemory` if an allocation failed.
+/// records and checks, with the invalid record in `record`; `Read` if the reader failed, `Write` if the writer failed, `OutOfMemory` if an allocation failed.
 pub fn import_records<R: Read, W: Write>(
     alloc: Global,
     plan: &Plan<'_>,

@@ -49,7 +49,7 @@ fn add_record(
     Ok(())
 }
 
-// Whole numbers for so many columns.
+// `width` columns of whole numbers.
 fn number_kinds(alloc: Global, width: usize) -> Result<Vec<Conversion>, AllocError>
     ensures { IfOk result (λ kinds. kinds.items ≡ repeat width (Conversion.Number 0 ∷ [])) }
 {

@@ -141,7 +141,7 @@ fn push_plan_fault(text: &mut Vec<u8>, fault: &PlanFault) -> Result<(), AllocErr
 }
 
 /// What is wrong with the file, in one line without its end; empty if the fault is not one of the file. `seen` has the
-/// header and the record at fault.
+/// header and the invalid record.
 pub fn fault_text(
     alloc: Global,
     fault: &FileFault<'_>,

@@ -12,7 +12,7 @@ pub struct NumberFormat {
 /// How the values of a column are converted.
 #[derive(Clone, Copy, Debug, PartialEq, Eq)]
 pub enum Conversion {
-    /// Numbers with at most so many digits after the point. They become whole numbers of the unit of the last digit.
+    /// Numbers with at most this number of digits after the point. They become whole numbers of the unit of the last digit.
     Number(usize),
     /// Texts, which stay as they are.
     Text,

@@ -62,7 +62,7 @@ pub fn find_file_kinds<R: Read + Drop>(
 }
 
 /// Imports a file: writes the table file of its records. `found` has the kinds of columns that are not given. After a
-/// fault, `seen` has the header and the record at fault.
+/// fault, `seen` has the header and the invalid record.
 pub fn import<'a, R: Read + Drop, W: Write>(
     alloc: Global,
     options: &'a ImportOptions,
