@@ -53,9 +53,11 @@ def large():
     yield ask("a file and an answer of megabytes", table, "VALIDTIME SELECT k FROM t", out=b"k,from,to\n" + rows)
     many = [("c", SMALL + 12345 * b"7,x,0,1\n")]
     said = b"""  window         [0 - forever)
-  from           c: 12345 read, 12345 kept, keys from 7 to 7
-  rows           12345
+  coalesce  (rows 12345)
+    filter  (rows 12345)
+      scan c  (table 12345, kept 12345, keys from 7 to 7, rows 12345)
   workers        1
+  partitioning   one pass
   pieces         0
   loading        SECONDS
   answering      SECONDS
@@ -71,6 +73,50 @@ def large():
         files={"zeros": 200_000_000},
         memory=100_000_000,
     )
+
+
+def partitionings():
+    """Profiles of four workers. Row i has key i, one of 50 names, and is valid from i to i + 10."""
+    count = 12_345
+    table = [("c", b"k:int,v:text,from,to\n" + b"".join(b"%d,v%d,%d,%d\n" % (i, i % 50, i, i + 10) for i in range(count)))]
+    scan = "scan c  (table 12345, kept 12345, rows 12345)"
+    run = """  workers        4
+  partitioning   {}
+  pieces         {}
+  loading        SECONDS
+  answering      SECONDS
+  printing       SECONDS
+"""
+    join = f"""  window         [0 - forever)
+  coalesce  (rows 12345)
+    join  (c.k = c.k, rows 12345)
+      {scan}
+      {scan}
+"""
+    keys = b"k,from,to\n" + b"".join(b"%d,%d,%d\n" % (i, i, i + 10) for i in range(count))
+    statement = "VALIDTIME SELECT a.k FROM c a, c b WHERE a.k = b.k"
+    said = (join + run.format("by value", 20)).encode()
+    yield ask("a profile of a join in partitions", table, statement, ["--explain", "--workers=4"], out=keys, err=said)
+    counts = f"""  window         [0 - forever)
+  coalesce  (rows 12345)
+    aggregate  (by c.v, rows 12345)
+      {scan}
+"""
+    by_name = sorted((b"v%d" % (i % 50), i) for i in range(count))
+    out = b"v,count,from,to\n" + b"".join(b"%s,1,%d,%d\n" % (name, i, i + 10) for name, i in by_name)
+    statement = "VALIDTIME SELECT v, COUNT(*) FROM c GROUP BY v"
+    said = (counts + run.format("by value, in buckets", 55)).encode()
+    yield ask("a profile of counts in buckets", table, statement, ["--explain", "--workers=4"], out=out, err=said)
+    periods = f"""  window         [0 - forever)
+  coalesce  (rows 20)
+    aggregate  (rows 35)
+      scan c  (table 12345, kept 12345, rows 197520)
+"""
+    ends = [(i + 1, i, i + 1) for i in range(9)] + [(9 - i, count + i, count + i + 1) for i in range(9)]
+    lines = b"".join(b"%d,%d,%d\n" % row for row in sorted([*ends, (10, 9, count)]))
+    out = b"count,from,to\n0,%d,forever\n" % (count + 9) + lines
+    said = (periods + run.format("by time", 20)).encode()
+    yield ask("a profile of periods", table, "VALIDTIME SELECT COUNT(*) FROM c", ["--explain", "--workers=4"], out=out, err=said)
 
 
 def pieces():
@@ -248,5 +294,5 @@ def long_statements():
 
 def table():
     """All cases of this file."""
-    makers = (pipes, large, pieces, among_threads, sessions, checks, long_statements)
+    makers = (pipes, large, partitionings, pieces, among_threads, sessions, checks, long_statements)
     return [case for maker in makers for case in maker()]

@@ -50,12 +50,12 @@ detached         to_owned               method
 columns          sources                module      in tq_sql
 
 links_of         equi_join_keys         definition  but tq_mvbt
-decided          pushable               function    in tq_ops tq_plan tq_exec tq_figures tq_tests_*
+decided          pushable               function    in tq_ops tq_plan tq_exec tq_tests_*
 folding          join_chain             module
 joining          merge_join             module
 
-told             reported               function    but tq_agg tq_figures
-telling          printing               module      but tq_figures
+told             reported               function    but tq_agg
+telling          printing               module
 
 Told             Diagnostic             type        in tq
 Kept             RetainedFile           type        in tq
@@ -63,7 +63,7 @@ heads_where      header_copies          definition
 converse         run_session            function
 carry_out        dispatch               function
 
-Naming           StoreId                type        but tq_figures tq_reference tq_engine
+Naming           StoreId                type        but tq_reference tq_engine
 Front            Prefix                 type        in tq_snapshot
 """
 

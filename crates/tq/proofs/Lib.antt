@@ -3,3 +3,4 @@ pub mod CommandLineFacts
 pub mod ReadErrorLemmas
 pub mod RequestLemmas
 pub mod SpanLemmas
+pub mod FigureLemmas

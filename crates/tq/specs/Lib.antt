@@ -4,3 +4,6 @@ pub mod Refusals
 pub mod Report
 pub mod Spans
 pub mod ByteText
+pub mod Figures
+pub mod ProfileText
+pub mod Profiles

@@ -14,11 +14,14 @@ ghost use Rattle.std.specs.Prelude.{◌≡◌, false, IfErr, None, OnOk};
 ghost use Rattle.tq.specs.Refusals.{IsAnswered, IsAskRefusal};
 
 mod command_line;
+mod figures;
 mod files;
 mod headers;
 mod imports;
+mod operators;
 mod pieces;
 mod profile;
+mod profile_text;
 mod progress;
 mod prompt;
 mod read_errors;

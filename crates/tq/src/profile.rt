@@ -1,25 +1,30 @@
 // Execution of a statement with progress and a profile.
 
-ghost use Rattle.std.specs.Prelude.{◌≡◌, ◌≢◌, ◌≤◌, Err, IfErr, OnOk};
+ghost use Rattle.std.specs.Prelude.{◌≡◌, ◌≢◌, ◌≤◌, Err, IfErr, IfOk, OnOk};
 ghost use Rattle.std.specs.Io.KnownBytes.{Appends};
 ghost use Rattle.tq_event.specs.Tables.{lists_of};
 ghost use Rattle.tq_exec.specs.Fitting.{AreAllFitting};
-ghost use Rattle.tq_plan.specs.ValidPlans.{IsPlanOver};
+ghost use Rattle.tq.specs.Profiles.{IsProfile};
 ghost use Rattle.tq_table.specs.Sink.{AppendsPrefix, one_more};
 ghost use Rattle.tq_table.specs.Text.{text_of};
 ghost use Rattle.tq_table.specs.declared.table.Table.{Table as AnyTable};
 ghost use Rattle.tq_engine.specs.Answers.{HasAnswer, IsFault};
 
+use crate::figures::figures_of;
+use crate::profile_text::{RunFigures, figures_text};
 use crate::progress::Progress;
+use std::alloc::{AllocError, Global};
 use std::io::Write;
 use std::mem;
 use std::sync::Wait;
 use std::sync::atomic::{AtomicU64, Ordering};
 use std::thread::Threads;
 use std::time::{Clock, Instant};
+use tq_base::Form;
 use tq_engine::{AnswerFault, AnswerOptions, ExecutedQuery, Observer, write_observed};
-use tq_event::TableFile;
-use tq_figures::{RunFigures, explain_answer};
+use tq_event::{TableFile, Tables};
+use tq_exec::{Counters, TablesOfRows};
+use tq_plan::Plan;
 use tq_run::Gate;
 use tq_table::Sink;
 
@@ -84,18 +89,43 @@ fn between(from: u64, to: u64) -> Option<u64> {
 }
 
 // The counts and times of a run with `workers` workers.
-fn run_of<R: Clock>(observer: &RunObserver<'_, R>, workers: u32) -> RunFigures
+fn run_of<R: Clock>(observer: &RunObserver<'_, R>, workers: u32, counters: &Counters) -> RunFigures
     ensures { result.workers ≡ workers }
 {
     let loaded = observer.loaded.load(Ordering::SeqCst);
     let answered = observer.answered.load(Ordering::SeqCst);
     RunFigures {
         workers,
+        division: counters.division(),
+        has_ranges: counters.has_ranges(),
         pieces: observer.pieces.load(Ordering::SeqCst),
         loading: between(1, loaded),
         answering: between(loaded, answered),
         printing: between(answered, observer.since()),
     }
+}
+
+// The lines of the profile of a statement's plan that was executed over tables, with instants in the form: the operators with
+// the rows that the execution counted, the rows of the answer, and what the run reports of itself. Requires that each row
+// fits its table. `AllocError` if an allocation failed.
+fn explain_answer(
+    alloc: Global,
+    tables: &Tables,
+    plan: &Plan,
+    rows: u128,
+    counters: &Counters,
+    run: &RunFigures,
+    form: Form,
+) -> Result<Vec<u8>, AllocError>
+    requires fit { AreAllFitting tables.now.catalogue (lists_of tables.now.rows) }
+    ensures { IfOk result (λ text. IsProfile form tables.now plan.now rows run.now text.items) }
+{
+    let all = TablesOfRows {
+        catalogue: &tables.catalogue,
+        tables: tables.rows.get(),
+    };
+    let figures = figures_of(alloc, &all, plan, rows, counters)?;
+    figures_text(alloc, &tables.catalogue, &figures, run, form)
 }
 
 // Prints the profile of a query, unless an allocation fails.
@@ -105,12 +135,17 @@ fn report_run<R: AllocGlobal + Clock + Wait>(
     options: AnswerOptions,
 )
     requires fit { AreAllFitting executed.now.tables.catalogue (lists_of executed.now.tables.rows) }
-    requires over { IsPlanOver executed.now.tables.catalogue executed.now.plan }
 {
     let rt = observer.rt;
     let AnswerOptions { workers, form } = options;
-    let run = run_of(observer, workers);
-    if let Ok(text) = explain_answer(rt.alloc(), &executed.tables, &executed.plan, &run, form) {
+    let ExecutedQuery {
+        tables,
+        plan,
+        rows,
+        counters,
+    } = executed;
+    let run = run_of(observer, workers, counters);
+    if let Ok(text) = explain_answer(rt.alloc(), tables, plan, *rows, counters, &run, form) {
         observer.progress.print(rt, &text);
     }
 }

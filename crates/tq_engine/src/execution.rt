@@ -5,10 +5,10 @@ ghost use Rattle.tq_event.specs.declared.file.TableFile.{TableFile as AnyFile};
 ghost use Rattle.tq_event.specs.Tables.{lists_of};
 ghost use Rattle.tq_plan.specs.declared.plans.Plan.{Plan as AnyPlan};
 ghost use Rattle.tq_plan.specs.Plans.{plan_of};
-ghost use Rattle.tq_table.specs.Text.{IsTextOf};
 ghost use Rattle.tq_engine.specs.Answers.{HasAnswer, IsLoadedQuery, IsFault, IsStatementFault};
 ghost use Rattle.tq_exec.specs.Answers.{IsTablesAnswer};
 ghost use Rattle.tq_exec.specs.Fitting.{AreAllFitting};
+ghost use Rattle.tq_exec.specs.Rendered.{IsRendered};
 
 use crate::laws::query_is_answered;
 use crate::required::required_columns;
@@ -19,7 +19,9 @@ use tq_base::Form;
 use tq_event::laws::{loaded_is_history, tables_are_loaded};
 use tq_event::{LoadFault, LoadFaultKind, MAX_EVENTS, TableFile, Tables};
 use tq_exec::laws::{held_rows_fit, projected_rows_fit};
-use tq_exec::{AnswerText, answer_among, text_among, to_owned};
+use tq_exec::{
+    Counters, RenderedAnswer, TablesOfRows, Workers, answer_among, render as render_plan, to_owned,
+};
 use tq_load::{LoadOptions, load_projected_parallel};
 use tq_plan::{Plan, PlanFault, plan};
 use tq_run::{Gate, Open};
@@ -104,6 +106,14 @@ pub(crate) struct LoadedQuery {
     pub(crate) statement: Statement,
 }
 
+// A statement's plan, the text of its answer, and what its execution counted.
+#[derive(Drop)]
+pub(crate) struct RenderedQuery {
+    pub(crate) plan: Plan,
+    pub(crate) answer: RenderedAnswer,
+    pub(crate) counters: Counters,
+}
+
 // Loads the files and parses the statement. Only the values of columns that the statement names are loaded. The bytes
 // of the files are dropped after loading. The gate gets each part of the files.
 pub(crate) fn load_query<R: Threads + Sync, G: Gate + Sync>(
@@ -166,17 +176,26 @@ fn render_statement<R: Threads + Sync, G: Gate + Sync>(
     workers: u32,
     gate: &G,
     form: Form,
-) -> Result<(Plan, AnswerText), AnswerFault>
+) -> Result<RenderedQuery, AnswerFault>
     requires fit { AreAllFitting tables.now.catalogue (lists_of tables.now.rows) }
     requires some { 1 ≤ workers }
     requires few { workers ≤ 16 }
-    ensures answer { IfOk result (λ found. (plan_of form tables.now.catalogue statement.now ≡ Ok found.0) × IsTextOf form (IsTablesAnswer (lists_of tables.now.rows) found.0) found.1) }
+    ensures answer { IfOk result (λ query. (plan_of form tables.now.catalogue statement.now ≡ Ok query.plan) × IsRendered form (IsTablesAnswer (lists_of tables.now.rows) query.plan) query.answer) }
     ensures fault { IfErr result (IsStatementFault form tables.now.catalogue statement.now) }
 {
     let plan = plan(alloc, &tables.catalogue, statement, form)?;
-    let (catalogue, rows) = (&tables.catalogue, tables.rows.get());
-    let text = text_among(rt, alloc, catalogue, rows, &plan, workers, gate, form)?;
-    Ok((plan, text))
+    let workers = Workers::new(rt, alloc, workers, gate);
+    let all = TablesOfRows {
+        catalogue: &tables.catalogue,
+        tables: tables.rows.get(),
+    };
+    let answer = render_plan(&workers, all, &plan, form)?;
+    let Workers { counters, .. } = workers;
+    Ok(RenderedQuery {
+        plan,
+        answer,
+        counters,
+    })
 }
 
 // Executes a loaded query.
@@ -205,12 +224,12 @@ pub(crate) fn render<R: Threads + Sync, G: Gate + Sync>(
     workers: u32,
     gate: &G,
     form: Form,
-) -> Result<(Plan, AnswerText), AnswerFault>
+) -> Result<RenderedQuery, AnswerFault>
     requires fit { AreAllFitting query.now.tables.catalogue (lists_of query.now.tables.rows) }
     requires some { 1 ≤ workers }
     requires few { workers ≤ 16 }
-    ensures plan { IfOk result (λ found. plan_of form query.now.tables.catalogue query.now.statement ≡ Ok found.0) }
-    ensures answer { (files : List AnyFile) (bytes : List ℕ) → IsLoadedQuery form files bytes query.now.tables query.now.statement → IfOk result (λ found. IsTextOf form (HasAnswer form files bytes) found.1) }
+    ensures plan { IfOk result (λ found. plan_of form query.now.tables.catalogue query.now.statement ≡ Ok found.plan) }
+    ensures answer { (files : List AnyFile) (bytes : List ℕ) → IsLoadedQuery form files bytes query.now.tables query.now.statement → IfOk result (λ found. IsRendered form (HasAnswer form files bytes) found.answer) }
     ensures fault { (files : List AnyFile) (bytes : List ℕ) → IsLoadedQuery form files bytes query.now.tables query.now.statement → IfErr result (IsFault form files bytes) }
 {
     query_is_answered();

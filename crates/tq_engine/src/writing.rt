@@ -1,6 +1,6 @@
 // From files and a statement, both as bytes, to the bytes of the answer.
 
-ghost use Rattle.std.specs.Prelude.{◌≡◌, ◌≢◌, ◌≤◌, Err, IfErr, IfOk, OnOk};
+ghost use Rattle.std.specs.Prelude.{◌≡◌, ◌≢◌, ◌≤◌, Err, IfErr, IfOk, OnOk, length};
 ghost use Rattle.std.specs.Io.KnownBytes.{Appends};
 ghost use Rattle.tq_event.specs.Tables.{lists_of};
 ghost use Rattle.tq_engine.specs.Answers.{HasAnswer, IsFault, IsPlanned};
@@ -10,13 +10,14 @@ ghost use Rattle.tq_table.specs.Sink.{AppendsPrefix, one_more};
 ghost use Rattle.tq_table.specs.Text.{text_of};
 ghost use Rattle.tq_table.specs.declared.table.Table.{Table as AnyTable};
 
-use crate::execution::{AnswerFault, load_query, render};
+use crate::execution::{AnswerFault, RenderedQuery, load_query, render};
 use crate::options::AnswerOptions;
 use std::alloc::Global;
 use std::io::Write;
 use std::thread::Threads;
 use tq_base::Form;
 use tq_event::{TableFile, Tables};
+use tq_exec::{Counters, RenderedAnswer};
 use tq_plan::Plan;
 use tq_run::{Gate, Open};
 use tq_table::Sink;
@@ -42,9 +43,13 @@ impl Observer for Open {
 pub struct ExecutedQuery {
     pub tables: Tables,
     pub plan: Plan,
+    /// The number of rows of the answer.
+    pub rows: u128,
+    /// What the execution counted.
+    pub counters: Counters,
 }
 
-/// Writes the answer of the statement over the tables of the files. Returns the tables and the plan.
+/// Writes the answer of the statement over the tables of the files. Returns the tables, the plan, and what was counted.
 ///
 /// After an error other than `Write`, nothing was written: the error is the first fault of files, statement or plan, or
 /// `OutOfMemory`. After `Write` a prefix of the answer was written. The observer gets each piece of work before it
@@ -64,6 +69,7 @@ pub fn write_observed<R: Threads + Sync, W: Write, G: Observer + Sync>(
     ensures planned { IfOk result (λ executed. IsPlanned options.form files.items bytes.now executed.tables executed.plan) }
     ensures fit { IfOk result (λ executed. AreAllFitting executed.tables.catalogue (lists_of executed.tables.rows)) }
     ensures over { IfOk result (λ executed. IsPlanOver executed.tables.catalogue executed.plan) }
+    ensures rows { IfOk result (λ executed. (table : AnyTable) × HasAnswer options.form files.items bytes.now table × (executed.rows ≡ length table.rows)) }
     ensures unfailed { OnOk result (sink.new.failed ≡ sink.old.failed) }
     ensures write { result ≡ Err AnswerFault.Write → (table : AnyTable) × HasAnswer options.form files.items bytes.now table × AppendsPrefix (W.contents sink.old.writer) (W.contents sink.new.writer) (text_of options.form table) }
     ensures failed { result ≡ Err AnswerFault.Write → sink.new.failed ≡ one_more sink.old.failed }
@@ -74,11 +80,17 @@ pub fn write_observed<R: Threads + Sync, W: Write, G: Observer + Sync>(
     observer.loaded();
     let planned = render(rt, alloc, &query, workers, observer, form)?;
     observer.answered();
-    let (plan, text) = planned;
+    let RenderedQuery {
+        plan,
+        answer: RenderedAnswer { rows, text },
+        counters,
+    } = planned;
     match sink.send_all(text.parts()) {
         Ok(()) => Ok(ExecutedQuery {
             tables: query.tables,
             plan,
+            rows,
+            counters,
         }),
         Err(_) => Err(AnswerFault::Write),
     }

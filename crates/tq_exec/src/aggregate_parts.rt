@@ -15,6 +15,7 @@ ghost use Rattle.tq_exec.specs.AggregateParts.{CountsOne, group_columns, is_sum,
 ghost use Rattle.tq_exec.specs.OutputPlaces.{AreNumbers};
 
 use crate::aggregate::{item_rows, summed_places};
+use crate::counters::QueryCounters;
 use crate::scan::scan_filter_join;
 use crate::snapshot::Snapshot;
 use std::alloc::{AllocError, Global};
@@ -34,11 +35,12 @@ pub fn group_columns(alloc: Global, query: &QueryPlan) -> Result<Vec<u32>, Alloc
 
 /// Copies of the values that the query aggregates, for each row of its sources that passes its condition, at each instant of
 /// the window. `AllocError` if an allocation failed.
-pub fn aggregate_input<'a, S: Snapshot<'a>>(
+pub(crate) fn aggregate_input<'a, S: Snapshot<'a>>(
     alloc: Global,
     snapshot: &S,
     query: &QueryPlan,
     window: &Period,
+    counters: &QueryCounters,
 ) -> Result<Rows, AllocError>
     requires fit { AreFitting (S.catalogue snapshot.now) (S.valid snapshot.now) }
     requires query { IsQueryOver (S.catalogue snapshot.now) query.now }
@@ -47,7 +49,7 @@ pub fn aggregate_input<'a, S: Snapshot<'a>>(
     ensures inside { IfOk result (λ rows. HasInside window.now rows.items (λ t v. occurrences (aggregate_input query.now (lists_at (S.valid snapshot.now) t (tables_of query.now))) v)) }
 {
     let columns = group_columns(alloc, query)?;
-    let joined_rows = scan_filter_join(alloc, snapshot, query, window)?;
+    let joined_rows = scan_filter_join(alloc, snapshot, query, window, counters)?;
     let kept = joined_rows.project(alloc, &columns)?;
     kept.copied(alloc)
 }

@@ -4,6 +4,7 @@ ghost use Rattle.std.specs.Prelude.{◌≤◌, IfOk, length};
 ghost use Rattle.tq_exec.specs.Answers.{as_of, IsPlanAnswer};
 ghost use Rattle.tq_plan.specs.ValidPlans.{IsPlanOver};
 
+use crate::counters::Counters;
 use crate::execution::{answer_over, to_owned};
 use crate::snapshot::Snapshot;
 use std::alloc::{AllocError, Global};
@@ -49,6 +50,7 @@ pub fn answer<'b>(alloc: Global, db: &Db, n: u32, plan: &Plan) -> Result<Table<'
     ensures { IfOk result (λ table. IsPlanAnswer db.now.events n plan.now table) }
 {
     let _count = db.count();
-    let table = answer_over(alloc, &AsOf { db, n }, plan)?;
+    let counters = Counters::new();
+    let table = answer_over(alloc, &AsOf { db, n }, plan, &counters)?;
     to_owned(alloc, table)
 }

@@ -193,5 +193,6 @@ pub(crate) fn parts_by_bucket<'p, R: Threads + Sync, G: Gate + Sync>(
     if !are_ascending(&values) {
         return Ok(None);
     }
+    workers.counters.add_counted(&rows, &values);
     Ok(Some(made_of(alloc, values)?))
 }

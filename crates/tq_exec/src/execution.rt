@@ -12,6 +12,7 @@ ghost use Rattle.tq_exec.specs.OutputPlaces.{output_place};
 ghost use Rattle.tq_exec.specs.Fitting.{AreAllFitting, AreFitting};
 
 use crate::aggregate::{counted_rows, grouped_rows};
+use crate::counters::{Counters, QueryCounters};
 use crate::scan::scan_filter_join;
 use crate::snapshot::{Snapshot, TablesOfRows};
 use std::alloc::{AllocError, Global};
@@ -71,6 +72,7 @@ fn query_rows<'a, S: Snapshot<'a>>(
     snapshot: &S,
     query: &QueryPlan,
     window: &Period,
+    counters: &QueryCounters,
 ) -> Result<Relation<'a>, AllocError>
     requires fit { AreFitting (S.catalogue snapshot.now) (S.valid snapshot.now) }
     requires query { IsQueryOver (S.catalogue snapshot.now) query.now }
@@ -79,34 +81,40 @@ fn query_rows<'a, S: Snapshot<'a>>(
     ensures outside { IfOk result (λ out. IsEmptyOutside window.now out.items) }
 {
     if !has_no_group(query.group.get()) {
-        return grouped_rows(alloc, snapshot, query, window);
+        return grouped_rows(alloc, snapshot, query, window, counters);
     }
     if has_aggregate(query.outputs.get()) {
-        return counted_rows(alloc, snapshot, query, window);
+        return counted_rows(alloc, snapshot, query, window, counters);
     }
     let places = places_of(alloc, query.outputs.get())?;
-    scan_filter_join(alloc, snapshot, query, window)?.project(alloc, &places)
+    scan_filter_join(alloc, snapshot, query, window, counters)?.project(alloc, &places)
 }
 
 /// The rows of a plan at each instant of a period: those of the left query, less those of the right one. Requires that both
-/// queries of the plan are queries over the snapshot's catalogue. `AllocError` if an allocation failed.
+/// queries of the plan are queries over the snapshot's catalogue. The counters get the rows of each operator. `AllocError` if an
+/// allocation failed.
 pub(crate) fn execute<'a, S: Snapshot<'a>>(
     alloc: Global,
     snapshot: &S,
     plan: &Plan,
     period: &Period,
+    counters: &Counters,
 ) -> Result<Relation<'a>, AllocError>
     requires { AreQueriesOver (S.catalogue snapshot.now) plan.now }
     ensures width { IfOk result (λ rows. rows.width ≡ length plan.now.left.outputs) }
     ensures rows { (v : Row) (t : ℕ) → IfOk result (λ rows. copies rows.items v t ≡ times_within (S.valid snapshot.now) plan.now period.now v t) }
 {
     snapshot.fit();
-    let left = query_rows(alloc, snapshot, &plan.left, period)?;
+    let left = query_rows(alloc, snapshot, &plan.left, period, &counters.left)?;
+    counters.left.add_rows(left.len());
     match &plan.right {
         None => Ok(left),
         Some(right) => {
-            let right = query_rows(alloc, snapshot, right, period)?;
-            except_all(alloc, left, &right, period)
+            let right = query_rows(alloc, snapshot, right, period, &counters.right)?;
+            counters.right.add_rows(right.len());
+            let rows = except_all(alloc, left, &right, period);
+            counters.add_difference(&rows);
+            rows
         }
     }
 }
@@ -117,12 +125,13 @@ pub(crate) fn answer_over<'a, S: Snapshot<'a>>(
     alloc: Global,
     snapshot: &S,
     plan: &Plan,
+    counters: &Counters,
 ) -> Result<Table<'a>, AllocError>
     requires { IsPlanOver (S.catalogue snapshot.now) plan.now }
     ensures { IfOk result (IsAnswerOver (S.valid snapshot.now) plan.now) }
 {
     queries_are_valid();
-    let rows = execute(alloc, snapshot, plan, &plan.window)?;
+    let rows = execute(alloc, snapshot, plan, &plan.window, counters)?;
     let rows = coalesce(alloc, rows)?;
     Ok(Table {
         columns: List::of(copy_names(alloc, plan.columns())?),
@@ -142,7 +151,8 @@ pub fn answer_tables<'a>(
     requires plan { IsPlanOver catalogue.now plan.now }
     ensures { IfOk result (IsTablesAnswer (lists_of tables.now) plan.now) }
 {
-    answer_over(alloc, &TablesOfRows { catalogue, tables }, plan)
+    let counters = Counters::new();
+    answer_over(alloc, &TablesOfRows { catalogue, tables }, plan, &counters)
 }
 
 /// A copy of the table that owns its values. `AllocError` if an allocation failed.

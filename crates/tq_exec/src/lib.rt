@@ -9,6 +9,7 @@
 //! (`partitions.rt`, `bucket_counts.rt`, `join_partitions.rt`, `group_partitions.rt`), over periods of the window
 //! (`period_pieces.rt`) or over ranges of the answer's values (`output_ranges.rt`). The rows of a `Db` are first read in
 //! parts of its keys and versions (`reads.rt`). Start with `partitioning.rt`, which chooses among these, and `parallel.rt`.
+//! Operators count the rows that they make (`counters.rt`).
 #![tactic(auto)]
 
 mod aggregate;
@@ -17,6 +18,7 @@ mod answer_parts;
 mod answer_text;
 mod as_of;
 mod bucket_counts;
+mod counters;
 mod endpoints;
 mod execution;
 mod group_partitions;
@@ -45,10 +47,10 @@ mod workers;
 
 pub use answer_text::{AnswerText, RenderedAnswer, render, text_among};
 pub use as_of::answer;
+pub use counters::{Counters, Division, QueryCounters};
 pub use execution::{answer_tables, to_owned};
 pub use over_store::{answer_with, text_with};
 pub use over_tables::answer_among;
 pub use required::required_columns;
-pub use scan::scan_filter_join;
 pub use snapshot::{Snapshot, TablesOfRows};
 pub use workers::Workers;

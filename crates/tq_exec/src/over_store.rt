@@ -80,6 +80,6 @@ pub fn text_with<R: Threads + Sync, G: Gate + Sync>(
     }
     let _count = db.count();
     let alloc = workers.alloc;
-    let table = answer_over(alloc, &AsOf { db, n }, plan)?;
+    let table = answer_over(alloc, &AsOf { db, n }, plan, &workers.counters)?;
     render_table(alloc, &table, form)
 }

@@ -18,6 +18,7 @@ ghost use Rattle.tq_exec.specs.PartitioningRules.{IsByValue, IsPartitioningOf};
 
 use crate::answer_parts::{Made, Wanted, made_of, make_part};
 use crate::bucket_counts::parts_by_bucket;
+use crate::counters::Division;
 use crate::execution::execute;
 use crate::join_partitions::group_joined_rows;
 use crate::output_ranges::parts_by_range;
@@ -32,6 +33,16 @@ use tq_base::{Period, Relation};
 use tq_plan::Plan;
 use tq_run::Gate;
 use tq_table::{chained, coalesce};
+
+// The division that the counters show.
+fn division_of(partitioning: &Partitioning) -> Division {
+    match partitioning {
+        Partitioning::ByValue(_) => Division::ByValue,
+        Partitioning::ByJoinKey(_) => Division::ByJoinKey,
+        Partitioning::ByTime(_) => Division::ByTime,
+        Partitioning::Undivided => Division::Undivided,
+    }
+}
 
 // The plan's rows, found in these periods of its window by these workers.
 fn rows_by_time<'a, R: Threads + Sync, G: Gate + Sync>(
@@ -74,6 +85,7 @@ fn find_rows<'a, R: Threads + Sync, G: Gate + Sync>(
             &all,
             plan,
             &plan.window,
+            &workers.counters,
         ),
     }
 }
@@ -100,7 +112,10 @@ fn parts_of_rows<R: Threads + Sync, G: Gate + Sync>(
         return one_part(alloc, rows, wanted);
     }
     match parts_by_range(workers, &rows, wanted)? {
-        Some(made) => Ok(made),
+        Some(made) => {
+            workers.counters.begin_ranges();
+            Ok(made)
+        }
         None => one_part(alloc, rows, wanted),
     }
 }
@@ -152,6 +167,7 @@ pub(crate) fn execute_parallel<R: Threads + Sync, G: Gate + Sync>(
     ensures { IfOk result (λ made. HaveAnswer wanted (length plan.now.left.outputs) (times_at (in_tables (lists_of all.entry.tables.now)) plan.now) made.items) }
 {
     let partitioning = partitioning_of(workers, &all, plan)?;
+    workers.counters.begin(division_of(&partitioning));
     let Partitioning::ByValue(by) = &partitioning else {
         return parts_of_found(workers, all, plan, &partitioning, wanted);
     };
@@ -159,5 +175,6 @@ pub(crate) fn execute_parallel<R: Threads + Sync, G: Gate + Sync>(
         return Ok(made);
     }
     let partitioning = partitioning_of_rows(workers, &all, plan)?;
+    workers.counters.begin(division_of(&partitioning));
     parts_of_found(workers, all, plan, &partitioning, wanted)
 }

@@ -10,6 +10,7 @@ ghost use Rattle.tq_exec.specs.Partitions.{ArePartitionIds, IsPartitionPart, par
 ghost use Rattle.tq_exec.specs.AnswerParts.{HaveAnswer};
 
 use crate::answer_parts::{AnswerPart, Made, Wanted, are_ascending, made_of, make_part};
+use crate::counters::Counters;
 use crate::execution::execute;
 use crate::laws::partitions_have_answers;
 use crate::partition::Partition;
@@ -33,6 +34,7 @@ struct PartitionParts<'p> {
     cuts: &'p [u128],
     columns: &'p [Option<u32>],
     ids: &'p [Vec<u8>],
+    counters: &'p Counters,
     ghost short: { length cuts.now ≤ 63 },
     ghost are: { ArePartitionIds cuts.now columns.now (lists_of all.tables.now) ids.now } by { Prim.hlevel (props, partition_ids_prop) },
     ghost over: { AreQueriesOver all.catalogue.now plan.now } by { Prim.hlevel (props, queries_prop) },
@@ -57,7 +59,8 @@ impl<'p> Work for PartitionParts<'p> {
             ids: self.ids,
             number: i as u8,
         };
-        let rows = execute(self.alloc, &partition, self.plan, &self.plan.window)?;
+        let window = &self.plan.window;
+        let rows = execute(self.alloc, &partition, self.plan, window, self.counters)?;
         make_part(self.alloc, coalesce(self.alloc, rows)?, self.wanted)
     }
 }
@@ -90,6 +93,7 @@ pub(crate) fn parts_by_value<'p, R: Threads + Sync, G: Gate + Sync>(
         cuts: &by.cuts,
         columns: &by.columns,
         ids: &ids,
+        counters: &workers.counters,
     };
     let partitions = run_with(workers.rt, alloc, workers.count, &work, workers.gate)?;
     if !are_ascending(&partitions) {

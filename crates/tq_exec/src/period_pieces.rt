@@ -8,6 +8,7 @@ ghost use Rattle.tq_exec.specs.Answers.{in_tables};
 ghost use Rattle.tq_exec.specs.PeriodPieces.{ArePieces, IsPiece};
 ghost use Rattle.tq_plan.specs.ValidPlans.{AreQueriesOver, queries_prop};
 
+use crate::counters::Counters;
 use crate::execution::execute;
 use crate::snapshot::TablesOfRows;
 use crate::workers::Workers;
@@ -24,11 +25,12 @@ fn piece_rows(
     snapshot: &TablesOfRows<'_>,
     plan: &Plan,
     period: &Period,
+    counters: &Counters,
 ) -> Result<Rows, AllocError>
     requires { AreQueriesOver snapshot.now.catalogue.now plan.now }
     ensures { IfOk result (IsPiece (in_tables (lists_of snapshot.now.tables.now)) plan.now period.now) }
 {
-    let rows = execute(alloc, snapshot, plan, period)?;
+    let rows = execute(alloc, snapshot, plan, period, counters)?;
     coalesce(alloc, rows)?.copied(alloc)
 }
 
@@ -39,6 +41,7 @@ struct PeriodRows<'p> {
     snapshot: TablesOfRows<'p>,
     plan: &'p Plan,
     periods: &'p [Period],
+    counters: &'p Counters,
     ghost few: { length periods.now ≤ 64 },
     ghost over: { AreQueriesOver snapshot.catalogue.now plan.now } by { Prim.hlevel (props, queries_prop) },
 }
@@ -60,6 +63,7 @@ impl Work for PeriodRows<'_> {
             &self.snapshot,
             self.plan,
             &self.periods[i as usize],
+            self.counters,
         )
     }
 }
@@ -82,6 +86,7 @@ pub(crate) fn pieces_of<'p, R: Threads + Sync, G: Gate + Sync>(
         snapshot,
         plan,
         periods,
+        counters: &workers.counters,
     };
     run_with(workers.rt, alloc, workers.count, &work, workers.gate)
 }

@@ -2,6 +2,7 @@
 
 ghost use Rattle.std.specs.Prelude.{◌≡◌, ◌≤◌};
 
+use crate::counters::Counters;
 use std::alloc::Global;
 
 // Tables or answers of fewer rows are not divided: several threads would not be worth their start.
@@ -17,6 +18,8 @@ pub struct Workers<'w, R, G> {
     pub few: usize,
     /// It gets each piece before the piece is executed.
     pub gate: &'w G,
+    /// They get the rows of each operator.
+    pub counters: Counters,
     ghost some: { 1 ≤ count },
     ghost at_most: { count ≤ 16 },
 }
@@ -34,6 +37,7 @@ impl<'w, R, G> Workers<'w, R, G> {
             count,
             few: FEW_ROWS,
             gate,
+            counters: Counters::new(),
         }
     }
 }

@@ -58,7 +58,9 @@ pub(crate) fn joined_all(
     for rows in others {
         relations.push(Relation::of(alloc, *rows)?)?;
     }
-    let out = join_all(alloc, Relation::of(alloc, first)?, relations, window, test)?;
+    let first = Relation::of(alloc, first)?;
+    let mut lens = Vec::new(alloc);
+    let out = join_all(alloc, first, relations, window, test, &mut lens)?;
     copied(alloc, &out)
 }
 

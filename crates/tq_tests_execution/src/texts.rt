@@ -10,8 +10,8 @@ use std::thread::Threads;
 use tq_base::Form;
 use tq_event::Tables;
 use tq_exec::{
-    RenderedAnswer, TablesOfRows, Workers, answer_among, answer_tables, answer_with, render,
-    text_with,
+    Counters, RenderedAnswer, TablesOfRows, Workers, answer_among, answer_tables, answer_with,
+    render, text_with,
 };
 use tq_plan::Plan;
 use tq_run::Gate;
@@ -92,6 +92,7 @@ pub(crate) fn in_ranges<R: Threads + Sync, G: Gate + Sync>(
         count: workers,
         few: 1,
         gate,
+        counters: Counters::new(),
     };
     let rows = tables.rows.get();
     let all = TablesOfRows {

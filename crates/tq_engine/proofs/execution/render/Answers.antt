@@ -8,12 +8,13 @@ pub returns-clause-answer : goal.returns-clause-answer
 returns-clause-answer g c files bytes is_query =
     IfOk-weaker c.render_statement.result _ _
     (λ found made.
-    let (planned, written) = made in
-    let (table, is, text) = written in (
-      table,
-      c.query_is_answered.ensures.answered c.args.form files bytes c.args.query.now.tables c.args.query.now.statement found.0 table is_query planned is,
-      text,
-    ))
+    let (planned, rendered) = made in
+    record {
+      table = rendered.table;
+      is = c.query_is_answered.ensures.answered c.args.form files bytes c.args.query.now.tables c.args.query.now.statement found.plan rendered.table is_query planned rendered.is;
+      rows = rendered.rows;
+      text = rendered.text;
+    })
     c.render_statement.ensures.answer
 
 pub returns-clause-fault : goal.returns-clause-fault

@@ -26,14 +26,20 @@ returns-in_err-planned-clause-fault g c =
 
 pub returns-in-Ok-clause-answer : goal.returns-in-Ok-clause-answer
 returns-in-Ok-clause-answer g c =
-    let (table, has, text) = c.in_ok-planned.ensures.answer c.args.files.items c.args.bytes.now c.in_ok-query.ensures.is_query in
-    (table, has, search rules)
+    let rendered = c.in_ok-planned.ensures.answer c.args.files.items c.args.bytes.now c.in_ok-query.ensures.is_query in
+    let text = rendered.text in
+    (rendered.table, rendered.is, search rules)
+
+pub returns-in-Ok-clause-rows : goal.returns-in-Ok-clause-rows
+returns-in-Ok-clause-rows g c =
+    let rendered = c.in_ok-planned.ensures.answer c.args.files.items c.args.bytes.now c.in_ok-query.ensures.is_query in
+    (rendered.table, rendered.is, rendered.rows)
 
 pub returns-in-Err-clause-write : goal.returns-in-Err-clause-write
 returns-in-Err-clause-write g c e =
-    let (table, has, text) = c.in_ok-planned.ensures.answer c.args.files.items c.args.bytes.now c.in_ok-query.ensures.is_query in
+    let rendered = c.in_ok-planned.ensures.answer c.args.files.items c.args.bytes.now c.in_ok-query.ensures.is_query in
     let (sent, unsent, split, appended) = c.in-Err.ensures.prefix in
-    (table, has, (sent, unsent, sym (c.parts.ensures ∙ text) ∙ split, appended))
+    (rendered.table, rendered.is, (sent, unsent, sym (c.parts.ensures ∙ rendered.text) ∙ split, appended))
 
 pub returns-in-Ok-clause-planned : goal.returns-in-Ok-clause-planned
 returns-in-Ok-clause-planned g c = record {

@@ -1,3 +1,0 @@
-pub mod FigureLemmas
-pub mod GroupLemmas
-pub mod PassingLemmas

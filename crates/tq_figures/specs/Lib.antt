@@ -1,4 +1,0 @@
-pub mod Explaining
-pub mod Figures
-pub mod Groups
-pub mod Telling
