@@ -3,7 +3,7 @@ use Rattle.std.proofs.Common.{◌≡◌, List, [], ◌∷◌, Some, true, false,
 use Rattle.clap.specs.Words.{Text, fault_of, subcommand_of}
 use Rattle.clap.specs.declared.error.kind.ErrorKind.TheVariants.{DisplayHelp, DisplayVersion, MissingRequiredArgument, MissingSubcommand}
 use Rattle.clap.proofs.OnLiterals.{clap_on_literals}
-use Rattle.tq.specs.CommandLine.{is_set, number_of, table_words, text_of, tq_app}
+use Rattle.tq.specs.CommandLine.{is_set, list_of, number_of, table_words, text_of, tq_app}
 
 abbrev words : List Text
 words = codes "ask" ∷ codes "--table" ∷ codes "a=b" ∷ codes "--table=c=d" ∷ codes "--dates" ∷ codes "VALIDTIME" ∷ []
@@ -59,3 +59,7 @@ gaps_found = refl
 pub overlaps_left_out : option_map (λ sub. is_set (codes "overlaps") sub.1) (subcommand_of tq_app (codes "check" ∷ codes "--gaps" ∷ codes "--table=a=b" ∷ [])) ≡ Some false
 unfolding clap_on_literals
 overlaps_left_out = refl
+
+pub references_found : option_map (λ sub. list_of (codes "refers") sub.1) (subcommand_of tq_app (codes "check" ∷ codes "--refers=a.b=c.d" ∷ codes "--table=a=b" ∷ codes "--refers" ∷ codes "e.f=g.h" ∷ [])) ≡ Some (codes "a.b=c.d" ∷ codes "e.f=g.h" ∷ [])
+unfolding clap_on_literals
+references_found = refl

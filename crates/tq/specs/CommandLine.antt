@@ -76,6 +76,10 @@ stdin_count tables = count_by (λ t. bytes_eq t.path.items (45 ∷ [])) tables
 abbrev pub IsTablesUpTo : ℕ → List Row → List TableOption → Type 0
 IsTablesUpTo n rows tables = IsTablesOf (table_words rows) tables × (stdin_count tables ≤ n)
 
+-- The bytes of each value of an argument, in the order of the words.
+abbrev pub list_of : Text → List Row → List (List ℕ)
+list_of id rows = map bytes_in (unwrap_or (all_of id rows) [])
+
 pub record IsAskOf (rows : List Row) (ask : AskRequest) : Type 0 where
   pub tables : IsTablesUpTo 1 rows ask.tables.items
   pub workers : ask.workers ≡ number_of (codes "workers") rows
@@ -94,6 +98,7 @@ pub record IsCheckOf (rows : List Row) (check : CheckRequest) : Type 0 where
   pub form : check.form ≡ form_of rows
   pub overlaps : check.overlaps ≡ is_set (codes "overlaps") rows
   pub gaps : check.gaps ≡ is_set (codes "gaps") rows
+  pub references : map (λ w. w.items) check.references.items ≡ list_of (codes "refers") rows
 
 pub record IsSessionOf (rows : List Row) (session : SessionRequest) : Type 0 where
   pub tables : IsTablesUpTo 0 rows session.tables.items
@@ -102,10 +107,6 @@ pub record IsSessionOf (rows : List Row) (session : SessionRequest) : Type 0 whe
 -- The bytes of an argument; empty if it has none.
 abbrev pub word_of : Text → List Row → List ℕ
 word_of id rows = bytes_in (text_of id rows)
-
--- The bytes of each value of an argument, in the order of the words.
-abbrev pub list_of : Text → List Row → List (List ℕ)
-list_of id rows = map bytes_in (unwrap_or (all_of id rows) [])
 
 pub record IsPeriodOf (rows : List Row) (period : PeriodWords) : Type 0 where
   pub from : period.from.items ≡ word_of (codes "from") rows
@@ -230,6 +231,9 @@ overlaps_rule = flag_rule (codes "overlaps")
 abbrev pub gaps_rule : Rule
 gaps_rule = flag_rule (codes "gaps")
 
+abbrev pub refers_rule : Rule
+refers_rule = list_rule (codes "refers")
+
 abbrev pub with_question : App → App
 with_question app = with_rule (with_rule (with_rule (with_rule (with_rule app table_rule) dates_rule)
     explain_rule) workers_rule) statement_rule
@@ -242,8 +246,8 @@ draw_app = with_question (with_rule (with_rule (new_app (codes "draw")) width_ru
 
 abbrev pub check_app : App
 check_app =
-    with_rule (with_rule (with_rule (with_rule (with_rule (new_app (codes "check")) table_rule) dates_rule)
-    workers_rule) overlaps_rule) gaps_rule
+    with_rule (with_rule (with_rule (with_rule (with_rule (with_rule (new_app (codes "check")) table_rule) dates_rule)
+    workers_rule) overlaps_rule) gaps_rule) refers_rule
 
 abbrev pub session_app : App
 session_app = with_rule (with_rule (new_app (codes "session")) table_rule) dates_rule

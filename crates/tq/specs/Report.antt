@@ -21,7 +21,7 @@ use Rattle.tq_session.specs.declared.transcript.SessionFault.{SessionFault}
 use Rattle.tq_session.specs.declared.transcript.SessionFault.TheVariants as session
 use Rattle.tq_shown.specs.Printable.{printable_text}
 use Rattle.tq.specs.declared.report.Refusal.{Refusal}
-use Rattle.tq.specs.declared.report.Refusal.TheVariants.{BadCommandLine, CannotRead, CannotWrite, Import, Load, Statement, Plan, NoPlace, ReadFailed, WriteFailed, OutOfMemory}
+use Rattle.tq.specs.declared.report.Refusal.TheVariants.{BadCommandLine, CannotRead, CannotWrite, Import, Reference, Load, Statement, Plan, NoPlace, ReadFailed, WriteFailed, OutOfMemory}
 
 -- The refusal for a fault of the command line. (This project's own.)
 abbrev pub refused_command_line : CommandLineFault → Refusal
@@ -97,6 +97,7 @@ status_of BadCommandLine = 2
 status_of (CannotRead path) = 1
 status_of (CannotWrite path) = 1
 status_of (Import text) = 1
+status_of (Reference text) = 1
 status_of (Load fault) = 1
 status_of (Statement fault) = 1
 status_of (Plan fault) = 1
@@ -111,6 +112,7 @@ line_of BadCommandLine = codes "tq: BadCommandLine\n"
 line_of (CannotRead path) = codes "tq: cannot read " ++ printable_text path.items ++ codes "\n"
 line_of (CannotWrite path) = codes "tq: cannot write " ++ printable_text path.items ++ codes "\n"
 line_of (Import text) = codes "tq: import " ++ printable_text text.items ++ codes "\n"
+line_of (Reference text) = codes "tq: refers " ++ printable_text text.items ++ codes "\n"
 line_of (Load fault) =
     codes "tq: load " ++ load_name fault.kind ++ codes " table " ++ decimal fault.table ++ codes " record " ++ decimal fault.number ++ codes "\n"
 line_of (Statement fault) = codes "tq: statement " ++ sql_name fault.kind ++ codes " at " ++ decimal fault.at ++ codes "\n"

@@ -9,7 +9,7 @@ ghost use Rattle.tq.specs.CommandLine.{HasInvalidTables, HasInvalidWorkers, IsIn
 ghost use Rattle.tq.specs.CommandLine.{IsInvalid, IsPrintOf, IsRequestIn, IsUsageFault};
 ghost use Rattle.tq.specs.CommandLine.{ask_app, check_app, draw_app, import_app, session_app, tq_app, with_columns, with_numbers, with_period, with_question};
 ghost use Rattle.tq.specs.CommandLine.{AreColumnsOf, AreWordsOf, IsImportOf, IsPeriodOf, flag_rule, list_of, list_rule, path_rule, required_rule, text_rule};
-ghost use Rattle.tq.specs.CommandLine.{dates_rule, explain_rule, gaps_rule, overlaps_rule, statement_rule, svg_rule, table_rule, width_rule, workers_rule};
+ghost use Rattle.tq.specs.CommandLine.{dates_rule, explain_rule, gaps_rule, overlaps_rule, refers_rule, statement_rule, svg_rule, table_rule, width_rule, workers_rule};
 ghost use Rattle.tq.specs.CommandLine.{bytes_in, form_of, is_set, number_of, stdin_count, text_of};
 
 use crate::request::{
@@ -326,6 +326,17 @@ fn gaps_argument<'a>(alloc: Global) -> Arg<'a>
         .action(ArgAction::SetTrue)
 }
 
+// Which references are checked.
+fn refers_argument<'a>(alloc: Global) -> Arg<'a>
+    ensures { rule_of result ≡ refers_rule }
+{
+    Arg::new(alloc, "refers")
+        .long("refers")
+        .value_name("A.X=B.Y")
+        .help("Reports rows of table A whose X is at some time in no valid row of table B as Y")
+        .action(ArgAction::Append)
+}
+
 // What a command asks, and of which tables, with how many workers, and how instants are written.
 fn question_arguments<'a>(alloc: Global, command: Command<'a>) -> Result<Command<'a>, AllocError>
     ensures { IfOk result (λ r. app_of r ≡ with_question (app_of command.entry)) }
@@ -373,7 +384,8 @@ fn check_command<'a>(alloc: Global) -> Result<Command<'a>, AllocError>
         .arg(dates_argument(alloc))?
         .arg(workers_argument(alloc))?
         .arg(overlaps_argument(alloc))?
-        .arg(gaps_argument(alloc))
+        .arg(gaps_argument(alloc))?
+        .arg(refers_argument(alloc))
 }
 
 // The command that holds a session.
@@ -674,12 +686,14 @@ fn read_check(alloc: Global, check: &ArgMatches<'_>) -> Result<CheckRequest, Usa
 {
     let tables = read_tables(alloc, check, 1)?;
     let workers = read_workers(alloc, check)?;
+    let references = read_list(alloc, check, "refers")?;
     Ok(CheckRequest {
         tables,
         workers,
         form: read_form(check),
         overlaps: read_flag(check, "overlaps"),
         gaps: read_flag(check, "gaps"),
+        references,
     })
 }
 

@@ -25,6 +25,7 @@ mod profile_text;
 mod progress;
 mod prompt;
 mod read_errors;
+mod references;
 mod refusals;
 mod report;
 mod request;
@@ -38,6 +39,7 @@ use imports::import_file;
 use profile::ask_with_progress;
 use progress::Progress;
 use prompt::Prompted;
+use references::{read_references, refused_reference};
 use refusals::{RefusalOptions, header_copies, refused, refused_load};
 use report::{Diagnostic, Refusal};
 use request::{AskRequest, CheckRequest, DrawRequest, Request, SessionRequest};
@@ -52,7 +54,7 @@ use std::sync::Wait;
 use std::thread::{self, Threads};
 use std::time::Clock;
 use tq_base::Form;
-use tq_check::{CheckOptions, KeyChecks, check};
+use tq_check::{CheckFault, CheckOptions, KeyChecks, check};
 use tq_diagnostics::explain_records;
 use tq_draw::{draw, draw_svg};
 use tq_engine::{AnswerFault, AnswerOptions, FileFault, Source, query_files};
@@ -179,8 +181,8 @@ fn list_faults<R: Files + AllocGlobal + Input>(
     Ok(list)
 }
 
-// Prints a summary of the tables on standard output after all files are read. If records are invalid, it prints the
-// complete list of them instead. At a terminal, the refusal of a file has details.
+// Prints a summary of the tables and of references between them on standard output after all files are read. If records
+// are invalid, it prints the complete list of them instead. At a terminal, the refusal of a file has details.
 fn check_tables<
     R: Files<File: FileExt + Send + Sync, Dir: Send>
         + AllocGlobal
@@ -196,10 +198,13 @@ fn check_tables<
         form,
         overlaps,
         gaps,
+        references,
     } = request;
     let keys = KeyChecks { overlaps, gaps };
+    let names = read_references(rt.alloc(), &references, interactive)?;
     let paths = paths_of(rt.alloc(), &options)?;
     let tables = read_table_files(rt, options, workers, interactive, progress)?;
+    let headers = header_copies(rt.alloc(), &tables, !names.is_empty());
     let retained = retain_files(rt, &tables, &paths)?;
     progress.load();
     let options = CheckOptions {
@@ -207,12 +212,12 @@ fn check_tables<
         form,
         keys,
     };
-    match check(rt, rt.alloc(), tables, options) {
+    match check(rt, rt.alloc(), tables, &names, options) {
         Ok(text) => {
             progress.end(rt);
             Ok(print_bytes(rt, &text)?)
         }
-        Err(fault) => {
+        Err(CheckFault::Load(fault)) => {
             if is_listed(fault) {
                 progress.end(rt);
                 let list = list_faults(rt, &retained, form, progress)?;
@@ -226,6 +231,14 @@ fn check_tables<
             };
             Err(refused(rt, fault, b"", &paths, None, options, progress))
         }
+        Err(CheckFault::Reference(refused)) => Err(Diagnostic::from(refused_reference(
+            rt.alloc(),
+            refused,
+            &names,
+            headers,
+            form,
+        ))),
+        Err(CheckFault::OutOfMemory) => Err(Diagnostic::from(Refusal::OutOfMemory)),
     }
 }
 

@@ -27,6 +27,7 @@ pub enum Refusal {
     CannotRead(Vec<u8>),
     CannotWrite(Vec<u8>),
     Import(Vec<u8>),
+    Reference(Vec<u8>),
     Load(LoadFault),
     Statement(SqlFault),
     Plan(PlanFault),
@@ -125,6 +126,11 @@ impl Refusal {
             }
             Refusal::Import(text) => {
                 errors.write_all(b"tq: import ")?;
+                write_printable(errors, text)?;
+                errors.write_all(b"\n")
+            }
+            Refusal::Reference(text) => {
+                errors.write_all(b"tq: refers ")?;
                 write_printable(errors, text)?;
                 errors.write_all(b"\n")
             }

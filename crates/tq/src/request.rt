@@ -35,8 +35,8 @@ pub struct DrawRequest {
     pub svg: bool,
 }
 
-/// What `tq check` was asked: the tables in the order of their options, 1 to 16 workers, how instants are written, and
-/// whether to report overlapping rows of one key, and gaps between rows of one key.
+/// What `tq check` was asked: the tables in the order of their options, 1 to 16 workers, how instants are written,
+/// whether to report overlapping rows of one key, and gaps between rows of one key, and which references to check.
 #[derive(Drop)]
 pub struct CheckRequest {
     pub tables: Vec<TableOption>,
@@ -44,6 +44,7 @@ pub struct CheckRequest {
     pub form: Form,
     pub overlaps: bool,
     pub gaps: bool,
+    pub references: Vec<Vec<u8>>,
     ghost some_workers: { 1 ≤ workers },
     ghost few_workers: { workers ≤ 16 },
 }

@@ -1,11 +1,17 @@
 pub mod ApartLemmas
+pub mod CoverLemmas
 pub mod EqualRowLemmas
+pub mod InstantLemmas
 pub mod Joining
 pub mod KeyListLemmas
 pub mod KeyOrderLemmas
 pub mod KeyPassLemmas
 pub mod KeyRankLemmas
 pub mod KeyTextLemmas
+pub mod LinkLemmas
+pub mod OrphanLawLemmas
+pub mod OrphanLemmas
+pub mod ReferenceLemmas
 pub mod SortKeyLemmas
 pub mod Permuting
 pub mod RunLemmas

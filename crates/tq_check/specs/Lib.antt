@@ -1,9 +1,16 @@
 pub mod Checks
+pub mod CoverKeys
+pub mod Covers
 pub mod EqualRows
 pub mod KeyLaws
 pub mod KeyPasses
 pub mod KeyReports
 pub mod KeyRows
 pub mod Numbers
+pub mod OrphanLaws
+pub mod OrphanPasses
+pub mod Orphans
+pub mod ReferenceReports
+pub mod References
 pub mod Runs
 pub mod Reports

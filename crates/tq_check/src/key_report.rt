@@ -20,8 +20,8 @@ pub struct KeyChecks {
     pub gaps: bool,
 }
 
-// An instant, or `forever`.
-fn push_bound(text: &mut Vec<u8>, bound: u64, form: Form) -> Result<(), AllocError>
+/// Appends an instant, or `forever`.
+pub(crate) fn push_bound(text: &mut Vec<u8>, bound: u64, form: Form) -> Result<(), AllocError>
     ensures { OnOk result (text.new.items ≡ text.old.items ++ bound_text form bound) }
 {
     let Some(instant) = Instant::new(bound) else {
@@ -56,7 +56,13 @@ fn push_record(text: &mut Vec<u8>, label: &[u8], row: &KeyedRow) -> Result<(), A
     push_count(text, label, row.place as usize + 2)
 }
 
-fn push_period(text: &mut Vec<u8>, start: u64, end: u64, form: Form) -> Result<(), AllocError>
+/// Appends a period after its label.
+pub(crate) fn push_period(
+    text: &mut Vec<u8>,
+    start: u64,
+    end: u64,
+    form: Form,
+) -> Result<(), AllocError>
     ensures { OnOk result (text.new.items ≡ text.old.items ++ period_text form start end) }
 {
     text.extend_from_slice(b" period ")?;

@@ -1,6 +1,7 @@
-//! Laws of the rows of a table by key, for proofs. No code calls them.
+//! Laws of the rows of a table by key, and of references, for proofs. No code calls them.
 
 ghost use Rattle.tq_check.specs.KeyLaws.{AllAreListed, GapsAreGaps, KeyOrderIsUnique, OverlapsAreOverlaps};
+ghost use Rattle.tq_check.specs.OrphanLaws.{AllOrphansAreListed, MissingPeriodsAreFirst, OtherRowsHaveParents};
 
 /// The rows of a table have at most one order by key, start and place. So there is one text of a summary.
 pub fn key_order_is_unique()
@@ -20,4 +21,19 @@ pub fn overlaps_are_overlaps()
 /// In a gap that is listed no row of its key is valid.
 pub fn gaps_are_gaps()
     ensures { GapsAreGaps }
+{}
+
+/// The list of all rows that have no parent at some time is as long as their number.
+pub fn all_orphans_are_listed()
+    ensures { AllOrphansAreListed }
+{}
+
+/// What is listed of a row as missing is the first maximal period within its own in which it has no parent.
+pub fn missing_periods_are_first()
+    ensures { MissingPeriodsAreFirst }
+{}
+
+/// A row that is not listed has a parent at each instant of its period.
+pub fn other_rows_have_parents()
+    ensures { OtherRowsHaveParents }
 {}

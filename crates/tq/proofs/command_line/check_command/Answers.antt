@@ -1,7 +1,7 @@
 use Rattle.std.proofs.Common.{rules, codes, refl, ◌≡◌}
 use Rattle.std.proofs.lemmas.Result.{IfOk-weaker}
 use Rattle.clap.specs.Words.{app_of, new_app}
-use Rattle.tq.specs.CommandLine.{dates_rule, gaps_rule, overlaps_rule, table_rule, workers_rule}
+use Rattle.tq.specs.CommandLine.{dates_rule, gaps_rule, overlaps_rule, refers_rule, table_rule, workers_rule}
 use Rattle.tq.proofs.AppLemmas.{with_arg}
 use Rattle.tq.proofs.command_line.check_command.Goals as goal
 
@@ -12,4 +12,5 @@ returns c =
     let two = with_arg c.in_ok-arg.field-0 c.in_ok-arg-2.field-0 c.dates_argument.result _ dates_rule one c.dates_argument.ensures refl c.in_ok-arg-2.ensures in
     let three = with_arg c.in_ok-arg-2.field-0 c.in_ok-arg-3.field-0 c.workers_argument.result _ workers_rule two c.workers_argument.ensures refl c.in_ok-arg-3.ensures in
     let four = with_arg c.in_ok-arg-3.field-0 c.in_ok-arg-4.field-0 c.overlaps_argument.result _ overlaps_rule three c.overlaps_argument.ensures refl c.in_ok-arg-4.ensures in
-    IfOk-weaker c.arg-5.result _ _ (λ r added. with_arg c.in_ok-arg-4.field-0 r c.gaps_argument.result _ gaps_rule four c.gaps_argument.ensures refl added) c.arg-5.ensures
+    let five = with_arg c.in_ok-arg-4.field-0 c.in_ok-arg-5.field-0 c.gaps_argument.result _ gaps_rule four c.gaps_argument.ensures refl c.in_ok-arg-5.ensures in
+    IfOk-weaker c.arg-6.result _ _ (λ r added. with_arg c.in_ok-arg-5.field-0 r c.refers_argument.result _ refers_rule five c.refers_argument.ensures refl added) c.arg-6.ensures

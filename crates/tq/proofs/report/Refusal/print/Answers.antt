@@ -26,6 +26,14 @@ returns-in_ok-write_printable-in-Import g c =
     (λ end. Appends-trans _ _ _ _ _ c.in_ok-write_all-in-Import.ensures.bytes (Appends-trans _ _ _ _ _ path end))
     c.write_all-in-Import-2.ensures.bytes)
 
+pub returns-in_ok-write_printable-in-Reference : goal.returns-in_ok-write_printable-in-Reference
+returns-in_ok-write_printable-in-Reference g c =
+    let path = rw c.deref-in-Reference.ensures.value at c.in_ok-write_printable-in-Reference.ensures in
+    rw c.in-Reference.is
+    (on_ok_weaker c.write_all-in-Reference-2.result
+    (λ end. Appends-trans _ _ _ _ _ c.in_ok-write_all-in-Reference.ensures.bytes (Appends-trans _ _ _ _ _ path end))
+    c.write_all-in-Reference-2.ensures.bytes)
+
 pub returns-in-NoPlace : goal.returns-in-NoPlace
 returns-in-NoPlace g c = rw c.in-NoPlace.is c.write_all-in-NoPlace.ensures.bytes
 

@@ -1,0 +1,7 @@
+use Rattle.tq_check.specs.declared.references.Part.TheVariants.{Child}
+use Rattle.std.proofs.lemmas.Result.{IfErr-weaker}
+use Rattle.tq_check.proofs.ReferenceLemmas.{from_part}
+use Rattle.tq_check.proofs.references.child_named.Goals as goal
+
+pub returns-clause-fault : goal.returns-clause-fault
+returns-clause-fault c = IfErr-weaker c.column_named.result _ _ (from_part c.args.catalogue.now c.args.names.now Child) c.column_named.ensures.fault
