@@ -39,6 +39,7 @@ SHELL_PAGES = [
     "docs/reference/cli.md",
     "docs/reference/files.md",
     "docs/reference/language.md",
+    "docs/tasks.md",
 ]
 # The page whose commands are run in a terminal, and that terminal's columns.
 TERMINAL_PAGE = "examples/terminal.md"
