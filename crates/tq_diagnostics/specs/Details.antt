@@ -1,7 +1,7 @@
 -- The message for the fault of a statement. This project's own.
 use Rattle.std.specs.Prelude.{◌≡◌, ℕ, Bool, true, false, if◌then◌else◌, nat_lt, List, [], ◌++◌, codes, drop, length, take}
 use Rattle.tq_diagnostics.specs.Expected.{IsExpected}
-use Rattle.tq_diagnostics.specs.Hints.{sign_hint, word_hint}
+use Rattle.tq_diagnostics.specs.Hints.{byte_hint, token_hint}
 use Rattle.tq_diagnostics.specs.Pointing.{pointed}
 use Rattle.tq_sql.specs.declared.fault.SqlFaultKind.{SqlFaultKind}
 use Rattle.tq_sql.specs.declared.fault.SqlFaultKind.TheVariants.{BadByte, NumberTooLarge, OutOfMemory, TooDeep, TooLong, UnclosedText, UnexpectedToken}
@@ -23,8 +23,8 @@ or_meaning hint kind = if nat_lt 0 (length hint) then hint else meaning_of kind
 -- the explanation of a fault between the text before it and from it on: the hint for a sign or a word of another
 -- dialect, else the message for the kind
 abbrev pub explanation_of : SqlFaultKind → List ℕ → List ℕ → List ℕ
-explanation_of BadByte front rest = or_meaning (sign_hint rest) BadByte
-explanation_of UnexpectedToken front rest = word_hint front rest
+explanation_of BadByte front rest = or_meaning (byte_hint front rest) BadByte
+explanation_of UnexpectedToken front rest = token_hint front rest
 explanation_of NumberTooLarge front rest = meaning_of NumberTooLarge
 explanation_of UnclosedText front rest = meaning_of UnclosedText
 explanation_of TooDeep front rest = meaning_of TooDeep

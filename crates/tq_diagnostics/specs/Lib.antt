@@ -1,4 +1,5 @@
 pub mod Probes
+pub mod Clauses
 pub mod Details
 pub mod InvalidRecords
 pub mod Expected

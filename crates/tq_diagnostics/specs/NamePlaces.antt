@@ -1,9 +1,13 @@
 -- The places of the names in a statement's text: its words outside quotes that are not keywords. This project's own.
-use Rattle.std.specs.Prelude.{ℕ, ◌+◌, ◌-◌, ◌==◌, Bool, false, not, ◌&&◌, if◌then◌else◌, List, [], ◌∷◌, drop, Option, None, Some}
+use Rattle.std.specs.Prelude.{ℕ, ◌+◌, ◌-◌, ◌==◌, Bool, false, not, ◌&&◌, if◌then◌else◌, List, [], ◌∷◌, drop, take, Option, None, Some}
+use Rattle.std.specs.List.{prefix_len}
 use Rattle.std.specs.Str.{str_eq_ignore_ascii_case}
 use Rattle.tq_base.specs.Names.{is_name_byte, is_name_start, is_reserved}
-use Rattle.tq_diagnostics.specs.Hints.{first_word}
 use Rattle.tq_diagnostics.specs.Pointing.{pointed}
+
+-- the first word
+abbrev pub first_word : List ℕ → List ℕ
+first_word bytes = take (prefix_len is_name_byte bytes) bytes
 
 -- whether a quote is open after the byte
 abbrev pub quoted_after : Bool → ℕ → Bool

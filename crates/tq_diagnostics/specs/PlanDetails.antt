@@ -1,13 +1,17 @@
 -- The message for a statement that has no plan over the tables. This project's own.
-use Rattle.std.specs.Prelude.{◌≡◌, ℕ, ◌==◌, Bool, true, false, if◌then◌else◌, List, [], ◌++◌, codes, position, Option, None, Some}
+use Rattle.std.specs.Prelude.{◌≡◌, ℕ, ◌-◌, ◌==◌, Bool, true, false, not, ◌&&◌, if◌then◌else◌, List, [], ◌++◌, codes, drop, length, min, position, slice_index, take, Option, None, Some, is_some}
+use Rattle.std.specs.List.{ends_with}
+use Rattle.tq_base.specs.Numbers.{instant_of}
 use Rattle.tq_base.specs.declared.catalogue.Catalogue.{Catalogue}
 use Rattle.tq_base.specs.declared.form.Form.{Form}
 use Rattle.tq_base.specs.declared.form.Form.TheVariants.{Dates, Numbers}
 use Rattle.tq_plan.specs.declared.fault.PlanFault.{PlanFault}
 use Rattle.tq_plan.specs.declared.fault.PlanFault.TheVariants.{AmbiguousColumn, BadWindow, DuplicateAlias, NotGrouped, OutOfMemory, SumNeedsGroup, SumOfText, TypeMismatch, UnequalColumns, UnknownColumn, UnknownTable}
+use Rattle.tq_plan.specs.Plans.{plan_of}
 use Rattle.tq_sql.specs.Reading.{ParsesTo}
 use Rattle.tq_sql.specs.declared.statement.Statement.{Statement}
-use Rattle.tq_diagnostics.specs.Probes.{Probe, Column, Count, Equality, QueryPart, Sum, first_refused}
+use Rattle.tq_diagnostics.specs.Fields.{shown_value}
+use Rattle.tq_diagnostics.specs.Probes.{Probe, Column, Count, Equality, QueryPart, Sum, first_refused, is_fault}
 use Rattle.tq_diagnostics.specs.Listing.{sources_having, is_text, left_of, mismatch_line, source_line, table_line, unknown_lines}
 use Rattle.tq_diagnostics.specs.NamePlaces.{pointed_name}
 use Rattle.tq_diagnostics.specs.Parts.{statement_parts}
@@ -72,19 +76,72 @@ abbrev pub window_line : Form → List ℕ
 window_line Numbers = codes "  write the window as '[10 - 20)' or '[10 - forever)', with its start before its end\n"
 window_line Dates = codes "  write the window as '[2024-02-29 - 2024-03-01)' or '[2024-02-29 - forever)', with its start before its end\n"
 
+-- for a window that is one in the other form, by the form that was asked for
+abbrev pub other_form_line : Form → List ℕ
+other_form_line Numbers = codes "  the window has dates: use --dates\n"
+other_form_line Dates = codes "  with --dates write days, as in '[2024-02-29 - 2024-03-01)' or '[2024-02-29 - forever)'\n"
+
+-- for a window that ends with a square bracket
+abbrev pub closed_line : Form → List ℕ
+closed_line Numbers = codes "  a window ends with `)`, since its end is not included: write '[10 - 21)' for 10 to 20\n"
+closed_line Dates = codes "  a window ends with `)`, since its end is not included: write '[2024-02-01 - 2024-03-01)' for February\n"
+
+-- whether the bytes have the hyphens of a date, and are not a day
+abbrev pub is_no_day : List ℕ → Bool
+is_no_day bytes =
+    length bytes == 10 && (slice_index bytes 4 == 45 && (slice_index bytes 7 == 45 && not (is_some (instant_of Dates bytes))))
+
+-- the ten bytes after a bracket
+abbrev pub first_day : List ℕ → List ℕ
+first_day window = let rest = drop (min (length window) 1) window in take (min (length rest) 10) rest
+
+-- the ten bytes before a bracket
+abbrev pub last_day : List ℕ → List ℕ
+last_day window = let front = take (length window - 1) window in drop (length front - 10) front
+
+abbrev pub no_day_line : List ℕ → List ℕ
+no_day_line day = codes "  `" ++ shown_value day ++ codes "` is not a day of the calendar\n"
+
+-- the day of a window that does not exist, or how a window is written
+abbrev pub bounds_line : Form → List ℕ → List ℕ
+bounds_line form window =
+    if is_no_day (first_day window) then no_day_line (first_day window)
+    else (if is_no_day (last_day window) then no_day_line (last_day window) else window_line form)
+
+-- what is wrong with the text of a window, and whether it is one in the other form
+abbrev pub window_hint : Form → Bool → List ℕ → List ℕ
+window_hint form read window =
+    if read then other_form_line form
+    else (if ends_with (λ a b. a == b) window (codes "]") then closed_line form else bounds_line form window)
+
+abbrev pub other_form : Form → Form
+other_form Numbers = Dates
+other_form Dates = Numbers
+
+-- whether the window of the statement is one in this form
+unfoldable pub reads_window : Form → Catalogue → Statement → Bool
+reads_window form catalogue statement = not (is_fault BadWindow (plan_of form catalogue statement))
+
+-- the text of a window, or nothing
+abbrev pub window_text : Option (List ℕ) → List ℕ
+window_text None = []
+window_text (Some text) = text
+
 abbrev pub pointed_quote : List ℕ → Option ℕ → List ℕ
 pointed_quote bytes None = []
 pointed_quote bytes (Some place) = pointed bytes place
 
--- the line of the first quote with a caret below it, and how a window is written
-abbrev pub window_detail : Form → List ℕ → List ℕ
-window_detail form bytes = pointed_quote bytes (position (λ byte. byte == 39) bytes) ++ window_line form
+-- the line of the first quote with a caret below it, and what is wrong with the window
+abbrev pub window_detail : Form → Catalogue → List ℕ → Statement → List ℕ
+window_detail form catalogue bytes statement =
+    pointed_quote bytes (position (λ byte. byte == 39) bytes)
+    ++ window_hint form (reads_window (other_form form) catalogue statement) (window_text statement.window)
 
 -- the message for the fault of a statement with this text: for its window if the fault is there, else for the first
 -- part that has this fault by itself
 abbrev pub plan_detail : Form → Catalogue → List ℕ → PlanFault → Statement → List ℕ
 plan_detail form catalogue bytes fault statement =
-    if is_bad_window fault then window_detail form bytes else part_detail catalogue bytes fault (first_refused catalogue fault (statement_parts statement))
+    if is_bad_window fault then window_detail form catalogue bytes statement else part_detail catalogue bytes fault (first_refused catalogue fault (statement_parts statement))
 
 -- The message for the fault that the statement of this text has over the tables.
 abbrev pub IsPlanDetail : Form → Catalogue → List ℕ → PlanFault → List ℕ → Type 0

@@ -8,6 +8,7 @@
 //! Open `src/statements.rt` first.
 #![tactic(auto)]
 
+mod clauses;
 mod expected;
 mod faults;
 mod fields;

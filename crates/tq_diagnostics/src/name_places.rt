@@ -7,8 +7,8 @@ use crate::pointing::push_pointed;
 use std::alloc::{AllocError, Global};
 use tq_base::{is_name_byte, is_name_start, is_reserved, is_same_word, word_length};
 
-// Whether a quote is open after the byte.
-fn quoted_after(quoted: bool, byte: u8) -> bool
+/// Whether a quote is open after the byte.
+pub(crate) fn quoted_after(quoted: bool, byte: u8) -> bool
     ensures { result ≡ quoted_after quoted byte }
 {
     if byte == b'\'' { !quoted } else { quoted }

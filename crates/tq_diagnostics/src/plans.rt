@@ -1,16 +1,17 @@
 // Messages about a statement that has no plan over the tables.
 
 ghost use Rattle.std.specs.Prelude.{◌≡◌, ◌<◌, ◌==◌, ◌++◌, IfOk, IfSome, OnOk, length, option_copied, position};
-ghost use Rattle.tq_diagnostics.specs.PlanDetails.{IsPlanDetail, IsRead, is_bad_window, part_detail, plan_detail, pointed_quote, rule_line, source_named, part_hint, window_detail, window_line};
+ghost use Rattle.tq_diagnostics.specs.PlanDetails.{IsPlanDetail, IsRead, bounds_line, closed_line, first_day, is_bad_window, is_no_day, last_day, no_day_line, other_form, other_form_line, part_detail, plan_detail, pointed_quote, reads_window, rule_line, source_named, part_hint, window_detail, window_hint, window_line, window_text};
 ghost use Rattle.tq_diagnostics.specs.Views.{probe_view, optional_part_view, part_view};
 
+use crate::fields::push_value;
 use crate::listing::{push_mismatch, push_sources, push_sources_having, push_tables, push_unknown};
 use crate::name_places::push_pointed_name;
 use crate::parts::statement_parts;
 use crate::pointing::push_pointed;
-use crate::probe_statement::{Part, Probe, first_refused};
+use crate::probe_statement::{Part, Probe, first_refused, has_fault};
 use std::alloc::{AllocError, Global};
-use tq_base::{Catalogue, Form, Name};
+use tq_base::{Catalogue, Form, Name, Text, read_instant};
 use tq_plan::PlanFault;
 use tq_sql::laws::{faults_are_refusals, statements_are_unique};
 use tq_sql::{SqlFaultKind, Statement, read};
@@ -137,6 +138,130 @@ fn window_line(form: Form) -> &'static [u8]
     }
 }
 
+// For a window that is one in the other form, by the form that was asked for.
+fn other_form_line(form: Form) -> &'static [u8]
+    ensures { result.now ≡ other_form_line form }
+{
+    match form {
+        Form::Numbers => b"  the window has dates: use --dates\n",
+        Form::Dates => {
+            b"  with --dates write days, as in '[2024-02-29 - 2024-03-01)' or '[2024-02-29 - forever)'\n"
+        }
+    }
+}
+
+// For a window that ends with a square bracket.
+fn closed_line(form: Form) -> &'static [u8]
+    ensures { result.now ≡ closed_line form }
+{
+    match form {
+        Form::Numbers => {
+            b"  a window ends with `)`, since its end is not included: write '[10 - 21)' for 10 to 20\n"
+        }
+        Form::Dates => {
+            b"  a window ends with `)`, since its end is not included: write '[2024-02-01 - 2024-03-01)' for February\n"
+        }
+    }
+}
+
+// Whether the bytes have the hyphens of a date, and are not a day.
+fn is_no_day(bytes: &[u8]) -> bool
+    ensures { result ≡ is_no_day bytes.now }
+{
+    bytes.len() == 10
+        && bytes[4] == b'-'
+        && bytes[7] == b'-'
+        && read_instant(bytes, Form::Dates).is_none()
+}
+
+// The ten bytes after a bracket.
+fn first_day(window: &[u8]) -> &[u8]
+    ensures { result.now ≡ first_day window.entry.now }
+{
+    let rest = &window[window.len().min(1)..];
+    &rest[..rest.len().min(10)]
+}
+
+// The ten bytes before a bracket.
+fn last_day(window: &[u8]) -> &[u8]
+    ensures { result.now ≡ last_day window.entry.now }
+{
+    let front = &window[..window.len().saturating_sub(1)];
+    &front[front.len().saturating_sub(10)..]
+}
+
+fn push_no_day(text: &mut Vec<u8>, day: &[u8]) -> Result<(), AllocError>
+    ensures { OnOk result (text.new.items ≡ text.old.items ++ no_day_line day.now) }
+{
+    text.extend_from_slice(b"  `")?;
+    push_value(text, day)?;
+    text.extend_from_slice(b"` is not a day of the calendar\n")
+}
+
+// Appends the day of a window that does not exist, or how a window is written.
+fn push_bounds(text: &mut Vec<u8>, form: Form, window: &[u8]) -> Result<(), AllocError>
+    ensures { OnOk result (text.new.items ≡ text.old.items ++ bounds_line form window.now) }
+{
+    if is_no_day(first_day(window)) {
+        return push_no_day(text, first_day(window));
+    }
+    if is_no_day(last_day(window)) {
+        return push_no_day(text, last_day(window));
+    }
+    text.extend_from_slice(window_line(form))
+}
+
+// Appends what is wrong with the text of a window; `read` if it is one in the other form.
+fn push_window_hint(
+    text: &mut Vec<u8>,
+    form: Form,
+    read: bool,
+    window: &[u8],
+) -> Result<(), AllocError>
+    ensures { OnOk result (text.new.items ≡ text.old.items ++ window_hint form read window.now) }
+{
+    if read {
+        return text.extend_from_slice(other_form_line(form));
+    }
+    if window.ends_with(b"]") {
+        return text.extend_from_slice(closed_line(form));
+    }
+    push_bounds(text, form, window)
+}
+
+fn other_form(form: Form) -> Form
+    ensures { result ≡ other_form form }
+{
+    match form {
+        Form::Numbers => Form::Dates,
+        Form::Dates => Form::Numbers,
+    }
+}
+
+// Whether the window of the statement is one in this form.
+#[tactic(auto, unfolding(crate::specs::PlanDetails::reads_window))]
+fn reads_window(
+    alloc: Global,
+    catalogue: &Catalogue,
+    statement: &Statement,
+    form: Form,
+) -> Result<bool, AllocError>
+    ensures { IfOk result (λ reads. reads ≡ reads_window form catalogue.now statement.now) }
+{
+    let faulty = has_fault(alloc, catalogue, PlanFault::BadWindow, statement, form)?;
+    Ok(!faulty)
+}
+
+// The text of a window, or nothing.
+fn window_text(window: Option<&Text>) -> &[u8]
+    ensures { result.now ≡ window_text (option_copied window.entry) }
+{
+    match window {
+        Some(text) => text.get().as_bytes(),
+        None => b"",
+    }
+}
+
 // The byte of the first quote.
 fn quote_in(bytes: &[u8]) -> Option<usize>
     ensures place { result ≡ position (λ byte. byte == 39) bytes.now }
@@ -154,13 +279,25 @@ fn push_quote(alloc: Global, text: &mut Vec<u8>, bytes: &[u8]) -> Result<(), All
     push_pointed(alloc, text, bytes, place)
 }
 
-// The line of the first quote with a caret below it, and how a window is written.
-fn window_detail(alloc: Global, bytes: &[u8], form: Form) -> Result<Vec<u8>, AllocError>
-    ensures { IfOk result (λ text. text.items ≡ window_detail form bytes.now) }
+// The line of the first quote with a caret below it, and what is wrong with the window.
+fn window_detail(
+    alloc: Global,
+    catalogue: &Catalogue,
+    bytes: &[u8],
+    statement: &Statement,
+    form: Form,
+) -> Result<Vec<u8>, AllocError>
+    ensures { IfOk result (λ text. text.items ≡ window_detail form catalogue.now bytes.now statement.now) }
 {
+    let read = reads_window(alloc, catalogue, statement, other_form(form))?;
     let mut text = Vec::new(alloc);
     push_quote(alloc, &mut text, bytes)?;
-    text.extend_from_slice(window_line(form))?;
+    push_window_hint(
+        &mut text,
+        form,
+        read,
+        window_text(statement.window.as_ref()),
+    )?;
     Ok(text)
 }
 
@@ -176,7 +313,7 @@ fn plan_detail(
     ensures { IfOk result (λ text. text.items ≡ plan_detail form catalogue.now bytes.now fault statement.now) }
 {
     if is_bad_window(fault) {
-        return window_detail(alloc, bytes, form);
+        return window_detail(alloc, catalogue, bytes, statement, form);
     }
     let mut text = Vec::new(alloc);
     let parts = statement_parts(alloc, statement)?;

@@ -163,6 +163,23 @@ fn is_same_fault(left: PlanFault, right: PlanFault) -> bool
     left == right
 }
 
+/// Whether the statement has exactly this fault if its window is written in the form.
+pub(crate) fn has_fault(
+    alloc: Global,
+    catalogue: &Catalogue,
+    fault: PlanFault,
+    statement: &Statement,
+    form: Form,
+) -> Result<bool, AllocError>
+    ensures { IfOk result (λ has. has ≡ is_fault fault (plan_of form catalogue.now statement.now)) }
+{
+    match plan(alloc, catalogue, statement, form) {
+        Ok(_) => Ok(false),
+        Err(PlanFault::OutOfMemory) => Err(AllocError),
+        Err(other) => Ok(is_same_fault(other, fault)),
+    }
+}
+
 /// Whether the probe over the sources has exactly this fault.
 #[tactic(auto, unfolding(crate::specs::Probes::is_refused))]
 pub(crate) fn is_refused(
@@ -175,11 +192,7 @@ pub(crate) fn is_refused(
     ensures { IfOk result (λ refused. refused ≡ is_refused catalogue.now fault sources.now (probe_view probe.now)) }
 {
     let statement = probe_statement(alloc, sources, probe)?;
-    match plan(alloc, catalogue, &statement, Form::Numbers) {
-        Ok(_) => Ok(false),
-        Err(PlanFault::OutOfMemory) => Err(AllocError),
-        Err(other) => Ok(is_same_fault(other, fault)),
-    }
+    has_fault(alloc, catalogue, fault, &statement, Form::Numbers)
 }
 
 /// The first part that has exactly this fault.

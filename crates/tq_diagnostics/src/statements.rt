@@ -4,7 +4,7 @@ ghost use Rattle.std.specs.Prelude.{◌≡◌, ◌≤◌, ◌++◌, ℕ, List, I
 ghost use Rattle.tq_diagnostics.specs.Details.{IsDetail, IsExpectedIf, has_expected, has_place, line_of, meaning_of, or_meaning, located_text, explanation_of};
 
 use crate::expected::push_expected;
-use crate::hints::{sign_hint, word_hint};
+use crate::hints::{byte_hint, token_hint};
 use crate::pointing::push_pointed;
 use std::alloc::{AllocError, Global};
 use tq_sql::{SqlFault, SqlFaultKind};
@@ -43,8 +43,11 @@ fn explanation(
     ensures { IfOk result (λ explanation. explanation.now ≡ explanation_of kind front.now rest.now) }
 {
     match kind {
-        SqlFaultKind::BadByte => Ok(or_meaning(sign_hint(rest), kind)),
-        SqlFaultKind::UnexpectedToken => word_hint(alloc, front, rest),
+        SqlFaultKind::BadByte => {
+            let hint = byte_hint(alloc, front, rest)?;
+            Ok(or_meaning(hint, kind))
+        }
+        SqlFaultKind::UnexpectedToken => token_hint(alloc, front, rest),
         _ => Ok(meaning(kind)),
     }
 }
