@@ -20,9 +20,10 @@ use Rattle.tq_import.specs.declared.fault.RecordFault.{RecordFault}
 use Rattle.tq_import.specs.declared.fault.RecordFaultKind.TheVariants.{FieldCount}
 use Rattle.tq_import.specs.declared.plan.PlannedColumn.{PlannedColumn}
 use Rattle.tq_import.specs.declared.plan.Plan.{Plan}
-use Rattle.tq_import.specs.Imports.{column_field, kind_word, lines_after, number_header, table_header}
-use Rattle.tq_import.specs.Loads.{AreNamed, ImportsAreReadBack, imported_records}
+use Rattle.tq_import.specs.Imports.{column_field, import_of, kind_word, lines_after, number_header, table_header}
+use Rattle.tq_import.specs.Loads.{ImportsAreReadBack, imported_records}
 use Rattle.tq_import.specs.Records.{import_record, period_in, period_texts, row_number, values_after}
+use Rattle.tq_import.specs.Tables.{IsLoadable}
 use Rattle.tq_import.specs.Times.{form_of}
 
 both : (a b : Bool) → (a && b) ≡ true → (a ≡ true) × (b ≡ true)
@@ -84,7 +85,7 @@ rows_read rows = read_all rows (length (rows_text rows) + 1) (omega (arith, rows
 -- ---- the first byte
 
 -- the text begins with a byte that begins no byte order mark
-record Plain (text : List ℕ) : Type 0 where
+pub record Plain (text : List ℕ) : Type 0 where
   pub first : ℕ
   pub rest : List ℕ
   pub is : text ≡ first ∷ rest
@@ -181,7 +182,7 @@ folded_plain name (bytes, is) = by bytes (is_name bytes) refl is
         subst Plain same (formed bytes (both (has_name_form bytes) (nat_le (length bytes) 64) (both (has_name_form bytes && nat_le (length bytes) 64) (not (is_reserved bytes)) named).0).0)
     by bytes false named f = cc f
 
-header_plain : (plan : Plan) (tail : List ℕ) → AreNamed plan → Plain (row_text default_writer (table_header plan) ++ tail)
+header_plain : (plan : Plan) (tail : List ℕ) → All (λ (c : PlannedColumn). IsFoldedName c.name) plan.columns → Plain (row_text default_writer (table_header plan) ++ tail)
 header_plain plan tail named = by plan.numbered plan.columns named
   where
     by : (b : Bool) (columns : List PlannedColumn) → All (λ (c : PlannedColumn). IsFoldedName c.name) columns
@@ -203,15 +204,27 @@ header_back plan = by (number_header plan.numbered)
 
 -- ---- the file
 
+-- the text is the lines of the header and of the records
+text_lines : (plan : Plan) (rows : List (List (List ℕ))) (text : List ℕ) (e : import_of plan rows ≡ Ok text) → let l = lines_of plan (row_text answer_format (table_header plan)) 2 rows text e in text ≡ rows_text (table_header plan ∷ l.lines)
+unfolding rows_text
+text_lines plan rows text e =
+    let l = lines_of plan (row_text answer_format (table_header plan)) 2 rows text e in
+    l.is ∙ ap (λ (t : List ℕ). t ++ rows_text l.lines) (same_row (table_header plan))
+
+pub plain_text : (plan : Plan) (rows : List (List (List ℕ))) (text : List ℕ) → IsLoadable plan → import_of plan rows ≡ Ok text → Plain text
+unfolding rows_text
+plain_text plan rows text loadable e =
+    let l = lines_of plan (row_text answer_format (table_header plan)) 2 rows text e in
+    subst Plain (sym (text_lines plan rows text e)) (header_plain plan (rows_text l.lines) loadable.named)
+
 pub read_back_of : ImportsAreReadBack
 unfolding rows_text
-read_back_of plan rows text named e =
+read_back_of plan rows text loadable e =
     let l = lines_of plan (row_text answer_format (table_header plan)) 2 rows text e in
-    let whole : text ≡ rows_text (table_header plan ∷ l.lines) = l.is ∙ ap (λ (t : List ℕ). t ++ rows_text l.lines) (same_row (table_header plan)) in
-    let plain = header_plain plan (rows_text l.lines) named in (
+    let plain = header_plain plan (rows_text l.lines) loadable.named in (
       l.lines,
       l.are,
-      ap csv_records whole
+      ap csv_records (text_lines plan rows text e)
           ∙ ap (records default_config) (plain_same (rows_text (table_header plan ∷ l.lines)) plain)
           ∙ rows_read (table_header plan ∷ l.lines)
           ∙ (λ i. header_back plan i ∷ l.back i),

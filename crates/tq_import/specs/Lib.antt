@@ -3,6 +3,7 @@ pub mod Dates
 pub mod Times
 pub mod Reading
 pub mod Records
+pub mod Tables
 pub mod HeaderNames
 pub mod Kinds
 pub mod Imports

@@ -14,6 +14,7 @@ use Rattle.tq_import.specs.declared.plan.PlannedColumn.{PlannedColumn}
 use Rattle.tq_import.specs.declared.plan.Plan.{Plan}
 use Rattle.tq_import.specs.HeaderNames.{suggested_name}
 use Rattle.tq_import.specs.Records.{field_of}
+use Rattle.tq_import.specs.Tables.{AreTableColumns, IsLoadable}
 
 -- ---- columns
 
@@ -74,15 +75,22 @@ IsColumn options header found column =
 abbrev pub places_of : List PlannedColumn → List ℕ
 places_of columns = map (λ (c : PlannedColumn). c.place) columns
 
+-- rows are numbered if there is no key
+abbrev pub is_numbered : Option (List ℕ) → Bool
+is_numbered None = true
+is_numbered (Some key) = false
+
 -- the column of the key alone, if there is one
 pub record AreKeyColumns (options : ImportOptions) (header : List (List ℕ)) (columns : List PlannedColumn) : Type 0 where
   pub key : IsKeyPlace options.key header (places_of columns)
   pub each : (found : List Conversion) → All (IsColumn options header found) columns
+  pub table : AreTableColumns (is_numbered options.key) columns
 
 -- the columns with that of a field, if it is a column besides the key
 pub record AddsValue (options : ImportOptions) (header : List (List ℕ)) (found : List Conversion) (place : ℕ) (old new : List PlannedColumn) : Type 0 where
   pub places : places_of new ≡ places_of old ++ (if is_value options (field_of header place) then place ∷ [] else [])
   pub each : All (IsColumn options header found) old → All (IsColumn options header found) new
+  pub table : AreTableColumns (is_numbered options.key) old → AreTableColumns (is_numbered options.key) new
 
 -- the key comes first, then the other columns in the order of the header; each has the name and the kind of its field
 pub record AreColumns (options : ImportOptions) (header : List (List ℕ)) (found : List Conversion) (columns : List PlannedColumn) : Type 0 where
@@ -90,22 +98,20 @@ pub record AreColumns (options : ImportOptions) (header : List (List ℕ)) (foun
   pub is_key : IsKeyPlace options.key header key
   pub places : places_of columns ≡ key ++ value_places options header (length header)
   pub each : All (IsColumn options header found) columns
+  pub table : AreTableColumns (is_numbered options.key) columns
 
 -- ---- the plan
-
-abbrev pub is_numbered : Option (List ℕ) → Bool
-is_numbered None = true
-is_numbered (Some key) = false
 
 -- the field of the header at the place has the name
 abbrev pub IsAt : List (List ℕ) → List ℕ → ℕ → Type 0
 IsAt header name place = (place < length header) × (field_of header place ≡ name)
 
--- the plan for files with this header
+-- the plan for files with this header; its columns are those of a table
 pub record IsPlan (options : ImportOptions) (header : List (List ℕ)) (found : List Conversion) (plan : Plan) : Type 0 where
   pub width : plan.width ≡ length header
   pub numbered : plan.numbered ≡ is_numbered options.key
   pub columns : AreColumns options header found plan.columns
+  pub loadable : IsLoadable plan
   pub from : IsAt header options.from plan.from
   pub to : IsAt header options.to plan.to
   pub numbers : plan.numbers ≡ options.numbers

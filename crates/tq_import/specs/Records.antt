@@ -1,6 +1,6 @@
 -- What one record of an exported file becomes: the first fault, or the fields of a record of a table file. This project's
 -- own.
-use Rattle.std.specs.Prelude.{◌≡◌, ℕ, ◌-◌, ◌==◌, not, nat_lt, ℤ, Bool, if◌then◌else◌, List, [], ◌∷◌, ◌++◌, decimal, length, slice_index_or, Option, Some, None, Result, Ok, Err}
+use Rattle.std.specs.Prelude.{◌≡◌, ℕ, ◌-◌, ◌==◌, not, nat_lt, ℤ, Bool, if◌then◌else◌, List, [], ◌∷◌, ◌++◌, decimal, filter, is_ok, length, slice_index_or, Option, Some, None, Result, Ok, Err}
 use Rattle.std.specs.Fmt.{signed_decimal}
 use Rattle.std.specs.Str.{is_utf8}
 use Rattle.csv.specs.Records.{Row, fields_of, partial_of}
@@ -85,6 +85,17 @@ import_record plan number fields =
     else and_then (values_after (row_number plan.numbered number) plan.numbers plan.columns fields) (λ values.
     and_then (period_in plan fields) (λ period.
     Ok (values ++ period_texts (form_of plan.times.now.dates) period)))
+
+-- whether the record has no fault, which its number does not change
+abbrev pub is_valid : Plan → List (List ℕ) → Bool
+is_valid plan fields = is_ok (import_record plan 2 fields)
+
+-- the records without a fault, and below, the others
+abbrev pub valid_records : Plan → List (List (List ℕ)) → List (List (List ℕ))
+valid_records plan records = filter (is_valid plan) records
+
+abbrev pub invalid_records : Plan → List (List (List ℕ)) → List (List (List ℕ))
+invalid_records plan records = filter (λ fields. not (is_valid plan fields)) records
 
 -- the record holds exactly these fields
 abbrev pub HasFields : Row → List (List ℕ) → Type 0

@@ -1,7 +1,7 @@
 //! Laws of the conversions: functions with an empty body whose contract is the law.
 
 ghost use Rattle.tq_import.specs.Laws.{DatesAreWrittenBack, EndsAreKept, UnitsAreExact};
-ghost use Rattle.tq_import.specs.Loads.{ImportsAreReadBack};
+ghost use Rattle.tq_import.specs.Loads.{ImportedFilesLoad, ImportsAreReadBack, ImportsLoad};
 
 use tq_base::laws::dates_round_trip;
 
@@ -25,4 +25,15 @@ pub fn ends_are_kept()
 /// The text of an import is read as its header and the fields of each record, one after the other.
 pub fn imports_are_read_back()
     ensures { ImportsAreReadBack }
+{}
+
+/// The text of an import loads, by the loader's own definition: the table has the planned columns and the rows that the
+/// records mean, in order, if the loader's limit on events allows for them.
+pub fn imports_load()
+    ensures { ImportsLoad }
+{}
+
+/// A file with the text of an import holds one table with these columns and rows.
+pub fn imported_files_load()
+    ensures { ImportedFilesLoad }
 {}

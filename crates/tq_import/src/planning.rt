@@ -1,11 +1,14 @@
 // The plan for a file, from its header.
 
-ghost use Rattle.std.specs.Prelude.{◌≡◌, ◌<◌, ◌++◌, ◌∷◌, [], IfOk, IfSome, OnOk, length};
+ghost use Rattle.std.specs.Prelude.{◌≡◌, ◌<◌, ◌++◌, ◌∷◌, [], IfOk, IfSome, OnOk, codes, length, nat_le};
 ghost use Rattle.std.specs.List.{list_any};
 ghost use Rattle.std.specs.Str.{bytes_eq};
 ghost use Rattle.csv.specs.Records.{fields_of};
-ghost use Rattle.tq_import.specs.Plans.{AddsValue, AreColumns, AreKeyColumns, IsAt, IsColumnAt, IsPlan, found_at, is_key, is_selected, is_value, kind_for, new_name};
+ghost use Rattle.tq_event.specs.Laws.{IsFoldedName};
+ghost use Rattle.tq_event.specs.Loading.{has_column};
+ghost use Rattle.tq_import.specs.Plans.{AddsValue, AreColumns, AreKeyColumns, IsAt, IsColumnAt, IsPlan, found_at, is_key, is_numbered, is_selected, is_value, kind_for, new_name};
 ghost use Rattle.tq_import.specs.Records.{field_of};
+ghost use Rattle.tq_import.specs.Tables.{AreTableColumns, columns_with};
 
 use crate::names::suggested_name;
 use crate::options::{GivenKind, ImportOptions, Rename, Selection};
@@ -183,12 +186,50 @@ fn column_at(
     })
 }
 
-// Whether a column has the name.
-fn is_taken(numbered: bool, columns: &[PlannedColumn], name: &Name) -> bool {
-    (numbered && name.bytes() == b"row".as_slice())
-        || columns
-            .iter()
-            .any(|column| column.name.bytes() == name.bytes())
+fn is_numbered(key: &Option<List<u8>>) -> bool
+    ensures { result ≡ is_numbered key.now }
+{
+    match key {
+        None => true,
+        Some(_) => false,
+    }
+}
+
+fn has_planned(columns: &[PlannedColumn], name: &[u8]) -> bool
+    ensures { result ≡ list_any (λ column. bytes_eq column.name name.now) columns.now }
+{
+    columns.iter().any(|column| column.name.bytes() == name)
+}
+
+// Whether the column of row numbers has the name.
+fn is_number_column(name: &[u8]) -> bool
+    ensures { result ≡ bytes_eq (codes "row") name.now }
+{
+    b"row".as_slice() == name
+}
+
+// Whether a column of the table has the name.
+fn is_taken(numbered: bool, columns: &[PlannedColumn], name: &[u8]) -> bool
+    ensures { result ≡ has_column (columns_with numbered columns.now) name.now }
+{
+    if numbered {
+        if is_number_column(name) {
+            return true;
+        }
+        return has_planned(columns, name);
+    }
+    has_planned(columns, name)
+}
+
+// Whether the table has the most columns.
+fn is_full(numbered: bool, columns: &[PlannedColumn]) -> bool
+    ensures { result ≡ nat_le 16 (length (columns_with numbered columns.now)) }
+{
+    if numbered {
+        columns.len() >= MAX_COLUMNS - 1
+    } else {
+        columns.len() >= MAX_COLUMNS
+    }
 }
 
 // Adds a column.
@@ -198,12 +239,13 @@ fn add_column(
     columns: &mut Vec<PlannedColumn>,
     column: PlannedColumn,
 ) -> Result<(), PlanFault>
-    ensures { OnOk result (columns.new.items ≡ columns.old.items ++ column ∷ []) }
+    ensures items { OnOk result (columns.new.items ≡ columns.old.items ++ column ∷ []) }
+    ensures table { IsFoldedName column.name → AreTableColumns numbered columns.old.items → OnOk result (AreTableColumns numbered columns.new.items) }
 {
-    if is_taken(numbered, columns, &column.name) {
+    if is_taken(numbered, columns, column.name.bytes()) {
         return Err(fault_about(alloc, PlanFaultKind::DuplicateName, column.name.bytes()));
     }
-    if columns.len() + usize::from(numbered) >= MAX_COLUMNS {
+    if is_full(numbered, columns) {
         return Err(PlanFault {
             kind: PlanFaultKind::TooManyColumns,
             name: None,
@@ -230,7 +272,7 @@ fn key_columns(
     if matches!(column.conversion, Conversion::Text) {
         return Err(fault_about(alloc, PlanFaultKind::TextKey, key.get()));
     }
-    add_column(alloc, false, &mut columns, column)?;
+    columns.push(column).map_err(AllocError::from)?;
     Ok(columns)
 }
 
@@ -256,7 +298,7 @@ fn add_value(
         return Ok(());
     }
     let column = column_at(alloc, options, header, place, found_at(found, place))?;
-    add_column(alloc, options.key.is_none(), columns, column)?;
+    add_column(alloc, is_numbered(&options.key), columns, column)?;
     Ok(())
 }
 
@@ -306,7 +348,7 @@ fn check_options(
 }
 
 /// The plan for files with this header. `found` has the kinds of columns that were found; those that are neither given
-/// nor found are texts. Errors are a name that the header lacks, that is not valid, or that two columns have; a key that
+/// nor found are texts. The columns are those of a table that loads. Errors are a name that the header lacks, that is not valid, or that two columns have; a key that
 /// is a text; more than 16 columns; and `OutOfMemory`.
 pub fn plan_import<'a>(
     alloc: Global,
@@ -322,7 +364,7 @@ pub fn plan_import<'a>(
     let columns = plan_columns(alloc, options, header, found)?;
     Ok(Plan {
         width: header.len(),
-        numbered: options.key.is_none(),
+        numbered: is_numbered(&options.key),
         columns: List::of(columns),
         from,
         to,

@@ -6,8 +6,9 @@ use Rattle.std.proofs.lemmas.List.Elements.{All-push}
 use Rattle.csv.specs.Records.{fields_of}
 use Rattle.tq_import.specs.declared.plan.Conversion.{Conversion}
 use Rattle.tq_import.specs.declared.plan.PlannedColumn.{PlannedColumn}
-use Rattle.tq_import.specs.Plans.{IsColumn, IsColumnAt, default_kind, found_at, is_key, is_selected, is_value, kind_for, places_of}
+use Rattle.tq_import.specs.Plans.{IsColumn, IsColumnAt, default_kind, found_at, is_key, is_selected, is_value, kind_for, new_name, places_of}
 use Rattle.tq_import.specs.Records.{field_of}
+use Rattle.tq_import.specs.Tables.{AreTableColumns}
 use Rattle.tq_import.proofs.planning.add_value.Goals as goal
 
 no_key : (a b c d : Bool) → (a && not b && not c && not d) ≡ true → b ≡ false
@@ -36,8 +37,9 @@ returns c =
     } in
     let is_column : IsColumn options header found column =
     subst (λ (p : ℕ). IsColumnAt options p (field_of header p) (default_kind options.key found (field_of header p) p) column) (sym at.placed) here in
-    let items = c.in_ok-add_column.ensures in
+    let items = c.in_ok-add_column.ensures.items in
     record {
       places = ap places_of items ∙ map-append (λ (x : PlannedColumn). x.place) old (column ∷ []) ∙ rw value (ap (λ (p : ℕ). places_of old ++ p ∷ []) at.placed);
       each = λ all. subst (All (IsColumn options header found)) (sym items) (All-push (IsColumn options header found) old column all is_column);
+      table = subst (λ (b : Bool). AreTableColumns b old → AreTableColumns b c.add_column.new.columns.items) c.is_numbered.ensures (c.in_ok-add_column.ensures.table (new_name options.renames field, at.named));
     }

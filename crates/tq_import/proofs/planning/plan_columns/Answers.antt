@@ -8,7 +8,7 @@ use Rattle.tq_import.proofs.planning.plan_columns.Goals as goal
 pub places-init : goal.places-init
 places-init c =
     let k = c.in_ok-columns.ensures in
-    record { key = places_of c.in_ok-columns.columns.items; is_key = k.key; places = sym (append-nil _); each = k.each c.args.found.now }
+    record { key = places_of c.in_ok-columns.columns.items; is_key = k.key; places = sym (append-nil _); each = k.each c.args.found.now; table = k.table }
 
 pub places-preserved : goal.places-preserved
 places-preserved c =
@@ -24,4 +24,5 @@ places-preserved c =
       is_key = i.is_key;
       places = a.places ∙ ap (λ (l : List ℕ). l ++ here) i.places ∙ append_assoc i.key before here ∙ ap (λ (l : List ℕ). i.key ++ l) more;
       each = a.each i.each;
+      table = a.table i.table;
     }

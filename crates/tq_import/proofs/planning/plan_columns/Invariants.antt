@@ -2,7 +2,8 @@
 use Rattle.std.proofs.Common.{◌≡◌, ◌++◌, List, ℕ}
 use Rattle.std.specs.Prelude.{All}
 use Rattle.csv.specs.Records.{fields_of}
-use Rattle.tq_import.specs.Plans.{IsColumn, IsKeyPlace, places_of, value_places}
+use Rattle.tq_import.specs.Plans.{IsColumn, IsKeyPlace, is_numbered, places_of, value_places}
+use Rattle.tq_import.specs.Tables.{AreTableColumns}
 use Rattle.tq_import.proofs.planning.plan_columns.Given as goal
 
 abbrev pub invariant-places : goal.invariant-places
@@ -11,4 +12,5 @@ invariant-places l = record {
   is_key : IsKeyPlace l.options.key (fields_of l.header) key;
   places : places_of l.columns.items ≡ key ++ value_places l.options (fields_of l.header) l.place;
   each : All (IsColumn l.options (fields_of l.header) l.found) l.columns.items;
+  table : AreTableColumns (is_numbered l.options.key) l.columns.items;
 }
