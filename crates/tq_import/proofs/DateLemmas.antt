@@ -1,10 +1,10 @@
 -- The digits of a date, read in a format and written back.
-use Rattle.std.proofs.Common.{◌≡◌, ◌∙◌, ◌==◌, ℕ, Bool, true, false, List, [], ◌∷◌, ◌++◌, Option, Some, None, ap, append_assoc, refl, sym}
+use Rattle.std.proofs.Common.{◌≡◌, ◌∙◌, ◌==◌, ℕ, Bool, true, false, List, [], ◌∷◌, ◌++◌, Some, None, ap, append_assoc, refl, sym}
 use Rattle.std.specs.Prelude.{if◌then◌else◌}
 use Rattle.std.specs.Option.{option_and_then}
 use Rattle.std.proofs.lemmas.List.{append-nil}
 use Rattle.std.proofs.lemmas.Bool.{eqb-true}
-use Rattle.tq_import.specs.Dates.{DateDigits, digits_in, more_digits, no_digits}
+use Rattle.tq_import.specs.Dates.{DateDigits, digits_in, no_digits}
 use Rattle.tq_import.specs.Laws.{written}
 
 -- the digits so far, and then others

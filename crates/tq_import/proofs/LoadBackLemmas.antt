@@ -1,9 +1,9 @@
 -- What an import writes loads.
-use Rattle.std.proofs.Common.{◌≡◌, ◌≢◌, ◌∙◌, ◌≤◌, ◌<◌, ◌+◌, ◌-◌, ◌^◌, ◌==◌, ◌⊎◌, ℕ, zero, suc, Bool, true, false, List, [], ◌∷◌, ◌++◌, length, map, take, drop, get_or, slice_get, Option, Some, None, Result, Ok, Err, ap, append_assoc, append-nil, arith, codes, decimal, inl, inr, length-append, nat_le, nat_lt, refl, subst, sum_by, sym, w64, FitsSigned, ⊎_elim}
-use Rattle.std.specs.Prelude.{◌&&◌, ◌||◌, All, AllPairs, IfSome, ℤ, pos, negsuc, neg_ℤ, if◌then◌else◌, not, nat_eq, option_map, unwrap_or}
+use Rattle.std.proofs.Common.{◌≡◌, ◌≢◌, ◌∙◌, ◌≤◌, ◌<◌, ◌+◌, ◌-◌, ◌^◌, ◌==◌, ◌⊎◌, ℕ, suc, Bool, true, false, List, [], ◌∷◌, ◌++◌, length, map, take, drop, get_or, slice_get, Option, Some, None, Result, Ok, Err, ap, append_assoc, append-nil, arith, codes, decimal, inl, inr, length-append, nat_le, nat_lt, refl, subst, sum_by, sym, w64, FitsSigned}
+use Rattle.std.specs.Prelude.{◌&&◌, All, AllPairs, IfSome, ℤ, pos, negsuc, neg_ℤ, if◌then◌else◌, not, nat_eq, option_map, unwrap_or}
 use Rattle.std.specs.Char.{is_ascii_digit, is_ascii_uppercase, to_ascii_lowercase}
 use Rattle.std.specs.Fmt.{signed_decimal}
-use Rattle.std.specs.List.{after_first, before_first, list_all, list_any, prefix_len}
+use Rattle.std.specs.List.{after_first, before_first, list_all, prefix_len}
 use Rattle.std.specs.Option.{option_and_then}
 use Rattle.std.specs.Str.{bytes_eq, is_utf8, str_eq_ignore_ascii_case}
 use Rattle.std.specs.Str.Parse.{AllDigits, digits_value}
@@ -25,7 +25,7 @@ use Rattle.tq_base.specs.declared.period.TheConstants.{FOREVER}
 use Rattle.tq_base.specs.declared.value.Value.{Value}
 use Rattle.tq_base.specs.Contents.{Int, Text as TextValue}
 use Rattle.tq_base.specs.Dates.{date_in, day_of, is_date_text}
-use Rattle.tq_base.specs.Names.{folded, folded_name, has_name_form, is_name, is_name_byte, is_name_start, is_reserved, is_shown_name}
+use Rattle.tq_base.specs.Names.{folded, folded_name, has_name_form, is_name, is_name_byte, is_name_start, is_reserved}
 use Rattle.tq_base.specs.Numbers.{bound_of, instant_of, instant_text, int_of, natural_up_to}
 use Rattle.tq_base.specs.Results.{and_then}
 use Rattle.tq_base.specs.Sweep.{pairs_tail}
@@ -35,11 +35,10 @@ use Rattle.tq_base.proofs.NameLemmas.{shown-folded}
 use Rattle.tq_table.specs.Text.{bound_field}
 use Rattle.tq_event.specs.Entries.{Entry}
 use Rattle.tq_event.specs.Laws.{IsFoldedName}
-use Rattle.tq_event.specs.Loading.{begins_with_bom, column_of, columns_after, csv_records, entries_after, entry_of, event_count, has_column, has_two_boms, header_of, is_text, kind_of, make_period, next_columns, number_value, period_fields, period_of, table_contents, value_fields, value_of}
+use Rattle.tq_event.specs.Loading.{begins_with_bom, column_of, columns_after, entries_after, entry_of, event_count, has_column, has_two_boms, header_of, is_text, number_value, period_fields, period_of, value_fields, value_of}
 use Rattle.tq_event.specs.Loading.{values_after as load_values}
 use Rattle.tq_event.proofs.LoadLemmas.{add_ok, columns_first, next_ok, read_ok}
 use Rattle.tq_event.proofs.LoadedLemmas.{passed}
-use Rattle.tq_import.specs.declared.fault.NumberedFault.{NumberedFault}
 use Rattle.tq_import.specs.declared.fault.RecordFault.{RecordFault}
 use Rattle.tq_import.specs.declared.fault.RecordFaultKind.{RecordFaultKind}
 use Rattle.tq_import.specs.declared.fault.RecordFaultKind.TheVariants.{BadFrom, BadTo, EmptyPeriod, FieldCount, NotUtf8, TextTooLong}
@@ -51,10 +50,10 @@ use Rattle.tq_import.specs.declared.plan.Plan.{Plan}
 use Rattle.tq_import.specs.declared.plan.TimeFormat.{TimeFormat}
 use Rattle.tq_import.specs.Amounts.{units_in}
 use Rattle.tq_import.specs.Dates.{DateDigits, day_in, digits_in, iso_text, no_digits, without_midnight}
-use Rattle.tq_import.specs.Imports.{at_number, column_field, import_of, kind_word, number_header, table_header}
+use Rattle.tq_import.specs.Imports.{at_number, column_field, kind_word, number_header, table_header}
 use Rattle.tq_import.specs.Loads.{ImportedFilesLoad, ImportsLoad, imported_records}
 use Rattle.tq_import.specs.Records.{at_place, convert, field_of, import_record, known, number_field, ordered, period_in, period_texts, row_number, values_after}
-use Rattle.tq_import.specs.Tables.{AreTableColumns, IsLoadable, columns_with, entries_in, entry_in, number_in, table_column, table_columns, table_kind, value_in, values_in}
+use Rattle.tq_import.specs.Tables.{AreTableColumns, columns_with, entries_in, entry_in, number_in, table_column, table_columns, table_kind, value_in, values_in}
 use Rattle.tq_import.specs.Times.{after_last, bound_in, end_of, form_of, instant_in, is_open, last_instant}
 use Rattle.tq_import.proofs.AmountLemmas.{units_fit}
 use Rattle.tq_import.proofs.ReadBackLemmas.{Plain, plain_text, read_back_of}

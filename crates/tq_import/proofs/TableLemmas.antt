@@ -1,19 +1,18 @@
 -- One more column of a table.
-use Rattle.std.proofs.Common.{◌≡◌, ◌≢◌, ◌∙◌, ◌<◌, ◌+◌, ℕ, Bool, true, false, List, [], ◌∷◌, ◌++◌, length, map, slice_get, ap, append_assoc, arith, bytes_eq, codes, length-append, refl, subst, sym}
+use Rattle.std.proofs.Common.{◌≡◌, ◌≢◌, ◌<◌, ℕ, Bool, true, false, List, [], ◌∷◌, ◌++◌, length, map, slice_get, ap, arith, bytes_eq, codes, length-append, refl, subst, sym}
 use Rattle.std.specs.Prelude.{◌||◌, All, AllPairs, IfSome}
 use Rattle.std.specs.List.{list_any}
 use Rattle.std.proofs.lemmas.Bool.{or_parts}
-use Rattle.std.proofs.lemmas.List.{length-map, map-append}
+use Rattle.std.proofs.lemmas.List.{map-append}
 use Rattle.std.proofs.lemmas.List.Elements.{All-cons, All-nil, All-push}
 use Rattle.std.proofs.lemmas.List.Quantifiers.{all_pairs_push}
 use Rattle.std.proofs.lemmas.Slice.Eq.{bytes_eq-Decides}
 use Rattle.tq_base.specs.declared.catalogue.Column.{Column}
 use Rattle.tq_base.specs.declared.catalogue.Kind.TheVariants as kind
-use Rattle.tq_base.specs.declared.catalogue.Schema.{Schema}
 use Rattle.tq_base.specs.Catalogues.{IsTable}
 use Rattle.tq_event.specs.Laws.{IsFoldedName}
 use Rattle.tq_event.specs.Loading.{has_column}
-use Rattle.tq_import.specs.declared.plan.Conversion.TheVariants.{Number, Text}
+use Rattle.tq_import.specs.declared.plan.Conversion.TheVariants.{Number}
 use Rattle.tq_import.specs.declared.plan.PlannedColumn.{PlannedColumn}
 use Rattle.tq_import.specs.Tables.{AreTableColumns, columns_with, table_column, table_kind}
 

@@ -1,7 +1,6 @@
 -- What a whole file becomes: its header makes the plan, its other records the rows. This project's own.
 use Rattle.std.specs.Prelude.{◌≡◌, ℕ, List, [], ◌∷◌, length, Option}
 use Rattle.std.specs.List.{repeat}
-use Rattle.tq_import.specs.declared.fault.ImportFault.{ImportFault}
 use Rattle.tq_import.specs.declared.options.ImportOptions.{ImportOptions}
 use Rattle.tq_import.specs.declared.part.Imported.{Imported}
 use Rattle.tq_import.specs.declared.plan.Conversion.{Conversion}

@@ -1,5 +1,5 @@
 -- Laws of the conversions. This project's own.
-use Rattle.std.specs.Prelude.{◌≡◌, ◌≤◌, ◌*◌, ◌^◌, ◌+◌, ◌==◌, ℕ, ℤ, pos, neg_ℤ, false, true, if◌then◌else◌, List, [], ◌∷◌, ◌++◌, drop, length, slice_index, Some}
+use Rattle.std.specs.Prelude.{◌≡◌, ◌≤◌, ◌*◌, ◌^◌, ◌+◌, ◌==◌, ℕ, ℤ, pos, neg_ℤ, false, if◌then◌else◌, List, [], ◌∷◌, ◌++◌, drop, length, slice_index, Some}
 use Rattle.std.specs.Str.Parse.{digits_value}
 use Rattle.tq_base.specs.Dates.{date_of, date_text}
 use Rattle.tq_import.specs.declared.plan.NumberFormat.{NumberFormat}

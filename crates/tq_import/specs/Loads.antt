@@ -1,5 +1,5 @@
 -- A table file that was imported is read as it was meant. This project's own.
-use Rattle.std.specs.Prelude.{◌≡◌, ◌<◌, ◌≤◌, ◌^◌, ℕ, ◌+◌, List, [], ◌∷◌, ◌++◌, Result, Ok, Err, Some, length, sum_by}
+use Rattle.std.specs.Prelude.{◌≡◌, ◌<◌, ◌≤◌, ◌^◌, ℕ, ◌+◌, List, [], ◌∷◌, ◌++◌, Result, Ok, Some, length, sum_by}
 use Rattle.tq_base.specs.Names.{folded_name}
 use Rattle.tq_base.specs.Results.{and_then}
 use Rattle.tq_event.specs.Entries.{Entry}

@@ -10,12 +10,11 @@ use Rattle.tq_base.specs.declared.form.Form.{Form}
 use Rattle.tq_table.specs.Text.{bound_field}
 use Rattle.tq_import.specs.declared.fault.RecordFault.{RecordFault}
 use Rattle.tq_import.specs.declared.fault.RecordFaultKind.{RecordFaultKind}
-use Rattle.tq_import.specs.declared.fault.RecordFaultKind.TheVariants.{FieldCount, BadNumber, NotUtf8, TextTooLong, BadFrom, BadTo, EmptyPeriod, OutOfMemory}
+use Rattle.tq_import.specs.declared.fault.RecordFaultKind.TheVariants.{FieldCount, BadNumber, NotUtf8, TextTooLong, BadFrom, BadTo, EmptyPeriod}
 use Rattle.tq_import.specs.declared.plan.Conversion.{Conversion}
 use Rattle.tq_import.specs.declared.plan.Conversion.TheVariants.{Number, Text}
 use Rattle.tq_import.specs.declared.plan.NumberFormat.{NumberFormat}
 use Rattle.tq_import.specs.declared.plan.PlannedColumn.{PlannedColumn}
-use Rattle.tq_import.specs.declared.plan.TimeFormat.{TimeFormat}
 use Rattle.tq_import.specs.declared.plan.Plan.{Plan}
 use Rattle.tq_import.specs.Amounts.{units_in}
 use Rattle.tq_import.specs.Times.{bound_in, form_of, instant_in}

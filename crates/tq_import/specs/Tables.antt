@@ -1,5 +1,5 @@
 -- The table that a plan describes, and the rows that records mean in it. This project's own.
-use Rattle.std.specs.Prelude.{ℕ, ◌+◌, ◌-◌, ℤ, pos, Bool, if◌then◌else◌, List, [], ◌∷◌, ◌++◌, All, codes, map, unwrap_or}
+use Rattle.std.specs.Prelude.{ℕ, ◌+◌, ◌-◌, pos, Bool, if◌then◌else◌, List, [], ◌∷◌, ◌++◌, All, codes, map, unwrap_or}
 use Rattle.tq_base.specs.declared.catalogue.Column.{Column}
 use Rattle.tq_base.specs.declared.catalogue.Kind.{Kind}
 use Rattle.tq_base.specs.declared.catalogue.Kind.TheVariants as kind

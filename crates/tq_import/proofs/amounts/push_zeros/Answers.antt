@@ -1,4 +1,4 @@
-use Rattle.std.proofs.Common.{◌≡◌, ◌∙◌, ◌++◌, ◌∷◌, [], ◌-◌, List, ℕ, arith, sym, ap}
+use Rattle.std.proofs.Common.{◌∙◌, ◌-◌, List, ℕ, arith, sym, ap}
 use Rattle.tq_import.specs.Amounts.{with_zeros}
 use Rattle.tq_import.proofs.AmountLemmas.{no_zeros, zeros_more}
 use Rattle.tq_import.proofs.amounts.push_zeros.Goals as goal

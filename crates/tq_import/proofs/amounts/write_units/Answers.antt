@@ -1,4 +1,4 @@
-use Rattle.std.proofs.Common.{◌≡◌, ◌∙◌, ◌++◌, ◌-◌, [], List, ℕ, None, Some, ap, length, refl, sym, true, false}
+use Rattle.std.proofs.Common.{◌≡◌, ◌∙◌, ◌++◌, ◌-◌, List, ℕ, None, Some, ap, length, refl, sym, true, false}
 use Rattle.tq_import.specs.Amounts.{are_parts, fraction_part, has_parts, whole_digits, whole_part, with_zeros}
 use Rattle.tq_import.proofs.MatchLemmas.{none_left, some_left}
 use Rattle.tq_import.proofs.amounts.write_units.Goals as goal

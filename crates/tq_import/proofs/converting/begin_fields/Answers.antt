@@ -1,4 +1,4 @@
-use Rattle.std.proofs.Common.{◌≡◌, ◌∙◌, ◌∷◌, [], List, ℕ, ap}
+use Rattle.std.proofs.Common.{◌∙◌, ◌∷◌, [], List, ℕ, ap}
 use Rattle.tq_import.proofs.converting.begin_fields.Goals as goal
 
 pub returns-then-numbered : goal.returns-then-numbered

@@ -1,4 +1,4 @@
-use Rattle.std.proofs.Common.{◌≡◌, ◌∙◌, ◌==◌, ◌++◌, ◌∷◌, [], List, ℕ, Result, Ok, Err, ap, append_assoc, length, refl, sym, true}
+use Rattle.std.proofs.Common.{◌≡◌, ◌∙◌, ◌==◌, ◌++◌, List, ℕ, Result, Ok, ap, append_assoc, length, refl, sym, true}
 use Rattle.std.proofs.lemmas.Bool.{eq-eqb}
 use Rattle.csv.specs.Records.{fields_of}
 use Rattle.tq_base.specs.declared.form.Form.{Form}

@@ -1,8 +1,8 @@
-use Rattle.std.proofs.Common.{◌≡◌, ◌∙◌, ◌+◌, ◌++◌, ◌∷◌, [], List, ℕ, Result, Ok, Err, ap, arith, drop, refl, sym}
+use Rattle.std.proofs.Common.{◌≡◌, ◌∙◌, ◌+◌, ◌++◌, ◌∷◌, [], Ok, Err, ap, arith, drop, refl, sym}
 use Rattle.std.proofs.lemmas.List.{drop_all, drop_more}
 use Rattle.csv.specs.Records.{fields_of}
 use Rattle.tq_import.specs.declared.plan.PlannedColumn.{PlannedColumn}
-use Rattle.tq_import.specs.Records.{convert, field_of, values_after}
+use Rattle.tq_import.specs.Records.{convert, field_of}
 use Rattle.tq_import.proofs.converting.push_values.Goals as goal
 
 pub returns-in-Err-clause-fault : goal.returns-in-Err-clause-fault

@@ -1,4 +1,4 @@
-use Rattle.std.proofs.Common.{◌≡◌, ◌≢◌, ◌∙◌, ◌∷◌, [], List, ℕ, Option, None, Some, arith, length, refl}
+use Rattle.std.proofs.Common.{◌≡◌, ◌≢◌, ◌∷◌, [], List, ℕ, Option, None, Some, arith, length, refl}
 use Rattle.std.specs.Option.{option_and_then}
 use Rattle.tq_import.specs.Dates.{DateDigits, digits_in, more_digits, no_digits}
 use Rattle.tq_import.proofs.dates.gather_digits.Goals as goal

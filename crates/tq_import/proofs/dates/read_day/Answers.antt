@@ -1,4 +1,4 @@
-use Rattle.std.proofs.Common.{◌≡◌, ◌∙◌, ap, refl, sym}
+use Rattle.std.proofs.Common.{◌∙◌, ap, refl}
 use Rattle.tq_base.specs.Numbers.{instant_of}
 use Rattle.tq_base.specs.declared.form.Form.TheVariants.{Dates}
 use Rattle.tq_import.specs.Dates.{digits_in, iso_text, no_digits}

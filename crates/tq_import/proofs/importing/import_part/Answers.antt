@@ -1,4 +1,4 @@
-use Rattle.std.proofs.Common.{◌≡◌, ◌∙◌, ◌+◌, ◌++◌, ◌∷◌, [], ℕ, List, length, ap, append-nil, append_assoc, arith, refl, sym}
+use Rattle.std.proofs.Common.{◌≡◌, ◌∙◌, ◌+◌, ◌++◌, [], ℕ, List, length, ap, append-nil, append_assoc, arith, refl, sym}
 use Rattle.csv.specs.Records.{fields_of}
 use Rattle.csv.specs.Writing.{row_text}
 use Rattle.tq_table.specs.Text.{answer_format}

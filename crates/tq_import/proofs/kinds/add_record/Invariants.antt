@@ -1,5 +1,5 @@
 -- The kinds so far are new, and those of the remaining fields are left.
-use Rattle.std.proofs.Common.{◌≡◌, ◌≤◌, ◌++◌, drop, length, take}
+use Rattle.std.proofs.Common.{◌≡◌, ◌++◌, drop, length, take}
 use Rattle.csv.specs.Records.{fields_of}
 use Rattle.tq_import.specs.Kinds.{next_kinds}
 use Rattle.tq_import.proofs.kinds.add_record.Given as goal

@@ -1,5 +1,4 @@
-use Rattle.std.proofs.Common.{◌≡◌, ◌∙◌, ◌∷◌, [], ℕ, List, ap, sym}
-use Rattle.csv.specs.Records.{fields_of}
+use Rattle.std.proofs.Common.{◌∙◌, List, ap, sym}
 use Rattle.tq_import.specs.declared.plan.Conversion.{Conversion}
 use Rattle.tq_import.specs.Kinds.{kinds_after}
 use Rattle.tq_import.proofs.kinds.find_kinds.Goals as goal

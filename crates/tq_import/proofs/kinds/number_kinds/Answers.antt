@@ -1,4 +1,4 @@
-use Rattle.std.proofs.Common.{◌≡◌, ◌∙◌, ◌≤◌, ◌-◌, ◌++◌, ◌∷◌, [], ℕ, zero, suc, List, ap, arith, refl, rules, sym}
+use Rattle.std.proofs.Common.{◌≡◌, ◌∙◌, ◌-◌, ◌++◌, ◌∷◌, [], ℕ, zero, suc, List, ap, arith, refl, rules}
 use Rattle.std.specs.List.{repeat}
 use Rattle.tq_import.specs.declared.plan.Conversion.{Conversion}
 use Rattle.tq_import.specs.declared.plan.Conversion.TheVariants.{Number}

@@ -1,6 +1,6 @@
-use Rattle.std.proofs.Common.{◌≡◌, ℕ, ◌+◌, Bool, true, false, Some, refl, sym}
-use Rattle.std.specs.Prelude.{None, Option, nat_lt, if◌then◌else◌}
-use Rattle.tq_import.specs.Times.{after_last, end_of, last_instant}
+use Rattle.std.proofs.Common.{◌≡◌, ℕ, ◌+◌, Bool, true, false, Some, sym}
+use Rattle.std.specs.Prelude.{None, nat_lt, if◌then◌else◌}
+use Rattle.tq_import.specs.Times.{last_instant}
 use Rattle.tq_import.proofs.laws.ends_are_kept.Goals as goal
 
 kept : (inclusive : Bool) (later : Bool) (end bound : ℕ) → (if inclusive then (if later then Some (end + 1) else None) else Some end) ≡ Some bound → bound ≡ (if inclusive then end + 1 else end)

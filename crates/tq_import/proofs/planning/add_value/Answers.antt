@@ -1,12 +1,11 @@
-use Rattle.std.proofs.Common.{◌≡◌, ◌∙◌, ◌++◌, ◌∷◌, [], Bool, List, ℕ, ap, false, refl, subst, sym, true}
+use Rattle.std.proofs.Common.{◌≡◌, ◌∙◌, ◌++◌, ◌∷◌, [], Bool, ℕ, ap, false, refl, subst, sym, true}
 use Rattle.std.specs.Prelude.{◌&&◌, All, not}
 use Rattle.std.specs.Str.{bytes_eq}
 use Rattle.std.proofs.lemmas.List.{map-append}
 use Rattle.std.proofs.lemmas.List.Elements.{All-push}
 use Rattle.csv.specs.Records.{fields_of}
-use Rattle.tq_import.specs.declared.plan.Conversion.{Conversion}
 use Rattle.tq_import.specs.declared.plan.PlannedColumn.{PlannedColumn}
-use Rattle.tq_import.specs.Plans.{IsColumn, IsColumnAt, default_kind, found_at, is_key, is_selected, is_value, kind_for, new_name, places_of}
+use Rattle.tq_import.specs.Plans.{IsColumn, IsColumnAt, default_kind, is_key, is_selected, is_value, kind_for, new_name, places_of}
 use Rattle.tq_import.specs.Records.{field_of}
 use Rattle.tq_import.specs.Tables.{AreTableColumns}
 use Rattle.tq_import.proofs.planning.add_value.Goals as goal

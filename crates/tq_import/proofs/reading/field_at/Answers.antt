@@ -1,4 +1,4 @@
-use Rattle.std.proofs.Common.{◌≡◌, ◌∙◌, ℕ, zero, suc, List, [], ◌∷◌, Option, Some, None, sym, refl}
+use Rattle.std.proofs.Common.{◌≡◌, ℕ, zero, suc, List, [], ◌∷◌, Some, None, refl}
 use Rattle.csv.specs.Records.{field_at, fields_of}
 use Rattle.tq_import.specs.Records.{field_of}
 use Rattle.tq_import.proofs.reading.field_at.Goals as goal

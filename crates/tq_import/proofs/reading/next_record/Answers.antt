@@ -1,4 +1,4 @@
-use Rattle.std.proofs.Common.{Bool, List, ℕ, ◌≡◌, ◌∙◌, inl, true, false, refl}
+use Rattle.std.proofs.Common.{Bool, ◌≡◌, ◌∙◌, inl, true, false, refl}
 use Rattle.csv.specs.Reading.{ReadRecord}
 use Rattle.csv.specs.Records.{fields_of}
 use Rattle.tq_event.proofs.RecordLemmas.{row-found, row-none}

@@ -1,4 +1,3 @@
-use Rattle.std.proofs.Common.{◌≡◌}
 use Rattle.csv.specs.Records.{fields_of}
 use Rattle.tq_import.specs.Reading.{records_by}
 use Rattle.tq_import.proofs.whole.import.Goals as goal
