@@ -70,7 +70,7 @@ def heads():
 
 
 def staff(employee, most):
-    """The contracts of an employee, at most so many: one after another, a few with a gap before them, a few with a second
+    """The contracts of an employee, at most `most` of them: one after another, a few with a gap before them, a few with a second
     contract at the same time."""
     called, place = names(), draw.randrange(len(DEPARTMENTS))
     grade = draw.randrange(4)
