@@ -1,7 +1,6 @@
 -- Parts of an answer that follow one another are the whole answer.
-use Rattle.std.proofs.Common.{◌≡◌, ◌<◌, ◌+◌, ◌++◌, ◌∷◌, ◌∙◌, ℕ, suc, List, [], ap, append-nil, arith, get_or, length, length-append, map, refl, subst, sum_by, sym}
+use Rattle.std.proofs.Common.{◌≡◌, ◌<◌, ◌++◌, ◌∷◌, ◌∙◌, ℕ, suc, List, [], ap, append-nil, arith, get_or, length, length-append, map, refl, subst, sum_by, sym}
 use Rattle.std.specs.Global.{Vec}
-use Rattle.std.specs.List.{range_with_len}
 use Rattle.std.specs.Prelude.{All}
 use Rattle.std.proofs.lemmas.Grind.{flat_map-append}
 use Rattle.std.proofs.lemmas.List.{get_or-map, length-map}
@@ -10,7 +9,7 @@ use Rattle.std.proofs.lemmas.List.Elements.{All-cons, All-nil}
 use Rattle.std.proofs.lemmas.List.Sums.{sum_by-cons}
 use Rattle.tq_base.specs.declared.fragment.Fragment.{Fragment}
 use Rattle.tq_base.specs.Layers.{IsLayers}
-use Rattle.tq_base.specs.Ranges.{layers_of_all, one_after_other, AreAscending}
+use Rattle.tq_base.specs.Ranges.{one_after_other, AreAscending}
 use Rattle.tq_base.specs.RowLists.{RowList}
 use Rattle.tq_agg.specs.Grouping.{Row}
 use Rattle.tq_table.specs.Merging.{all_rows, AreOfWidth}
@@ -21,6 +20,8 @@ use Rattle.tq_exec.specs.declared.answer_parts.AnswerPart.{AnswerPart}
 use Rattle.tq_exec.specs.declared.answer_parts.Made.{Made}
 use Rattle.tq_exec.specs.declared.answer_parts.Wanted.{Wanted}
 use Rattle.tq_exec.specs.declared.answer_parts.Wanted.TheVariants.{Rows, Text}
+use Rattle.tq_exec.specs.Parts.{AreParts}
+use Rattle.tq_exec.proofs.PartLemmas.{parts_have_layers}
 
 abbrev rows_in_parts : List AnswerPart → List (List Fragment)
 rows_in_parts parts = map (λ (part : AnswerPart). part.rows) parts
@@ -61,29 +62,22 @@ pub rows_at : (parts : List AnswerPart) (i : ℕ) (d : List Fragment) → i < le
 rows_at [] i d less = absurd (omega (arith, less))
 rows_at (part ∷ parts) i d less = (part, get_or-map (λ (p : AnswerPart). p.rows) (part ∷ parts) i part d less)
 
--- parts in order, which are together valid as often as the answer
-pub parts_answer : (wanted : Wanted) (width : ℕ) (count_of : ℕ → Row → ℕ → ℕ) (parts : List AnswerPart) (times : Row → ℕ → ℕ)
-    → ((i : ℕ) (d : AnswerPart) → i < length parts → IsAnswerPart wanted width (count_of i) (get_or parts i d))
+-- parts in order, which add up to the answer
+pub parts_answer : (wanted : Wanted) (width : ℕ) (part : ℕ → Row → ℕ → ℕ) (parts : List AnswerPart) (times : Row → ℕ → ℕ) → AreParts (length parts) part times
+    → ((i : ℕ) (d : AnswerPart) → i < length parts → IsAnswerPart wanted width (part i) (get_or parts i d))
     → AreAscending (rows_in_parts parts)
-    → ((v : Row) (t : ℕ) → sum_by (λ i. count_of i v t) (range_with_len 0 (length parts)) ≡ times v t)
     → HaveAnswer wanted width times (made_in_parts parts)
-parts_answer wanted width count_of parts times each order whole =
+parts_answer wanted width part parts times are each order =
     let lists = rows_in_parts parts in
     let many : length lists ≡ length parts = length-map parts (λ (part : AnswerPart). part.rows) in
-    let layers = layers_of_all count_of 0 lists
-    (λ i d less.
-    let within : i < length parts = omega (arith, less, many) in
-    let (e, is) = rows_at parts i d within in
-    let here : 0 + i ≡ i = omega arith in
-    rw (is, here) ((each i e within).layers))
-    order in
     record {
       rows = one_after_other lists;
-      layers = record {
-        ordered = layers.ordered;
-        coalesced = layers.coalesced;
-        counted = λ v t. layers.counted v t ∙ ap (λ n. sum_by (λ i. count_of i v t) (range_with_len 0 n)) many ∙ whole v t;
-      };
+      layers = parts_have_layers lists part times (subst (λ n. AreParts n part times) (sym many) are)
+          (λ i d less.
+          let within : i < length parts = omega (arith, less, many) in
+          let (e, is) = rows_at parts i d within in
+          rw is ((each i e within).layers))
+          order;
       are = made_of_all wanted width parts (λ k d less. (each k d less).made);
     }
 

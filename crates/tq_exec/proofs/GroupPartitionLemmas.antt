@@ -24,7 +24,8 @@ use Rattle.tq_exec.specs.AggregateParts.{PartitionsHaveGroups, groups_of_values,
 use Rattle.tq_exec.proofs.AggregatePartLemmas.{gathered_answer}
 use Rattle.tq_exec.specs.GroupPartitions.{IsGroupPartition}
 use Rattle.tq_exec.specs.Partitions.{partition_of}
-use Rattle.tq_exec.proofs.JoinPartitionLemmas.{all_counted, each_number}
+use Rattle.tq_exec.proofs.JoinPartitionLemmas.{each_number}
+use Rattle.tq_exec.proofs.PartLemmas.{parts_have_rows}
 use Rattle.tq_exec.proofs.PartitionPartLemmas.{at_left, few_left}
 
 -- ---- the rows of a partition
@@ -63,13 +64,11 @@ module _ (query : QueryPlan) (window : Period) (cuts : List ℕ) (rows : List Fr
       let groups = groups_of_values query (at rows t) in
       let number = λ (group : List Row). partition_of cuts (value_at (first_row group) 0) in
       let count_of = λ (i : ℕ). occurrences (map make (filter (λ group. number group == i) groups)) v in
-      all_counted v t count_of 0 made
+      parts_have_rows v t made count_of (occurrences (map make groups) v)
+      (ap (λ n. sum_by count_of (range_with_len 0 n)) are.0
+      ∙ each_number make number (length cuts + 1) (λ group. few_left (λ cut. nat_le cut (normalized_key (value_at (first_row group) 0))) cuts) v groups)
       (λ i e less.
-      let same : i ≡ 0 + i = omega arith in
       (are.1 i e (omega (arith, less, are.0))).inside t v inside
       ∙ ap (λ l. occurrences (rows_of_values query l) v) (at_left (λ values. partition_of cuts (value_at values 0) == i) rows t)
-      ∙ ap (λ l. occurrences l v) (law (partition_of cuts) i query some (at rows t))
-      ∙ ap count_of same)
-      ∙ ap (λ n. sum_by count_of (range_with_len 0 n)) are.0
-      ∙ each_number make number (length cuts + 1) (λ group. few_left (λ cut. nat_le cut (normalized_key (value_at (first_row group) 0))) cuts) v groups
+      ∙ ap (λ l. occurrences l v) (law (partition_of cuts) i query some (at rows t)))
       ∙ gathered_answer valid query window rows some stand found t v inside

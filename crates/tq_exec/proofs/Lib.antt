@@ -23,6 +23,7 @@ pub mod ReadLemmas
 pub mod GroupPartitionLemmas
 pub mod JoinPartitionLemmas
 pub mod PieceLemmas
+pub mod PartLemmas
 pub mod RangeLemmas
 pub mod PartitionPartLemmas
 pub mod ChunkLemmas

@@ -31,6 +31,7 @@ use Rattle.tq_exec.specs.AnswerParts.{HaveAnswer}
 use Rattle.tq_exec.specs.declared.answer_parts.AnswerPart.{AnswerPart}
 use Rattle.tq_exec.specs.declared.answer_parts.Wanted.{Wanted}
 use Rattle.tq_exec.specs.Partitions.{ArePartitionIds, IsPartitionPart, IsPartitionIds, columns_in, partition_of}
+use Rattle.tq_exec.specs.Parts.{AreParts, PartitionsAreParts}
 use Rattle.tq_exec.proofs.AnswerPartLemmas.{parts_answer}
 use Rattle.tq_exec.proofs.RangeLemmas.{counted_once}
 
@@ -43,20 +44,22 @@ few_left p (cut ∷ cuts) = by (p cut) (few_left p cuts)
     by true few = omega (arith, few)
     by false few = omega (arith, few)
 
+pub partitions_are_parts : PartitionsHaveAnswers → PartitionsAreParts
+partitions_are_parts law cuts columns catalogue valid plan fit over partitioned v t =
+    let count = length cuts + 1 in
+    ap (λ (f : ℕ → ℕ). sum_by f (range_with_len 0 count)) (λ k i. law (partition_of cuts) columns i catalogue valid plan fit over partitioned v t k)
+    ∙ counted_once (partition_of cuts (value_at v 0)) (times_at valid plan v t) 0 count (omega arith) (omega (arith, few_left (λ cut. nat_le cut (normalized_key (value_at v 0))) cuts))
+
 -- where the parts stand in order, they are those of the answer
 pub have_answer : PartitionsHaveAnswers → (wanted : Wanted) (catalogue : Catalogue) (valid : ValidRows) (plan : Plan) (cuts : List ℕ) (columns : List (Option ℕ)) (partitions : List AnswerPart) → AreFitting catalogue valid → AreQueriesOver catalogue plan
     → ArePartitionedBy (columns_in columns) plan → IsResultList (IsPartitionPart wanted valid plan cuts columns) (length cuts + 1) partitions → AreAscending (map (λ (r : AnswerPart). r.rows) partitions)
     → HaveAnswer wanted (length plan.left.outputs) (times_at valid plan) (map (λ (r : AnswerPart). r.made) partitions)
 have_answer law wanted catalogue valid plan cuts columns partitions fit over partitioned are order =
-    let count = length cuts + 1 in
-    let count_of = λ (i : ℕ). times_at (in_partition (partition_of cuts) (columns_in columns) i valid) plan in
-    parts_answer wanted (length plan.left.outputs) count_of partitions (times_at valid plan)
+    let part = λ (i : ℕ). times_at (in_partition (partition_of cuts) (columns_in columns) i valid) plan in
+    parts_answer wanted (length plan.left.outputs) part partitions (times_at valid plan)
+    (subst (λ n. AreParts n part (times_at valid plan)) (sym are.0) (partitions_are_parts law cuts (columns_in columns) catalogue valid plan fit over partitioned))
     (λ i d less. are.1 i d (omega (arith, less, are.0)))
     order
-    (λ v t.
-    ap (λ n. sum_by (λ i. count_of i v t) (range_with_len 0 n)) are.0
-    ∙ ap (λ (f : ℕ → ℕ). sum_by f (range_with_len 0 count)) (λ k i. law (partition_of cuts) (columns_in columns) i catalogue valid plan fit over partitioned v t k)
-    ∙ counted_once (partition_of cuts (value_at v 0)) (times_at valid plan v t) 0 count (omega arith) (omega (arith, few_left (λ cut. nat_le cut (normalized_key (value_at v 0))) cuts)))
 
 -- ---- the rows of a partition
 

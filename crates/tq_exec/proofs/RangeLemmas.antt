@@ -1,5 +1,5 @@
 -- Rows partitioned into ranges of values: together the ranges have each row once, and their texts are that of all.
-use Rattle.std.proofs.Common.{◌≡◌, ◌+◌, ◌<◌, ◌≤◌, ◌++◌, ◌∷◌, ◌∙◌, ℕ, zero, suc, Bool, true, false, cond, List, [], ap, arith, filter, inl, inr, length, map, refl, rules, sum_by, sym}
+use Rattle.std.proofs.Common.{◌≡◌, ◌+◌, ◌<◌, ◌≤◌, ◌++◌, ◌∷◌, ◌∙◌, ℕ, zero, suc, Bool, true, false, cond, List, [], ap, arith, filter, inl, inr, length, map, refl, rules, subst, sum_by, sym}
 use Rattle.std.specs.List.{range_with_len}
 use Rattle.std.specs.Prelude.{◌==◌, All}
 use Rattle.std.proofs.lemmas.Bool.{cases_lt}
@@ -20,6 +20,7 @@ use Rattle.tq_exec.specs.AnswerParts.{HaveAnswer}
 use Rattle.tq_exec.specs.declared.answer_parts.AnswerPart.{AnswerPart}
 use Rattle.tq_exec.specs.declared.answer_parts.Wanted.{Wanted}
 use Rattle.tq_exec.specs.OutputRanges.{numbers_in, range_at, IsRange}
+use Rattle.tq_exec.specs.Parts.{AreParts, RangesAreParts}
 use Rattle.tq_exec.proofs.AnswerPartLemmas.{parts_answer}
 
 -- ---- each row is in one range
@@ -92,9 +93,8 @@ numbered rows =
     let within : k < length rows = omega (arith, less, length-map-range_with_len (row_at rows) 0 (length rows)) in
     get_or-map-range_with_len (row_at rows) 0 (length rows) k k d within (omega arith) ∙ get_or_default rows k no_row d within)
 
-all_copies : (rows : List Fragment) (ids : List ℕ) (count : ℕ) → 1 ≤ count → (v : List Value) (t : ℕ)
-    → sum_by (λ i. copies (map (row_at rows) (numbers_in ids count (length rows) i)) v t) (range_with_len 0 count) ≡ copies rows v t
-all_copies rows ids count some v t =
+pub ranges_are_parts : RangesAreParts
+ranges_are_parts rows ids count some v t =
     partitioned (range_at ids count) count (λ i. omega (arith, some)) (row_at rows) v t (range_with_len 0 (length rows))
     ∙ ap (λ l. copies l v t) (numbered rows)
 
@@ -119,8 +119,8 @@ numbers_within ids count len range =
 pub have_layers : (wanted : Wanted) (width : ℕ) (rows : List Fragment) (ids : List ℕ) (count : ℕ) (ranges : List AnswerPart) → 1 ≤ count → IsResultList (IsRange wanted width rows ids count) count ranges → AreAscending (map (λ (r : AnswerPart). r.rows) ranges)
     → HaveAnswer wanted width (copies rows) (map (λ (r : AnswerPart). r.made) ranges)
 have_layers wanted width rows ids count ranges some are order =
-    let count_of = λ (i : ℕ). copies (map (row_at rows) (numbers_in ids count (length rows) i)) in
-    parts_answer wanted width count_of ranges (copies rows)
+    let part = λ (i : ℕ). copies (map (row_at rows) (numbers_in ids count (length rows) i)) in
+    parts_answer wanted width part ranges (copies rows)
+    (subst (λ n. AreParts n part (copies rows)) (sym are.0) (ranges_are_parts rows ids count some))
     (λ i d less. are.1 i d (omega (arith, less, are.0)))
     order
-    (λ v t. ap (λ n. sum_by (λ i. count_of i v t) (range_with_len 0 n)) are.0 ∙ all_copies rows ids count some v t)

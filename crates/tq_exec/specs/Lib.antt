@@ -17,4 +17,5 @@ pub mod PartitioningRules
 pub mod JoinPartitions
 pub mod GroupPartitions
 pub mod AnswerParts
+pub mod Parts
 pub mod Rendered

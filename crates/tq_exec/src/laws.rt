@@ -6,6 +6,7 @@ ghost use Rattle.tq_exec.specs.Fitting.{HeldRowsFit};
 ghost use Rattle.tq_exec.specs.AggregateParts.{PartitionsHaveGroups};
 ghost use Rattle.tq_exec.specs.Required.{AllColumnsSuffice, ProjectedRowsFit, ProjectedTablesAnswer, ProjectedTablesFit, ProjectedTablesHold, RequiredColumnsSuffice};
 ghost use Rattle.tq_exec.specs.Partitioning.{PartitionsHaveAnswers, PartitionsHaveRows};
+ghost use Rattle.tq_exec.specs.Parts.{PartitionsAreParts, PartsHaveLayers, PartsHaveRows, PeriodsAreParts, RangesAreParts};
 ghost use Rattle.tq_exec.specs.TableAnswers.{TablesAnswer};
 
 use tq_base::laws::{layers_are_runs, layers_are_unique, layers_exist};
@@ -60,6 +61,24 @@ pub fn tables_answer()
 pub fn held_rows_fit()
     ensures { HeldRowsFit }
 {}
+
+/// The law of a divided execution. If parts add up to a whole, lists with the rows of the parts have together the rows of the
+/// whole. If the lists are ordered and coalesced, and each is below the next, they are one after the other the ordered,
+/// coalesced rows of the whole. A new way to divide a plan needs only to make such parts.
+pub fn parts_have_the_whole()
+    ensures rows { PartsHaveRows }
+    ensures layers { PartsHaveLayers }
+{}
+
+/// Partitions of the tables by a column that partitions the plan, periods that tile its window, and ranges of found rows are
+/// parts that add up to the whole.
+pub fn partitionings_make_parts()
+    ensures values { PartitionsAreParts }
+    ensures periods { PeriodsAreParts }
+    ensures ranges { RangesAreParts }
+{
+    partitions_have_answers();
+}
 
 /// If the first output of a plan is the column by which its tables are partitioned, the plan over a partition has exactly the
 /// rows of its answer whose first value belongs to the partition.

@@ -1,12 +1,14 @@
-use Rattle.std.proofs.Common.{◌∙◌, ap, length, subst, sym}
-use Rattle.std.specs.Prelude.{All}
+use Rattle.std.proofs.Common.{◌∙◌, ℕ, ap, arith, length, subst, sym}
+use Rattle.std.specs.Prelude.{All, slice_index_or}
 use Rattle.std.proofs.lemmas.Result.{IfOk-weaker}
 use Rattle.tq_base.specs.Fragments.{copies}
 use Rattle.tq_base.specs.RowLists.{RowList}
 use Rattle.tq_event.specs.Tables.{lists_of}
-use Rattle.tq_exec.specs.Answers.{in_tables}
+use Rattle.tq_exec.specs.Answers.{in_tables, times_at, times_within}
+use Rattle.tq_exec.specs.Parts.{AddUp}
 use Rattle.tq_table.specs.Merging.{AreOfWidth}
-use Rattle.tq_exec.proofs.PieceLemmas.{pieces_counted, pieces_wide}
+use Rattle.tq_exec.proofs.PartLemmas.{parts_have_rows}
+use Rattle.tq_exec.proofs.PieceLemmas.{periods_are_parts, pieces_wide}
 use Rattle.tq_exec.proofs.parallel.rows_by_time.Goals as goal
 
 pub chained-requires : goal.chained-requires
@@ -21,8 +23,11 @@ returns-clause-rows g c v t =
     let valid = in_tables (lists_of c.args.all.tables.now) in
     let periods = c.args.periods.now in
     let pieces = c.in_ok-pieces.pieces.items in
-    let tile = c.requires.tile in
-    let counted = pieces_counted valid plan v t periods pieces plan.window.start plan.window.end tile c.in_ok-pieces.ensures.many c.in_ok-pieces.ensures.pieces in
+    let many = c.in_ok-pieces.ensures.many in
+    let part = λ (i : ℕ). times_within valid plan (slice_index_or periods i plan.window) v t in
+    let counted = parts_have_rows v t pieces part (times_at valid plan v t)
+    (subst (λ n. AddUp n part (times_at valid plan v t)) (sym many) (periods_are_parts valid plan periods plan.window c.requires.tile v t))
+    (λ i d less. (c.in_ok-pieces.ensures.pieces i d (omega (arith, less, many)) plan.window).counted v t) in
     IfOk-weaker c.owned.result _ _
     (λ relation same. ap (λ (r : RowList). copies r.items v t) same ∙ ap (λ l. copies l v t) c.in_ok-chained.ensures.rows ∙ counted)
     c.owned.ensures
