@@ -2,8 +2,11 @@
 """Proves and builds programs into bin/, and shows meanwhile what share is proved and how long the rest will take.
 
     gate/build.py [CRATE ..]
+    gate/build.py --prove CRATE
 
-Without a name it builds tq. `rt ci` proves a program and the crates below it in a copy of the repository that has no other
+Without a name it builds tq. With --prove it builds nothing: it proves a crate and those below it, each with as many
+processors as `rt ci` gives to a proof that runs alone. The full check begins so with the crates for which most
+others wait, and takes what is proved meanwhile. `rt ci` proves a program and the crates below it in a copy of the repository that has no other
 crate and no must-fail edit. It keeps on this machine each crate that it proved, by the checksums of all that it read. So a
 build that was stopped resumes with the crates that are left, the full check does not prove them again, and after a full check
 there is nothing left to prove. A program of which nothing changed since its last build is not built again: bin/CRATE.sum has
@@ -130,9 +133,9 @@ def is_built(program, sources):
         return False
 
 
-def run(room, log, progress):
+def run(room, log, progress, environment=None):
     """Runs `rt ci` and follows its output. The result is whether all was proved."""
-    how = {"stdin": subprocess.DEVNULL, "stdout": subprocess.PIPE, "stderr": subprocess.STDOUT}
+    how = {"stdin": subprocess.DEVNULL, "stdout": subprocess.PIPE, "stderr": subprocess.STDOUT, "env": environment}
     running = subprocess.Popen(["rt", "ci"], cwd=room, text=True, errors="replace", **how)
     try:
         for line in running.stdout:
@@ -173,11 +176,32 @@ def build(program):
         return is_well
 
 
+def keeps_proofs():
+    """Whether `rt` may write next to the toolchain's folder, where it keeps what it proved."""
+    toolchain = os.path.dirname(os.path.dirname(os.path.realpath(shutil.which("rt"))))
+    return os.access(os.path.dirname(toolchain), os.W_OK)
+
+
+def prove(crate):
+    """Proves a crate and those below it, if other runs can take that. What goes wrong is left to the run that proves all."""
+    if not keeps_proofs():
+        return
+    crates = lowest_first(libraries(), crate, [])
+    # With RT_JOBS, each proof has one processor.
+    environment = {name: value for name, value in os.environ.items() if name != "RT_JOBS"}
+    with tempfile.TemporaryDirectory(prefix="tq-prove-") as room, open(f"{ROOT}/bin/prove.log", "w", encoding="utf-8") as log:
+        copy_crates(crates, room)
+        run(room, log, Progress(crates), environment)
+
+
 def main():
     if not shutil.which("rt"):
         sys.exit("`rt`, the command of the Rattle toolchain, is missing: tq is proved and built with it")
     os.makedirs(f"{ROOT}/bin", exist_ok=True)
     try:
+        if sys.argv[1:2] == ["--prove"]:
+            prove(sys.argv[2])
+            return
         for program in sys.argv[1:] or [PROGRAM]:
             if not os.path.isfile(f"{ROOT}/crates/{program}/src/main.rt"):
                 sys.exit(f"crates/{program} is not a program")
