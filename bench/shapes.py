@@ -27,8 +27,8 @@ SHAPES = {
     "no two of one value": lambda i, n: (f"v{i}", i, "forever"),
 }
 
-# FROM and WHERE of a join over `s`, and how many rows pass of n. Row i of n has k = i, v = n + i and g = i // (n // 4), and is
-# valid from 0 to 10. `none` has no row.
+# FROM and WHERE of a join over `s`, and how many rows pass of n. Row i of n has k = i, v = n + i, g = i // (n // 4) and c = 0, and
+# is valid from 0 to 10. `none` has no row.
 JOINS = {
     "star through the last": ("s a, s b, s c, s d", "a.k = d.k AND b.k = d.k AND c.k = d.k", lambda n: n),
     "through the third": ("s a, s b, s c", "a.k = c.k AND b.k = c.k", lambda n: n),
@@ -37,6 +37,9 @@ JOINS = {
     "an OR of equalities": ("s a, s b", "a.k = b.k OR a.v = b.k", lambda n: n),
     "equal by two bounds": ("s a, s b", "a.k <= b.k AND a.k >= b.k", lambda n: n),
     "few values, none less": ("s a, s b", "a.g = b.g AND a.v < b.k", lambda n: 0),
+    "none less": ("s a, s b", "a.v < b.k", lambda n: 0),
+    "few values, all equal": ("s a, s b", "a.g = b.g AND a.c <= b.c", lambda n: 4 * (n // 4) ** 2),
+    "unique keys, all less": ("s a, s b", "a.k = b.k AND a.k < b.v", lambda n: n),
 }
 
 # What the texts of a column begin with, so that no key prefix of a few bytes divides them.
@@ -63,9 +66,9 @@ def read_options():
 def write_joined(path, rows):
     """Writes the rows that are joined."""
     with open(path, "w", encoding="utf-8") as file:
-        file.write("k:int,v:int,g:int,from,to\n")
+        file.write("k:int,v:int,g:int,c:int,from,to\n")
         for i in range(rows):
-            file.write(f"{i},{rows + i},{i // max(rows // 4, 1)},0,10\n")
+            file.write(f"{i},{rows + i},{i // max(rows // 4, 1)},0,0,10\n")
 
 
 def write_table(path, shape, rows):

@@ -22,3 +22,5 @@ pub mod Sufficing
 pub mod Opening
 pub mod Orders
 pub mod Rebuilding
+pub mod Dividing
+pub mod Inequalities

@@ -10,3 +10,5 @@ pub mod JoinBranches
 pub mod Ordinary
 pub mod Steps
 pub mod JoinOrders
+pub mod InequalityJoins
+pub mod DividedJoins

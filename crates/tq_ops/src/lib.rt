@@ -10,8 +10,10 @@
 
 mod condition;
 mod difference;
+mod divided_join;
 mod equi_join;
 mod implied;
+mod inequality_join;
 mod join_branches;
 mod join_chain;
 mod join_order;
