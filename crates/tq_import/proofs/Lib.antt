@@ -5,3 +5,4 @@ pub mod ReadBackLemmas
 pub mod LoadBackLemmas
 pub mod MatchLemmas
 pub mod TableLemmas
+pub mod RejectLemmas

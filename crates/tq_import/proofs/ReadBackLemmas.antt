@@ -79,7 +79,7 @@ unfolding rows_text
 rows_long [] = omega arith
 rows_long (row ∷ rows) = omega (arith, row_long row, rows_long rows, length-append (row_text default_writer row) (rows_text rows))
 
-rows_read : (rows : List (List (List ℕ))) → records default_config (rows_text rows) ≡ map read_back rows
+pub rows_read : (rows : List (List (List ℕ))) → records default_config (rows_text rows) ≡ map read_back rows
 rows_read rows = read_all rows (length (rows_text rows) + 1) (omega (arith, rows_long rows))
 
 -- ---- the first byte

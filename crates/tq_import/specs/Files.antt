@@ -3,6 +3,8 @@ use Rattle.std.specs.Prelude.{◌≡◌, ℕ, List, [], ◌∷◌, length, Optio
 use Rattle.std.specs.List.{repeat}
 use Rattle.tq_import.specs.declared.options.ImportOptions.{ImportOptions}
 use Rattle.tq_import.specs.declared.part.Imported.{Imported}
+use Rattle.tq_import.specs.declared.part.Rejects.{Rejects}
+use Rattle.tq_import.specs.declared.part.Separated.{Separated}
 use Rattle.tq_import.specs.declared.plan.Conversion.{Conversion}
 use Rattle.tq_import.specs.declared.plan.Conversion.TheVariants.{Number}
 use Rattle.tq_import.specs.declared.plan.NumberFormat.{NumberFormat}
@@ -12,6 +14,7 @@ use Rattle.tq_import.specs.declared.whole.FileFault.TheVariants.{Input, NoHeader
 use Rattle.tq_import.specs.Imports.{IsFirstFault, IsImport}
 use Rattle.tq_import.specs.Kinds.{kinds_after}
 use Rattle.tq_import.specs.Plans.{IsPlan}
+use Rattle.tq_import.specs.Rejects.{IsNoRecordFault, IsSeparated}
 
 -- the table file of the records was written, after the plan for their header
 pub record IsImportOf (options : ImportOptions) (records : List (List (List ℕ))) (found : List Conversion) (old new : Option (List ℕ)) (plan : Plan) (imported : Imported) : Type 0 where
@@ -32,3 +35,18 @@ IsFileFault records last (Records plan fault) = (header : List (List ℕ)) × (r
 abbrev pub AreKindsOf : NumberFormat → List (List (List ℕ)) → List Conversion → Type 0
 AreKindsOf format [] kinds = kinds ≡ []
 AreKindsOf format (header ∷ records) kinds = kinds ≡ kinds_after format (repeat (length header) (Number 0 ∷ [])) records
+
+-- the table file of the valid records was written, after the plan for their header, and what is to be written of the others
+pub record IsSeparatedImportOf (options : ImportOptions) (rejects : Rejects) (records : List (List (List ℕ))) (found : List Conversion) (old new old_rejected new_rejected : Option (List ℕ)) (plan : Plan) (separated : Separated) : Type 0 where
+  pub header : List (List ℕ)
+  pub rest : List (List (List ℕ))
+  pub split : records ≡ header ∷ rest
+  pub plan_is : IsPlan options header found plan
+  pub whole : IsSeparated plan rejects header rest old new old_rejected new_rejected separated
+
+-- there is no header, or the fault is none of a record
+abbrev pub IsSeparatedFault : List (List (List ℕ)) → FileFault → Type 0
+IsSeparatedFault records (Input fault) = Unit {0}
+IsSeparatedFault records NoHeader = records ≡ []
+IsSeparatedFault records (BadPlan fault) = Unit {0}
+IsSeparatedFault records (Records plan fault) = IsNoRecordFault fault

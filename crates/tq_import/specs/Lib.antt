@@ -8,6 +8,8 @@ pub mod HeaderNames
 pub mod Kinds
 pub mod Imports
 pub mod Plans
+pub mod Messages
+pub mod Rejects
 pub mod Files
 pub mod Laws
 pub mod Loads

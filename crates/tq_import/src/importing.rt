@@ -80,8 +80,8 @@ fn import_part<R: Read>(
     })
 }
 
-// Writes the bytes.
-fn put<W: Write>(sink: &mut Sink<W>, bytes: &[u8]) -> Result<(), ImportFault>
+/// Writes the bytes.
+pub(crate) fn put<W: Write>(sink: &mut Sink<W>, bytes: &[u8]) -> Result<(), ImportFault>
     ensures whole { OnOk result (Appends (W.contents sink.old.writer) (W.contents sink.new.writer) bytes.now) }
     ensures fault { IfErr result (λ fault. fault ≡ ImportFault.Write) }
 {

@@ -2,6 +2,7 @@
 
 ghost use Rattle.tq_import.specs.Laws.{DatesAreWrittenBack, EndsAreKept, UnitsAreExact};
 ghost use Rattle.tq_import.specs.Loads.{ImportedFilesLoad, ImportsAreReadBack, ImportsLoad};
+ghost use Rattle.tq_import.specs.Rejects.{FirstFaultsAgree, RecordsAreSplit, RejectsAreReadBack, ValidFilesAgree, ValidRecordsAgree};
 
 use tq_base::laws::dates_round_trip;
 
@@ -36,4 +37,29 @@ pub fn imports_load()
 /// A file with the text of an import holds one table with these columns and rows.
 pub fn imported_files_load()
     ensures { ImportedFilesLoad }
+{}
+
+/// If no record is invalid, the table file of the valid records is that of a plain import.
+pub fn valid_files_agree()
+    ensures { ValidFilesAgree }
+{}
+
+/// The first invalid record is the one that stops a plain import, with the same fault.
+pub fn first_faults_agree()
+    ensures { FirstFaultsAgree }
+{}
+
+/// Each record is either valid or invalid, in the order of the file.
+pub fn records_are_split()
+    ensures { RecordsAreSplit }
+{}
+
+/// Without row numbers, the table file of the valid records is what a plain import makes of these records alone.
+pub fn valid_records_agree()
+    ensures { ValidRecordsAgree }
+{}
+
+/// With commas, the file of invalid records is read as the header and these records.
+pub fn rejects_are_read_back()
+    ensures { RejectsAreReadBack }
 {}

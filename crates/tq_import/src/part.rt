@@ -13,3 +13,29 @@ pub struct Part {
     pub next: u64,
     pub more: bool,
 }
+
+/// What is written of invalid records: their fields, as CSV with this byte between them, or what is wrong with each, with
+/// this path of the file.
+#[derive(Clone, Copy, Debug)]
+pub enum Rejects<'a> {
+    Records(u8),
+    Messages(&'a [u8]),
+}
+
+/// The numbers of rows that were written, and of invalid records.
+#[derive(Clone, Copy, Debug, PartialEq, Eq)]
+pub struct Separated {
+    pub rows: u64,
+    pub invalid: u64,
+}
+
+/// What became of some records of which invalid ones are not imported: the lines of the valid ones, what is written of the
+/// invalid ones and their number, the number of the next record, and whether there may be more records.
+#[derive(Drop)]
+pub struct SeparatedPart {
+    pub text: Vec<u8>,
+    pub rejected: Vec<u8>,
+    pub invalid: u64,
+    pub next: u64,
+    pub more: bool,
+}

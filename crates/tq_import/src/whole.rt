@@ -2,17 +2,19 @@
 
 ghost use Rattle.std.specs.Prelude.{◌≡◌, ℕ, IfErr, IfOk, List, Some};
 ghost use Rattle.csv.specs.Records.{fields_of};
-ghost use Rattle.tq_import.specs.Files.{AreKindsOf, IsFileFault, IsImportOf};
+ghost use Rattle.tq_import.specs.Files.{AreKindsOf, IsFileFault, IsImportOf, IsSeparatedFault, IsSeparatedImportOf};
 ghost use Rattle.tq_import.specs.Reading.{records_by};
 
 use crate::fault::{ImportFault, InputFault};
 use crate::importing::import_records;
 use crate::kinds::find_kinds;
+use crate::lines::{Recorder, first_line};
 use crate::options::ImportOptions;
-use crate::part::Imported;
+use crate::part::{Imported, Rejects, Separated};
 use crate::plan::{Conversion, Plan};
 use crate::planning::{PlanFault, plan_import};
 use crate::reading::{next_record, record_reader};
+use crate::separating::separate_records;
 use csv::ByteRecord;
 use std::alloc::{AllocError, Global};
 use std::io::{Read, Write};
@@ -28,11 +30,13 @@ pub enum FileFault<'a> {
     Records(Plan<'a>, ImportFault),
 }
 
-/// The header of a file, and the record that was read last.
+/// The header of a file, the record that was read last, and the line on which what is invalid begins: the header or
+/// that record.
 #[derive(Drop)]
 pub struct ReadRecords {
     pub header: ByteRecord,
     pub last: ByteRecord,
+    pub line: u64,
 }
 
 impl ReadRecords {
@@ -40,6 +44,7 @@ impl ReadRecords {
         ReadRecords {
             header: ByteRecord::new(alloc),
             last: ByteRecord::new(alloc),
+            line: 0,
         }
     }
 }
@@ -76,7 +81,7 @@ pub fn import<'a, R: Read + Drop, W: Write>(
     ensures fault { (text : List ℕ) → R.remaining input ≡ Some text
         → IfErr result (IsFileFault (records_by options.entry.now.delimiter text) (fields_of seen.new.last)) }
 {
-    let mut reader = record_reader(alloc, input, options.delimiter);
+    let mut reader = record_reader(alloc, Recorder::over(input), options.delimiter);
     let has_header = match next_record(&mut reader, &mut seen.header) {
         Ok(found) => found,
         Err(fault) => return Err(FileFault::Input(fault)),
@@ -84,12 +89,62 @@ pub fn import<'a, R: Read + Drop, W: Write>(
     if !has_header {
         return Err(FileFault::NoHeader);
     }
+    seen.line = first_line(&reader, &seen.header);
     let plan = match plan_import(alloc, options, &seen.header, found) {
         Ok(plan) => plan,
         Err(fault) => return Err(FileFault::Plan(fault)),
     };
     match import_records(alloc, &plan, &mut reader, &mut seen.last, sink) {
         Ok(imported) => Ok((plan, imported)),
+        Err(fault) => {
+            seen.line = first_line(&reader, &seen.last);
+            Err(FileFault::Records(plan, fault))
+        }
+    }
+}
+
+/// Imports the valid records of a file: writes the table file of them to `sink`, and what `rejects` asks for of the invalid
+/// ones to `rejected`. `found` has the kinds of columns that are not given. After a fault of the header, `seen` has it.
+pub fn import_valid<'a, R: Read + Drop, W: Write, V: Write>(
+    alloc: Global,
+    options: &'a ImportOptions,
+    found: &[Conversion],
+    rejects: Rejects<'_>,
+    input: R,
+    seen: &mut ReadRecords,
+    sink: &mut Sink<W>,
+    rejected: &mut Sink<V>,
+) -> Result<(Plan<'a>, Separated), FileFault<'a>>
+    ensures ok { (text : List ℕ) → R.remaining input ≡ Some text
+        → IfOk result (λ done. IsSeparatedImportOf options.entry.now rejects.entry (records_by options.entry.now.delimiter text) found.now (W.contents sink.old.writer) (W.contents sink.new.writer) (V.contents rejected.old.writer) (V.contents rejected.new.writer) done.0 done.1) }
+    ensures fault { (text : List ℕ) → R.remaining input ≡ Some text
+        → IfErr result (IsSeparatedFault (records_by options.entry.now.delimiter text)) }
+{
+    let mut reader = record_reader(alloc, Recorder::over(input), options.delimiter);
+    let has_header = match next_record(&mut reader, &mut seen.header) {
+        Ok(found) => found,
+        Err(fault) => return Err(FileFault::Input(fault)),
+    };
+    if !has_header {
+        return Err(FileFault::NoHeader);
+    }
+    seen.line = first_line(&reader, &seen.header);
+    let plan = match plan_import(alloc, options, &seen.header, found) {
+        Ok(plan) => plan,
+        Err(fault) => return Err(FileFault::Plan(fault)),
+    };
+    let header = &seen.header;
+    match separate_records(
+        alloc,
+        &plan,
+        rejects,
+        header,
+        &mut reader,
+        &mut seen.last,
+        sink,
+        rejected,
+    ) {
+        Ok(separated) => Ok((plan, separated)),
         Err(fault) => Err(FileFault::Records(plan, fault)),
     }
 }
