@@ -38,7 +38,7 @@ impl<R> Recorder<R> {
     }
 
     // Keeps the bytes of a read, or the last `KEPT` of them.
-    fn keep(&mut self, bytes: &[u8])
+    fn retain(&mut self, bytes: &[u8])
         ensures { self.new.reader ≡ self.old.reader }
     {
         let len = bytes.len().min(KEPT);
@@ -56,7 +56,7 @@ impl<R: Read> Read for Recorder<R> {
         match self.reader.read(buf) {
             Ok(taken) => {
                 if let Some(bytes) = buf.get(..taken) {
-                    self.keep(bytes);
+                    self.retain(bytes);
                 }
                 Ok(taken)
             }
