@@ -135,6 +135,8 @@ pub record AreWordsOf (rows : List Row) (words : ImportWords) : Type 0 where
 pub record IsImportOf (rows : List Row) (request : ImportRequest) : Type 0 where
   pub path : request.path.items ≡ word_of (codes "file") rows
   pub output : request.output.items ≡ word_of (codes "output") rows
+  pub all : request.all ≡ is_set (codes "all") rows
+  pub rejected : request.rejected.items ≡ word_of (codes "skip-invalid") rows
   pub words : AreWordsOf rows request.words
 
 -- The subcommand of a command line has this name, and its rows pass.
@@ -268,7 +270,9 @@ with_numbers app =
     with_rule (with_rule (with_rule app (text_rule (codes "delimiter"))) (text_rule (codes "decimal-point"))) (text_rule (codes "thousands"))
 
 abbrev pub import_app : App
-import_app = with_rule (with_rule (with_columns (with_period (with_numbers (new_app (codes "import"))))) (text_rule (codes "output"))) path_rule
+import_app =
+    with_rule (with_rule (with_rule (with_rule (with_columns (with_period (with_numbers (new_app (codes "import"))))) (text_rule (codes "output")))
+    (flag_rule (codes "all"))) (text_rule (codes "skip-invalid"))) path_rule
 
 -- The program itself: its words begin after its name, it has a version, and a subcommand is required.
 abbrev pub program_app : App

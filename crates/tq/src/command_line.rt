@@ -546,6 +546,17 @@ fn import_command<'a>(alloc: Global) -> Result<Command<'a>, AllocError>
             "PATH",
             "Path of the table file; without it, standard output",
         ))?
+        .arg(flag_argument(
+            alloc,
+            "all",
+            "Lists all invalid records, and not only the first",
+        ))?
+        .arg(text_argument(
+            alloc,
+            "skip-invalid",
+            "PATH",
+            "Path of a CSV file for the invalid records; the others are imported",
+        ))?
         .arg(path_argument(alloc))
 }
 
@@ -790,10 +801,13 @@ fn read_import(alloc: Global, import: &ArgMatches<'_>) -> Result<ImportRequest, 
 {
     let path = bytes_of(alloc, read_text(import, "file"))?;
     let output = bytes_of(alloc, read_text(import, "output"))?;
+    let rejected = bytes_of(alloc, read_text(import, "skip-invalid"))?;
     let words = read_import_words(alloc, import)?;
     Ok(ImportRequest {
         path,
         output,
+        all: read_flag(import, "all"),
+        rejected,
         words,
     })
 }

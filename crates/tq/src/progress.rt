@@ -206,3 +206,22 @@ impl<R: Read> Read for Counted<'_, R> {
         }
     }
 }
+
+/// A writer to standard error that erases the line of progress first.
+#[derive(Drop)]
+pub struct ErrorLines<'p, R> {
+    pub rt: &'p R,
+    pub progress: &'p Progress,
+}
+
+impl<R: Wait> Write for ErrorLines<'_, R> {
+    fn write(&mut self, buf: &[u8]) -> io::Result<usize> {
+        self.progress.end(self.rt);
+        self.progress.print(self.rt, buf);
+        Ok(buf.len())
+    }
+
+    fn flush(&mut self) -> io::Result<()> {
+        Ok(())
+    }
+}

@@ -57,11 +57,14 @@ pub struct SessionRequest {
 }
 
 /// What `tq import` was asked: the paths of the file and of the table file, of which an empty one is standard output,
-/// and how the file is imported.
+/// whether to list all invalid records, the path of the file into which they are put aside, or nothing, and how the file
+/// is imported.
 #[derive(Drop)]
 pub struct ImportRequest {
     pub path: Vec<u8>,
     pub output: Vec<u8>,
+    pub all: bool,
+    pub rejected: Vec<u8>,
     pub words: ImportWords,
 }
 

@@ -1,7 +1,7 @@
 use Rattle.std.proofs.Common.{rules, ap, codes, refl, ◌≡◌, ◌∙◌}
 use Rattle.std.proofs.lemmas.Result.{IfOk-weaker}
 use Rattle.clap.specs.Words.{app_of, new_app}
-use Rattle.tq.specs.CommandLine.{path_rule, text_rule, with_columns, with_numbers, with_period}
+use Rattle.tq.specs.CommandLine.{flag_rule, path_rule, text_rule, with_columns, with_numbers, with_period}
 use Rattle.tq.proofs.AppLemmas.{with_arg}
 use Rattle.tq.proofs.command_line.import_command.Goals as goal
 
@@ -12,4 +12,6 @@ returns c =
     let period = c.in_ok-command-2.ensures ∙ ap with_period numbers in
     let columns = c.in_ok-command-3.ensures ∙ ap with_columns period in
     let output = with_arg c.in_ok-command-3.command c.in_ok-arg.field-0 c.text_argument.result _ (text_rule (codes "output")) columns c.text_argument.ensures refl c.in_ok-arg.ensures in
-    IfOk-weaker c.arg-2.result _ _ (λ r added. with_arg c.in_ok-arg.field-0 r c.path_argument.result _ path_rule output c.path_argument.ensures refl added) c.arg-2.ensures
+    let all = with_arg c.in_ok-arg.field-0 c.in_ok-arg-2.field-0 c.flag_argument.result _ (flag_rule (codes "all")) output c.flag_argument.ensures refl c.in_ok-arg-2.ensures in
+    let rejected = with_arg c.in_ok-arg-2.field-0 c.in_ok-arg-3.field-0 c.text_argument-2.result _ (text_rule (codes "skip-invalid")) all c.text_argument-2.ensures refl c.in_ok-arg-3.ensures in
+    IfOk-weaker c.arg-4.result _ _ (λ r added. with_arg c.in_ok-arg-3.field-0 r c.path_argument.result _ path_rule rejected c.path_argument.ensures refl added) c.arg-4.ensures
