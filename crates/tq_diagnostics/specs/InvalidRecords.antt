@@ -3,8 +3,9 @@ use Rattle.std.specs.Prelude.{◌≡◌, ℕ, ◌+◌, ◌-◌, ◌==◌, Bool, 
 use Rattle.std.specs.List.{flat_map}
 use Rattle.tq_base.specs.declared.catalogue.Column.{Column}
 use Rattle.tq_base.specs.declared.form.Form.{Form}
-use Rattle.tq_event.specs.Loading.{columns_of, csv_records, has_two_boms}
+use Rattle.tq_event.specs.Loading.{columns_of, csv_records}
 use Rattle.tq_event.specs.declared.fault.LoadFaultKind.{LoadFaultKind}
+use Rattle.tq_diagnostics.specs.Contents.{content_of}
 use Rattle.tq_diagnostics.specs.Faults.{is_invalid}
 use Rattle.tq_diagnostics.specs.Fields.{record_detail}
 use Rattle.tq_diagnostics.specs.Files.{IsColumnIf, file_meaning, is_header_invalid}
@@ -60,7 +61,7 @@ faults_text form columns name bytes faults =
 
 -- the message for a header with a fault of this kind, given the text of its first invalid column
 abbrev pub header_text : List ℕ → List ℕ → LoadFaultKind → List ℕ → List ℕ
-header_text name bytes kind column = record_head name 1 (record_line bytes 1) ++ column ++ file_meaning false (has_two_boms bytes) kind ++ codes "\n"
+header_text name bytes kind column = record_head name 1 (record_line bytes 1) ++ column ++ file_meaning false (content_of bytes) kind ++ codes "\n"
 
 -- The messages for the invalid records of a file, by the columns of its header; if that is invalid, the message for the
 -- header.

@@ -8,9 +8,11 @@ use Rattle.tq_base.specs.declared.catalogue.Column.{Column}
 use Rattle.tq_base.specs.declared.catalogue.Schema.{Schema}
 use Rattle.tq_plan.specs.Scope.{alias_of}
 use Rattle.tq_plan.specs.declared.fault.PlanFault.TheVariants.{TypeMismatch, UnknownColumn}
+use Rattle.tq_sql.specs.declared.statement.ColumnRef.{ColumnRef}
 use Rattle.tq_sql.specs.declared.statement.SourceRef.{SourceRef}
 use Rattle.tq_sql.specs.declared.statement.Term.{Term}
 use Rattle.tq_sql.specs.declared.statement.Term.TheVariants as term
+use Rattle.tq_diagnostics.specs.Nearest.{nearest_hint}
 use Rattle.tq_diagnostics.specs.Probes.{Probe, is_refused}
 use Rattle.tq_diagnostics.specs.Probes as ask
 
@@ -55,15 +57,32 @@ abbrev pub source_called : List ℕ → List SourceRef → Option SourceRef
 source_called alias [] = None
 source_called alias (source ∷ sources) = if bytes_eq (alias_of source) alias then Some source else source_called alias sources
 
-abbrev pub line_of_source : Catalogue → List SourceRef → Option SourceRef → List ℕ
-line_of_source catalogue sources None = source_line sources
-line_of_source catalogue sources (Some source) = column_line catalogue source
+-- the names of the columns of a source
+abbrev pub columns_in : Catalogue → SourceRef → List (List ℕ)
+columns_in catalogue source = map (λ (c : Column). c.name) (table_columns catalogue source.table)
+
+-- the sources, after the one whose alias is nearest
+abbrev pub unknown_source_lines : List SourceRef → List ℕ → List ℕ
+unknown_source_lines sources alias = nearest_hint alias (map alias_of sources) ++ source_line sources
+
+abbrev pub lines_of_source : Catalogue → List SourceRef → List ℕ → Option SourceRef → List ℕ
+lines_of_source catalogue sources alias None = unknown_source_lines sources alias
+lines_of_source catalogue sources alias (Some source) = column_line catalogue source
 
 -- for an unknown column that names a source: the columns of that source, or the sources if none has the alias; for one
--- that names none: the columns of each source
-abbrev pub unknown_lines : Catalogue → List SourceRef → Option (List ℕ) → List ℕ
+-- that names none: the columns of each source. The nearest name is before the sources, and before the columns of each.
+abbrev pub lines_for_column : Catalogue → List SourceRef → List ℕ → Option (List ℕ) → List ℕ
+lines_for_column catalogue sources column None = nearest_hint column (flat_map (columns_in catalogue) sources) ++ column_lines catalogue sources
+lines_for_column catalogue sources column (Some alias) = lines_of_source catalogue sources alias (source_called alias sources)
+
+-- the same for the column of a probe; without one the columns of each source
+abbrev pub unknown_lines : Catalogue → List SourceRef → Option ColumnRef → List ℕ
 unknown_lines catalogue sources None = column_lines catalogue sources
-unknown_lines catalogue sources (Some alias) = line_of_source catalogue sources (source_called alias sources)
+unknown_lines catalogue sources (Some column) = lines_for_column catalogue sources column.column column.source
+
+-- the tables, after the one that is nearest to a name
+abbrev pub unknown_table_lines : Catalogue → List ℕ → List ℕ
+unknown_table_lines catalogue name = nearest_hint name (map (λ (s : Schema). s.name) catalogue.tables) ++ table_line catalogue
 
 -- the aliases of those sources over which the probe alone has no unknown column
 abbrev pub sources_with : Catalogue → Probe → List SourceRef → List (List ℕ)

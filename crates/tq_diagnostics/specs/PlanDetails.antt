@@ -9,25 +9,26 @@ use Rattle.tq_plan.specs.declared.fault.PlanFault.{PlanFault}
 use Rattle.tq_plan.specs.declared.fault.PlanFault.TheVariants.{AmbiguousColumn, BadWindow, DuplicateAlias, NotGrouped, OutOfMemory, SumNeedsGroup, SumOfText, TypeMismatch, UnequalColumns, UnknownColumn, UnknownTable}
 use Rattle.tq_plan.specs.Plans.{plan_of}
 use Rattle.tq_sql.specs.Reading.{ParsesTo}
+use Rattle.tq_sql.specs.declared.statement.ColumnRef.{ColumnRef}
 use Rattle.tq_sql.specs.declared.statement.Statement.{Statement}
 use Rattle.tq_diagnostics.specs.Fields.{shown_value}
 use Rattle.tq_diagnostics.specs.Probes.{Probe, Column, Count, Equality, QueryPart, Sum, first_refused, is_fault}
-use Rattle.tq_diagnostics.specs.Listing.{sources_having, is_text, left_of, mismatch_line, source_line, table_line, unknown_lines}
+use Rattle.tq_diagnostics.specs.Listing.{sources_having, is_text, left_of, mismatch_line, source_line, unknown_lines, unknown_table_lines}
 use Rattle.tq_diagnostics.specs.NamePlaces.{pointed_name}
 use Rattle.tq_diagnostics.specs.Parts.{statement_parts}
 use Rattle.tq_diagnostics.specs.Pointing.{pointed}
 
--- the source that a column names, if it names one
-abbrev pub source_named : Probe → Option (List ℕ)
-source_named Count = None
-source_named (Column column) = column.source
-source_named (Sum column group) = None
-source_named (Equality left right) = None
+-- the column that a probe selects
+abbrev pub column_of : Probe → Option ColumnRef
+column_of Count = None
+column_of (Column column) = Some column
+column_of (Sum column group) = None
+column_of (Equality left right) = None
 
 -- what exists, or what is wrong, for a part with this fault
 abbrev pub part_hint : Catalogue → PlanFault → QueryPart → List ℕ
-part_hint catalogue UnknownTable part = table_line catalogue
-part_hint catalogue UnknownColumn part = unknown_lines catalogue part.sources (source_named part.probe)
+part_hint catalogue UnknownTable part = unknown_table_lines catalogue part.name
+part_hint catalogue UnknownColumn part = unknown_lines catalogue part.sources (column_of part.probe)
 part_hint catalogue AmbiguousColumn part = sources_having catalogue part.sources part.probe
 part_hint catalogue DuplicateAlias part = source_line part.sources
 part_hint catalogue TypeMismatch part = mismatch_line (is_text catalogue part.sources (left_of part.probe))

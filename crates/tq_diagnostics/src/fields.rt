@@ -1,6 +1,6 @@
 // Messages about the fields of a record.
 
-ghost use Rattle.std.specs.Prelude.{◌≡◌, ◌+◌, ◌<◌, ◌≤◌, ◌++◌, [], OnOk, Some, codes, decimal, length, slice_get};
+ghost use Rattle.std.specs.Prelude.{◌≡◌, ◌+◌, ◌-◌, ◌<◌, ◌≤◌, ◌++◌, [], OnOk, Some, codes, decimal, length, slice_get};
 ghost use Rattle.csv.specs.Records.{fields_of};
 ghost use Rattle.tq_diagnostics.specs.Fields as spec;
 
@@ -132,8 +132,30 @@ pub(crate) fn field_at(record: &ByteRecord, place: usize) -> &[u8]
     }
 }
 
-// Appends the first field that is not a valid value of its column, if there is one.
-fn push_value_detail(
+// The field with this number, or nothing if there is none.
+fn field_or_nothing(record: &ByteRecord, place: usize) -> &[u8]
+    ensures { result.now ≡ spec.field_of (slice_get (fields_of record.entry.now) place) }
+{
+    match record.get(place) {
+        Some(field) => field,
+        None => b"",
+    }
+}
+
+/// The last two fields; nothing for one that is not there.
+pub(crate) fn last_fields(record: &ByteRecord) -> (&[u8], &[u8])
+    ensures from { result.0.now ≡ spec.field_of (slice_get (fields_of record.entry.now) (length (fields_of record.entry.now) - 2)) }
+    ensures to { result.1.now ≡ spec.field_of (slice_get (fields_of record.entry.now) (length (fields_of record.entry.now) - 1)) }
+{
+    let count = record.len();
+    (
+        field_or_nothing(record, count.saturating_sub(2)),
+        field_or_nothing(record, count.saturating_sub(1)),
+    )
+}
+
+/// Appends the first field that is not a valid value of its column, if there is one.
+pub(crate) fn push_value_detail(
     text: &mut Vec<u8>,
     columns: &[Column],
     record: &ByteRecord,

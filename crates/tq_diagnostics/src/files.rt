@@ -7,14 +7,16 @@ ghost use Rattle.tq_diagnostics.specs.Faults.{later_text};
 ghost use Rattle.tq_diagnostics.specs.Files as spec;
 ghost use Rattle.tq_diagnostics.specs.Records.{line_text, record_of};
 
+use crate::contents::{Content, content_of, is_plain};
 use crate::faults::push_later;
 use crate::fields::{push_number, push_record_detail};
+use crate::file_hints::push_file_hints;
 use crate::headers::column_of;
 use crate::records::{line_of, read_record};
 use csv::ByteRecord;
 use std::alloc::{AllocError, Global};
 use tq_base::Form;
-use tq_event::steps::{has_two_boms, read_header};
+use tq_event::steps::read_header;
 use tq_event::{LoadFault, LoadFaultKind};
 use tq_shown::push_printable;
 
@@ -75,18 +77,36 @@ fn is_of_fields(kind: LoadFaultKind) -> bool
     }
 }
 
-// The message for an invalid header: of a table's name (`named`), of a file with two byte order marks (`marked`), or of
-// any other.
-fn header_meaning(named: bool, marked: bool) -> &'static [u8]
-    ensures { result.now ≡ spec.header_meaning named marked }
+// The message for a file that is not a table file.
+fn content_meaning(content: Content) -> &'static [u8]
+    ensures { result.now ≡ spec.content_meaning content }
+{
+    match content {
+        Content::Plain => {
+            b"write the header as NAME:int or NAME:text for each column, an int first, then from,to"
+        }
+        Content::TwoMarks => b"the file begins with two byte order marks: remove one",
+        Content::Gzip => {
+            b"the file is compressed: decompress it, as in `gunzip -c FILE | tq ask --table NAME=- ..`"
+        }
+        Content::Zip => b"the file is a zip archive or a spreadsheet: save the table as CSV",
+        Content::Utf16 => {
+            b"the file is in UTF-16: convert it, as in `iconv -f UTF-16 -t UTF-8 FILE | tq ask --table NAME=- ..`"
+        }
+        Content::Empty => {
+            b"the file is empty: its first line is a header, such as emp:int,name:text,from,to"
+        }
+    }
+}
+
+// The message for an invalid header: of a table's name (`named`), or of a file with this content.
+fn header_meaning(named: bool, content: Content) -> &'static [u8]
+    ensures { result.now ≡ spec.header_meaning named content }
 {
     if named {
         return b"a table name is a letter or _, then letters, digits or _, at most 64 in all, and not a reserved word";
     }
-    if marked {
-        return b"the file begins with two byte order marks: remove one";
-    }
-    b"write the header as NAME:int or NAME:text for each column, an int first, then from,to"
+    content_meaning(content)
 }
 
 // The message for two equal names: of tables (`named`), or of columns.
@@ -100,11 +120,11 @@ fn names_meaning(named: bool) -> &'static [u8]
 }
 
 /// The message for every fault except those of a record's fields; `named` if it is about the table's name.
-pub(crate) fn file_meaning(named: bool, marked: bool, kind: LoadFaultKind) -> &'static [u8]
-    ensures { result.now ≡ spec.file_meaning named marked kind }
+pub(crate) fn file_meaning(named: bool, content: Content, kind: LoadFaultKind) -> &'static [u8]
+    ensures { result.now ≡ spec.file_meaning named content kind }
 {
     match kind {
-        LoadFaultKind::BadHeader => header_meaning(named, marked),
+        LoadFaultKind::BadHeader => header_meaning(named, content),
         LoadFaultKind::DuplicateName => names_meaning(named),
         LoadFaultKind::FieldCount => b"",
         LoadFaultKind::BadInt => b"",
@@ -159,11 +179,11 @@ pub(crate) fn column_if(alloc: Global, at_fault: bool, bytes: &[u8]) -> Result<V
     Ok(Vec::new(alloc))
 }
 
-/// Whether the header is invalid for another reason than two byte order marks before it.
+/// Whether the header is invalid, and the file may be a table file.
 pub(crate) fn is_header_invalid(kind: LoadFaultKind, bytes: &[u8], number: u32) -> bool
     ensures { result ≡ spec.is_header_invalid kind bytes.now number }
 {
-    is_of_header(kind) && number > 0 && !has_two_boms(bytes)
+    is_of_header(kind) && number > 0 && is_plain(content_of(bytes))
 }
 
 // Appends the message for a fault of this kind in the record with this number.
@@ -178,7 +198,7 @@ fn push_meaning(
     ensures { OnOk result (text.new.items ≡ text.old.items ++ spec.meaning_of kind form bytes.now number) }
 {
     if !is_of_fields(kind) {
-        return text.extend_from_slice(file_meaning(number == 0, has_two_boms(bytes), kind));
+        return text.extend_from_slice(file_meaning(number == 0, content_of(bytes), kind));
     }
     if number == 0 {
         return Ok(());
@@ -214,9 +234,19 @@ pub(crate) fn push_line(text: &mut Vec<u8>, line: Option<usize>) -> Result<(), A
     push_number(text, line)
 }
 
+// Appends a path; `-` is standard input.
+fn push_path(text: &mut Vec<u8>, path: &[u8]) -> Result<(), AllocError>
+    ensures { OnOk result (text.new.items ≡ text.old.items ++ spec.path_text path.now) }
+{
+    if path == b"-".as_slice() {
+        return text.extend_from_slice(b"standard input");
+    }
+    push_printable(text, path)
+}
+
 /// The message for a fault of the file at a path. `bytes` is its content, and its instants are in the form. The message
 /// has the path, the line on which the invalid record begins, and what is wrong there. For a fault of a record's fields
-/// it also counts the later invalid records. `AllocError` if an allocation failed.
+/// it also counts the later invalid records. Below it are hints. `AllocError` if an allocation failed.
 pub fn explain_file(
     alloc: Global,
     path: &[u8],
@@ -228,15 +258,17 @@ pub fn explain_file(
 {
     let LoadFault { kind, number, .. } = fault;
     let line = line_of(alloc, bytes, number)?;
-    let column = column_if(alloc, is_header_invalid(kind, bytes, number), bytes)?;
+    let header = is_header_invalid(kind, bytes, number);
+    let column = column_if(alloc, header, bytes)?;
     let mut text = Vec::new(alloc);
     text.extend_from_slice(b"  ")?;
-    push_printable(&mut text, path)?;
+    push_path(&mut text, path)?;
     push_line(&mut text, line)?;
     text.extend_from_slice(b": ")?;
     text.extend_from_slice(&column)?;
     push_meaning(alloc, &mut text, kind, form, bytes, number)?;
     push_later_if(alloc, &mut text, is_of_fields(kind), form, bytes, number)?;
     text.push(b'\n')?;
+    push_file_hints(alloc, &mut text, header, kind, form, bytes, number)?;
     Ok(text)
 }

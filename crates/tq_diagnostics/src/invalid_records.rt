@@ -9,6 +9,7 @@ ghost use Rattle.tq_diagnostics.specs.InvalidRecords.{IsRecordsText, fault_text,
 ghost use Rattle.tq_diagnostics.specs.Files.{IsColumnIf, is_header_invalid};
 ghost use Rattle.tq_shown.specs.Printable.{printable_text};
 
+use crate::contents::content_of;
 use crate::faults::{is_invalid, read_columns};
 use crate::fields::{push_number, push_record_detail};
 use crate::files::{column_if, file_meaning, is_header_invalid, push_line};
@@ -17,7 +18,7 @@ use csv::{ByteRecord, Reader};
 use std::alloc::{AllocError, Global};
 use tq_base::{Column, Form, Value};
 use tq_event::LoadFaultKind;
-use tq_event::steps::{has_two_boms, next_record, record_reader};
+use tq_event::steps::{next_record, record_reader};
 use tq_shown::push_printable;
 
 // The most invalid records that are listed.
@@ -180,7 +181,7 @@ fn push_header(
     };
     push_head(text, name, place)?;
     text.extend_from_slice(&column)?;
-    text.extend_from_slice(file_meaning(false, has_two_boms(bytes), kind))?;
+    text.extend_from_slice(file_meaning(false, content_of(bytes), kind))?;
     text.extend_from_slice(b"\n")
 }
 

@@ -37,8 +37,8 @@ fn next_unquoted(byte: u8) -> ReaderState
     }
 }
 
-// The reader's state after a byte.
-fn after(reader_state: ReaderState, byte: u8) -> ReaderState
+/// The reader's state after a byte.
+pub(crate) fn after(reader_state: ReaderState, byte: u8) -> ReaderState
     ensures { state_of result ≡ (machine.step default_config (state_of reader_state) byte).0 }
 {
     match reader_state {
@@ -61,8 +61,8 @@ fn begins_record(reader_state: ReaderState, byte: u8) -> bool
     }
 }
 
-// The line of the next byte.
-fn line_after_byte(line: usize, byte: u8) -> usize
+/// The line of the next byte.
+pub(crate) fn line_after_byte(line: usize, byte: u8) -> usize
     requires { line < 2 ^ 63 }
     ensures value { result ≡ line_after_byte line byte }
     ensures few { result ≤ line + 1 }
@@ -70,9 +70,9 @@ fn line_after_byte(line: usize, byte: u8) -> usize
     if byte == b'\n' { line + 1 } else { line }
 }
 
-// The length of the byte order mark at the front, 0 if there is none.
+/// The length of the byte order mark at the front, 0 if there is none.
 #[tactic(auto, unfolding(csv::specs::Reading::strip_bom))]
-fn mark_len(bytes: &[u8]) -> usize
+pub(crate) fn mark_len(bytes: &[u8]) -> usize
     ensures within { result ≤ length bytes.now }
     ensures after { drop result bytes.now ≡ strip_bom bytes.now }
 {

@@ -1,18 +1,19 @@
 // Lists of the tables, sources and columns that exist.
 
-ghost use Rattle.std.specs.Prelude.{◌≡◌, ◌++◌, ◌∷◌, [], IfOk, OnOk, codes, map, option_copied};
+ghost use Rattle.std.specs.Prelude.{◌≡◌, ◌++◌, ◌∷◌, [], IfOk, None, OnOk, Some, codes, map, option_copied};
 ghost use Rattle.std.specs.List.{flat_map};
 ghost use Rattle.tq_base.specs.declared.catalogue.Column.{Column as AnyColumn};
 ghost use Rattle.tq_base.specs.declared.catalogue.Schema.{Schema as AnySchema};
 ghost use Rattle.tq_plan.specs.Scope.{alias_of};
-ghost use Rattle.tq_diagnostics.specs.Listing.{column_line, column_lines, sources_having, is_text, left_of, listed, listed_name, mismatch_line, source_called, source_line, sources_with, table_columns, table_line, unknown_lines};
+ghost use Rattle.tq_diagnostics.specs.Listing.{column_line, column_lines, columns_in, lines_for_column, sources_having, is_text, left_of, listed, listed_name, mismatch_line, numbered_columns, source_called, source_line, sources_with, table_columns, unknown_lines, unknown_source_lines, unknown_table_lines};
 ghost use Rattle.tq_diagnostics.specs.Views.{probe_view, name_views};
 
+use crate::nearest::push_nearest;
 use crate::probe_statement::{Probe, is_refused};
 use std::alloc::{AllocError, Global};
 use tq_base::{Catalogue, Column, Name, Schema};
 use tq_plan::PlanFault;
-use tq_sql::{SourceRef, Term};
+use tq_sql::{ColumnRef, SourceRef, Term};
 
 fn push_names(text: &mut Vec<u8>, names: &[&[u8]]) -> Result<(), AllocError>
     ensures { OnOk result (text.new.items ≡ text.old.items ++ flat_map listed_name (name_views names.now)) }
@@ -35,7 +36,8 @@ fn push_listed(text: &mut Vec<u8>, label: &[u8], names: &[&[u8]]) -> Result<(), 
     text.extend_from_slice(b"\n")
 }
 
-fn push_name<'a>(names: &mut Vec<&'a [u8]>, name: &'a [u8]) -> Result<(), AllocError>
+/// Adds a name to a list.
+pub(crate) fn push_name<'a>(names: &mut Vec<&'a [u8]>, name: &'a [u8]) -> Result<(), AllocError>
     ensures { OnOk result (name_views names.new.items ≡ name_views names.old.items ++ name.entry.now ∷ []) }
 {
     names.push(name)?;
@@ -52,15 +54,17 @@ fn table_names<'a>(alloc: Global, tables: &'a [Schema]) -> Result<Vec<&'a [u8]>,
     Ok(names)
 }
 
-/// Appends the tables of the catalogue.
+/// Appends the tables of the catalogue, after the one that is nearest to the name.
 pub(crate) fn push_tables(
     alloc: Global,
     text: &mut Vec<u8>,
     catalogue: &Catalogue,
+    name: &[u8],
 ) -> Result<(), AllocError>
-    ensures { OnOk result (text.new.items ≡ text.old.items ++ table_line catalogue.now) }
+    ensures { OnOk result (text.new.items ≡ text.old.items ++ unknown_table_lines catalogue.now name.now) }
 {
     let names = table_names(alloc, catalogue.tables.get())?;
+    push_nearest(alloc, text, name, &names)?;
     push_listed(text, b"tables", &names)
 }
 
@@ -96,6 +100,16 @@ pub(crate) fn push_sources(
     push_listed(text, b"sources", &names)
 }
 
+/// The columns of the table with this number; none if there is no such table.
+pub(crate) fn columns_at(catalogue: &Catalogue, number: u32) -> &[Column]
+    ensures { result.now ≡ numbered_columns catalogue.entry.now (Some number) }
+{
+    match catalogue.tables.get().get(number as usize) {
+        Some(schema) => schema.columns.get(),
+        None => &[],
+    }
+}
+
 // The columns of the table of this name.
 fn table_columns<'a>(catalogue: &'a Catalogue, name: &[u8]) -> &'a [Column]
     ensures { result.now ≡ table_columns catalogue.entry.now name.now }
@@ -103,10 +117,7 @@ fn table_columns<'a>(catalogue: &'a Catalogue, name: &[u8]) -> &'a [Column]
     let Some(number) = catalogue.table(name) else {
         return &[];
     };
-    let Some(schema) = catalogue.tables.get().get(number as usize) else {
-        return &[];
-    };
-    schema.columns.get()
+    columns_at(catalogue, number)
 }
 
 fn column_names<'a>(alloc: Global, columns: &'a [Column]) -> Result<Vec<&'a [u8]>, AllocError>
@@ -162,26 +173,108 @@ fn source_called<'a>(alias: &[u8], mut sources: &'a [SourceRef]) -> Option<&'a S
     None
 }
 
-/// Appends what exists instead of an unknown column: the columns of the source that it names, or the sources if none
-/// has that alias. If it names no source, the columns of each.
+// Appends the sources, after the one whose alias is nearest.
+fn push_unknown_source(
+    alloc: Global,
+    text: &mut Vec<u8>,
+    sources: &[SourceRef],
+    alias: &[u8],
+) -> Result<(), AllocError>
+    ensures { OnOk result (text.new.items ≡ text.old.items ++ unknown_source_lines sources.now alias.now) }
+{
+    let names = aliases_of(alloc, sources)?;
+    push_nearest(alloc, text, alias, &names)?;
+    push_listed(text, b"sources", &names)
+}
+
+// Adds the columns of a source to a list.
+fn add_columns<'a>(
+    names: &mut Vec<&'a [u8]>,
+    catalogue: &'a Catalogue,
+    source: &SourceRef,
+) -> Result<(), AllocError>
+    ensures { OnOk result (name_views names.new.items ≡ name_views names.old.items ++ columns_in catalogue.entry.now source.now) }
+{
+    let columns = table_columns(catalogue, source.table.bytes());
+    'columns: for column in columns {
+        push_name(names, column.name.bytes())?;
+    }
+    Ok(())
+}
+
+// The columns of all sources.
+fn all_columns<'a>(
+    alloc: Global,
+    catalogue: &'a Catalogue,
+    sources: &[SourceRef],
+) -> Result<Vec<&'a [u8]>, AllocError>
+    ensures { IfOk result (λ names. name_views names.items ≡ flat_map (columns_in catalogue.entry.now) sources.now) }
+{
+    let mut names = Vec::new(alloc);
+    'sources: for source in sources {
+        add_columns(&mut names, catalogue, source)?;
+    }
+    Ok(names)
+}
+
+// Appends the columns of each source, after the one that is nearest.
+fn push_unknown_in_all(
+    alloc: Global,
+    text: &mut Vec<u8>,
+    catalogue: &Catalogue,
+    sources: &[SourceRef],
+    column: &[u8],
+) -> Result<(), AllocError>
+    ensures { OnOk result (text.new.items ≡ text.old.items ++ lines_for_column catalogue.now sources.now column.now None) }
+{
+    let names = all_columns(alloc, catalogue, sources)?;
+    push_nearest(alloc, text, column, &names)?;
+    push_columns_of_each(alloc, text, catalogue, sources)
+}
+
+// Appends what exists instead of a column, which names a source or none.
+fn push_lines_for(
+    alloc: Global,
+    text: &mut Vec<u8>,
+    catalogue: &Catalogue,
+    sources: &[SourceRef],
+    column: &[u8],
+    alias: Option<&Name>,
+) -> Result<(), AllocError>
+    ensures { OnOk result (text.new.items ≡ text.old.items ++ lines_for_column catalogue.now sources.now column.now (option_copied alias.entry)) }
+{
+    let Some(alias) = alias else {
+        return push_unknown_in_all(alloc, text, catalogue, sources, column);
+    };
+    let Some(source) = source_called(alias.bytes(), sources) else {
+        return push_unknown_source(alloc, text, sources, alias.bytes());
+    };
+    push_columns(alloc, text, catalogue, source)
+}
+
+/// Appends what exists instead of an unknown column, after the name that is nearest: the columns of the source that it
+/// names, or the sources if none has that alias. If it names no source, the columns of each.
 pub(crate) fn push_unknown(
     alloc: Global,
     text: &mut Vec<u8>,
     catalogue: &Catalogue,
     sources: &[SourceRef],
-    alias: Option<&Name>,
+    column: Option<&ColumnRef>,
 ) -> Result<(), AllocError>
-    ensures { OnOk result (text.new.items ≡ text.old.items ++ unknown_lines catalogue.now sources.now (option_copied alias.entry)) }
+    ensures { OnOk result (text.new.items ≡ text.old.items ++ unknown_lines catalogue.now sources.now (option_copied column.entry)) }
 {
-    let Some(alias) = alias else {
-        push_columns_of_each(alloc, text, catalogue, sources)?;
-        return Ok(());
+    let Some(column) = column else {
+        return push_columns_of_each(alloc, text, catalogue, sources);
     };
-    let Some(source) = source_called(alias.bytes(), sources) else {
-        push_sources(alloc, text, sources)?;
-        return Ok(());
-    };
-    push_columns(alloc, text, catalogue, source)
+    let name = column.column.bytes();
+    push_lines_for(
+        alloc,
+        text,
+        catalogue,
+        sources,
+        name,
+        column.source.as_ref(),
+    )
 }
 
 // The aliases of those sources over which the probe alone has no unknown column.

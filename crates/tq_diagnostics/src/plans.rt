@@ -1,7 +1,7 @@
 // Messages about a statement that has no plan over the tables.
 
 ghost use Rattle.std.specs.Prelude.{◌≡◌, ◌<◌, ◌==◌, ◌++◌, IfOk, IfSome, OnOk, length, option_copied, position};
-ghost use Rattle.tq_diagnostics.specs.PlanDetails.{IsPlanDetail, IsRead, bounds_line, closed_line, first_day, is_bad_window, is_no_day, last_day, no_day_line, other_form, other_form_line, part_detail, plan_detail, pointed_quote, reads_window, rule_line, source_named, part_hint, window_detail, window_hint, window_line, window_text};
+ghost use Rattle.tq_diagnostics.specs.PlanDetails.{IsPlanDetail, IsRead, bounds_line, closed_line, first_day, is_bad_window, is_no_day, last_day, no_day_line, other_form, other_form_line, part_detail, plan_detail, pointed_quote, reads_window, rule_line, column_of, part_hint, window_detail, window_hint, window_line, window_text};
 ghost use Rattle.tq_diagnostics.specs.Views.{probe_view, optional_part_view, part_view};
 
 use crate::fields::push_value;
@@ -11,18 +11,18 @@ use crate::parts::statement_parts;
 use crate::pointing::push_pointed;
 use crate::probe_statement::{Part, Probe, first_refused, has_fault};
 use std::alloc::{AllocError, Global};
-use tq_base::{Catalogue, Form, Name, Text, read_instant};
+use tq_base::{Catalogue, Form, Text, read_instant};
 use tq_plan::PlanFault;
 use tq_sql::laws::{faults_are_refusals, statements_are_unique};
-use tq_sql::{SqlFaultKind, Statement, read};
+use tq_sql::{ColumnRef, SqlFaultKind, Statement, read};
 
-// The source that a column names, if it names one.
-fn source_named<'a>(probe: &Probe<'a>) -> Option<&'a Name>
-    ensures { option_copied result ≡ source_named (probe_view probe.now) }
+// The column that a probe selects.
+fn column_of<'a>(probe: &Probe<'a>) -> Option<&'a ColumnRef>
+    ensures { option_copied result ≡ column_of (probe_view probe.now) }
 {
     match probe {
         Probe::Count => None,
-        Probe::Column(column) => column.source.as_ref(),
+        Probe::Column(column) => Some(*column),
         Probe::Sum(_, _) => None,
         Probe::Equality(_, _) => None,
     }
@@ -39,13 +39,13 @@ fn push_part_hint(
     ensures { OnOk result (text.new.items ≡ text.old.items ++ part_hint catalogue.now fault (part_view part.now)) }
 {
     match fault {
-        PlanFault::UnknownTable => push_tables(alloc, text, catalogue),
+        PlanFault::UnknownTable => push_tables(alloc, text, catalogue, part.name),
         PlanFault::UnknownColumn => push_unknown(
             alloc,
             text,
             catalogue,
             part.sources,
-            source_named(&part.probe),
+            column_of(&part.probe),
         ),
         PlanFault::AmbiguousColumn => {
             push_sources_having(alloc, text, catalogue, part.sources, &part.probe)

@@ -4,6 +4,7 @@ ghost use Rattle.std.specs.Prelude.{◌≡◌, ◌≤◌, ◌<◌, IfOk, IfSome,
 ghost use Rattle.csv.specs.Records.{fields_of};
 ghost use Rattle.tq_diagnostics.specs.Records.{Begins, IsLine, is_feed, record_of};
 
+use crate::contents::is_line_end;
 use csv::ByteRecord;
 use std::alloc::{AllocError, Global};
 use tq_event::steps::{next_record, record_reader};
@@ -26,10 +27,6 @@ pub(crate) fn read_record(
     }
     let found = next_record(&mut reader, record)?;
     Ok(found)
-}
-
-fn is_line_end(byte: u8) -> bool {
-    byte == b'\n' || byte == b'\r'
 }
 
 // The byte at which the record begins, after the line ends before it; `bytes` is where it was read from.
