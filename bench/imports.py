@@ -1,4 +1,4 @@
-"""Measures what an import costs beside loading what it wrote: python3 bench/imports.py
+"""Measures what an import costs compared with loading what it wrote: python3 bench/imports.py
 
     --tq PROGRAM      the program to measure (bin/tq)
     --rows N ..       the sizes of the export (10000 1000000)

@@ -21,11 +21,11 @@ use Rattle.tq_exec.specs.OutputRanges.{numbers_in}
 use Rattle.tq_exec.specs.Partitioning.{ArePartitionedBy, Columns, in_partition}
 use Rattle.tq_exec.specs.Partitions.{partition_of}
 
--- the numbers of so many parts add up to that of the whole
+-- the numbers of the parts, of which there are `number`, add up to that of the whole
 abbrev pub AddUp : ℕ → (ℕ → ℕ) → ℕ → Type 0
 AddUp number part whole = sum_by part (range_with_len 0 number) ≡ whole
 
--- in so many parts together each row is valid as often as in the whole, at each instant
+-- in the parts together, of which there are `number`, each row is valid as often as in the whole, at each instant
 abbrev pub AreParts : ℕ → (ℕ → Row → ℕ → ℕ) → (Row → ℕ → ℕ) → Type 0
 AreParts number part whole = (v : Row) (t : ℕ) → AddUp number (λ i. part i v t) (whole v t)
 

@@ -1,5 +1,5 @@
 // The lines on which records begin. The `csv` reader counts line feeds up to the end of a record. Those of the record and
-// the one behind it are taken off again.
+// the one after it are taken off again.
 
 ghost use Rattle.std.specs.Prelude.{◌≡◌};
 
@@ -11,7 +11,7 @@ const KEPT: usize = 8192;
 
 /// A reader that knows whether a line feed ended what was taken from it.
 pub(crate) trait LineEnds {
-    /// Whether a line feed comes before this number of bytes from the start, and not the end of the file behind it.
+    /// Whether the byte before this offset is a line feed. False if the last read was at the end of the file.
     fn is_line_feed_before(&self, offset: u64) -> bool;
 }
 
