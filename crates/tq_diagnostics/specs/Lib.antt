@@ -20,5 +20,4 @@ pub mod Parts
 pub mod PlanDetails
 pub mod Pointing
 pub mod Records
-pub mod RowDetails
 pub mod Views

@@ -1,10 +1,9 @@
 //! Diagnostics: the lines that explain a fault to the user, after the fixed line of the fault.
 //!
-//! Five calls, each with its definition: `explain_statement` (`IsDetail` in `specs/Details.antt`), `explain_plan`
-//! (`IsPlanDetail` in `specs/PlanDetails.antt`), `explain_file` (`IsFileDetail` in `specs/Files.antt`),
-//! `explain_records` (`IsRecordsText` in `specs/InvalidRecords.antt`) and `explain_row` (`row_detail` in
-//! `specs/RowDetails.antt`). There is no second parser, planner or reader here: these calls run `tq_sql`, `tq_plan` and
-//! `tq_event` again on parts of the input.
+//! Four calls, each with its definition: `explain_statement` (`IsDetail` in `specs/Details.antt`), `explain_plan`
+//! (`IsPlanDetail` in `specs/PlanDetails.antt`), `explain_file` (`IsFileDetail` in `specs/Files.antt`) and
+//! `explain_records` (`IsRecordsText` in `specs/InvalidRecords.antt`). There is no second parser, planner or reader
+//! here: these calls run `tq_sql`, `tq_plan` and `tq_event` again on parts of the input.
 //!
 //! Open `src/statements.rt` first.
 #![tactic(auto)]
@@ -30,11 +29,9 @@ mod pointing;
 mod probe_statement;
 mod quotes;
 mod records;
-mod row_details;
 mod statements;
 
 pub use files::explain_file;
 pub use invalid_records::explain_records;
 pub use plans::explain_plan;
-pub use row_details::explain_row;
 pub use statements::explain_statement;

@@ -100,8 +100,8 @@ pub(crate) fn push_sources(
     push_listed(text, b"sources", &names)
 }
 
-/// The columns of the table with this number; none if there is no such table.
-pub(crate) fn columns_at(catalogue: &Catalogue, number: u32) -> &[Column]
+// The columns of the table with this number; none if there is no such table.
+fn columns_at(catalogue: &Catalogue, number: u32) -> &[Column]
     ensures { result.now ≡ numbered_columns catalogue.entry.now (Some number) }
 {
     match catalogue.tables.get().get(number as usize) {
