@@ -40,8 +40,8 @@ part() {
     fi
 }
 
-# Nearly all crates wait for these, one after the other, so each gets two processors; with RT_JOBS it would get one. The run
-# of all crates waits for what is proved here, and proves others meanwhile.
+# Nearly all crates wait for these, one after the other, so each gets two processors if memory allows; with RT_JOBS it would
+# get one. The run of all crates waits for what is proved here, and proves others meanwhile.
 if (($# == 0 && RT_JOBS >= 4)); then
     python3 gate/build.py --prove tq_agg > /dev/null 2>&1 &
     sleep 3
