@@ -9,7 +9,8 @@ build of tq.
 
 Each file is imported three times: plainly, with --all and with --skip-invalid. The expected output is the table file of the
 definition in docs/reference/files.md, or the fault of the first invalid record with its line, or all of them; and the CSV
-file of the invalid records. The program must end with status 0 or 1 and write exactly this.
+file of the invalid records. The program must end with status 0 or 1 and write exactly this. Some files are imported with
+--encoding latin1.
 
 Each import is a case. Each failed case has one line, and its file is kept. The last line is 'N passed, M failed'."""
 
@@ -87,6 +88,7 @@ class Options:
 
     key: bytes | None
     kinds: dict
+    latin1: bool = False
     delimiter: int = ord(";")
     begin: bytes = b"Valid from"
     end: bytes = b"Valid to"
@@ -96,6 +98,7 @@ class Options:
         words = ["--delimiter", chr(self.delimiter), "--date-format", "dd.mm.yyyy", "--from", self.begin.decode(), "--to", self.end.decode(), "--inclusive", "--thousands", ","]
         for text in self.open:
             words += ["--open", text.decode()]
+        words += ["--encoding", "latin1"] if self.latin1 else []
         words += ["--number"] if self.key is None else ["--key", self.key.decode()]
         for name, places in self.kinds.items():
             words += ["--text", name.decode()] if places is None else ["--decimal", f"{name.decode()}={places}"]
@@ -186,7 +189,7 @@ def text_of(value):
     try:
         value.decode()
     except UnicodeDecodeError:
-        raise Fault(b" is not valid UTF-8") from None
+        raise Fault(b" is not valid UTF-8: use --encoding latin1 if the file is in Latin-1") from None
     if len(value) > 1000:
         raise Fault(b" has more than 1,000 bytes")
     return value
@@ -274,6 +277,8 @@ class Expected:
 
 
 def expected_of(data, options):
+    if options.latin1:
+        data = data.decode("latin-1").encode()
     records = records_of(data, options.delimiter)
     if not records:
         return Expected(fault=line_text(b", there is no header"))
@@ -391,6 +396,8 @@ def export_of(exports, chance):
     key = chance.choice([b"Code" if is_rates else b"Employee ID", None])
     amount = b"Monthly pay" if is_rates else b"Salary"
     kinds = chance.choice([{}, {amount: 2}, {amount: 1, b"Grade": None}, {amount: 3, b"Grade": 0}, {amount: None}])
+    if chance.random() < 0.2:
+        return data.removeprefix(BOM), Options(key, kinds, latin1=True)
     return data, Options(key, kinds)
 
 

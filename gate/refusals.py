@@ -192,7 +192,8 @@ def faults_of_runs(command, every):
 
 def over_several_files(page):
     """The questions of a page over several files, but for those whose answers go through other programs."""
-    found = [case for case in cases_of_page(page) if case.words.count("--table") > 1 and "|" not in case.words]
+    asked = [case for case in cases_of_page(page) if case.words[0] == "ask" and "|" not in case.words]
+    found = [case for case in asked if case.words.count("--table") > 1]
     if not found:
         raise SystemExit(f"FAILED: {page.name} asks no question over several files")
     return found

@@ -8,7 +8,7 @@ use Rattle.clap.specs.declared.parser.matches.ArgMatches.{ArgMatches}
 use Rattle.clap.proofs.OnLiterals.{clap_on_literals}
 use Rattle.tq.specs.CommandLine.{IsInvalid, IsPrintOf, IsRequestIn, IsUsageFault, program_app, tq_app}
 use Rattle.tq.specs.declared.request.Request.{Request}
-use Rattle.tq.specs.declared.request.Request.TheVariants.{Print, Ask, Draw, Check, Session, Import}
+use Rattle.tq.specs.declared.request.Request.TheVariants.{Print, Ask, Draw, Check, Session, Import, Split, Merge}
 use Rattle.clap.specs.declared.builder.arg.Arg.{Arg}
 use Rattle.clap.specs.declared.builder.command.Command.{Command}
 use Rattle.clap.proofs.SimpleLemmas.{plain_fields}
@@ -100,6 +100,8 @@ printed_by words e (Draw draw) kind p = absurd p
 printed_by words e (Check check) kind p = absurd p
 printed_by words e (Session session) kind p = absurd p
 printed_by words e (Import request) kind p = absurd p
+printed_by words e (Split request) kind p = absurd p
+printed_by words e (Merge request) kind p = absurd p
 
 pub refused_by : (words : List Text) (e : Error) → HasKind (fault_of tq_app words) e → IsUsageFault (kind_of e) → IsInvalid words
 refused_by words e (inl memory) usage = absurd (usage.2 memory)

@@ -3,7 +3,7 @@ use Rattle.std.proofs.Common.{◌≡◌, List, [], ◌∷◌, Some, true, false,
 use Rattle.clap.specs.Words.{Text, fault_of, subcommand_of}
 use Rattle.clap.specs.declared.error.kind.ErrorKind.TheVariants.{DisplayHelp, DisplayVersion, MissingRequiredArgument, MissingSubcommand}
 use Rattle.clap.proofs.OnLiterals.{clap_on_literals}
-use Rattle.tq.specs.CommandLine.{is_set, list_of, number_of, table_words, text_of, tq_app}
+use Rattle.tq.specs.CommandLine.{asks_details, is_set, list_of, number_of, table_words, text_of, tq_app}
 
 abbrev words : List Text
 words = codes "ask" ∷ codes "--table" ∷ codes "a=b" ∷ codes "--table=c=d" ∷ codes "--dates" ∷ codes "VALIDTIME" ∷ []
@@ -59,6 +59,16 @@ gaps_found = refl
 pub overlaps_left_out : option_map (λ sub. is_set (codes "overlaps") sub.1) (subcommand_of tq_app (codes "check" ∷ codes "--gaps" ∷ codes "--table=a=b" ∷ [])) ≡ Some false
 unfolding clap_on_literals
 overlaps_left_out = refl
+
+pub session_explains : option_map (λ sub. is_set (codes "explain") sub.1) (subcommand_of tq_app (codes "session" ∷ codes "--explain" ∷ codes "--table=a=b" ∷ [])) ≡ Some true
+unfolding clap_on_literals
+session_explains = refl
+
+pub details_are_asked : asks_details (codes "ask" ∷ codes "--worker" ∷ codes "--explain" ∷ []) ≡ true
+details_are_asked = refl
+
+pub details_are_not_asked : asks_details (codes "ask" ∷ codes "--" ∷ codes "--explain" ∷ []) ≡ false
+details_are_not_asked = refl
 
 pub references_found : option_map (λ sub. list_of (codes "refers") sub.1) (subcommand_of tq_app (codes "check" ∷ codes "--refers=a.b=c.d" ∷ codes "--table=a=b" ∷ codes "--refers" ∷ codes "e.f=g.h" ∷ [])) ≡ Some (codes "a.b=c.d" ∷ codes "e.f=g.h" ∷ [])
 unfolding clap_on_literals

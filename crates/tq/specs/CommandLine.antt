@@ -1,5 +1,5 @@
 -- What the words of a command line ask for. (This project's own.)
-use Rattle.std.specs.Prelude.{ℕ, Bool, List, [], ◌∷◌, ◌++◌, ◌≡◌, ◌≢◌, ◌⊎◌, ◌&&◌, ◌<◌, ◌≤◌, ◌^◌, Option, Some, map, option_map, unwrap_or, length, count_by, nat_lt, if◌then◌else◌, codes, Contains, pos, true, false}
+use Rattle.std.specs.Prelude.{ℕ, Bool, List, [], ◌∷◌, ◌++◌, ◌≡◌, ◌≢◌, ◌⊎◌, ◌&&◌, ◌||◌, ◌<◌, ◌≤◌, ◌^◌, Option, Some, map, option_map, unwrap_or, length, count_by, nat_lt, if◌then◌else◌, codes, Contains, pos, true, false}
 use Rattle.std.specs.List.{All, Any, list_all}
 use Rattle.std.specs.Option.{option_map_or}
 use Rattle.std.specs.Str.{bytes_eq, chars}
@@ -19,11 +19,13 @@ use Rattle.tq.specs.declared.request.DrawRequest.{DrawRequest}
 use Rattle.tq.specs.declared.request.CheckRequest.{CheckRequest}
 use Rattle.tq.specs.declared.request.SessionRequest.{SessionRequest}
 use Rattle.tq.specs.declared.request.ImportRequest.{ImportRequest}
+use Rattle.tq.specs.declared.request.SplitRequest.{SplitRequest}
+use Rattle.tq.specs.declared.request.MergeRequest.{MergeRequest}
 use Rattle.tq_import.specs.declared.words.ColumnWords.{ColumnWords}
 use Rattle.tq_import.specs.declared.words.ImportWords.{ImportWords}
 use Rattle.tq_import.specs.declared.words.PeriodWords.{PeriodWords}
 use Rattle.tq.specs.declared.request.Request.{Request}
-use Rattle.tq.specs.declared.request.Request.TheVariants.{Print, Ask, Draw, Check, Session, Import}
+use Rattle.tq.specs.declared.request.Request.TheVariants.{Print, Ask, Draw, Check, Session, Import, Split, Merge}
 
 -- The word of a table: its name, an equals sign, its path.
 abbrev pub option_word : TableOption → List ℕ
@@ -103,6 +105,7 @@ pub record IsCheckOf (rows : List Row) (check : CheckRequest) : Type 0 where
 pub record IsSessionOf (rows : List Row) (session : SessionRequest) : Type 0 where
   pub tables : IsTablesUpTo 0 rows session.tables.items
   pub form : session.form ≡ form_of rows
+  pub explain : session.explain ≡ is_set (codes "explain") rows
 
 -- The bytes of an argument; empty if it has none.
 abbrev pub word_of : Text → List Row → List ℕ
@@ -126,6 +129,7 @@ pub record AreColumnsOf (rows : List Row) (columns : ColumnWords) : Type 0 where
   pub texts : map (λ w. w.items) columns.texts.items ≡ list_of (codes "text") rows
 
 pub record AreWordsOf (rows : List Row) (words : ImportWords) : Type 0 where
+  pub encoding : words.encoding.items ≡ word_of (codes "encoding") rows
   pub delimiter : words.delimiter.items ≡ word_of (codes "delimiter") rows
   pub period : IsPeriodOf rows words.period
   pub columns : AreColumnsOf rows words.columns
@@ -139,6 +143,18 @@ pub record IsImportOf (rows : List Row) (request : ImportRequest) : Type 0 where
   pub rejected : request.rejected.items ≡ word_of (codes "skip-invalid") rows
   pub words : AreWordsOf rows request.words
 
+-- The statement and the folder are those of their arguments; the number of parts is checked besides.
+pub record IsSplitOf (rows : List Row) (request : SplitRequest) : Type 0 where
+  pub tables : IsTablesUpTo 0 rows request.tables.items
+  pub parts : request.parts ≡ number_of (codes "parts") rows
+  pub form : request.form ≡ form_of rows
+  pub statement : request.statement.items ≡ word_of (codes "statement") rows
+  pub output : request.output.items ≡ word_of (codes "out") rows
+  pub explain : request.explain ≡ is_set (codes "explain") rows
+
+abbrev pub IsMergeOf : List Row → MergeRequest → Type 0
+IsMergeOf rows request = request.folder.items ≡ word_of (codes "folder") rows
+
 -- The subcommand of a command line has this name, and its rows pass.
 abbrev pub Names : Text → (List Row → Type 0) → Option (Text × List Row) → Type 0
 Names name Passes sub = (rows : List Row) × (sub ≡ Some (name, rows)) × Passes rows
@@ -151,6 +167,15 @@ IsRequestOf sub (Draw draw) = Names (codes "draw") (λ rows. IsDrawOf rows draw)
 IsRequestOf sub (Check check) = Names (codes "check") (λ rows. IsCheckOf rows check) sub
 IsRequestOf sub (Session session) = Names (codes "session") (λ rows. IsSessionOf rows session) sub
 IsRequestOf sub (Import request) = Names (codes "import") (λ rows. IsImportOf rows request) sub
+IsRequestOf sub (Split request) = Names (codes "split") (λ rows. IsSplitOf rows request) sub
+IsRequestOf sub (Merge request) = Names (codes "merge") (λ rows. IsMergeOf rows request) sub
+
+-- ---- whether details are asked for
+
+-- The words have `--explain` before any `--`. So clap's message for a refused command line is printed.
+abbrev pub asks_details : List Text → Bool
+asks_details [] = false
+asks_details (word ∷ words) = if bytes_eq word (codes "--") then false else (bytes_eq word (codes "--explain") || asks_details words)
 
 -- ---- what is refused although clap takes it
 
@@ -164,17 +189,25 @@ abbrev pub HasInvalidWorkers : List Row → Type 0
 HasInvalidWorkers rows =
     (number_of (codes "workers") rows < 1) ⊎ (16 < number_of (codes "workers") rows)
 
+-- The number of parts is not 1 to 1,000.
+abbrev pub HasInvalidParts : List Row → Type 0
+HasInvalidParts rows = (number_of (codes "parts") rows < 1) ⊎ (1000 < number_of (codes "parts") rows)
+
+abbrev pub IsInvalidSplit : List Row → Type 0
+IsInvalidSplit rows = HasInvalidTables 0 rows ⊎ HasInvalidParts rows
+
 abbrev pub IsInvalidQuestion : List Row → Type 0
 IsInvalidQuestion rows = HasInvalidTables 1 rows ⊎ HasInvalidWorkers rows
 
--- The subcommand has invalid values, or is none of the five.
+-- The subcommand has invalid values, or is none of the seven.
 abbrev pub IsInvalidRequest : Option (Text × List Row) → Type 0
 IsInvalidRequest sub = Names (codes "ask") IsInvalidQuestion sub
     ⊎ (Names (codes "draw") IsInvalidQuestion sub
     ⊎ (Names (codes "check") IsInvalidQuestion sub
     ⊎ (Names (codes "session") (HasInvalidTables 0) sub
+    ⊎ (Names (codes "split") IsInvalidSplit sub
     ⊎ All (λ name. option_map (λ p. p.0) sub ≢ Some name)
-    (codes "ask" ∷ codes "draw" ∷ codes "check" ∷ codes "session" ∷ codes "import" ∷ []))))
+    (codes "ask" ∷ codes "draw" ∷ codes "check" ∷ codes "session" ∷ codes "import" ∷ codes "split" ∷ codes "merge" ∷ [])))))
 
 -- ---- the command line that clap reads
 
@@ -252,7 +285,7 @@ check_app =
     workers_rule) overlaps_rule) gaps_rule) refers_rule
 
 abbrev pub session_app : App
-session_app = with_rule (with_rule (new_app (codes "session")) table_rule) dates_rule
+session_app = with_rule (with_rule (with_rule (new_app (codes "session")) table_rule) dates_rule) explain_rule
 
 abbrev pub with_period : App → App
 with_period app =
@@ -267,12 +300,27 @@ with_columns app =
 
 abbrev pub with_numbers : App → App
 with_numbers app =
-    with_rule (with_rule (with_rule app (text_rule (codes "delimiter"))) (text_rule (codes "decimal-point"))) (text_rule (codes "thousands"))
+    with_rule (with_rule (with_rule (with_rule app (text_rule (codes "encoding"))) (text_rule (codes "delimiter"))) (text_rule (codes "decimal-point")))
+    (text_rule (codes "thousands"))
 
 abbrev pub import_app : App
 import_app =
     with_rule (with_rule (with_rule (with_rule (with_columns (with_period (with_numbers (new_app (codes "import"))))) (text_rule (codes "output")))
     (flag_rule (codes "all"))) (text_rule (codes "skip-invalid"))) path_rule
+
+abbrev pub parts_rule : Rule
+parts_rule = number_rule (codes "parts") (codes "4")
+
+abbrev pub folder_rule : Rule
+folder_rule = record (new_rule (codes "folder")) { value_names = 1; required = true }
+
+abbrev pub split_app : App
+split_app =
+    with_rule (with_rule (with_rule (with_rule (with_rule (with_rule (new_app (codes "split")) parts_rule) (required_rule (codes "out")))
+    table_rule) dates_rule) explain_rule) statement_rule
+
+abbrev pub merge_app : App
+merge_app = with_rule (new_app (codes "merge")) folder_rule
 
 -- The program itself: its words begin after its name, it has a version, and a subcommand is required.
 abbrev pub program_app : App
@@ -286,8 +334,9 @@ program_app = record (new_app (codes "tq")) {
 
 -- The whole command line of tq.
 abbrev pub tq_app : App
-tq_app = with_subcommand (with_subcommand (with_subcommand (with_subcommand (with_subcommand program_app ask_app.top)
-    draw_app.top) check_app.top) session_app.top) import_app.top
+tq_app =
+    with_subcommand (with_subcommand (with_subcommand (with_subcommand (with_subcommand (with_subcommand (with_subcommand program_app ask_app.top)
+    draw_app.top) check_app.top) session_app.top) import_app.top) split_app.top) merge_app.top
 
 -- ---- the result for the words after the program's name
 

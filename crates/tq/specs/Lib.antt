@@ -2,6 +2,8 @@ pub mod CommandLine
 pub mod HeaderLines
 pub mod Refusals
 pub mod Report
+pub mod Retained
+pub mod SessionLines
 pub mod Spans
 pub mod ByteText
 pub mod Figures

@@ -1,5 +1,5 @@
 -- The refusal of each fault, the line that is printed for it, and the exit statuses of the program.
-use Rattle.std.specs.Prelude.{◌≡◌, ℕ, Vec, List, [], ◌++◌, String, codes, decimal, length, min, slice_get, string_bytes, Option, None, Some}
+use Rattle.std.specs.Prelude.{◌≡◌, ℕ, Vec, List, [], ◌++◌, String, codes, decimal, length, min, slice_get, string_bytes, Option, None, Some, IfSome}
 use Rattle.std.specs.declared.alloc.Global.{Global}
 use Rattle.tq_engine.specs.declared.execution.AnswerFault.{AnswerFault}
 use Rattle.tq_engine.specs.declared.execution.AnswerFault.TheVariants as answer
@@ -21,7 +21,8 @@ use Rattle.tq_session.specs.declared.transcript.SessionFault.{SessionFault}
 use Rattle.tq_session.specs.declared.transcript.SessionFault.TheVariants as session
 use Rattle.tq_shown.specs.Printable.{printable_text}
 use Rattle.tq.specs.declared.report.Refusal.{Refusal}
-use Rattle.tq.specs.declared.report.Refusal.TheVariants.{BadCommandLine, CannotRead, CannotWrite, Import, Reference, Load, Statement, Plan, NoPlace, ReadFailed, WriteFailed, OutOfMemory}
+use Rattle.tq.specs.declared.retained.RetainedFile.{RetainedFile}
+use Rattle.tq.specs.declared.report.Refusal.TheVariants.{BadCommandLine, CannotRead, CannotWrite, Import, Reference, Split, Merge, Load, Statement, Plan, NoPlace, ReadFailed, WriteFailed, OutOfMemory}
 
 -- The refusal for a fault of the command line. (This project's own.)
 abbrev pub refused_command_line : CommandLineFault → Refusal
@@ -51,11 +52,21 @@ IsAnswerDetail (answer.Plan fault) statement text = ⊥
 IsAnswerDetail answer.Write statement text = ⊥
 IsAnswerDetail answer.OutOfMemory statement text = ⊥
 
--- The details of a file that was not loaded: those of the file at the path of the fault's table, with the bytes that it
--- had when it was read again. (This project's own.)
-abbrev pub IsLoadDetail : Form → List (Vec ℕ Global) → LoadFault → List ℕ → Type 0
-IsLoadDetail form paths fault text =
-    (path : Vec ℕ Global) × (bytes : List ℕ) × (slice_get paths fault.table ≡ Some path) × IsFileDetail form path.items bytes fault text
+-- The bytes are those that are retained of a file, if there are any; else any. (This project's own.)
+abbrev pub AreBytesOf : RetainedFile → List ℕ → Type 0
+AreBytesOf file bytes = IfSome file.bytes (λ kept. bytes ≡ kept.items)
+
+-- The details of a fault of a file: of the bytes that are retained of it, or that it had when it was read again. (This
+-- project's own.)
+abbrev pub IsDetailOfFile : Form → RetainedFile → LoadFault → List ℕ → Type 0
+IsDetailOfFile form file fault text = (bytes : List ℕ) × AreBytesOf file bytes × IsFileDetail form file.path.items bytes fault text
+
+-- The details of a file that was not loaded: those of the file of the fault's table. There are none if no files are
+-- retained. (This project's own.)
+abbrev pub IsLoadDetail : Form → Option (Vec RetainedFile Global) → LoadFault → List ℕ → Type 0
+IsLoadDetail form None fault text = ⊥
+IsLoadDetail form (Some files) fault text =
+    (file : RetainedFile) × (slice_get files.items fault.table ≡ Some file) × IsDetailOfFile form file fault text
 
 -- The details of a fault of the plan, over the tables of files with these header lines; there are none without header
 -- lines. (This project's own.)
@@ -64,14 +75,14 @@ IsPlanDetailOver form None fault statement text = ⊥
 IsPlanDetailOver form (Some headers) fault statement text =
     (tables : Tables) × AreTables form headers.items 16777216 tables × IsPlanDetail form tables.catalogue statement fault text
 
--- The details of a fault over the files at these paths, which have these header lines: those of a file, of a plan, or
--- of another fault of an answer. (This project's own.)
-abbrev pub IsQuestionDetail : Form → List (Vec ℕ Global) → Option (Vec TableFile Global) → AnswerFault → List ℕ → List ℕ → Type 0
-IsQuestionDetail form paths headers (answer.Load fault) statement text = IsLoadDetail form paths fault text
-IsQuestionDetail form paths headers (answer.Sql fault) statement text = IsAnswerDetail (answer.Sql fault) statement text
-IsQuestionDetail form paths headers (answer.Plan fault) statement text = IsPlanDetailOver form headers fault statement text
-IsQuestionDetail form paths headers answer.Write statement text = IsAnswerDetail answer.Write statement text
-IsQuestionDetail form paths headers answer.OutOfMemory statement text = IsAnswerDetail answer.OutOfMemory statement text
+-- The details of a fault over these files, which have these header lines: those of a file, of a plan, or of another
+-- fault of an answer. (This project's own.)
+abbrev pub IsQuestionDetail : Form → Option (Vec RetainedFile Global) → Option (Vec TableFile Global) → AnswerFault → List ℕ → List ℕ → Type 0
+IsQuestionDetail form files headers (answer.Load fault) statement text = IsLoadDetail form files fault text
+IsQuestionDetail form files headers (answer.Sql fault) statement text = IsAnswerDetail (answer.Sql fault) statement text
+IsQuestionDetail form files headers (answer.Plan fault) statement text = IsPlanDetailOver form headers fault statement text
+IsQuestionDetail form files headers answer.Write statement text = IsAnswerDetail answer.Write statement text
+IsQuestionDetail form files headers answer.OutOfMemory statement text = IsAnswerDetail answer.OutOfMemory statement text
 
 -- The text of a detail; empty if there is none. (This project's own.)
 abbrev pub detail_of : Option (Vec ℕ Global) → List ℕ
@@ -98,6 +109,8 @@ status_of (CannotRead path) = 1
 status_of (CannotWrite path) = 1
 status_of (Import text) = 1
 status_of (Reference text) = 1
+status_of (Split text) = 1
+status_of (Merge text) = 1
 status_of (Load fault) = 1
 status_of (Statement fault) = 1
 status_of (Plan fault) = 1
@@ -113,6 +126,8 @@ line_of (CannotRead path) = codes "tq: cannot read " ++ printable_text path.item
 line_of (CannotWrite path) = codes "tq: cannot write " ++ printable_text path.items ++ codes "\n"
 line_of (Import text) = codes "tq: import " ++ printable_text text.items ++ codes "\n"
 line_of (Reference text) = codes "tq: refers " ++ printable_text text.items ++ codes "\n"
+line_of (Split text) = codes "tq: split " ++ printable_text text.items ++ codes "\n"
+line_of (Merge text) = codes "tq: merge " ++ printable_text text.items ++ codes "\n"
 line_of (Load fault) =
     codes "tq: load " ++ load_name fault.kind ++ codes " table " ++ decimal fault.table ++ codes " record " ++ decimal fault.number ++ codes "\n"
 line_of (Statement fault) = codes "tq: statement " ++ sql_name fault.kind ++ codes " at " ++ decimal fault.at ++ codes "\n"

@@ -4,16 +4,17 @@ ghost use Rattle.std.specs.Prelude.{◌≡◌, ◌≤◌, [], ◌∷◌, ◌++�
 ghost use Rattle.std.specs.List.{Any};
 ghost use Rattle.std.specs.String.{string_bytes};
 ghost use Rattle.clap.specs.Words.{app_of, found_of, kind_of, rows_of, rule_of, subcommand_rows_of};
-ghost use Rattle.tq.specs.CommandLine.{IsTablesOf, IsTablesUpTo, IsAskOf, IsDrawOf, IsCheckOf, IsSessionOf, IsRequestOf};
-ghost use Rattle.tq.specs.CommandLine.{HasInvalidTables, HasInvalidWorkers, IsInvalidQuestion, IsInvalidRequest};
+ghost use Rattle.tq.specs.CommandLine.{IsTablesOf, IsTablesUpTo, IsAskOf, IsDrawOf, IsCheckOf, IsMergeOf, IsSessionOf, IsSplitOf, IsRequestOf};
+ghost use Rattle.tq.specs.CommandLine.{HasInvalidParts, HasInvalidTables, HasInvalidWorkers, IsInvalidQuestion, IsInvalidRequest, IsInvalidSplit};
 ghost use Rattle.tq.specs.CommandLine.{IsInvalid, IsPrintOf, IsRequestIn, IsUsageFault};
-ghost use Rattle.tq.specs.CommandLine.{ask_app, check_app, draw_app, import_app, session_app, tq_app, with_columns, with_numbers, with_period, with_question};
+ghost use Rattle.tq.specs.CommandLine.{ask_app, check_app, draw_app, import_app, merge_app, session_app, split_app, tq_app, with_columns, with_numbers, with_period, with_question};
 ghost use Rattle.tq.specs.CommandLine.{AreColumnsOf, AreWordsOf, IsImportOf, IsPeriodOf, flag_rule, list_of, list_rule, path_rule, required_rule, text_rule};
-ghost use Rattle.tq.specs.CommandLine.{dates_rule, explain_rule, gaps_rule, overlaps_rule, refers_rule, statement_rule, svg_rule, table_rule, width_rule, workers_rule};
+ghost use Rattle.tq.specs.CommandLine.{dates_rule, explain_rule, folder_rule, gaps_rule, overlaps_rule, parts_rule, refers_rule, statement_rule, svg_rule, table_rule, width_rule, workers_rule};
 ghost use Rattle.tq.specs.CommandLine.{bytes_in, form_of, is_set, number_of, stdin_count, text_of};
 
 use crate::request::{
-    AskRequest, CheckRequest, DrawRequest, ImportRequest, Request, SessionRequest, TableOption,
+    AskRequest, CheckRequest, DrawRequest, ImportRequest, MergeRequest, Request, SessionRequest,
+    SplitRequest, TableOption,
 };
 use crate::words::bytes_of;
 use clap::error::ErrorKind;
@@ -25,6 +26,9 @@ use tq_import::{ColumnWords, ImportWords, PeriodWords};
 
 /// The most workers of one answer.
 pub const WORKER_LIMIT: u32 = 16;
+
+/// The most parts into which tables are divided.
+pub const PART_LIMIT: u32 = 1_000;
 
 const VERSION: &str = "0.1.0";
 
@@ -58,6 +62,15 @@ Example (columns have the names of the file's header):
 
 Kinds of columns:
   --decimal, --int and --text give them. Others are found in the values of the file, and are texts in standard input";
+
+// What the helps of dividing and merging end with.
+const SPLIT_HELP: &str = "\
+Example (each part is answered by itself, here by one process after the other):
+  tq split --parts 8 --out parts --table emp=emp.csv 'VALIDTIME SELECT name FROM emp'
+  for part in parts/[0-9]*; do xargs -0 tq ask < $part/args > $part/answer.csv; done
+  tq merge parts
+
+Several files of one table are given as --table emp=2023.csv --table emp=2024.csv";
 
 // What the help of a check ends with.
 const CHECK_HELP: &str = "\
@@ -191,6 +204,12 @@ fn read_request(alloc: Global, matches: &ArgMatches<'_>) -> Result<Request, Usag
     if let Some(import) = matches.subcommand_matches("import") {
         return Ok(Request::Import(read_import(alloc, import)?));
     }
+    if let Some(split) = matches.subcommand_matches("split") {
+        return Ok(Request::Split(read_split(alloc, split)?));
+    }
+    if let Some(merge) = matches.subcommand_matches("merge") {
+        return Ok(Request::Merge(read_merge(alloc, merge)?));
+    }
     Err(UsageError::from(CommandLineFault::BadCommandLine))
 }
 
@@ -223,7 +242,9 @@ fn tq_command<'a>(alloc: Global) -> Result<Command<'a>, AllocError>
         .subcommand(draw_command(alloc)?)?
         .subcommand(check_command(alloc)?)?
         .subcommand(session_command(alloc)?)?
-        .subcommand(import_command(alloc)?)
+        .subcommand(import_command(alloc)?)?
+        .subcommand(split_command(alloc)?)?
+        .subcommand(merge_command(alloc)?)
 }
 
 // The tables that a command is about.
@@ -257,7 +278,7 @@ fn explain_argument<'a>(alloc: Global) -> Arg<'a>
     Arg::new(alloc, "explain")
         .long("explain")
         .help(
-            "Explains why a file or statement is refused, as at a terminal; `tq ask` also prints a profile of the answer",
+            "Explains why a file, statement or line is refused, as at a terminal; `tq ask` also prints a profile of the answer",
         )
         .action(ArgAction::SetTrue)
 }
@@ -396,7 +417,8 @@ fn session_command<'a>(alloc: Global) -> Result<Command<'a>, AllocError>
         .about("Answers lines of standard input that start and end rows, publish, and query")
         .after_help(SESSION_HELP)
         .arg(table_argument(alloc))?
-        .arg(dates_argument(alloc))
+        .arg(dates_argument(alloc))?
+        .arg(explain_argument(alloc))
 }
 
 // An argument that has a value; `name` is what its value is called.
@@ -504,11 +526,17 @@ fn column_arguments<'a>(alloc: Global, command: Command<'a>) -> Result<Command<'
         .arg(list_argument(alloc, "text", "NAME", "A column of texts"))
 }
 
-// How the fields and numbers of an import are written.
+// How the texts, fields and numbers of an import are written.
 fn number_arguments<'a>(alloc: Global, command: Command<'a>) -> Result<Command<'a>, AllocError>
     ensures { IfOk result (λ r. app_of r ≡ with_numbers (app_of command.entry)) }
 {
     command
+        .arg(text_argument(
+            alloc,
+            "encoding",
+            "NAME",
+            "utf8, or latin1 for ISO 8859-1; without it, utf8",
+        ))?
         .arg(text_argument(
             alloc,
             "delimiter",
@@ -558,6 +586,53 @@ fn import_command<'a>(alloc: Global) -> Result<Command<'a>, AllocError>
             "Path of a CSV file for the invalid records; the others are imported",
         ))?
         .arg(path_argument(alloc))
+}
+
+// The number of parts.
+fn parts_argument<'a>(alloc: Global) -> Arg<'a>
+    ensures { rule_of result ≡ parts_rule }
+{
+    Arg::new(alloc, "parts")
+        .long("parts")
+        .value_name("N")
+        .help("Number of parts, 1 to 1000")
+        .value_parser(value_parser!(u32))
+        .default_value("4")
+}
+
+// The command that divides tables.
+fn split_command<'a>(alloc: Global) -> Result<Command<'a>, AllocError>
+    ensures { IfOk result (λ r. app_of r ≡ split_app) }
+{
+    Command::new(alloc, "split")
+        .about("Divides the tables of a statement into parts, which other processes ask")
+        .after_help(SPLIT_HELP)
+        .arg(parts_argument(alloc))?
+        .arg(required_argument(alloc, "out", "DIR", "Folder for the parts and the manifest"))?
+        .arg(table_argument(alloc))?
+        .arg(dates_argument(alloc))?
+        .arg(explain_argument(alloc))?
+        .arg(statement_argument(alloc))
+}
+
+// The folder of parts.
+fn folder_argument<'a>(alloc: Global) -> Arg<'a>
+    ensures { rule_of result ≡ folder_rule }
+{
+    Arg::new(alloc, "folder")
+        .value_name("DIR")
+        .help("Folder that `tq split` made; part K has its answer in DIR/K/answer.csv")
+        .required(true)
+}
+
+// The command that merges answers.
+fn merge_command<'a>(alloc: Global) -> Result<Command<'a>, AllocError>
+    ensures { IfOk result (λ r. app_of r ≡ merge_app) }
+{
+    Command::new(alloc, "merge")
+        .about("Merges the answers over all parts into the answer over the whole tables")
+        .after_help(SPLIT_HELP)
+        .arg(folder_argument(alloc))
 }
 
 // The tables that the words name, in their order.
@@ -716,7 +791,12 @@ fn read_session(alloc: Global, session: &ArgMatches<'_>) -> Result<SessionReques
 {
     let tables = read_tables(alloc, session, 0)?;
     let form = read_form(session);
-    Ok(SessionRequest { tables, form })
+    let explain = read_flag(session, "explain");
+    Ok(SessionRequest {
+        tables,
+        form,
+        explain,
+    })
 }
 
 // The bytes of each word.
@@ -781,12 +861,14 @@ fn read_columns(alloc: Global, import: &ArgMatches<'_>) -> Result<ColumnWords, A
 fn read_import_words(alloc: Global, import: &ArgMatches<'_>) -> Result<ImportWords, AllocError>
     ensures { IfOk result (AreWordsOf (rows_of (found_of import.now))) }
 {
+    let encoding = bytes_of(alloc, read_text(import, "encoding"))?;
     let delimiter = bytes_of(alloc, read_text(import, "delimiter"))?;
     let point = bytes_of(alloc, read_text(import, "decimal-point"))?;
     let thousands = bytes_of(alloc, read_text(import, "thousands"))?;
     let period = read_period(alloc, import)?;
     let columns = read_columns(alloc, import)?;
     Ok(ImportWords {
+        encoding,
         delimiter,
         period,
         columns,
@@ -810,6 +892,48 @@ fn read_import(alloc: Global, import: &ArgMatches<'_>) -> Result<ImportRequest, 
         rejected,
         words,
     })
+}
+
+// How many parts tables are divided into.
+fn read_parts(alloc: Global, command: &ArgMatches<'_>) -> Result<u32, UsageError>
+    ensures number { IfOk result (λ parts. parts ≡ number_of (codes "parts") (rows_of (found_of command.now))) }
+    ensures refused { IfErr result (λ _. HasInvalidParts (rows_of (found_of command.now))) }
+{
+    let parts = read_number(command, "parts");
+    if parts < 1 || parts > PART_LIMIT {
+        return Err(UsageError::with_reason(format!(in alloc;
+            "error: --parts takes 1 to 1000\n\nFor more information, try '--help'.\n"
+        )));
+    }
+    Ok(parts)
+}
+
+// What `tq split` was asked.
+fn read_split(alloc: Global, split: &ArgMatches<'_>) -> Result<SplitRequest, UsageError>
+    ensures split { IfOk result (IsSplitOf (rows_of (found_of split.now))) }
+    ensures refused { IfErr result (λ e. e.fault ≡ CommandLineFault.BadCommandLine
+        → IsInvalidSplit (rows_of (found_of split.now))) }
+{
+    let tables = read_tables(alloc, split, 0)?;
+    let parts = read_parts(alloc, split)?;
+    let statement = bytes_of(alloc, read_text(split, "statement"))?;
+    let output = bytes_of(alloc, read_text(split, "out"))?;
+    Ok(SplitRequest {
+        tables,
+        parts,
+        form: read_form(split),
+        statement,
+        output,
+        explain: read_flag(split, "explain"),
+    })
+}
+
+// What `tq merge` was asked.
+fn read_merge(alloc: Global, merge: &ArgMatches<'_>) -> Result<MergeRequest, AllocError>
+    ensures { IfOk result (IsMergeOf (rows_of (found_of merge.now))) }
+{
+    let folder = bytes_of(alloc, read_text(merge, "folder"))?;
+    Ok(MergeRequest { folder })
 }
 
 // A table's name and path: what stands before and after the first `=`. Without one the word is refused.

@@ -13,8 +13,8 @@ use std::sync::Wait;
 use std::{fs, str};
 use tq_import::{
     Conversion, FileFault, ImportFault, ImportOptions, InputFault, Plan, PlanFaultKind,
-    ReadRecords, Rejects, Separated, WordFault, fault_text, find_file_kinds, import, import_text,
-    import_valid, read_words,
+    ReadRecords, Rejects, Separated, ValidImport, WordFault, fault_text, find_file_kinds, import,
+    import_text, import_valid, read_words,
 };
 use tq_shown::push_printable;
 use tq_table::Sink;
@@ -137,16 +137,12 @@ fn import_separated<I: Read + Drop, W: Write + Drop, V: Write + Drop>(
     let mut seen = ReadRecords::new(alloc);
     let mut sink = Sink::over(writer);
     let mut others = Sink::over(rejected);
-    match import_valid(
-        alloc,
-        job.options,
-        job.found,
+    let valid = ValidImport {
+        options: job.options,
+        found: job.found,
         rejects,
-        input,
-        &mut seen,
-        &mut sink,
-        &mut others,
-    ) {
+    };
+    match import_valid(alloc, valid, input, &mut seen, &mut sink, &mut others) {
         Ok((plan, separated)) => {
             if sink.flush().is_err() || others.flush().is_err() {
                 return Err(Refusal::WriteFailed);

@@ -6,8 +6,8 @@
 //!
 //! A request is read in `words.rt` and `command_line.rt`, its files in `files.rt` and `pieces.rt`. A refusal is one
 //! fixed line on standard error (`report.rt`). At a terminal, or with `--explain`, details follow it (`refusals.rt`).
-//! `progress.rt` shows progress at a terminal, and `profile.rt` prints the profile of `tq ask --explain`. Open
-//! `command_line.rt` first, then `ask` below.
+//! `progress.rt` shows progress at a terminal, `session_lines.rt` explains refused lines of a session, and `profile.rt`
+//! prints the profile of `tq ask --explain`. Open `command_line.rt` first, then `ask` below.
 #![tactic(auto)]
 
 ghost use Rattle.std.specs.Prelude.{◌≡◌, false, IfErr, None, OnOk};
@@ -18,6 +18,7 @@ mod figures;
 mod files;
 mod headers;
 mod imports;
+mod merges;
 mod operators;
 mod pieces;
 mod profile;
@@ -30,21 +31,27 @@ mod refusals;
 mod report;
 mod request;
 mod retained;
+mod session_lines;
 mod spans;
+mod splits;
 mod words;
 
 use command_line::read_command_line;
 use files::{paths_of, read_path, read_table_files};
+use headers::catalogue_of;
 use imports::import_file;
+use merges::merge_parts;
 use profile::ask_with_progress;
-use progress::Progress;
+use progress::{ErrorLines, Progress};
 use prompt::Prompted;
 use references::{read_references, refused_reference};
 use refusals::{RefusalOptions, header_copies, refused, refused_load};
 use report::{Diagnostic, Refusal};
 use request::{AskRequest, CheckRequest, DrawRequest, Request, SessionRequest};
-use retained::{RetainedFile, is_listed, retain_files};
-use std::alloc::AllocError;
+use retained::{RetainedFile, is_listed, retain_files, retain_if};
+use session_lines::LineExplainer;
+use splits::split_tables;
+use std::alloc::{AllocError, Global};
 use std::env::Env;
 use std::io::{self, Input, IsTerminal, Write};
 use std::os::unix::fs::FileExt;
@@ -53,14 +60,15 @@ use std::rt::Files;
 use std::sync::Wait;
 use std::thread::{self, Threads};
 use std::time::Clock;
-use tq_base::Form;
+use tq_base::{Catalogue, Form};
 use tq_check::{CheckFault, CheckOptions, KeyChecks, check};
 use tq_diagnostics::explain_records;
 use tq_draw::{draw, draw_svg};
 use tq_engine::{AnswerFault, AnswerOptions, FileFault, Source, query_files};
+use tq_event::TableFile;
 use tq_session::{SessionFault, session};
 use tq_table::Sink;
-use words::read_words;
+use words::{asks_details, read_words};
 
 // Answers a statement on standard output after all files are read. A refusal has details at a terminal or with
 // `--explain`. With `--explain`, an answer has a profile.
@@ -89,6 +97,7 @@ fn ask<
     let paths = paths_of(rt.alloc(), &options)?;
     let tables = read_table_files(rt, options, workers, explain, progress)?;
     let headers = header_copies(rt.alloc(), &tables, explain);
+    let files = retain_if(rt, &tables, &paths, explain);
     progress.load();
     let mut sink = Sink::over(io::writer(rt));
     match ask_with_progress(
@@ -103,7 +112,7 @@ fn ask<
         Ok(()) => Ok(()),
         Err(fault) => {
             let options = RefusalOptions { form, explain };
-            let diagnostic = refused(rt, fault, &statement, &paths, headers, options, progress);
+            let diagnostic = refused(rt, fault, &statement, files, headers, options, progress);
             Err(diagnostic)
         }
     }
@@ -131,6 +140,7 @@ fn draw_answer<
     let paths = paths_of(rt.alloc(), &options)?;
     let tables = read_table_files(rt, options, workers, explain, progress)?;
     let headers = header_copies(rt.alloc(), &tables, explain);
+    let files = retain_if(rt, &tables, &paths, explain);
     progress.load();
     match query_files(rt, rt.alloc(), tables, &statement, workers, form) {
         Ok(table) => {
@@ -144,7 +154,7 @@ fn draw_answer<
         }
         Err(fault) => {
             let options = RefusalOptions { form, explain };
-            Err(refused(rt, fault, &statement, &paths, headers, options, progress))
+            Err(refused(rt, fault, &statement, files, headers, options, progress))
         }
     }
 }
@@ -229,7 +239,7 @@ fn check_tables<
                 form,
                 explain: interactive,
             };
-            Err(refused(rt, fault, b"", &paths, None, options, progress))
+            Err(refused(rt, fault, b"", Some(retained), None, options, progress))
         }
         Err(CheckFault::Reference(refused)) => Err(Diagnostic::from(refused_reference(
             rt.alloc(),
@@ -242,7 +252,20 @@ fn check_tables<
     }
 }
 
-// Runs the commands on standard input after all files are read. If there is a terminal, a prompt precedes each command.
+// The catalogue of the files if `explain` is set; refused lines are described with it. `None` if a header is invalid or an
+// allocation failed.
+fn catalogue_if(
+    alloc: Global,
+    tables: &[TableFile],
+    form: Form,
+    explain: bool,
+) -> Option<Catalogue> {
+    let headers = header_copies(alloc, tables, explain)?;
+    catalogue_of(alloc, headers, form)
+}
+
+// Runs the commands on standard input after all files are read. If there is a terminal, a prompt precedes each command. A
+// refused line has details at a terminal or with `--explain`.
 fn run_session<
     R: Files<File: FileExt + Send + Sync, Dir: Send>
         + AllocGlobal
@@ -262,18 +285,33 @@ fn run_session<
     let SessionRequest {
         tables: options,
         form,
+        explain,
     } = request;
+    let explain = explain || interactive;
     let paths = paths_of(rt.alloc(), &options)?;
-    let tables = read_table_files(rt, options, 1, interactive, progress)?;
+    let tables = read_table_files(rt, options, 1, explain, progress)?;
     progress.end(rt);
+    let files = retain_if(rt, &tables, &paths, explain);
+    let mut explainer = LineExplainer {
+        alloc: rt.alloc(),
+        form,
+        catalogue: catalogue_if(rt.alloc(), &tables, form, explain),
+        sink: Sink::over(ErrorLines { rt, progress }),
+    };
     let reader = rt.reader();
     let mut source = Source::over(Prompted { reader, prompts });
     let mut sink = Sink::over(io::writer(rt));
-    match session(rt, rt.alloc(), tables, &mut source, &mut sink, form) {
+    match session(
+        rt,
+        rt.alloc(),
+        tables,
+        &mut source,
+        &mut sink,
+        &mut explainer,
+        form,
+    ) {
         Ok(()) => Ok(()),
-        Err(SessionFault::Load(load)) if interactive => Err(refused_load(
-            rt, load, &paths, form, progress,
-        )),
+        Err(SessionFault::Load(load)) => Err(refused_load(rt, load, files, form, progress)),
         Err(fault) => Err(Diagnostic::from(Refusal::from(fault))),
     }
 }
@@ -309,6 +347,8 @@ fn dispatch<
         Request::Draw(request) => draw_answer(rt, request, interactive, progress),
         Request::Check(request) => check_tables(rt, request, interactive, progress),
         Request::Import(request) => import_file(rt, request, interactive, progress),
+        Request::Split(request) => split_tables(rt, request, progress),
+        Request::Merge(request) => merge_parts(rt, request, progress),
         Request::Print(text) => Ok(print_bytes(rt, text.as_bytes())?),
     }
 }
@@ -350,7 +390,10 @@ fn run<
     match read_command_line(rt.alloc(), &words) {
         Ok(request) if interactive => dispatch_with_progress(rt, request, prompts, progress),
         Ok(request) => dispatch(rt, request, false, prompts, progress),
-        Err(usage_error) => Err(Diagnostic::of_command_line(usage_error, interactive)),
+        Err(usage_error) => {
+            let explain = interactive || asks_details(&words);
+            Err(Diagnostic::of_command_line(usage_error, explain))
+        }
     }
 }
 

@@ -2,13 +2,13 @@
 
 ghost use Rattle.std.specs.Prelude.{◌≡◌, false, IfSome, None, map};
 ghost use Rattle.tq.specs.HeaderLines.{header_file};
-ghost use Rattle.tq.specs.Report.{IsLoadDetail, IsPlanDetailOver, IsQuestionDetail, refused_answer};
+ghost use Rattle.tq.specs.Report.{IsDetailOfFile, IsLoadDetail, IsPlanDetailOver, IsQuestionDetail, refused_answer};
 
 use crate::files::read_path;
 use crate::headers::{catalogue_of, header_files};
 use crate::progress::Progress;
 use crate::report::{Diagnostic, Refusal};
-use crate::retained::is_read_once;
+use crate::retained::RetainedFile;
 use std::alloc::Global;
 use std::io::Input;
 use std::rt::Files;
@@ -17,28 +17,44 @@ use tq_engine::AnswerFault;
 use tq_event::{LoadFault, TableFile};
 use tq_plan::PlanFault;
 
-/// The refusal of a file that was not loaded, with details. For these the file is read again, so there are none for
-/// standard input or a pipe.
-pub fn refused_load<R: Files + AllocGlobal + Input>(
+// The refusal of this file, which was not loaded, with details. It is read again if its bytes are not retained.
+fn refused_file<R: Files + AllocGlobal + Input>(
     rt: &R,
     fault: LoadFault,
-    paths: &[Vec<u8>],
+    file: &RetainedFile,
     form: Form,
     progress: &Progress,
 ) -> Diagnostic
     ensures refusal { result.refusal ≡ Refusal.Load fault }
-    ensures detail { IfSome result.detail (λ text. IsLoadDetail form paths.now fault text.items) }
+    ensures detail { IfSome result.detail (λ text. IsDetailOfFile form file.now fault text.items) }
 {
-    let Some(path) = paths.get(fault.table as usize) else {
-        return Diagnostic::from(Refusal::Load(fault));
-    };
-    if is_read_once(rt, path) {
-        return Diagnostic::from(Refusal::Load(fault));
+    if let Some(bytes) = &file.bytes {
+        return Diagnostic::of_load(rt.alloc(), fault, &file.path, bytes, form);
     }
-    match read_path(rt, path, progress) {
-        Ok(bytes) => Diagnostic::of_load(rt.alloc(), fault, path, &bytes, form),
+    match read_path(rt, &file.path, progress) {
+        Ok(bytes) => Diagnostic::of_load(rt.alloc(), fault, &file.path, &bytes, form),
         Err(_) => Diagnostic::from(Refusal::Load(fault)),
     }
+}
+
+/// The refusal of a file that was not loaded, with details if the files are retained.
+pub fn refused_load<R: Files + AllocGlobal + Input>(
+    rt: &R,
+    fault: LoadFault,
+    files: Option<Vec<RetainedFile>>,
+    form: Form,
+    progress: &Progress,
+) -> Diagnostic
+    ensures refusal { result.refusal ≡ Refusal.Load fault }
+    ensures detail { IfSome result.detail (λ text. IsLoadDetail form files fault text.items) }
+{
+    let Some(files) = files else {
+        return Diagnostic::from(Refusal::Load(fault));
+    };
+    let Some(file) = files.get(fault.table as usize) else {
+        return Diagnostic::from(Refusal::Load(fault));
+    };
+    refused_file(rt, fault, file, form, progress)
 }
 
 /// The header lines of the files if `explain` is set; a fault of the plan is described with them. `None` if an
@@ -81,24 +97,23 @@ pub struct RefusalOptions {
     pub explain: bool,
 }
 
-/// The refusal for a fault of the files at these paths, of the statement or of its plan. `headers` are the files' header
-/// lines.
+/// The refusal for a fault of these files, of the statement or of its plan. `headers` are the files' header lines.
 pub fn refused<R: Files + AllocGlobal + Input>(
     rt: &R,
     fault: AnswerFault,
     statement: &[u8],
-    paths: &[Vec<u8>],
+    files: Option<Vec<RetainedFile>>,
     headers: Option<Vec<TableFile>>,
     options: RefusalOptions,
     progress: &Progress,
 ) -> Diagnostic
     ensures refusal { result.refusal ≡ refused_answer fault }
-    ensures detail { IfSome result.detail (λ text. IsQuestionDetail options.form paths.now headers fault statement.now text.items) }
+    ensures detail { IfSome result.detail (λ text. IsQuestionDetail options.form files headers fault statement.now text.items) }
     ensures silent { options.explain ≡ false → result.detail ≡ None }
 {
     let RefusalOptions { form, explain } = options;
     match fault {
-        AnswerFault::Load(load) if explain => refused_load(rt, load, paths, form, progress),
+        AnswerFault::Load(load) if explain => refused_load(rt, load, files, form, progress),
         AnswerFault::Load(load) => Diagnostic::from(Refusal::Load(load)),
         AnswerFault::Plan(plan) if explain => {
             refused_plan(rt.alloc(), plan, headers, statement, form)

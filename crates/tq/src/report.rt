@@ -28,6 +28,8 @@ pub enum Refusal {
     CannotWrite(Vec<u8>),
     Import(Vec<u8>),
     Reference(Vec<u8>),
+    Split(Vec<u8>),
+    Merge(Vec<u8>),
     Load(LoadFault),
     Statement(SqlFault),
     Plan(PlanFault),
@@ -131,6 +133,16 @@ impl Refusal {
             }
             Refusal::Reference(text) => {
                 errors.write_all(b"tq: refers ")?;
+                write_printable(errors, text)?;
+                errors.write_all(b"\n")
+            }
+            Refusal::Split(text) => {
+                errors.write_all(b"tq: split ")?;
+                write_printable(errors, text)?;
+                errors.write_all(b"\n")
+            }
+            Refusal::Merge(text) => {
+                errors.write_all(b"tq: merge ")?;
                 write_printable(errors, text)?;
                 errors.write_all(b"\n")
             }

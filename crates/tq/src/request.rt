@@ -49,11 +49,13 @@ pub struct CheckRequest {
     ghost few_workers: { workers ≤ 16 },
 }
 
-/// What `tq session` is about: the tables in the order of their options, and how instants are written.
+/// What `tq session` is about: the tables in the order of their options, how instants are written, and whether refusals
+/// are explained wherever they go.
 #[derive(Drop)]
 pub struct SessionRequest {
     pub tables: Vec<TableOption>,
     pub form: Form,
+    pub explain: bool,
 }
 
 /// What `tq import` was asked: the paths of the file and of the table file, of which an empty one is standard output,
@@ -68,8 +70,26 @@ pub struct ImportRequest {
     pub words: ImportWords,
 }
 
+/// What `tq split` was asked: the tables in the order of their options, the number of parts, how instants are written, a
+/// statement, the path of the folder into which parts are written, and whether to explain how tables are divided.
+#[derive(Drop)]
+pub struct SplitRequest {
+    pub tables: Vec<TableOption>,
+    pub parts: u32,
+    pub form: Form,
+    pub statement: Vec<u8>,
+    pub output: Vec<u8>,
+    pub explain: bool,
+}
+
+/// What `tq merge` was asked: the path of the folder with the parts.
+#[derive(Drop)]
+pub struct MergeRequest {
+    pub folder: Vec<u8>,
+}
+
 /// What the program was asked: to print this text, to answer a statement, to draw its answer, to check tables, to hold
-/// a session, or to import a file.
+/// a session, to import a file, to divide tables, or to merge answers over parts of tables.
 #[derive(Drop)]
 pub enum Request {
     Print(String),
@@ -78,4 +98,6 @@ pub enum Request {
     Check(CheckRequest),
     Session(SessionRequest),
     Import(ImportRequest),
+    Split(SplitRequest),
+    Merge(MergeRequest),
 }

@@ -1,6 +1,7 @@
 pub mod Probes
 pub mod Quotes
 pub mod Clauses
+pub mod Commands
 pub mod Contents
 pub mod Details
 pub mod InvalidRecords
@@ -20,4 +21,5 @@ pub mod Parts
 pub mod PlanDetails
 pub mod Pointing
 pub mod Records
+pub mod RowDetails
 pub mod Views

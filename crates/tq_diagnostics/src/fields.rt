@@ -154,8 +154,8 @@ pub(crate) fn last_fields(record: &ByteRecord) -> (&[u8], &[u8])
     )
 }
 
-// Appends the first field that is not a valid value of its column, if there is one.
-fn push_value_detail(
+/// Appends the first field that is not a valid value of its column, if there is one.
+pub(crate) fn push_value_detail(
     text: &mut Vec<u8>,
     columns: &[Column],
     record: &ByteRecord,

@@ -25,8 +25,12 @@ fn push_names(text: &mut Vec<u8>, names: &[&[u8]]) -> Result<(), AllocError>
     Ok(())
 }
 
-// Appends a label and the names, on a line of their own.
-fn push_listed(text: &mut Vec<u8>, label: &[u8], names: &[&[u8]]) -> Result<(), AllocError>
+/// Appends a label and the names, on a line of their own.
+pub(crate) fn push_listed(
+    text: &mut Vec<u8>,
+    label: &[u8],
+    names: &[&[u8]],
+) -> Result<(), AllocError>
     ensures { OnOk result (text.new.items ≡ text.old.items ++ listed label.now (name_views names.now)) }
 {
     text.extend_from_slice(b"  ")?;
@@ -100,8 +104,8 @@ pub(crate) fn push_sources(
     push_listed(text, b"sources", &names)
 }
 
-// The columns of the table with this number; none if there is no such table.
-fn columns_at(catalogue: &Catalogue, number: u32) -> &[Column]
+/// The columns of the table with this number; none if there is no such table.
+pub(crate) fn columns_at(catalogue: &Catalogue, number: u32) -> &[Column]
     ensures { result.now ≡ numbered_columns catalogue.entry.now (Some number) }
 {
     match catalogue.tables.get().get(number as usize) {

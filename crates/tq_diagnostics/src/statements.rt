@@ -52,8 +52,8 @@ fn explanation(
     }
 }
 
-// Appends an explanation as a line of its own; nothing for nothing.
-fn push_line(text: &mut Vec<u8>, explanation: &[u8]) -> Result<(), AllocError>
+/// Appends an explanation as a line of its own; nothing for nothing.
+pub(crate) fn push_line(text: &mut Vec<u8>, explanation: &[u8]) -> Result<(), AllocError>
     ensures { OnOk result (text.new.items ≡ text.old.items ++ line_of explanation.now) }
 {
     if explanation.len() > 0 {

@@ -26,6 +26,7 @@ pub mod PieceLemmas
 pub mod PartLemmas
 pub mod RangeLemmas
 pub mod PartitionPartLemmas
+pub mod LinkedPartLemmas
 pub mod ChunkLemmas
 pub mod PartitionRows
 pub mod AnswerPartLemmas

@@ -45,10 +45,9 @@ few_left p (cut ∷ cuts) = by (p cut) (few_left p cuts)
     by false few = omega (arith, few)
 
 pub partitions_are_parts : PartitionsHaveAnswers → PartitionsAreParts
-partitions_are_parts law cuts columns catalogue valid plan fit over partitioned v t =
-    let count = length cuts + 1 in
-    ap (λ (f : ℕ → ℕ). sum_by f (range_with_len 0 count)) (λ k i. law (partition_of cuts) columns i catalogue valid plan fit over partitioned v t k)
-    ∙ counted_once (partition_of cuts (value_at v 0)) (times_at valid plan v t) 0 count (omega arith) (omega (arith, few_left (λ cut. nat_le cut (normalized_key (value_at v 0))) cuts))
+partitions_are_parts law partition_of count columns catalogue valid plan below fit over partitioned v t =
+    ap (λ (f : ℕ → ℕ). sum_by f (range_with_len 0 count)) (λ k i. law partition_of columns i catalogue valid plan fit over partitioned v t k)
+    ∙ counted_once (partition_of (value_at v 0)) (times_at valid plan v t) 0 count (omega arith) (omega (arith, below (value_at v 0)))
 
 -- where the parts stand in order, they are those of the answer
 pub have_answer : PartitionsHaveAnswers → (wanted : Wanted) (catalogue : Catalogue) (valid : ValidRows) (plan : Plan) (cuts : List ℕ) (columns : List (Option ℕ)) (partitions : List AnswerPart) → AreFitting catalogue valid → AreQueriesOver catalogue plan
@@ -57,7 +56,7 @@ pub have_answer : PartitionsHaveAnswers → (wanted : Wanted) (catalogue : Catal
 have_answer law wanted catalogue valid plan cuts columns partitions fit over partitioned are order =
     let part = λ (i : ℕ). times_at (in_partition (partition_of cuts) (columns_in columns) i valid) plan in
     parts_answer wanted (length plan.left.outputs) part partitions (times_at valid plan)
-    (subst (λ n. AreParts n part (times_at valid plan)) (sym are.0) (partitions_are_parts law cuts (columns_in columns) catalogue valid plan fit over partitioned))
+    (subst (λ n. AreParts n part (times_at valid plan)) (sym are.0) (partitions_are_parts law (partition_of cuts) (length cuts + 1) (columns_in columns) catalogue valid plan (λ (value : Value). few_left (λ cut. nat_le cut (normalized_key value)) cuts) fit over partitioned))
     (λ i d less. are.1 i d (omega (arith, less, are.0)))
     order
 

@@ -14,7 +14,7 @@ use Rattle.tq_plan.specs.declared.plans.Plan.{Plan}
 use Rattle.tq_plan.specs.declared.plans.QueryPlan.{QueryPlan}
 use Rattle.tq_plan.specs.declared.plans.QuerySource.{QuerySource}
 use Rattle.tq_plan.specs.Plans.{tables_of}
-use Rattle.tq_plan.specs.ValidPlans.{AreQueriesOver, IsQueryOver}
+use Rattle.tq_plan.specs.ValidPlans.{AreQueriesOver, IsQueryOver, is_aggregate, no_group}
 use Rattle.tq_exec.specs.Answers.{lists_at, times_at, ValidRows}
 use Rattle.tq_exec.specs.Fitting.{AreFitting}
 use Rattle.tq_exec.specs.Scan.{part_of}
@@ -64,6 +64,12 @@ pub record AreLinkedBy (columns : Columns) (query : QueryPlan) : Type 0 where
   pub place : ℕ
   pub each : All (λ (source : QuerySource). HasAt query.test place source (columns source.table)) query.sources
   pub some : list_any (λ (source : QuerySource). is_partitioned (columns source.table)) query.sources ≡ true
+
+-- the plan has no EXCEPT ALL, and groups, counts and sums nothing
+pub record OnlyJoins (plan : Plan) : Type 0 where
+  pub alone : plan.right ≡ None
+  pub ungrouped : no_group plan.left.group ≡ true
+  pub uncounted : list_any is_aggregate plan.left.outputs ≡ false
 
 -- over a partition exactly those rows pass that pass over the whole tables and whose value at the place belongs to the partition
 abbrev pub PartitionsHaveRows : Type 0

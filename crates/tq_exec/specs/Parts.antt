@@ -5,6 +5,7 @@ use Rattle.std.specs.List.{range_with_len}
 use Rattle.tq_base.specs.declared.catalogue.Catalogue.{Catalogue}
 use Rattle.tq_base.specs.declared.fragment.Fragment.{Fragment}
 use Rattle.tq_base.specs.declared.period.Period.{Period}
+use Rattle.tq_base.specs.declared.value.Value.{Value}
 use Rattle.tq_base.specs.Fragments.{copies}
 use Rattle.tq_base.specs.Layers.{IsLayers}
 use Rattle.tq_base.specs.Ranges.{one_after_other, AreAscending}
@@ -18,8 +19,7 @@ use Rattle.tq_table.specs.Merging.{all_rows}
 use Rattle.tq_exec.specs.Answers.{times_at, times_within, ValidRows}
 use Rattle.tq_exec.specs.Fitting.{AreFitting}
 use Rattle.tq_exec.specs.OutputRanges.{numbers_in}
-use Rattle.tq_exec.specs.Partitioning.{ArePartitionedBy, Columns, in_partition}
-use Rattle.tq_exec.specs.Partitions.{partition_of}
+use Rattle.tq_exec.specs.Partitioning.{AreLinkedBy, ArePartitionedBy, Columns, OnlyJoins, in_partition}
 
 -- the numbers of the parts, of which there are `number`, add up to that of the whole
 abbrev pub AddUp : ℕ → (ℕ → ℕ) → ℕ → Type 0
@@ -46,10 +46,17 @@ PartsHaveLayers = (lists : List (List Fragment)) (part : ℕ → Row → ℕ →
 
 -- ---- what makes parts
 
--- partitions of the tables, by a column that partitions the plan
+-- partitions of the tables by a column that partitions the plan, to whichever of them each value belongs
 abbrev pub PartitionsAreParts : Type 0
-PartitionsAreParts = (cuts : List ℕ) (columns : Columns) (catalogue : Catalogue) (valid : ValidRows) (plan : Plan) → AreFitting catalogue valid → AreQueriesOver catalogue plan → ArePartitionedBy columns plan
-    → AreParts (length cuts + 1) (λ i. times_at (in_partition (partition_of cuts) columns i valid) plan) (times_at valid plan)
+PartitionsAreParts = (partition_of : Value → ℕ) (count : ℕ) (columns : Columns) (catalogue : Catalogue) (valid : ValidRows) (plan : Plan) → ((value : Value) → partition_of value < count)
+    → AreFitting catalogue valid → AreQueriesOver catalogue plan → ArePartitionedBy columns plan
+    → AreParts count (λ i. times_at (in_partition partition_of columns i valid) plan) (times_at valid plan)
+
+-- partitions of the tables by columns that are equal in each row that passes, if the plan only selects and joins
+abbrev pub LinkedPartitionsAreParts : Type 0
+LinkedPartitionsAreParts = (partition_of : Value → ℕ) (count : ℕ) (columns : Columns) (catalogue : Catalogue) (valid : ValidRows) (plan : Plan) → ((value : Value) → partition_of value < count)
+    → AreFitting catalogue valid → AreQueriesOver catalogue plan → OnlyJoins plan → AreLinkedBy columns plan.left
+    → AreParts count (λ i. times_at (in_partition partition_of columns i valid) plan) (times_at valid plan)
 
 -- periods that tile the plan's window
 abbrev pub PeriodsAreParts : Type 0

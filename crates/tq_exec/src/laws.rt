@@ -6,7 +6,7 @@ ghost use Rattle.tq_exec.specs.Fitting.{HeldRowsFit};
 ghost use Rattle.tq_exec.specs.AggregateParts.{PartitionsHaveGroups};
 ghost use Rattle.tq_exec.specs.Required.{AllColumnsSuffice, ProjectedRowsFit, ProjectedTablesAnswer, ProjectedTablesFit, ProjectedTablesHold, RequiredColumnsSuffice};
 ghost use Rattle.tq_exec.specs.Partitioning.{PartitionsHaveAnswers, PartitionsHaveRows};
-ghost use Rattle.tq_exec.specs.Parts.{PartitionsAreParts, PartsHaveLayers, PartsHaveRows, PeriodsAreParts, RangesAreParts};
+ghost use Rattle.tq_exec.specs.Parts.{LinkedPartitionsAreParts, PartitionsAreParts, PartsHaveLayers, PartsHaveRows, PeriodsAreParts, RangesAreParts};
 ghost use Rattle.tq_exec.specs.TableAnswers.{TablesAnswer};
 
 use tq_base::laws::{layers_are_runs, layers_are_unique, layers_exist};
@@ -70,14 +70,16 @@ pub fn parts_have_the_whole()
     ensures layers { PartsHaveLayers }
 {}
 
-/// Partitions of the tables by a column that partitions the plan, periods that tile its window, and ranges of found rows are
-/// parts that add up to the whole.
+/// Partitions of the tables by a column that partitions the plan, or by columns that link the sources of a plan that only
+/// joins, periods that tile its window, and ranges of found rows are parts that add up to the whole.
 pub fn partitionings_make_parts()
     ensures values { PartitionsAreParts }
+    ensures linked { LinkedPartitionsAreParts }
     ensures periods { PeriodsAreParts }
     ensures ranges { RangesAreParts }
 {
     partitions_have_answers();
+    partitions_have_rows();
 }
 
 /// If the first output of a plan is the column by which its tables are partitioned, the plan over a partition has exactly the

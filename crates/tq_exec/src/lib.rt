@@ -51,6 +51,7 @@ pub use counters::{Counters, Division, QueryCounters};
 pub use execution::{answer_tables, to_owned};
 pub use over_store::{answer_with, text_with};
 pub use over_tables::answer_among;
+pub use partition_columns::{are_linked, can_partition_plan, column_at};
 pub use required::required_columns;
 pub use snapshot::{Snapshot, TablesOfRows};
 pub use workers::Workers;

@@ -86,8 +86,8 @@ fn linked_column(test: &Test, source: &QuerySource, place: u32) -> Option<u32>
     }
 }
 
-// The source's column that is equal to the place in each row that passes.
-fn column_at(query: &QueryPlan, source: &QuerySource, place: u32) -> Option<u32>
+/// The source's column that is equal to the place in each row that passes. `None` if none is known.
+pub fn column_at(query: &QueryPlan, source: &QuerySource, place: u32) -> Option<u32>
     ensures { IfSome result (λ column. (row : Row) → IsTrue (admits query.now.test row) → value_at (part_of source.now row) column ≡ value_at row place) }
 {
     if let Some(column) = own_column(source, place) {
@@ -195,8 +195,9 @@ fn choose(columns: &mut Vec<Option<u32>>, query: &QueryPlan) -> bool {
     }
 }
 
-// Whether both queries of the plan can be partitioned by these columns.
-fn can_partition_both(columns: &[Option<u32>], plan: &Plan) -> bool
+/// Whether both queries of the plan can be partitioned by these columns, one for each table or none: in each row that passes,
+/// they are equal to the first output.
+pub fn can_partition_plan(columns: &[Option<u32>], plan: &Plan) -> bool
     ensures { IsTrue result → ArePartitionedBy (columns_in columns.now) plan.now }
 {
     if !can_partition(columns, &plan.left) {
@@ -230,15 +231,15 @@ pub(crate) fn columns_to_partition_by(
     if let Some(right) = &plan.right {
         all = choose(&mut columns, right) && all;
     }
-    if all && can_partition_both(&columns, plan) {
+    if all && can_partition_plan(&columns, plan) {
         Ok(Some(columns))
     } else {
         Ok(None)
     }
 }
 
-// Whether these columns of the sources are equal to the place in each row that passes.
-fn are_linked(columns: &[Option<u32>], query: &QueryPlan, place: u32) -> bool
+/// Whether these columns, one for each table or none, are equal to the place in each row that passes.
+pub fn are_linked(columns: &[Option<u32>], query: &QueryPlan, place: u32) -> bool
     ensures { IsTrue result → AreLinkedBy (columns_in columns.now) query.now }
 {
     let sources = query.sources.get();

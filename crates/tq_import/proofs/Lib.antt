@@ -1,5 +1,8 @@
 pub mod AmountLemmas
+pub mod DigitLemmas
 pub mod DateLemmas
+pub mod EncodingLemmas
+pub mod Latin1Lemmas
 pub mod LineLemmas
 pub mod ReadBackLemmas
 pub mod LoadBackLemmas

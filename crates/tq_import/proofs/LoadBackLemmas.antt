@@ -489,7 +489,7 @@ unmarked first [] other = refl
 unmarked first (b ∷ []) other = refl
 unmarked first (b ∷ c ∷ rest) other = rw other refl
 
-no_marks : (text : List ℕ) → Plain text → has_two_boms text ≡ false
+pub no_marks : (text : List ℕ) → Plain text → has_two_boms text ≡ false
 no_marks text p =
     let none : begins_with_bom text ≡ false = ap begins_with_bom p.is ∙ unmarked p.first p.rest p.other in
     rw none refl

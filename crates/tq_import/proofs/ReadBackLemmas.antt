@@ -97,7 +97,7 @@ strip_same a [] other = refl
 strip_same a (b ∷ []) other = refl
 strip_same a (b ∷ c ∷ rest) other = rw other refl
 
-plain_same : (text : List ℕ) → Plain text → strip_bom text ≡ text
+pub plain_same : (text : List ℕ) → Plain text → strip_bom text ≡ text
 plain_same text p = ap strip_bom p.is ∙ strip_same p.first p.rest p.other ∙ sym p.is
 
 field_plain : (b : ℕ) (bs tail : List ℕ) → (b == 239) ≡ false → Plain (field_text default_writer (b ∷ bs) ++ tail)
@@ -107,7 +107,7 @@ field_plain b bs tail other = by (list_any (needs_byte default_writer) (b ∷ bs
     by true is = record { first = 34; rest = (escaped default_writer (b ∷ bs) ++ 34 ∷ []) ++ tail; is = rw is refl; other = refl }
     by false is = record { first = b; rest = bs ++ tail; is = rw is refl; other = other }
 
-row_plain : (b : ℕ) (bs : List ℕ) (fields : List (List ℕ)) (tail : List ℕ) → (b == 239) ≡ false → Plain (row_text default_writer ((b ∷ bs) ∷ fields) ++ tail)
+pub row_plain : (b : ℕ) (bs : List ℕ) (fields : List (List ℕ)) (tail : List ℕ) → (b == 239) ≡ false → Plain (row_text default_writer ((b ∷ bs) ∷ fields) ++ tail)
 row_plain b bs fields tail other =
     let end : List ℕ = (if is_blank default_writer ((b ∷ bs) ∷ fields) then 34 ∷ 34 ∷ [] else []) ++ 10 ∷ [] in
     let more = fields_text default_writer fields in

@@ -1,9 +1,12 @@
 -- Files of which only the valid records are imported.
 use Rattle.std.proofs.Common.{◌≡◌, ◌∙◌, ◌+◌, ◌==◌, ℕ, suc, Bool, true, false, List, [], ◌∷◌, ◌++◌, length, map, Result, Ok, Err, ap, append_assoc, append-nil, arith, refl, subst, sym}
 use Rattle.std.specs.Prelude.{if◌then◌else◌, is_ok, not}
+use Rattle.std.specs.Borrow.{Bor}
+use Rattle.std.specs.Global.{Vec}
 use Rattle.csv.proofs.RoundTrip.{rows_text}
 use Rattle.csv.specs.Reading.{default_config, records}
 use Rattle.csv.specs.Writing.{row_text}
+use Rattle.csv.specs.declared.writer.Writer.{Writer}
 use Rattle.tq_base.specs.Results.{and_then}
 use Rattle.tq_table.specs.Text.{answer_format}
 use Rattle.tq_import.specs.declared.fault.NumberedFault.{NumberedFault}
@@ -11,12 +14,14 @@ use Rattle.tq_import.specs.declared.fault.RecordFault.{RecordFault}
 use Rattle.tq_import.specs.declared.fault.RecordFaultKind.TheVariants.{FieldCount}
 use Rattle.tq_import.specs.declared.part.Rejects.{Rejects}
 use Rattle.tq_import.specs.declared.part.Rejects.TheVariants as reject
+use Rattle.tq_import.specs.declared.part.RejectText.TheVariants as written
 use Rattle.tq_import.specs.declared.plan.NumberFormat.{NumberFormat}
 use Rattle.tq_import.specs.declared.plan.PlannedColumn.{PlannedColumn}
 use Rattle.tq_import.specs.declared.plan.Plan.{Plan}
 use Rattle.tq_import.specs.Imports.{lines_after, table_header}
 use Rattle.tq_import.specs.Records.{at_place, convert, field_of, import_record, invalid_records, is_valid, period_in, period_texts, row_number, valid_records, values_after}
-use Rattle.tq_import.specs.Rejects.{AreRejectTexts, FirstFaultsAgree, InvalidRecord, RecordsAreSplit, RejectsAreReadBack, ValidFilesAgree, ValidRecordsAgree, faults_from, valid_lines}
+use Rattle.tq_import.specs.Messages.{message_line}
+use Rattle.tq_import.specs.Rejects.{AreRejectTexts, FirstFaultsAgree, HasRejected, HasRows, IsRejectText, separated_format, InvalidRecord, RecordsAreSplit, RejectsAreReadBack, ValidFilesAgree, ValidRecordsAgree, faults_from, valid_lines}
 use Rattle.tq_import.specs.Times.{form_of}
 use Rattle.tq_import.proofs.LineLemmas.{line_more}
 use Rattle.tq_import.proofs.ReadBackLemmas.{rows_read, same_row}
@@ -29,6 +34,33 @@ texts_append rejects plan header [] b x y h k = subst (λ (t : List ℕ). AreRej
 texts_append rejects plan header (i ∷ a) b x y h k =
     let (first, rest, split, is, more) = h in
     (first, rest ++ y, ap (λ (t : List ℕ). t ++ y) split ∙ append_assoc first rest y, is, texts_append rejects plan header a b rest y more k)
+
+-- one more row
+pub row_added : (rejects : Rejects) (plan : Plan) (header : List (List ℕ)) (number : ℕ) (fault : RecordFault) (fields : List (List ℕ)) (old new : Writer (Vec ℕ)) (before : List ℕ)
+    → HasRejected rejects (written.Rows old) before
+    → ((delimiter : ℕ) (text : List ℕ) → HasRows delimiter old text → HasRows delimiter new (text ++ row_text (separated_format delimiter) fields))
+    → (text : List ℕ) × IsRejectText rejects plan header (record { number = number; fault = fault; fields = fields }) text × HasRejected rejects (written.Rows new) (before ++ text)
+row_added (reject.Records delimiter) plan header number fault fields old new before h row = (row_text (separated_format delimiter) fields, refl, row delimiter before h)
+row_added (reject.Messages path) plan header number fault fields old new before h row = absurd h
+
+-- one more message
+pub message_added : (rejects : Rejects) (plan : Plan) (header : List (List ℕ)) (number line : ℕ) (fault : RecordFault) (fields : List (List ℕ)) (old new : Vec ℕ) (before : List ℕ)
+    → HasRejected rejects (written.Messages old) before
+    → ((path : Bor (List ℕ)) → rejects ≡ reject.Messages path → new.items ≡ old.items ++ message_line path.now plan header line fault fields)
+    → (text : List ℕ) × IsRejectText rejects plan header (record { number = number; fault = fault; fields = fields }) text × HasRejected rejects (written.Messages new) (before ++ text)
+message_added (reject.Records delimiter) plan header number line fault fields old new before h message = absurd h
+message_added (reject.Messages path) plan header number line fault fields old new before h message =
+    let text = message_line path.now plan header line fault fields in
+    (text, (line, refl), message path refl ∙ ap (λ (l : List ℕ). l ++ text) h)
+
+-- the rows, or the messages
+pub rows_of_rejects : (rejects : Rejects) (writer : Writer (Vec ℕ)) (text : List ℕ) → HasRejected rejects (written.Rows writer) text → (delimiter : ℕ) × HasRows delimiter writer text
+rows_of_rejects (reject.Records delimiter) writer text h = (delimiter, h)
+rows_of_rejects (reject.Messages path) writer text h = absurd h
+
+pub messages_of_rejects : (rejects : Rejects) (bytes : Vec ℕ) (text : List ℕ) → HasRejected rejects (written.Messages bytes) text → bytes.items ≡ text
+messages_of_rejects (reject.Records delimiter) bytes text h = absurd h
+messages_of_rejects (reject.Messages path) bytes text h = h
 
 -- ---- plain imports
 

@@ -1,5 +1,5 @@
 -- Dates in the formats of exported files. This project's own.
-use Rattle.std.specs.Prelude.{ℕ, ◌-◌, ◌==◌, ◌&&◌, nat_le, if◌then◌else◌, List, [], ◌∷◌, ◌++◌, length, take, drop, codes, Option, Some, None}
+use Rattle.std.specs.Prelude.{◌≡◌, ℕ, ◌-◌, ◌==◌, ◌&&◌, Bool, true, nat_le, if◌then◌else◌, List, [], ◌∷◌, ◌++◌, length, take, drop, codes, Option, Some, None}
 use Rattle.std.specs.Option.{option_and_then}
 use Rattle.std.specs.Str.{bytes_eq}
 use Rattle.tq_base.specs.Numbers.{instant_of}
@@ -48,3 +48,11 @@ without_midnight bytes =
 -- the digits that were gathered
 abbrev pub gathered : Scratch → DateDigits
 gathered scratch = record { year = scratch.year.items; month = scratch.month.items; day = scratch.day.items }
+
+-- if the flag is set, the byte is the mark, which stands for no digit
+abbrev pub IsSeparator : ℕ → ℕ → Bool → Type 0
+IsSeparator mark byte is = is ≡ true → (digits : DateDigits) → more_digits mark byte digits ≡ Some digits
+
+-- the text is that of the digits of a date in the format
+abbrev pub IsIsoOf : List ℕ → List ℕ → List ℕ → Type 0
+IsIsoOf format bytes text = (digits : DateDigits) × (digits_in format no_digits bytes ≡ Some digits) × (iso_text digits ≡ text)

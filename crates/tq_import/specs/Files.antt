@@ -11,10 +11,16 @@ use Rattle.tq_import.specs.declared.plan.NumberFormat.{NumberFormat}
 use Rattle.tq_import.specs.declared.plan.Plan.{Plan}
 use Rattle.tq_import.specs.declared.whole.FileFault.{FileFault}
 use Rattle.tq_import.specs.declared.whole.FileFault.TheVariants.{Input, NoHeader, Plan as BadPlan, Records}
+use Rattle.tq_import.specs.Encodings.{utf8_of}
 use Rattle.tq_import.specs.Imports.{IsFirstFault, IsImport}
 use Rattle.tq_import.specs.Kinds.{kinds_after}
 use Rattle.tq_import.specs.Plans.{IsPlan}
+use Rattle.tq_import.specs.Reading.{records_by}
 use Rattle.tq_import.specs.Rejects.{IsNoRecordFault, IsSeparated}
+
+-- the records of a file with these bytes, as UTF-8
+abbrev pub records_in : ImportOptions → List ℕ → List (List (List ℕ))
+records_in options bytes = records_by options.delimiter (utf8_of options.encoding bytes)
 
 -- the table file of the records was written, after the plan for their header
 pub record IsImportOf (options : ImportOptions) (records : List (List (List ℕ))) (found : List Conversion) (old new : Option (List ℕ)) (plan : Plan) (imported : Imported) : Type 0 where

@@ -1,11 +1,16 @@
 -- Laws of the conversions. This project's own.
-use Rattle.std.specs.Prelude.{◌≡◌, ◌≤◌, ◌*◌, ◌^◌, ◌+◌, ◌==◌, ℕ, ℤ, pos, neg_ℤ, false, if◌then◌else◌, List, [], ◌∷◌, ◌++◌, drop, length, slice_index, Some}
+use Rattle.std.specs.Prelude.{◌≡◌, ◌<◌, ◌≤◌, ◌*◌, ◌^◌, ◌+◌, ◌==◌, ℕ, ℤ, pos, neg_ℤ, All, chars, false, true, if◌then◌else◌, List, [], ◌∷◌, ◌++◌, drop, length, map, slice_index, Some}
+use Rattle.std.specs.Str.{is_utf8}
 use Rattle.std.specs.Str.Parse.{digits_value}
+use Rattle.csv.specs.Reading.{records}
 use Rattle.tq_base.specs.Dates.{date_of, date_text}
+use Rattle.tq_import.specs.declared.encoding.Encoding.TheVariants.{Latin1}
 use Rattle.tq_import.specs.declared.plan.NumberFormat.{NumberFormat}
 use Rattle.tq_import.specs.declared.plan.TimeFormat.{TimeFormat}
 use Rattle.tq_import.specs.Amounts.{fraction_part, is_negative, units_in, unsigned, whole_digits, whole_part}
+use Rattle.tq_import.specs.Encodings.{utf8_of}
 use Rattle.tq_import.specs.Dates.{DateDigits, day_in, iso_text}
+use Rattle.tq_import.specs.Reading.{separated_by}
 use Rattle.tq_import.specs.Times.{bound_in, instant_in, is_open}
 
 -- the number n of units of 10^-places is the amount that the digits write: n / 10^places is their value divided by 10 to
@@ -43,3 +48,12 @@ DatesAreWrittenBack = (format bytes : List ℕ) (day : ℕ) → day_in format by
 abbrev pub EndsAreKept : Type 0
 EndsAreKept = (times : TimeFormat) (field : List ℕ) (end bound : ℕ) → is_open times.open field ≡ false → instant_in times.dates field ≡ Some end → bound_in times field ≡ Some bound
     → bound ≡ (if times.inclusive then end + 1 else end)
+
+-- a file in Latin-1 becomes UTF-8 whose characters have the bytes of the file as their code points
+abbrev pub Latin1IsKept : Type 0
+Latin1IsKept = (bytes : List ℕ) → All (λ b. b < 256) bytes → (is_utf8 (utf8_of Latin1 bytes) ≡ true) × (chars (utf8_of Latin1 bytes) ≡ bytes)
+
+-- the records of a file in Latin-1 are those of its bytes, with each field as UTF-8, if the delimiter is ASCII
+abbrev pub Latin1FieldsAreConverted : Type 0
+Latin1FieldsAreConverted = (delimiter : ℕ) (bytes : List ℕ) → delimiter < 128
+    → records (separated_by delimiter) (utf8_of Latin1 bytes) ≡ map (λ fields. map (λ field. utf8_of Latin1 field) fields) (records (separated_by delimiter) bytes)

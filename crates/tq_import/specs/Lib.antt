@@ -1,4 +1,6 @@
+pub mod Digits
 pub mod Amounts
+pub mod Encodings
 pub mod Dates
 pub mod Times
 pub mod Reading

@@ -51,7 +51,7 @@ instant_rule (Some format) = codes " is not a date in the format " ++ format
 abbrev pub reason : Plan → RecordFaultKind → ℕ → List ℕ
 reason plan FieldCount place = []
 reason plan BadNumber place = number_rule (places_at plan.columns place)
-reason plan NotUtf8 place = codes " is not valid UTF-8"
+reason plan NotUtf8 place = codes " is not valid UTF-8: use --encoding latin1 if the file is in Latin-1"
 reason plan TextTooLong place = codes " has more than 1,000 bytes"
 reason plan BadFrom place = instant_rule plan.times.now.dates
 reason plan BadTo place = instant_rule plan.times.now.dates ++ codes ", nor an open end: use --open TEXT for those"

@@ -1,10 +1,12 @@
 -- A file of which only the valid records are imported: the text of the table file, and what is written of the invalid
 -- records. This project's own.
-use Rattle.std.specs.Prelude.{◌≡◌, ℕ, ◌+◌, true, false, List, [], ◌∷◌, ◌++◌, length, map, Option, Result, Ok, Err}
+use Rattle.std.specs.Prelude.{◌≡◌, ℕ, ◌+◌, true, false, Some, List, [], ◌∷◌, ◌++◌, length, map, Option, Result, Ok, Err}
+use Rattle.std.specs.Global.{Vec}
 use Rattle.std.specs.Io.KnownBytes.{Appends}
 use Rattle.csv.specs.Reading.{strip_bom}
-use Rattle.csv.specs.Writing.{read_back, row_text, with_delimiter}
+use Rattle.csv.specs.Writing.{fields_written, has_written, read_back, row_text, text_written, with_delimiter, writer_setup}
 use Rattle.csv.specs.declared.reader.Reader.{Reader}
+use Rattle.csv.specs.declared.writer.Writer.{Writer}
 use Rattle.csv.specs.declared.writer.WriterBuilder.{WriterBuilder}
 use Rattle.tq_table.specs.Text.{answer_format}
 use Rattle.tq_import.specs.declared.fault.ImportFault.{ImportFault}
@@ -13,6 +15,8 @@ use Rattle.tq_import.specs.declared.fault.RecordFault.{RecordFault}
 use Rattle.tq_import.specs.declared.plan.Plan.{Plan}
 use Rattle.tq_import.specs.declared.part.Rejects.{Rejects}
 use Rattle.tq_import.specs.declared.part.Rejects.TheVariants as reject
+use Rattle.tq_import.specs.declared.part.RejectText.{RejectText}
+use Rattle.tq_import.specs.declared.part.RejectText.TheVariants as written
 use Rattle.tq_import.specs.declared.part.Separated.{Separated}
 use Rattle.tq_import.specs.declared.part.SeparatedPart.{SeparatedPart}
 use Rattle.tq_import.specs.Imports.{import_of, table_header}
@@ -67,6 +71,20 @@ rejects_header (reject.Messages path) header = []
 abbrev pub IsRejectText : Rejects → Plan → List (List ℕ) → InvalidRecord → List ℕ → Type 0
 IsRejectText (reject.Records delimiter) plan header invalid text = text ≡ row_text (separated_format delimiter) invalid.fields
 IsRejectText (reject.Messages path) plan header invalid text = (line : ℕ) × (text ≡ message_line path.now plan header line invalid.fault invalid.fields)
+
+-- the writer has written whole rows with this byte between fields, with this text
+pub record HasRows (delimiter : ℕ) (writer : Writer (Vec ℕ)) (text : List ℕ) : Type 0 where
+  pub written : text_written (λ v. Some v.items) writer ≡ Some text
+  pub setup : writer_setup writer ≡ separated_format delimiter
+  pub fields : fields_written writer ≡ 0
+  pub begun : has_written writer ≡ false
+
+-- this text is what is written of invalid records so far
+abbrev pub HasRejected : Rejects → RejectText → List ℕ → Type 0
+HasRejected (reject.Records delimiter) (written.Rows writer) text = HasRows delimiter writer text
+HasRejected (reject.Records delimiter) (written.Messages bytes) text = ⊥
+HasRejected (reject.Messages path) (written.Rows writer) text = ⊥
+HasRejected (reject.Messages path) (written.Messages bytes) text = bytes.items ≡ text
 
 -- the texts of these invalid records, one after the other
 abbrev pub AreRejectTexts : Rejects → Plan → List (List ℕ) → List InvalidRecord → List ℕ → Type 0

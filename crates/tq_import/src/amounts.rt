@@ -1,12 +1,14 @@
 // Numbers as exported files write them.
 
-ghost use Rattle.std.specs.Prelude.{◌≡◌, ◌++◌, ◌==◌, ◌<◌, IfOk, IfSome, MatchOption, OnOk, false, filter, length, not, position, true};
+ghost use Rattle.std.specs.Prelude.{◌≡◌, ◌==◌, ◌<◌, ◌≤◌, IfSome, length, position};
 ghost use Rattle.std.specs.List.{list_any};
-ghost use Rattle.tq_import.specs.Amounts.{are_parts, begins_with, fraction_part, is_grouped, is_marked, is_placed, is_negative, signed_units, unit_digits, units_in, unsigned, whole_digits, whole_part, with_zeros};
+ghost use Rattle.std.specs.Option.{option_and_then};
+ghost use Rattle.tq_base.specs.Numbers.{natural_up_to};
+ghost use Rattle.tq_import.specs.Amounts.{are_parts, begins_with, fraction_part, is_grouped, is_marked, is_placed, is_negative, unit_digits, units_in, unsigned, whole_digits, whole_part};
+ghost use Rattle.tq_import.specs.Digits.{natural_after};
 
+use crate::digits::{add_digits, add_unmarked, add_zeros};
 use crate::plan::NumberFormat;
-use std::alloc::AllocError;
-use tq_base::read_natural;
 
 // Whether the bytes begin with a `-`, and the number after it.
 fn split_sign(bytes: &[u8]) -> (bool, &[u8])
@@ -82,45 +84,17 @@ fn is_grouped(mark: u8, whole: &[u8]) -> bool
     !has_mark(mark, whole) || (!begins_with(mark, whole) && is_marked(mark, whole))
 }
 
-// Appends the bytes without the marks.
-fn push_unmarked(mark: u8, whole: &[u8], digits: &mut Vec<u8>) -> Result<(), AllocError>
-    ensures { OnOk result (digits.new.items ≡ digits.old.items ++ filter (λ b. not (b == mark)) whole.now) }
-{
-    'bytes: for byte in whole {
-        if *byte != mark {
-            digits.push(*byte)?;
-        }
-    }
-    Ok(())
-}
-
-// Appends the digits of the whole part without separators of thousands. Returns false if these are at wrong places.
-fn push_whole(thousands: Option<u8>, whole: &[u8], digits: &mut Vec<u8>) -> Result<bool, AllocError>
-    ensures { IfOk result (λ found. MatchOption (whole_digits thousands whole.now) (found ≡ false)
-        (λ text. (found ≡ true) × (digits.new.items ≡ digits.old.items ++ text))) }
+// The number that the digits before the point write, without separators of thousands. `None` if these are at wrong places,
+// if a byte is not a digit, or if the number is above the limit.
+fn read_whole(thousands: Option<u8>, whole: &[u8], limit: u64) -> Option<u64>
+    ensures value { result ≡ option_and_then (natural_after limit 0) (whole_digits thousands whole.now) }
+    ensures small { IfSome result (λ size. size ≤ limit) }
 {
     match thousands {
-        None => {
-            digits.extend_from_slice(whole)?;
-            Ok(true)
-        }
-        Some(mark) if is_grouped(mark, whole) => {
-            push_unmarked(mark, whole, digits)?;
-            Ok(true)
-        }
-        Some(_) => Ok(false),
+        None => add_digits(0, whole, limit),
+        Some(mark) if is_grouped(mark, whole) => add_unmarked(0, mark, whole, limit),
+        Some(_) => None,
     }
-}
-
-fn push_zeros(count: usize, digits: &mut Vec<u8>) -> Result<(), AllocError>
-    ensures { OnOk result (digits.new.items ≡ with_zeros count digits.old.items) }
-{
-    let mut left = count;
-    'zeros: while left > 0 {
-        digits.push(b'0')?;
-        left -= 1;
-    }
-    Ok(())
 }
 
 // Whether there is something before the point and, if there is a point, 1 to `places` bytes after it.
@@ -130,57 +104,33 @@ fn are_parts(places: usize, len: usize, whole: &[u8], fraction: &[u8]) -> bool
     !whole.is_empty() && whole.len() + 1 != len && fraction.len() <= places
 }
 
-// Replaces the digits by those of the number of units. Returns false if the number has another form.
-fn write_units(
-    format: NumberFormat,
-    places: usize,
-    number: &[u8],
-    digits: &mut Vec<u8>,
-) -> Result<bool, AllocError>
-    ensures { IfOk result (λ found. MatchOption (unit_digits format places number.now) (found ≡ false)
-        (λ text. (found ≡ true) × (digits.new.items ≡ text))) }
+// The number of units of 10^-places without its sign. `None` if the number has another form or is above the limit.
+fn read_size(format: NumberFormat, places: usize, number: &[u8], limit: u64) -> Option<u64>
+    ensures value { result ≡ option_and_then (natural_up_to limit) (unit_digits format places number.now) }
+    ensures small { IfSome result (λ size. size ≤ limit) }
 {
     let (whole, fraction) = split_at_point(format.point, number);
     if !are_parts(places, number.len(), whole, fraction) {
-        return Ok(false);
+        return None;
     }
-    digits.clear();
-    if !push_whole(format.thousands, whole, digits)? {
-        return Ok(false);
-    }
-    digits.extend_from_slice(fraction)?;
-    push_zeros(places.saturating_sub(fraction.len()), digits)?;
-    Ok(true)
+    let size = read_whole(format.thousands, whole, limit)?;
+    let units = add_digits(size, fraction, limit)?;
+    add_zeros(units, places.saturating_sub(fraction.len()), limit)
 }
 
-// The number that the digits write, below zero if it is negative; `None` if it does not fit 64 signed bits.
-fn signed_units(negative: bool, digits: &[u8]) -> Option<i64>
-    ensures { result ≡ signed_units negative digits.now }
-{
-    if negative {
-        let size = read_natural(digits, 1 << 63)?;
-        Some((0 - i128::from(size)) as i64)
-    } else {
-        let size = read_natural(digits, (1 << 63) - 1)?;
-        Some(size as i64)
-    }
-}
-
-/// The number of units of 10^-places that the bytes write, with digits in `scratch`. `None` if the bytes are not a number
-/// with at most `places` digits after the point, or its units do not fit 64 signed bits.
-pub fn read_units(
-    format: NumberFormat,
-    places: usize,
-    bytes: &[u8],
-    scratch: &mut Vec<u8>,
-) -> Result<Option<i64>, AllocError>
-    ensures { IfOk result (λ units. units ≡ units_in format places bytes.now) }
+/// The number of units of 10^-places that the bytes write. `None` if the bytes are not a number with at most `places` digits
+/// after the point, or its units do not fit 64 signed bits.
+pub fn read_units(format: NumberFormat, places: usize, bytes: &[u8]) -> Option<i64>
+    ensures { result ≡ units_in format places bytes.now }
 {
     let (negative, number) = split_sign(bytes);
-    if !write_units(format, places, number, scratch)? {
-        return Ok(None);
+    if negative {
+        let size = read_size(format, places, number, 1 << 63)?;
+        Some((0 - i128::from(size)) as i64)
+    } else {
+        let size = read_size(format, places, number, (1 << 63) - 1)?;
+        Some(size as i64)
     }
-    Ok(signed_units(negative, scratch))
 }
 
 /// The number of digits after the point.

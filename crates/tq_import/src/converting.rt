@@ -66,7 +66,6 @@ fn push_converted(
     conversion: Conversion,
     field: &[u8],
     fields: &mut ByteRecord,
-    scratch: &mut Scratch,
 ) -> Result<(), RecordFaultKind>
     ensures ok { (before : List (List ℕ)) → HasFields fields.old before
         → OnOk result ((value : List ℕ) × (convert format conversion field.now ≡ Ok value) × HasFields fields.new (before ++ value ∷ [])) }
@@ -74,7 +73,7 @@ fn push_converted(
 {
     match conversion {
         Conversion::Number(places) => {
-            let Some(units) = read_units(format, places, field, &mut scratch.text)? else {
+            let Some(units) = read_units(format, places, field) else {
                 return Err(RecordFaultKind::BadNumber);
             };
             push_number(fields, units)?;
@@ -96,7 +95,6 @@ fn push_values(
     columns: &[PlannedColumn],
     record: &ByteRecord,
     fields: &mut ByteRecord,
-    scratch: &mut Scratch,
 ) -> Result<(), RecordFault>
     ensures ok { (before : List (List ℕ)) → HasFields fields.old before
         → OnOk result ((values : List (List ℕ)) × (values_after before format columns.now (fields_of record.now) ≡ Ok values) × HasFields fields.new values) }
@@ -105,7 +103,7 @@ fn push_values(
 {
     'each: for column in columns {
         let field = field_at(record, column.place);
-        if let Err(kind) = push_converted(format, column.conversion, field, fields, scratch) {
+        if let Err(kind) = push_converted(format, column.conversion, field, fields) {
             return Err(RecordFault {
                 kind,
                 place: column.place,
@@ -215,7 +213,7 @@ pub fn import_record(
         });
     }
     begin_fields(fields, plan.numbered, number)?;
-    if let Err(fault) = push_values(plan.numbers, plan.columns.get(), record, fields, scratch) {
+    if let Err(fault) = push_values(plan.numbers, plan.columns.get(), record, fields) {
         return Err(fault);
     }
     let period = match read_period(plan, record, scratch) {

@@ -1,7 +1,7 @@
 // Dates in the formats of exported files.
 
-ghost use Rattle.std.specs.Prelude.{◌≡◌, IfOk, MatchOption, OnOk, false, true};
-ghost use Rattle.tq_import.specs.Dates.{day_in, digits_in, gathered, iso_text, more_digits, no_digits, without_midnight};
+ghost use Rattle.std.specs.Prelude.{◌≡◌, IfOk, IfSome, MatchOption, OnOk, false, true};
+ghost use Rattle.tq_import.specs.Dates.{IsIsoOf, IsSeparator, day_in, digits_in, gathered, iso_text, more_digits, no_digits, without_midnight};
 
 use crate::scratch::Scratch;
 use std::alloc::AllocError;
@@ -52,7 +52,71 @@ fn write_iso(scratch: &mut Scratch) -> Result<(), AllocError>
     scratch.text.extend_from_slice(&scratch.day)
 }
 
-/// The day of a date that is written in the format, as `dd.mm.yyyy`; `None` if the bytes are not a date in this format.
+// Whether the mark of the format stands for itself, and the byte is it.
+fn is_separator(mark: u8, byte: u8) -> bool
+    ensures { IsSeparator mark byte result }
+{
+    mark == byte && mark != b'd' && mark != b'm' && mark != b'y'
+}
+
+// The date as `YYYY-MM-DD`, if the format is `dd.mm.yyyy`, with any separators.
+fn day_first(format: &[u8], bytes: &[u8]) -> Option<[u8; 10]>
+    ensures { IfSome result (IsIsoOf format.now bytes.now) }
+{
+    let [
+        b'd',
+        b'd',
+        first,
+        b'm',
+        b'm',
+        second,
+        b'y',
+        b'y',
+        b'y',
+        b'y',
+    ] = format
+    else {
+        return None;
+    };
+    let [a, b, c, d, e, f, g, h, i, j] = bytes else {
+        return None;
+    };
+    if !is_separator(*first, *c) || !is_separator(*second, *f) {
+        return None;
+    }
+    Some([*g, *h, *i, *j, b'-', *d, *e, b'-', *a, *b])
+}
+
+// The same, if the format is `yyyy-mm-dd`, with any separators.
+fn year_first(format: &[u8], bytes: &[u8]) -> Option<[u8; 10]>
+    ensures { IfSome result (IsIsoOf format.now bytes.now) }
+{
+    let [
+        b'y',
+        b'y',
+        b'y',
+        b'y',
+        first,
+        b'm',
+        b'm',
+        second,
+        b'd',
+        b'd',
+    ] = format
+    else {
+        return None;
+    };
+    let [a, b, c, d, e, f, g, h, i, j] = bytes else {
+        return None;
+    };
+    if !is_separator(*first, *e) || !is_separator(*second, *h) {
+        return None;
+    }
+    Some([*a, *b, *c, *d, b'-', *f, *g, b'-', *i, *j])
+}
+
+/// The day of a date that is written in the format, as `dd.mm.yyyy`; `None` if the bytes are not a date in this format. The
+/// two usual formats need no memory.
 pub fn read_day(
     format: &[u8],
     bytes: &[u8],
@@ -60,6 +124,12 @@ pub fn read_day(
 ) -> Result<Option<Instant>, AllocError>
     ensures { IfOk result (λ day. day ≡ day_in format.now bytes.now) }
 {
+    if let Some(text) = day_first(format, bytes) {
+        return Ok(read_instant(&text, Form::Dates));
+    }
+    if let Some(text) = year_first(format, bytes) {
+        return Ok(read_instant(&text, Form::Dates));
+    }
     if !gather_digits(format, bytes, scratch)? {
         return Ok(None);
     }

@@ -1,10 +1,11 @@
 // The kinds of columns that the values of a file suggest.
 
-ghost use Rattle.std.specs.Prelude.{◌≡◌, ◌∷◌, [], ℕ, IfOk, List, OnOk, length};
+ghost use Rattle.std.specs.Prelude.{◌≡◌, ◌∷◌, [], ℕ, IfOk, List, length};
 ghost use Rattle.std.specs.List.{repeat};
 ghost use Rattle.csv.specs.Records.{fields_of};
 ghost use Rattle.tq_import.specs.Kinds.{kinds_after, next_kind, next_kinds};
 ghost use Rattle.tq_import.specs.Reading.{HasLeft};
+ghost use Rattle.tq_import.specs.Records.{field_of};
 
 use crate::amounts::{places_in, read_units};
 use crate::fault::InputFault;
@@ -14,39 +15,34 @@ use csv::{ByteRecord, Reader};
 use std::alloc::{AllocError, Global};
 use std::io::Read;
 
-// The kind of a column after one more value.
+// The kind of the column at a place after one more record. The field of a text is not looked at.
 fn next_kind(
     format: NumberFormat,
     kind: Conversion,
-    field: &[u8],
-    scratch: &mut Vec<u8>,
-) -> Result<Conversion, AllocError>
-    ensures { IfOk result (λ next. next ≡ next_kind format kind field.now) }
+    record: &ByteRecord,
+    place: usize,
+) -> Conversion
+    ensures { result ≡ next_kind format kind (field_of (fields_of record.now) place) }
 {
     let Conversion::Number(places) = kind else {
-        return Ok(Conversion::Text);
+        return Conversion::Text;
     };
+    let field = field_at(record, place);
     let more = places_in(format, field);
-    match read_units(format, more, field, scratch)? {
-        Some(_) => Ok(Conversion::Number(places.max(more))),
-        None => Ok(Conversion::Text),
+    match read_units(format, more, field) {
+        Some(_) => Conversion::Number(places.max(more)),
+        None => Conversion::Text,
     }
 }
 
 // Replaces the kinds of the columns by those after one more record.
-fn add_record(
-    format: NumberFormat,
-    kinds: &mut Vec<Conversion>,
-    record: &ByteRecord,
-    scratch: &mut Vec<u8>,
-) -> Result<(), AllocError>
-    ensures { OnOk result (kinds.new.items ≡ next_kinds format kinds.old.items (fields_of record.now)) }
+fn add_record(format: NumberFormat, kinds: &mut Vec<Conversion>, record: &ByteRecord)
+    ensures { kinds.new.items ≡ next_kinds format kinds.old.items (fields_of record.now) }
 {
     let count = kinds.len().min(record.len());
     'places: for place in 0..count {
-        kinds[place] = next_kind(format, kinds[place], field_at(record, place), scratch)?;
+        kinds[place] = next_kind(format, kinds[place], record, place);
     }
-    Ok(())
 }
 
 // `width` columns of whole numbers.
@@ -76,12 +72,11 @@ pub fn find_kinds<R: Read>(
 {
     let mut kinds = number_kinds(alloc, width)?;
     let mut record = ByteRecord::new(alloc);
-    let mut scratch = Vec::new(alloc);
     'records: for _ in 0..u64::MAX {
         if !next_record(reader, &mut record)? {
             return Ok(kinds);
         }
-        add_record(format, &mut kinds, &record, &mut scratch)?;
+        add_record(format, &mut kinds, &record);
     }
     Err(InputFault::Read)
 }

@@ -1,6 +1,6 @@
 //! Laws of the conversions: functions with an empty body whose contract is the law.
 
-ghost use Rattle.tq_import.specs.Laws.{DatesAreWrittenBack, EndsAreKept, UnitsAreExact};
+ghost use Rattle.tq_import.specs.Laws.{DatesAreWrittenBack, EndsAreKept, Latin1FieldsAreConverted, Latin1IsKept, UnitsAreExact};
 ghost use Rattle.tq_import.specs.Loads.{ImportedFilesLoad, ImportsAreReadBack, ImportsLoad};
 ghost use Rattle.tq_import.specs.Rejects.{FirstFaultsAgree, RecordsAreSplit, RejectsAreReadBack, ValidFilesAgree, ValidRecordsAgree};
 
@@ -62,4 +62,14 @@ pub fn valid_records_agree()
 /// With commas, the file of invalid records is read as the header and these records.
 pub fn rejects_are_read_back()
     ensures { RejectsAreReadBack }
+{}
+
+/// A file in Latin-1 becomes UTF-8 whose characters have the bytes of the file as their code points.
+pub fn latin1_is_kept()
+    ensures { Latin1IsKept }
+{}
+
+/// The records of a file in Latin-1 are those of its bytes, with each field as UTF-8, if the delimiter is ASCII.
+pub fn latin1_fields_are_converted()
+    ensures { Latin1FieldsAreConverted }
 {}

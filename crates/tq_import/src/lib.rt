@@ -11,6 +11,9 @@
 mod amounts;
 mod converting;
 mod dates;
+mod decoding;
+mod digits;
+mod encoding;
 mod fault;
 mod importing;
 mod kinds;
@@ -31,6 +34,7 @@ mod words;
 mod writing;
 
 pub use dates::is_date_format;
+pub use encoding::Encoding;
 pub use fault::{ImportFault, InputFault, NumberedFault, RecordFault, RecordFaultKind};
 pub use importing::import_records;
 pub use kinds::find_kinds;
@@ -41,5 +45,6 @@ pub use part::{Imported, Rejects, Separated};
 pub use plan::{Conversion, NumberFormat, Plan, PlannedColumn, TimeFormat};
 pub use planning::{PlanFault, PlanFaultKind, plan_import};
 pub use reading::{next_record, record_reader};
-pub use whole::{FileFault, ReadRecords, find_file_kinds, import, import_valid};
+pub use whole::{FileFault, ReadRecords, ValidImport, find_file_kinds, import, import_valid};
 pub use words::{ColumnWords, ImportWords, PeriodWords, WordFault, read_words};
+pub use writing::{line_writer, text_written, write_line};

@@ -154,7 +154,9 @@ fn push_reason(
 {
     match kind {
         RecordFaultKind::BadNumber => push_number_rule(text, places_at(plan.columns.get(), place)),
-        RecordFaultKind::NotUtf8 => text.extend_from_slice(b" is not valid UTF-8"),
+        RecordFaultKind::NotUtf8 => text.extend_from_slice(
+            b" is not valid UTF-8: use --encoding latin1 if the file is in Latin-1",
+        ),
         RecordFaultKind::TextTooLong => text.extend_from_slice(b" has more than 1,000 bytes"),
         RecordFaultKind::BadFrom => push_instant_rule(text, plan.times),
         RecordFaultKind::BadTo => push_end_rule(text, plan.times),
@@ -205,21 +207,27 @@ fn push_detail(
     }
 }
 
+/// An invalid record: the line of the file on which it begins, its fault, and its fields.
+#[derive(Clone, Copy)]
+pub(crate) struct Invalid<'a> {
+    pub line: u64,
+    pub fault: RecordFault,
+    pub fields: &'a ByteRecord,
+}
+
 // Appends the line of the record, and what is wrong with it.
 fn push_record_message(
     text: &mut Vec<u8>,
     plan: &Plan<'_>,
     header: &ByteRecord,
-    line: u64,
-    fault: RecordFault,
-    record: &ByteRecord,
+    invalid: &Invalid<'_>,
 ) -> Result<(), AllocError>
-    ensures { OnOk result (text.new.items ≡ text.old.items ++ record_message plan.now (fields_of header.now) line fault (fields_of record.now)) }
+    ensures { OnOk result (text.new.items ≡ text.old.items ++ record_message plan.now (fields_of header.now) invalid.now.line invalid.now.fault (fields_of invalid.now.fields.now)) }
 {
     text.extend_from_slice(b"line ")?;
-    push_number(text, line)?;
+    push_number(text, invalid.line)?;
     text.extend_from_slice(b": ")?;
-    push_detail(text, plan, header, fault, record)
+    push_detail(text, plan, header, invalid.fault, invalid.fields)
 }
 
 // The path of the file, and what is wrong with a record.
@@ -228,16 +236,14 @@ fn message_of(
     path: &[u8],
     plan: &Plan<'_>,
     header: &ByteRecord,
-    line: u64,
-    fault: RecordFault,
-    record: &ByteRecord,
+    invalid: &Invalid<'_>,
 ) -> Result<Vec<u8>, AllocError>
-    ensures { IfOk result (λ text. text.items ≡ path.now ++ codes ", " ++ record_message plan.now (fields_of header.now) line fault (fields_of record.now)) }
+    ensures { IfOk result (λ text. text.items ≡ path.now ++ codes ", " ++ record_message plan.now (fields_of header.now) invalid.now.line invalid.now.fault (fields_of invalid.now.fields.now)) }
 {
     let mut text = Vec::new(alloc);
     text.extend_from_slice(path)?;
     text.extend_from_slice(b", ")?;
-    push_record_message(&mut text, plan, header, line, fault, record)?;
+    push_record_message(&mut text, plan, header, invalid)?;
     Ok(text)
 }
 
@@ -251,21 +257,18 @@ fn push_error_line(text: &mut Vec<u8>, message: &[u8]) -> Result<(), AllocError>
     Ok(())
 }
 
-/// Appends a line of standard error that says what is wrong with an invalid record, in the file at this path. The record
-/// begins on this line of the file.
+/// Appends a line of standard error that says what is wrong with an invalid record, in the file at this path.
 pub(crate) fn push_message_line(
     alloc: Global,
     path: &[u8],
     plan: &Plan<'_>,
     header: &ByteRecord,
-    line: u64,
-    fault: RecordFault,
-    record: &ByteRecord,
+    invalid: &Invalid<'_>,
     text: &mut Vec<u8>,
 ) -> Result<(), AllocError>
-    ensures { OnOk result (text.new.items ≡ text.old.items ++ message_line path.now plan.now (fields_of header.now) line fault (fields_of record.now)) }
+    ensures { OnOk result (text.new.items ≡ text.old.items ++ message_line path.now plan.now (fields_of header.now) invalid.now.line invalid.now.fault (fields_of invalid.now.fields.now)) }
 {
-    let message = message_of(alloc, path, plan, header, line, fault, record)?;
+    let message = message_of(alloc, path, plan, header, invalid)?;
     push_error_line(text, &message)?;
     Ok(())
 }
@@ -308,14 +311,12 @@ pub fn fault_text(
         FileFault::NoHeader => text.extend_from_slice(b"there is no header")?,
         FileFault::Plan(fault) => push_plan_fault(&mut text, seen.line, fault)?,
         FileFault::Records(plan, ImportFault::Record(fault)) => {
-            push_record_message(
-                &mut text,
-                plan,
-                &seen.header,
-                seen.line,
-                fault.fault,
-                &seen.last,
-            )?;
+            let invalid = Invalid {
+                line: seen.line,
+                fault: fault.fault,
+                fields: &seen.last,
+            };
+            push_record_message(&mut text, plan, &seen.header, &invalid)?;
         }
         FileFault::Records(_, _) | FileFault::Input(_) => {}
     }

@@ -1,5 +1,6 @@
 // What an import is asked to do, with columns by the names in the header.
 
+use crate::encoding::Encoding;
 use crate::plan::{Conversion, NumberFormat, TimeFormat};
 use tq_base::List;
 
@@ -25,10 +26,11 @@ pub enum Selection {
     Without(List<List<u8>>),
 }
 
-/// What an import is asked to do. `delimiter` is the byte between fields. `from`, `to` and `key` are names in the header; without a key, rows are numbered. Kinds
-/// that are not given are found.
+/// What an import is asked to do. `delimiter` is the byte between fields. `from`, `to` and `key` are names in the header, in
+/// UTF-8 as all texts here; without a key, rows are numbered. Kinds that are not given are found.
 #[derive(Drop, Debug)]
 pub struct ImportOptions {
+    pub encoding: Encoding,
     pub delimiter: u8,
     pub from: List<u8>,
     pub to: List<u8>,

@@ -1,5 +1,7 @@
 // What became of records. These types have a module of their own because the definitions that contracts cite name them.
 
+use csv::Writer;
+
 /// The number of rows that were written.
 #[derive(Clone, Copy, Debug, PartialEq, Eq)]
 pub struct Imported {
@@ -20,6 +22,13 @@ pub struct Part {
 pub enum Rejects<'a> {
     Records(u8),
     Messages(&'a [u8]),
+}
+
+/// What is written of invalid records so far: rows of CSV, or messages.
+#[derive(Drop)]
+pub enum RejectText {
+    Rows(Writer<Vec<u8>>),
+    Messages(Vec<u8>),
 }
 
 /// The numbers of rows that were written, and of invalid records.

@@ -1,21 +1,23 @@
 // From the records of a file to a table file of the valid ones, a part at a time. What is written of the invalid ones goes
 // to a writer of its own.
 
-ghost use Rattle.std.specs.Prelude.{◌≡◌, ◌++◌, ◌≤◌, ◌+◌, ℕ, IfErr, IfOk, List, OnOk, length};
+ghost use Rattle.std.specs.Prelude.{◌≡◌, ◌++◌, [], ◌≤◌, ◌+◌, ℕ, IfErr, IfOk, List, OnOk, length};
+ghost use Rattle.std.specs.Borrow.{Bor};
 ghost use Rattle.std.specs.Io.KnownBytes.{Appends};
 ghost use Rattle.csv.specs.Records.{fields_of};
 ghost use Rattle.csv.specs.Writing.{row_text};
 ghost use Rattle.tq_table.specs.Writing.{HasWritten};
+ghost use Rattle.tq_import.specs.Messages.{message_line};
 ghost use Rattle.tq_import.specs.Reading.{HasLeft};
 ghost use Rattle.tq_import.specs.Records.{import_record};
-ghost use Rattle.tq_import.specs.Rejects.{AreRejectTexts, IsNoRecordFault, IsRejectText, IsSeparated, IsSeparatedPart, fault_of, line_of, rejects_header, separated_format};
+ghost use Rattle.tq_import.specs.Rejects.{AreRejectTexts, HasRejected, HasRows, IsNoRecordFault, IsRejectText, IsSeparated, IsSeparatedPart, fault_of, line_of, rejects_header, separated_format};
 
 use crate::converting::import_record;
 use crate::fault::{ImportFault, RecordFault, RecordFaultKind};
 use crate::importing::put;
 use crate::lines::{LineEnds, first_line};
-use crate::messages::push_message_line;
-use crate::part::{Rejects, Separated, SeparatedPart};
+use crate::messages::{Invalid, push_message_line};
+use crate::part::{RejectText, Rejects, Separated, SeparatedPart};
 use crate::plan::Plan;
 use crate::reading::next_record;
 use crate::scratch::Scratch;
@@ -28,29 +30,51 @@ use tq_table::Sink;
 // The most records of a part, whose lines are written together.
 const PART: u32 = 1024;
 
-// The lines of valid records, and what is written of invalid ones with their number.
-#[derive(Drop)]
-struct Batch {
-    writer: Writer<Vec<u8>>,
-    rejected: Vec<u8>,
-    invalid: u64,
+/// How invalid records are separated from others: the plan of the file, what is written of them, and the header.
+#[derive(Clone, Copy)]
+pub(crate) struct Separation<'a> {
+    pub plan: &'a Plan<'a>,
+    pub rejects: Rejects<'a>,
+    pub header: &'a ByteRecord,
 }
 
-// A record as CSV with this byte between fields.
-fn row_bytes(alloc: Global, delimiter: u8, record: &ByteRecord) -> Result<Vec<u8>, AllocError>
-    ensures { IfOk result (λ row. row.items ≡ row_text (separated_format delimiter) (fields_of record.now)) }
+// A writer of rows with this byte between fields that has written none.
+fn row_writer(alloc: Global, delimiter: u8) -> Writer<Vec<u8>>
+    ensures { HasRows delimiter result [] }
 {
-    let mut writer = WriterBuilder::new()
+    WriterBuilder::new()
         .flexible(true)
         .delimiter(delimiter)
-        .from_writer(Vec::new(alloc));
-    if writer.write_byte_record(record).is_err() {
-        return Err(AllocError);
-    }
-    match writer.into_inner() {
-        Ok(row) => Ok(row),
+        .from_writer(Vec::new(alloc))
+}
+
+// Writes a row. Over a vector only an allocation can fail.
+fn write_row(writer: &mut Writer<Vec<u8>>, record: &ByteRecord) -> Result<(), AllocError>
+    ensures { (delimiter : ℕ) (text : List ℕ) → HasRows delimiter writer.old text → OnOk result (HasRows delimiter writer.new (text ++ row_text (separated_format delimiter) (fields_of record.now))) }
+{
+    match writer.write_byte_record(record) {
+        Ok(()) => Ok(()),
         Err(_) => Err(AllocError),
     }
+}
+
+// The rows that were written.
+fn rows_written(writer: Writer<Vec<u8>>) -> Result<Vec<u8>, AllocError>
+    ensures { (delimiter : ℕ) (text : List ℕ) → HasRows delimiter writer text → IfOk result (λ rows. rows.items ≡ text) }
+{
+    match writer.into_inner() {
+        Ok(rows) => Ok(rows),
+        Err(_) => Err(AllocError),
+    }
+}
+
+// The header as a row with this byte between fields.
+fn header_row(alloc: Global, delimiter: u8, header: &ByteRecord) -> Result<Vec<u8>, AllocError>
+    ensures { IfOk result (λ row. row.items ≡ row_text (separated_format delimiter) (fields_of header.now)) }
+{
+    let mut writer = row_writer(alloc, delimiter);
+    write_row(&mut writer, header)?;
+    rows_written(writer)
 }
 
 // What is written before the invalid records.
@@ -62,33 +86,102 @@ fn rejects_header(
     ensures { IfOk result (λ text. text.items ≡ rejects_header rejects.entry (fields_of header.now)) }
 {
     match rejects {
-        Rejects::Records(delimiter) => row_bytes(alloc, delimiter, header),
+        Rejects::Records(delimiter) => header_row(alloc, delimiter, header),
         Rejects::Messages(_) => Ok(Vec::new(alloc)),
     }
 }
 
-// Appends what is written of an invalid record, which begins on this line.
-fn push_reject(
-    alloc: Global,
-    plan: &Plan<'_>,
-    rejects: Rejects<'_>,
-    header: &ByteRecord,
-    line: u64,
-    fault: RecordFault,
-    record: &ByteRecord,
-    rejected: &mut Vec<u8>,
-) -> Result<(), AllocError>
-    ensures { (number : ℕ) → OnOk result ((text : List ℕ) × IsRejectText rejects.entry plan.now (fields_of header.now) (record { number = number; fault = fault; fields = fields_of record.now }) text × (rejected.new.items ≡ rejected.old.items ++ text)) }
+// Nothing, as what is written of no invalid records.
+fn no_rejects(alloc: Global, rejects: Rejects<'_>) -> RejectText
+    ensures { HasRejected rejects.entry result [] }
 {
     match rejects {
-        Rejects::Records(delimiter) => {
-            let row = row_bytes(alloc, delimiter, record)?;
-            rejected.extend_from_slice(&row)?;
+        Rejects::Records(delimiter) => RejectText::Rows(row_writer(alloc, delimiter)),
+        Rejects::Messages(_) => RejectText::Messages(Vec::new(alloc)),
+    }
+}
+
+// What was written of invalid records.
+fn rejected_text(rejected: RejectText) -> Result<Vec<u8>, AllocError>
+    ensures { (rejects : Rejects) (text : List ℕ) → HasRejected rejects rejected text → IfOk result (λ written. written.items ≡ text) }
+{
+    match rejected {
+        RejectText::Rows(writer) => rows_written(writer),
+        RejectText::Messages(text) => Ok(text),
+    }
+}
+
+// Appends a message about an invalid record. Where rows are asked for, there is none.
+fn push_message(
+    alloc: Global,
+    separation: &Separation<'_>,
+    invalid: &Invalid<'_>,
+    text: &mut Vec<u8>,
+) -> Result<(), AllocError>
+    ensures { (path : Bor (List ℕ)) → separation.now.rejects ≡ Rejects.Messages path → OnOk result (text.new.items ≡ text.old.items ++ message_line path.now separation.now.plan.now (fields_of separation.now.header.now) invalid.now.line invalid.now.fault (fields_of invalid.now.fields.now)) }
+{
+    match separation.rejects {
+        Rejects::Messages(path) => {
+            push_message_line(
+                alloc,
+                path,
+                separation.plan,
+                separation.header,
+                invalid,
+                text,
+            )?;
             Ok(())
         }
-        Rejects::Messages(path) => {
-            push_message_line(alloc, path, plan, header, line, fault, record, rejected)?;
+        Rejects::Records(_) => Ok(()),
+    }
+}
+
+// Appends what is written of an invalid record.
+fn push_reject(
+    alloc: Global,
+    separation: &Separation<'_>,
+    invalid: &Invalid<'_>,
+    rejected: &mut RejectText,
+) -> Result<(), AllocError>
+    ensures { (number : ℕ) (before : List ℕ) → HasRejected separation.now.rejects rejected.old before
+        → OnOk result ((text : List ℕ) × IsRejectText separation.now.rejects separation.now.plan.now (fields_of separation.now.header.now) (record { number = number; fault = invalid.now.fault; fields = fields_of invalid.now.fields.now }) text
+        × HasRejected separation.now.rejects rejected.new (before ++ text)) }
+{
+    match rejected {
+        RejectText::Rows(writer) => {
+            write_row(writer, invalid.fields)?;
             Ok(())
+        }
+        RejectText::Messages(text) => {
+            push_message(alloc, separation, invalid, text)?;
+            Ok(())
+        }
+    }
+}
+
+// The lines of valid records, what is written of invalid ones with their number, and memory that is used again.
+#[derive(Drop)]
+struct Batch {
+    writer: Writer<Vec<u8>>,
+    rejected: RejectText,
+    invalid: u64,
+    fields: ByteRecord,
+    scratch: Scratch,
+}
+
+impl Batch {
+    // No records.
+    fn new(alloc: Global, rejects: Rejects<'_>) -> Batch
+        ensures writer { HasWritten result.writer [] }
+        ensures rejected { HasRejected rejects.entry result.rejected [] }
+        ensures invalid { result.invalid ≡ 0 }
+    {
+        Batch {
+            writer: line_writer(alloc),
+            rejected: no_rejects(alloc, rejects),
+            invalid: 0,
+            fields: ByteRecord::new(alloc),
+            scratch: Scratch::new(alloc),
         }
     }
 }
@@ -96,9 +189,7 @@ fn push_reject(
 // Adds an invalid record to the batch.
 fn add_reject<R: Read + LineEnds>(
     alloc: Global,
-    plan: &Plan<'_>,
-    rejects: Rejects<'_>,
-    header: &ByteRecord,
+    separation: &Separation<'_>,
     reader: &Reader<R>,
     fault: RecordFault,
     record: &ByteRecord,
@@ -106,57 +197,57 @@ fn add_reject<R: Read + LineEnds>(
 ) -> Result<(), ImportFault>
     ensures fault { IfErr result IsNoRecordFault }
     ensures writer { batch.new.writer ≡ batch.old.writer }
-    ensures text { (number : ℕ) → OnOk result ((text : List ℕ) × IsRejectText rejects.entry plan.now (fields_of header.now) (record { number = number; fault = fault; fields = fields_of record.now }) text × (batch.new.rejected.items ≡ batch.old.rejected.items ++ text)) }
+    ensures text { (number : ℕ) (before : List ℕ) → HasRejected separation.now.rejects batch.old.rejected before
+        → OnOk result ((text : List ℕ) × IsRejectText separation.now.rejects separation.now.plan.now (fields_of separation.now.header.now) (record { number = number; fault = fault; fields = fields_of record.now }) text
+        × HasRejected separation.now.rejects batch.new.rejected (before ++ text)) }
     ensures counted { OnOk result (batch.new.invalid ≡ batch.old.invalid + 1) }
 {
-    let line = first_line(reader, record);
-    push_reject(
-        alloc,
-        plan,
-        rejects,
-        header,
-        line,
+    let invalid = Invalid {
+        line: first_line(reader, record),
         fault,
-        record,
-        &mut batch.rejected,
-    )?;
-    let Some(invalid) = batch.invalid.checked_add(1) else {
+        fields: record,
+    };
+    push_reject(alloc, separation, &invalid, &mut batch.rejected)?;
+    let Some(count) = batch.invalid.checked_add(1) else {
         return Err(ImportFault::Read);
     };
-    batch.invalid = invalid;
+    batch.invalid = count;
     Ok(())
 }
 
 // Adds the record with this number to the batch: its line, or what is written of it if it is invalid.
 fn add_record<R: Read + LineEnds>(
     alloc: Global,
-    plan: &Plan<'_>,
-    rejects: Rejects<'_>,
-    header: &ByteRecord,
+    separation: &Separation<'_>,
     number: u64,
     reader: &Reader<R>,
     record: &ByteRecord,
-    fields: &mut ByteRecord,
-    scratch: &mut Scratch,
     batch: &mut Batch,
 ) -> Result<(), ImportFault>
     requires { 1 ≤ number }
     ensures fault { IfErr result IsNoRecordFault }
     ensures line { (text : List ℕ) → HasWritten batch.old.writer text
-        → OnOk result (HasWritten batch.new.writer (text ++ line_of (import_record plan.now number (fields_of record.now)))) }
-    ensures rejected { OnOk result ((text : List ℕ) × AreRejectTexts rejects.entry plan.now (fields_of header.now) (fault_of number (fields_of record.now) (import_record plan.now number (fields_of record.now))) text
-        × (batch.new.rejected.items ≡ batch.old.rejected.items ++ text)) }
-    ensures invalid { OnOk result (batch.new.invalid ≡ batch.old.invalid + length (fault_of number (fields_of record.now) (import_record plan.now number (fields_of record.now)))) }
+        → OnOk result (HasWritten batch.new.writer (text ++ line_of (import_record separation.now.plan.now number (fields_of record.now)))) }
+    ensures rejected { (before : List ℕ) → HasRejected separation.now.rejects batch.old.rejected before
+        → OnOk result ((text : List ℕ) × AreRejectTexts separation.now.rejects separation.now.plan.now (fields_of separation.now.header.now) (fault_of number (fields_of record.now) (import_record separation.now.plan.now number (fields_of record.now))) text
+        × HasRejected separation.now.rejects batch.new.rejected (before ++ text)) }
+    ensures invalid { OnOk result (batch.new.invalid ≡ batch.old.invalid + length (fault_of number (fields_of record.now) (import_record separation.now.plan.now number (fields_of record.now)))) }
 {
-    match import_record(plan, number, record, fields, scratch) {
+    match import_record(
+        separation.plan,
+        number,
+        record,
+        &mut batch.fields,
+        &mut batch.scratch,
+    ) {
         Ok(()) => {
-            write_line(&mut batch.writer, fields)?;
+            write_line(&mut batch.writer, &batch.fields)?;
             Ok(())
         }
         Err(fault) => match fault.kind {
             RecordFaultKind::OutOfMemory => Err(ImportFault::OutOfMemory),
             _ => {
-                add_reject(alloc, plan, rejects, header, reader, fault, record, batch)?;
+                add_reject(alloc, separation, reader, fault, record, batch)?;
                 Ok(())
             }
         },
@@ -166,7 +257,7 @@ fn add_record<R: Read + LineEnds>(
 // Ends a part.
 fn part_of(batch: Batch, next: u64, more: bool) -> Result<SeparatedPart, AllocError>
     ensures text { (text : List ℕ) → HasWritten batch.writer text → IfOk result (λ part. part.text.items ≡ text) }
-    ensures rejected { IfOk result (λ part. part.rejected ≡ batch.rejected) }
+    ensures rejected { (rejects : Rejects) (text : List ℕ) → HasRejected rejects batch.rejected text → IfOk result (λ part. part.rejected.items ≡ text) }
     ensures invalid { IfOk result (λ part. part.invalid ≡ batch.invalid) }
     ensures next { IfOk result (λ part. part.next ≡ next) }
     ensures more { IfOk result (λ part. part.more ≡ more) }
@@ -175,8 +266,10 @@ fn part_of(batch: Batch, next: u64, more: bool) -> Result<SeparatedPart, AllocEr
         writer,
         rejected,
         invalid,
+        ..
     } = batch;
     let text = text_written(writer)?;
+    let rejected = rejected_text(rejected)?;
     Ok(SeparatedPart {
         text,
         rejected,
@@ -191,44 +284,25 @@ fn part_of(batch: Batch, next: u64, more: bool) -> Result<SeparatedPart, AllocEr
 #[inline(never)]
 fn separate_part<R: Read + LineEnds>(
     alloc: Global,
-    plan: &Plan<'_>,
-    rejects: Rejects<'_>,
-    header: &ByteRecord,
+    separation: &Separation<'_>,
     number: u64,
     reader: &mut Reader<R>,
     record: &mut ByteRecord,
 ) -> Result<SeparatedPart, ImportFault>
     requires { 1 ≤ number }
     ensures ok { (delimiter : ℕ) (left : List (List (List ℕ))) → HasLeft R.remaining delimiter reader.old left
-        → IfOk result (IsSeparatedPart plan.now rejects.entry (fields_of header.now) number left R.remaining delimiter reader.new) }
+        → IfOk result (IsSeparatedPart separation.now.plan.now separation.now.rejects (fields_of separation.now.header.now) number left R.remaining delimiter reader.new) }
     ensures next { IfOk result (λ part. number ≤ part.next) }
     ensures fault { IfErr result IsNoRecordFault }
 {
-    let mut batch = Batch {
-        writer: line_writer(alloc),
-        rejected: Vec::new(alloc),
-        invalid: 0,
-    };
-    let mut fields = ByteRecord::new(alloc);
-    let mut scratch = Scratch::new(alloc);
+    let mut batch = Batch::new(alloc, separation.rejects);
     let mut next = number;
     'records: for _ in 0..PART {
         if !next_record(reader, record)? {
             let part = part_of(batch, next, false)?;
             return Ok(part);
         }
-        add_record(
-            alloc,
-            plan,
-            rejects,
-            header,
-            next,
-            reader,
-            record,
-            &mut fields,
-            &mut scratch,
-            &mut batch,
-        )?;
+        add_record(alloc, separation, next, reader, record, &mut batch)?;
         let Some(after) = next.checked_add(1) else {
             return Err(ImportFault::Read);
         };
@@ -239,28 +313,29 @@ fn separate_part<R: Read + LineEnds>(
 }
 
 /// Writes the table file of the valid records that the reader has still to read, which come after the header, record 1.
-/// What `rejects` asks for is written of the invalid ones. Both are written as records are read, so memory does not grow with
+/// What the separation asks for is written of the invalid ones. Both are written as records are read, so memory does not grow with
 /// their number. `Read` if the reader failed, `Write` if a writer failed, `OutOfMemory` if an allocation failed.
 pub(crate) fn separate_records<R: Read + LineEnds, W: Write, V: Write>(
     alloc: Global,
-    plan: &Plan<'_>,
-    rejects: Rejects<'_>,
-    header: &ByteRecord,
+    separation: &Separation<'_>,
     reader: &mut Reader<R>,
     record: &mut ByteRecord,
     sink: &mut Sink<W>,
     rejected: &mut Sink<V>,
 ) -> Result<Separated, ImportFault>
     ensures ok { (delimiter : ℕ) (left : List (List (List ℕ))) → HasLeft R.remaining delimiter reader.old left
-        → IfOk result (IsSeparated plan.now rejects.entry (fields_of header.now) left (W.contents sink.old.writer) (W.contents sink.new.writer) (V.contents rejected.old.writer) (V.contents rejected.new.writer)) }
+        → IfOk result (IsSeparated separation.now.plan.now separation.now.rejects (fields_of separation.now.header.now) left (W.contents sink.old.writer) (W.contents sink.new.writer) (V.contents rejected.old.writer) (V.contents rejected.new.writer)) }
     ensures fault { IfErr result IsNoRecordFault }
 {
-    put(sink, &header_text(alloc, plan)?)?;
-    put(rejected, &rejects_header(alloc, rejects, header)?)?;
+    put(sink, &header_text(alloc, separation.plan)?)?;
+    put(
+        rejected,
+        &rejects_header(alloc, separation.rejects, separation.header)?,
+    )?;
     let mut number = 2;
     let mut invalid = 0u64;
     'parts: for _ in 0..u64::MAX {
-        let part = separate_part(alloc, plan, rejects, header, number, reader, record)?;
+        let part = separate_part(alloc, separation, number, reader, record)?;
         put(sink, &part.text)?;
         put(rejected, &part.rejected)?;
         number = part.next;

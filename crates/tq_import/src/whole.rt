@@ -2,9 +2,9 @@
 
 ghost use Rattle.std.specs.Prelude.{◌≡◌, ℕ, IfErr, IfOk, List, Some};
 ghost use Rattle.csv.specs.Records.{fields_of};
-ghost use Rattle.tq_import.specs.Files.{AreKindsOf, IsFileFault, IsImportOf, IsSeparatedFault, IsSeparatedImportOf};
-ghost use Rattle.tq_import.specs.Reading.{records_by};
+ghost use Rattle.tq_import.specs.Files.{AreKindsOf, IsFileFault, IsImportOf, IsSeparatedFault, IsSeparatedImportOf, records_in};
 
+use crate::encoding::Decoder;
 use crate::fault::{ImportFault, InputFault};
 use crate::importing::import_records;
 use crate::kinds::find_kinds;
@@ -14,7 +14,7 @@ use crate::part::{Imported, Rejects, Separated};
 use crate::plan::{Conversion, Plan};
 use crate::planning::{PlanFault, plan_import};
 use crate::reading::{next_record, record_reader};
-use crate::separating::separate_records;
+use crate::separating::{Separation, separate_records};
 use csv::ByteRecord;
 use std::alloc::{AllocError, Global};
 use std::io::{Read, Write};
@@ -56,9 +56,10 @@ pub fn find_file_kinds<R: Read + Drop>(
     input: R,
 ) -> Result<Vec<Conversion>, InputFault>
     ensures { (text : List ℕ) → R.remaining input ≡ Some text
-        → IfOk result (λ kinds. AreKindsOf options.now.numbers (records_by options.now.delimiter text) kinds.items) }
+        → IfOk result (λ kinds. AreKindsOf options.now.numbers (records_in options.now text) kinds.items) }
 {
-    let mut reader = record_reader(alloc, input, options.delimiter);
+    let decoder = Decoder::over(input, options.encoding);
+    let mut reader = record_reader(alloc, decoder, options.delimiter);
     let mut header = ByteRecord::new(alloc);
     if !next_record(&mut reader, &mut header)? {
         return Ok(Vec::new(alloc));
@@ -77,11 +78,12 @@ pub fn import<'a, R: Read + Drop, W: Write>(
     sink: &mut Sink<W>,
 ) -> Result<(Plan<'a>, Imported), FileFault<'a>>
     ensures ok { (text : List ℕ) → R.remaining input ≡ Some text
-        → IfOk result (λ done. IsImportOf options.entry.now (records_by options.entry.now.delimiter text) found.now (W.contents sink.old.writer) (W.contents sink.new.writer) done.0 done.1) }
+        → IfOk result (λ done. IsImportOf options.entry.now (records_in options.entry.now text) found.now (W.contents sink.old.writer) (W.contents sink.new.writer) done.0 done.1) }
     ensures fault { (text : List ℕ) → R.remaining input ≡ Some text
-        → IfErr result (IsFileFault (records_by options.entry.now.delimiter text) (fields_of seen.new.last)) }
+        → IfErr result (IsFileFault (records_in options.entry.now text) (fields_of seen.new.last)) }
 {
-    let mut reader = record_reader(alloc, Recorder::over(input), options.delimiter);
+    let decoder = Decoder::over(input, options.encoding);
+    let mut reader = record_reader(alloc, Recorder::over(decoder), options.delimiter);
     let has_header = match next_record(&mut reader, &mut seen.header) {
         Ok(found) => found,
         Err(fault) => return Err(FileFault::Input(fault)),
@@ -103,24 +105,32 @@ pub fn import<'a, R: Read + Drop, W: Write>(
     }
 }
 
+/// How the valid records of a file are imported: what is asked for, the kinds of columns that are not given, and what is
+/// written of invalid records.
+#[derive(Clone, Copy)]
+pub struct ValidImport<'a, 'f> {
+    pub options: &'a ImportOptions,
+    pub found: &'f [Conversion],
+    pub rejects: Rejects<'f>,
+}
+
 /// Imports the valid records of a file: writes the table file of them to `sink`, and what `rejects` asks for of the invalid
-/// ones to `rejected`. `found` has the kinds of columns that are not given. After a fault of the header, `seen` has it.
+/// ones to `rejected`. After a fault of the header, `seen` has it.
 pub fn import_valid<'a, R: Read + Drop, W: Write, V: Write>(
     alloc: Global,
-    options: &'a ImportOptions,
-    found: &[Conversion],
-    rejects: Rejects<'_>,
+    job: ValidImport<'a, '_>,
     input: R,
     seen: &mut ReadRecords,
     sink: &mut Sink<W>,
     rejected: &mut Sink<V>,
 ) -> Result<(Plan<'a>, Separated), FileFault<'a>>
     ensures ok { (text : List ℕ) → R.remaining input ≡ Some text
-        → IfOk result (λ done. IsSeparatedImportOf options.entry.now rejects.entry (records_by options.entry.now.delimiter text) found.now (W.contents sink.old.writer) (W.contents sink.new.writer) (V.contents rejected.old.writer) (V.contents rejected.new.writer) done.0 done.1) }
+        → IfOk result (λ done. IsSeparatedImportOf job.entry.options.now job.entry.rejects (records_in job.entry.options.now text) job.entry.found.now (W.contents sink.old.writer) (W.contents sink.new.writer) (V.contents rejected.old.writer) (V.contents rejected.new.writer) done.0 done.1) }
     ensures fault { (text : List ℕ) → R.remaining input ≡ Some text
-        → IfErr result (IsSeparatedFault (records_by options.entry.now.delimiter text)) }
+        → IfErr result (IsSeparatedFault (records_in job.entry.options.now text)) }
 {
-    let mut reader = record_reader(alloc, Recorder::over(input), options.delimiter);
+    let decoder = Decoder::over(input, job.options.encoding);
+    let mut reader = record_reader(alloc, Recorder::over(decoder), job.options.delimiter);
     let has_header = match next_record(&mut reader, &mut seen.header) {
         Ok(found) => found,
         Err(fault) => return Err(FileFault::Input(fault)),
@@ -129,16 +139,18 @@ pub fn import_valid<'a, R: Read + Drop, W: Write, V: Write>(
         return Err(FileFault::NoHeader);
     }
     seen.line = first_line(&reader, &seen.header);
-    let plan = match plan_import(alloc, options, &seen.header, found) {
+    let plan = match plan_import(alloc, job.options, &seen.header, job.found) {
         Ok(plan) => plan,
         Err(fault) => return Err(FileFault::Plan(fault)),
     };
-    let header = &seen.header;
+    let separation = Separation {
+        plan: &plan,
+        rejects: job.rejects,
+        header: &seen.header,
+    };
     match separate_records(
         alloc,
-        &plan,
-        rejects,
-        header,
+        &separation,
         &mut reader,
         &mut seen.last,
         sink,

@@ -1,6 +1,7 @@
 // The options of an import, as words of a command line.
 
 use crate::dates::is_date_format;
+use crate::encoding::Encoding;
 use crate::options::{GivenKind, ImportOptions, Rename, Selection};
 use crate::plan::{Conversion, NumberFormat, TimeFormat};
 use std::alloc::{AllocError, Global};
@@ -12,6 +13,7 @@ const MAX_PLACES: u64 = 18;
 /// The options of an import, as they were given. An option that was not given is empty.
 #[derive(Drop, Debug)]
 pub struct ImportWords {
+    pub encoding: Vec<u8>,
     pub delimiter: Vec<u8>,
     pub period: PeriodWords,
     pub columns: ColumnWords,
@@ -62,6 +64,27 @@ fn one_byte(word: &[u8], none: u8, expected: &'static str) -> Result<u8, WordFau
         [byte] => Ok(*byte),
         b"\\t" => Ok(b'\t'),
         _ => Err(WordFault::Invalid(expected)),
+    }
+}
+
+fn read_encoding(word: &[u8]) -> Result<Encoding, WordFault> {
+    match word {
+        b"" | b"utf8" => Ok(Encoding::Utf8),
+        b"latin1" => Ok(Encoding::Latin1),
+        _ => Err(WordFault::Invalid("--encoding takes utf8 or latin1")),
+    }
+}
+
+// Whether a byte of the file as UTF-8 can be these: in Latin-1 a byte that is not ASCII becomes two.
+fn check_ascii(encoding: Encoding, delimiter: u8, numbers: NumberFormat) -> Result<(), WordFault> {
+    let are_ascii = delimiter.is_ascii()
+        && numbers.point.is_ascii()
+        && numbers.thousands.unwrap_or(0).is_ascii();
+    match encoding {
+        Encoding::Latin1 if !are_ascii => Err(WordFault::Invalid(
+            "--delimiter, --decimal-point and --thousands take ASCII bytes with --encoding latin1",
+        )),
+        _ => Ok(()),
     }
 }
 
@@ -232,15 +255,18 @@ fn add_kinds(
 /// The options that the words ask for. `Invalid` says what an option takes.
 pub fn read_words(alloc: Global, words: ImportWords) -> Result<ImportOptions, WordFault> {
     let ImportWords {
+        encoding,
         delimiter,
         period,
         columns,
         point,
         thousands,
     } = words;
+    let encoding = read_encoding(&encoding)?;
     let delimiter = read_delimiter(&delimiter)?;
     let (from, to, times) = read_times(alloc, period)?;
     let numbers = read_numbers(&point, &thousands)?;
+    check_ascii(encoding, delimiter, numbers)?;
     let ColumnWords {
         key,
         numbered,
@@ -259,6 +285,7 @@ pub fn read_words(alloc: Global, words: ImportWords) -> Result<ImportOptions, Wo
     add_kinds(alloc, &mut kinds, &ints, Conversion::Number(0))?;
     add_kinds(alloc, &mut kinds, &texts, Conversion::Text)?;
     Ok(ImportOptions {
+        encoding,
         delimiter,
         from,
         to,

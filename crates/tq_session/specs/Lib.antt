@@ -8,3 +8,4 @@ pub mod Recording
 pub mod Query
 pub mod Sessions
 pub mod LineSteps
+pub mod Observers

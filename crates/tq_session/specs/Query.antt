@@ -22,6 +22,7 @@ NotPlanned form catalogue bytes (refusal.Statement fault) = IsSqlFault bytes fau
 NotPlanned form catalogue bytes (refusal.Plan fault) = (statement : Statement) × ParsesTo bytes statement × (plan_of form catalogue statement ≡ Err fault)
 NotPlanned form catalogue bytes refusal.OutOfMemory = Unit {0}
 NotPlanned form catalogue bytes refusal.BadLine = ⊥
+NotPlanned form catalogue bytes refusal.LongLine = ⊥
 NotPlanned form catalogue bytes refusal.UnknownTable = ⊥
 NotPlanned form catalogue bytes refusal.BadValues = ⊥
 NotPlanned form catalogue bytes (refusal.TooEarly last) = ⊥

@@ -29,6 +29,7 @@ NotFound catalogue name fields refusal.UnknownTable = table_number catalogue nam
 NotFound catalogue name fields refusal.BadValues = AreBadValues catalogue name fields
 NotFound catalogue name fields refusal.OutOfMemory = IsNamed catalogue name
 NotFound catalogue name fields refusal.BadLine = ⊥
+NotFound catalogue name fields refusal.LongLine = ⊥
 NotFound catalogue name fields (refusal.TooEarly last) = ⊥
 NotFound catalogue name fields refusal.NoOpenRow = ⊥
 NotFound catalogue name fields refusal.TooManyEvents = ⊥

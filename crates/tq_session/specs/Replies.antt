@@ -25,6 +25,7 @@ refused_event append.OutOfMemory = refusal.OutOfMemory
 -- the name of a refusal
 abbrev pub refusal_name : Refusal → List ℕ
 refusal_name refusal.BadLine = codes "BadLine"
+refusal_name refusal.LongLine = codes "BadLine"
 refusal_name refusal.UnknownTable = codes "UnknownTable"
 refusal_name refusal.BadValues = codes "BadValues"
 refusal_name (refusal.TooEarly last) = codes "TooEarly"
@@ -40,6 +41,7 @@ refusal_name refusal.OutOfMemory = codes "OutOfMemory"
 -- number of published events
 abbrev pub refusal_number : Form → Refusal → Option (List ℕ)
 refusal_number form refusal.BadLine = None
+refusal_number form refusal.LongLine = None
 refusal_number form refusal.UnknownTable = None
 refusal_number form refusal.BadValues = None
 refusal_number form (refusal.TooEarly last) = Some (instant_text form last)

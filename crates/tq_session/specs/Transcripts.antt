@@ -117,6 +117,7 @@ RefusesQuery form catalogue events n bytes (refusal.TooNew count) = IsPlanned fo
 RefusesQuery form catalogue events n bytes refusal.Closed = IsPlanned form catalogue bytes × (n ≤ length events)
 RefusesQuery form catalogue events n bytes refusal.OutOfMemory = Unit {0}
 RefusesQuery form catalogue events n bytes refusal.BadLine = ⊥
+RefusesQuery form catalogue events n bytes refusal.LongLine = ⊥
 RefusesQuery form catalogue events n bytes refusal.UnknownTable = ⊥
 RefusesQuery form catalogue events n bytes refusal.BadValues = ⊥
 RefusesQuery form catalogue events n bytes (refusal.TooEarly last) = ⊥
@@ -151,7 +152,7 @@ Replies form catalogue before (byte ∷ bytes) reply after =
 -- the reply to a line; one that is too long is refused
 abbrev pub Answers : Form → Catalogue → WriterState → Line → Reply → WriterState → Type 0
 Answers form catalogue before line reply after =
-    MatchBool (nat_lt max_line (length line.bytes)) (Refuses before refusal.BadLine reply after) (Replies form catalogue before (line_content line) reply after)
+    MatchBool (nat_lt max_line (length line.bytes)) (Refuses before refusal.LongLine reply after) (Replies form catalogue before (line_content line) reply after)
 
 -- the text may be printed for the lines, one after another, and the state is the one afterwards
 unfoldable pub IsTranscript : Form → Catalogue → WriterState → List Line → List ℕ → WriterState → Type 0

@@ -21,8 +21,10 @@ use tq_table::{Sink, WriteFault};
 /// Why a line was refused.
 #[derive(Clone, Copy, Debug, PartialEq, Eq)]
 pub enum Refusal {
-    /// The line is not a command, or is too long.
+    /// The line is not a command.
     BadLine,
+    /// The line has more than 70,000 bytes. It is printed as `BadLine`.
+    LongLine,
     /// There is no table with this name.
     UnknownTable,
     /// The values are not a row of the table.
@@ -80,6 +82,7 @@ impl Refusal {
     {
         match self {
             Refusal::BadLine => "BadLine",
+            Refusal::LongLine => "BadLine",
             Refusal::UnknownTable => "UnknownTable",
             Refusal::BadValues => "BadValues",
             Refusal::TooEarly { .. } => "TooEarly",

@@ -9,6 +9,7 @@ ghost use Rattle.tq_session.specs.LineSteps.{IsBroken, IsEnd, IsReply};
 ghost use Rattle.tq_session.specs.Transcripts.{opening};
 
 use crate::input::{Found, Input};
+use crate::observer::{LineObserver, observe};
 use crate::reply::{Refusal, Reply};
 use crate::session_state::SessionState;
 use std::alloc::Global;
@@ -67,6 +68,13 @@ impl From<OpenFault> for SessionFault {
     }
 }
 
+// What stays the same during a session: its allocator, and how instants are written.
+#[derive(Clone, Copy)]
+struct Settings {
+    alloc: Global,
+    form: Form,
+}
+
 // Takes the next line and executes it. Returns the reply, and whether the line is the last one; `None` at the end.
 fn next_reply<J: StoreId, R: Threads + Wait + Sync, I: Read>(
     rt: &R,
@@ -91,27 +99,27 @@ fn next_reply<J: StoreId, R: Threads + Wait + Sync, I: Read>(
             session_state.reply(rt, alloc, input.line(), form),
             last,
         ))),
-        Ok(Found::TooLong(last)) => Ok(Some((Reply::Refused(Refusal::BadLine), last))),
+        Ok(Found::TooLong(last)) => Ok(Some((Reply::Refused(Refusal::LongLine), last))),
         Ok(Found::End) => Ok(None),
         Err(_) => Err(SessionFault::Read),
     }
 }
 
-// Replies to all lines until the input ends.
-fn reply_to_lines<J: StoreId, R: Threads + Wait + Sync, I: Read, W: Write>(
+// Replies to all lines until the input ends. The observer gets each refused line after its reply.
+fn reply_to_lines<J: StoreId, R: Threads + Wait + Sync, I: Read, W: Write, O: LineObserver>(
     rt: &R,
-    alloc: Global,
+    settings: Settings,
     session_state: &mut SessionState<J>,
     input: &mut Input,
     source: &mut Source<I>,
     sink: &mut Sink<W>,
-    form: Form,
+    observer: &mut O,
 ) -> Result<(), SessionFault>
     requires { input.old.unconsumed ≡ [] }
-    ensures all { OnOk result (RepliesToAll form J.catalogue session_state.old (streams (I.remaining source.old.reader) (W.contents sink.old.writer)) (streams (I.remaining source.new.reader) (W.contents sink.new.writer))) }
+    ensures all { OnOk result (RepliesToAll settings.form J.catalogue session_state.old (streams (I.remaining source.old.reader) (W.contents sink.old.writer)) (streams (I.remaining source.new.reader) (W.contents sink.new.writer))) }
     ensures unfailed { OnOk result ((source.new.failed ≡ source.old.failed) × (sink.new.failed ≡ sink.old.failed)) }
-    ensures read { result ≡ Err SessionFault.Read → RepliesToEnded form J.catalogue session_state.old (streams (I.remaining source.old.reader) (W.contents sink.old.writer)) (streams (I.remaining source.new.reader) (W.contents sink.new.writer)) }
-    ensures write { result ≡ Err SessionFault.Write → RepliesToSome form J.catalogue session_state.old (streams (I.remaining source.old.reader) (W.contents sink.old.writer)) (streams (I.remaining source.new.reader) (W.contents sink.new.writer)) }
+    ensures read { result ≡ Err SessionFault.Read → RepliesToEnded settings.form J.catalogue session_state.old (streams (I.remaining source.old.reader) (W.contents sink.old.writer)) (streams (I.remaining source.new.reader) (W.contents sink.new.writer)) }
+    ensures write { result ≡ Err SessionFault.Write → RepliesToSome settings.form J.catalogue session_state.old (streams (I.remaining source.old.reader) (W.contents sink.old.writer)) (streams (I.remaining source.new.reader) (W.contents sink.new.writer)) }
     ensures fault { IfErr result (λ fault. (fault ≡ SessionFault.Read) ⊎ (fault ≡ SessionFault.Write)) }
     ensures read_failed { result ≡ Err SessionFault.Read → (sink.new.failed ≡ sink.old.failed) × ((source.new.failed ≡ one_more source.old.failed)
         ⊎ ((source.new.failed ≡ source.old.failed) × (input.new.left ≡ 0))) }
@@ -120,12 +128,21 @@ fn reply_to_lines<J: StoreId, R: Threads + Wait + Sync, I: Read, W: Write>(
     ensures left { input.new.left ≤ input.old.left }
 {
     'lines: loop {
-        let Some((reply, last)) = next_reply(rt, alloc, session_state, input, source, form)? else {
+        let Some((reply, last)) = next_reply(
+            rt,
+            settings.alloc,
+            session_state,
+            input,
+            source,
+            settings.form,
+        )?
+        else {
             return Ok(());
         };
-        if reply.send(sink, form).is_err() {
+        if reply.send(sink, settings.form).is_err() {
             return Err(SessionFault::Write);
         }
+        observe(observer, input.line(), &reply);
         if last {
             return Ok(());
         }
@@ -133,56 +150,58 @@ fn reply_to_lines<J: StoreId, R: Threads + Wait + Sync, I: Read, W: Write>(
 }
 
 // A session over the loaded history.
-fn run<J: StoreId, R: Threads + Wait + Sync, I: Read, W: Write>(
+fn run<J: StoreId, R: Threads + Wait + Sync, I: Read, W: Write, O: LineObserver>(
     rt: &R,
-    alloc: Global,
+    settings: Settings,
     opened: Opened,
     loaded: Loaded,
     source: &mut Source<I>,
     sink: &mut Sink<W>,
-    form: Form,
+    observer: &mut O,
 ) -> Result<(), SessionFault>
     requires named { (opened ≡ J.book) × (loaded.catalogue ≡ J.catalogue) }
     requires history { IsHistory loaded.catalogue loaded.events }
     requires few { length loaded.events ≤ 16777216 }
-    ensures all { OnOk result (RepliesToAll form loaded.catalogue (opening loaded.events) (streams (I.remaining source.old.reader) (W.contents sink.old.writer)) (streams (I.remaining source.new.reader) (W.contents sink.new.writer))) }
+    ensures all { OnOk result (RepliesToAll settings.form loaded.catalogue (opening loaded.events) (streams (I.remaining source.old.reader) (W.contents sink.old.writer)) (streams (I.remaining source.new.reader) (W.contents sink.new.writer))) }
     ensures unfailed { OnOk result ((source.new.failed ≡ source.old.failed) × (sink.new.failed ≡ sink.old.failed)) }
-    ensures read { result ≡ Err SessionFault.Read → RepliesToEnded form loaded.catalogue (opening loaded.events) (streams (I.remaining source.old.reader) (W.contents sink.old.writer)) (streams (I.remaining source.new.reader) (W.contents sink.new.writer)) }
-    ensures write { result ≡ Err SessionFault.Write → RepliesToSome form loaded.catalogue (opening loaded.events) (streams (I.remaining source.old.reader) (W.contents sink.old.writer)) (streams (I.remaining source.new.reader) (W.contents sink.new.writer)) }
+    ensures read { result ≡ Err SessionFault.Read → RepliesToEnded settings.form loaded.catalogue (opening loaded.events) (streams (I.remaining source.old.reader) (W.contents sink.old.writer)) (streams (I.remaining source.new.reader) (W.contents sink.new.writer)) }
+    ensures write { result ≡ Err SessionFault.Write → RepliesToSome settings.form loaded.catalogue (opening loaded.events) (streams (I.remaining source.old.reader) (W.contents sink.old.writer)) (streams (I.remaining source.new.reader) (W.contents sink.new.writer)) }
     ensures read_failed { result ≡ Err SessionFault.Read → (sink.new.failed ≡ sink.old.failed) × ((source.new.failed ≡ one_more source.old.failed)
         ⊎ ((source.new.failed ≡ source.old.failed) × (source.new.reads ≡ reads_after source.old.reads 1073741824))) }
     ensures write_failed { result ≡ Err SessionFault.Write → (sink.new.failed ≡ one_more sink.old.failed) × (source.new.failed ≡ source.old.failed) }
     ensures start { IfErr result (λ fault. fault ≢ SessionFault.Read → fault ≢ SessionFault.Write → ((fault ≡ SessionFault.NoPlace) ⊎ (fault ≡ SessionFault.OutOfMemory)) × (source.new ≡ source.old) × (sink.new ≡ sink.old)) }
     ensures reads { source.new.reads ≤ source.old.reads + 1073741824 }
 {
-    let Ok(mut input) = Input::new(alloc) else {
+    let Ok(mut input) = Input::new(settings.alloc) else {
         return Err(SessionFault::OutOfMemory);
     };
-    let mut session_state = SessionState::<J>::open(alloc, opened, loaded)?;
+    let mut session_state = SessionState::<J>::open(settings.alloc, opened, loaded)?;
     let ended = reply_to_lines(
         rt,
-        alloc,
+        settings,
         &mut session_state,
         &mut input,
         source,
         sink,
-        form,
+        observer,
     );
     session_state.close(rt);
     ended
 }
 
 /// Runs the lines of the source over the tables of the files. Writes each reply to the sink as soon as its line is
-/// complete. A refused line changes nothing. `form` is how instants are read and written.
+/// complete. A refused line changes nothing, and the observer gets it after its reply. `form` is how instants are read
+/// and written.
 ///
 /// After a `SessionFault`, the replies to earlier lines have been written. Files are loaded, and the memory for lines
 /// is allocated, before the first read. Replies other than answers allocate nothing.
-pub fn session<R: Threads + Wait + Sync, I: Read, W: Write>(
+pub fn session<R: Threads + Wait + Sync, I: Read, W: Write, O: LineObserver>(
     rt: &R,
     alloc: Global,
     files: Vec<TableFile>,
     source: &mut Source<I>,
     sink: &mut Sink<W>,
+    observer: &mut O,
     form: Form,
 ) -> Result<(), SessionFault>
     ensures all { OnOk result (HasRepliedToAll form files.items (streams (I.remaining source.old.reader) (W.contents sink.old.writer)) (streams (I.remaining source.new.reader) (W.contents sink.new.writer))) }
@@ -198,5 +217,6 @@ pub fn session<R: Threads + Wait + Sync, I: Read, W: Write>(
     loaded_is_history();
     loaded_is_within();
     let loaded = load(alloc, files, MAX_EVENTS, form)?;
-    run::<Brand, R, I, W>(rt, alloc, Opened::new(), loaded, source, sink, form)
+    let settings = Settings { alloc, form };
+    run::<Brand, R, I, W, O>(rt, settings, Opened::new(), loaded, source, sink, observer)
 }

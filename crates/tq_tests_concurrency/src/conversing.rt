@@ -10,7 +10,7 @@ use std::thread::Threads;
 use tq_base::Form;
 use tq_engine::Source;
 use tq_event::TableFile;
-use tq_session::{SessionFault, session};
+use tq_session::{SessionFault, Unobserved, session};
 use tq_table::Sink;
 use tq_tests_script::{SlowReader, push_lines};
 
@@ -54,7 +54,15 @@ fn printed<R: Threads + Wait + Sync, I: Read + Drop>(
     let mut source = Source::over(input);
     let mut taken = Vec::new(alloc);
     let mut sink = Sink::over(&mut taken);
-    let ended = session(rt, alloc, files, &mut source, &mut sink, form);
+    let ended = session(
+        rt,
+        alloc,
+        files,
+        &mut source,
+        &mut sink,
+        &mut Unobserved,
+        form,
+    );
     (taken, ended)
 }
 
@@ -102,7 +110,15 @@ pub(crate) fn print_short<R: Threads + Wait + Sync>(
         room: room as usize,
     };
     let mut sink = Sink::over(&mut writer);
-    let ended = session(rt, alloc, files, &mut source, &mut sink, form);
+    let ended = session(
+        rt,
+        alloc,
+        files,
+        &mut source,
+        &mut sink,
+        &mut Unobserved,
+        form,
+    );
     let failed = sink.failed();
     print_printed(&writer.taken, &ended, out)?;
     writeln!(out, "({failed} failed)")
@@ -131,7 +147,15 @@ pub(crate) fn print_noted<R: Threads + Wait + Sync>(
         writes: 0,
     };
     let mut sink = Sink::over(&mut screen);
-    let ended = session(rt, alloc, files, &mut source, &mut sink, form);
+    let ended = session(
+        rt,
+        alloc,
+        files,
+        &mut source,
+        &mut sink,
+        &mut Unobserved,
+        form,
+    );
     print_end(b"", &ended, out)?;
     writeln!(out, "{:?}, {} writes", typist.noted, screen.writes)
 }

@@ -17,7 +17,7 @@ returns-in-Ok-clause-answered g c =
       files = files;
       named = c.in_ok-tables.ensures.tables;
       table = answer.0;
-      answer = subst (λ (s : List ℕ). HasAnswer form files s answer.0) c.deref-3.ensures.value answer.1;
+      answer = subst (λ (s : List ℕ). HasAnswer form files s answer.0) c.deref-5.ensures.value answer.1;
     }
 
 pub returns-clause-refused : goal.returns-clause-refused
@@ -28,8 +28,8 @@ returns-clause-refused g c =
       files = files;
       named = c.in_ok-tables.ensures.tables;
       fault = c.in-Err.fault;
-      first = λ other. subst (λ (s : List ℕ). IsFault form files s c.in-Err.fault) c.deref-3.ensures.value (c.in-Err.ensures.fault other).0;
+      first = λ other. subst (λ (s : List ℕ). IsFault form files s c.in-Err.fault) c.deref-5.ensures.value (c.in-Err.ensures.fault other).0;
       written = λ is.
-          let answer = c.in-Err.ensures.write (ap Err is) in (answer.0, subst (λ (s : List ℕ). HasAnswer form files s answer.0) c.deref-3.ensures.value answer.1);
+          let answer = c.in-Err.ensures.write (ap Err is) in (answer.0, subst (λ (s : List ℕ). HasAnswer form files s answer.0) c.deref-5.ensures.value answer.1);
       reported = c.refused-diagnostic.ensures.refusal;
     }

@@ -22,3 +22,11 @@ pub returns-in_err-read_session-clause-refused : goal.returns-in_err-read_sessio
 returns-in_err-read_session-clause-refused c =
     passed_on c.from_residual-in_err-read_session.result c.in_err-read_session.field-0.0 _ c.from_residual-in_err-read_session.ensures.1
     (λ bad. inr (inr (inr (inl (rows_of (found_of c.in-Some-subcommand_matches-3.session.now), search rules, c.in_err-read_session.ensures.refused bad)))))
+
+pub returns-in_err-read_split-clause-refused : goal.returns-in_err-read_split-clause-refused
+returns-in_err-read_split-clause-refused c =
+    passed_on c.from_residual-in_err-read_split.result c.in_err-read_split.field-0.0 _ c.from_residual-in_err-read_split.ensures.1
+    (λ bad. inr (inr (inr (inr (inl (rows_of (found_of c.in-Some-subcommand_matches-5.split.now), search rules, c.in_err-read_split.ensures.refused bad))))))
+
+pub returns-in-Some-subcommand_matches-4-clause-request : goal.returns-in-Some-subcommand_matches-4-clause-request
+returns-in-Some-subcommand_matches-4-clause-request c = (rows_of (found_of c.in-Some-subcommand_matches-4.import.now), search rules, c.in_ok-read_import.ensures)

@@ -1,6 +1,6 @@
 use Rattle.std.proofs.Common.{refl}
 use Rattle.std.proofs.lemmas.Result.{IfOk-weaker}
-use Rattle.tq.specs.CommandLine.{ask_app, check_app, draw_app, import_app, session_app}
+use Rattle.tq.specs.CommandLine.{ask_app, check_app, draw_app, import_app, merge_app, session_app, split_app}
 use Rattle.tq.proofs.AppLemmas.{with_settings, with_sub}
 use Rattle.tq.proofs.command_line.tq_command.Goals as goal
 
@@ -14,4 +14,6 @@ returns c =
     let two = with_sub c.in_ok-subcommand.field-0 c.in_ok-draw_command.field-0 c.in_ok-subcommand-2.field-0 _ draw_app one c.in_ok-draw_command.ensures refl c.in_ok-subcommand-2.ensures in
     let three = with_sub c.in_ok-subcommand-2.field-0 c.in_ok-check_command.field-0 c.in_ok-subcommand-3.field-0 _ check_app two c.in_ok-check_command.ensures refl c.in_ok-subcommand-3.ensures in
     let four = with_sub c.in_ok-subcommand-3.field-0 c.in_ok-session_command.field-0 c.in_ok-subcommand-4.field-0 _ session_app three c.in_ok-session_command.ensures refl c.in_ok-subcommand-4.ensures in
-    IfOk-weaker c.subcommand-5.result _ _ (λ r added. with_sub c.in_ok-subcommand-4.field-0 c.in_ok-import_command.field-0 r _ import_app four c.in_ok-import_command.ensures refl added) c.subcommand-5.ensures
+    let five = with_sub c.in_ok-subcommand-4.field-0 c.in_ok-import_command.field-0 c.in_ok-subcommand-5.field-0 _ import_app four c.in_ok-import_command.ensures refl c.in_ok-subcommand-5.ensures in
+    let six = with_sub c.in_ok-subcommand-5.field-0 c.in_ok-split_command.field-0 c.in_ok-subcommand-6.field-0 _ split_app five c.in_ok-split_command.ensures refl c.in_ok-subcommand-6.ensures in
+    IfOk-weaker c.subcommand-7.result _ _ (λ r added. with_sub c.in_ok-subcommand-6.field-0 c.in_ok-merge_command.field-0 r _ merge_app six c.in_ok-merge_command.ensures refl added) c.subcommand-7.ensures

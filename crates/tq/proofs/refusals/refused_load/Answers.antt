@@ -1,18 +1,19 @@
-use Rattle.std.proofs.Common.{ℕ, List, length, refl, subst}
+use Rattle.std.proofs.Common.{◌≡◌, List, Option, Some, length, refl, slice_get, subst, sym}
 use Rattle.std.proofs.lemmas.Option.{IfSome_then, slice_get_read}
-use Rattle.tq_diagnostics.specs.Files.{IsFileDetail}
+use Rattle.std.specs.Prelude.{IfSome, Vec}
+use Rattle.std.specs.declared.alloc.Global.{Global}
+use Rattle.tq.specs.Report.{IsLoadDetail}
+use Rattle.tq.specs.declared.retained.RetainedFile.{RetainedFile}
 use Rattle.tq.proofs.refusals.refused_load.Goals as goal
 
-pub returns-in-Ok-clause-detail : goal.returns-in-Ok-clause-detail
-returns-in-Ok-clause-detail g c =
-    let paths = c.args.paths.now in
-    let found = c.in-Some.ensures.lookup in
-    let there = slice_get_read paths (length paths) c.args.fault.table c.in-Some.path.now refl found.3.0 found.1 in
-    let path = c.deref-in-Ok.ensures.value in
-    let bytes = c.deref-in-Ok-2.result.now in
-    IfSome_then c.of_load.result.detail c.of_load.ensures.detail (λ text is. (
-      c.in-Some.path.now,
-      bytes,
-      there,
-      subst (λ (p : List ℕ). IsFileDetail c.args.form p bytes c.args.fault text.items) path is,
-    ))
+pub returns-clause-detail : goal.returns-clause-detail
+returns-clause-detail g c =
+    let slice = c.deref.result.now in
+    let number = c.args.fault.table in
+    let file = c.in-Some-get.file.now in
+    let found = c.in-Some-get.ensures.lookup in
+    let there = subst (λ (l : List RetainedFile). slice_get l number ≡ Some file) c.deref.ensures.value
+    (slice_get_read slice (length slice) number file refl found.3.0 found.1) in
+    subst (λ (known : Option (Vec RetainedFile Global)). IfSome c.refused_file.result.detail (λ text. IsLoadDetail c.args.form known c.args.fault text.items))
+    (sym c.in-Some.is)
+    (IfSome_then c.refused_file.result.detail c.refused_file.ensures.detail (λ text is. (file, there, is)))

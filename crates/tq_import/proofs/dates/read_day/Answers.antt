@@ -13,4 +13,4 @@ returns-then-not-branch c =
 pub returns : goal.returns
 returns c =
     let (digits, found, gathered_are) = some_left (digits_in c.args.format.now no_digits c.args.bytes.now) c.in_ok-gather_digits.field-0 _ c.in_ok-gather_digits.ensures c.if-not-branch.false in
-    rw found (c.read_instant.ensures ∙ ap (instant_of Dates) (c.deref.ensures.value ∙ c.in_ok-write_iso.ensures ∙ ap iso_text gathered_are))
+    rw found (c.read_instant-2.ensures ∙ ap (instant_of Dates) (c.deref.ensures.value ∙ c.in_ok-write_iso.ensures ∙ ap iso_text gathered_are))

@@ -10,7 +10,7 @@ pub records-preserved : goal.records-preserved
 records-preserved g c delimiter all has =
     let (left, has_left, same) = c.records.invariant delimiter all has in
     let (more, split, has_more) = rw c.if-not-branch.false at (c.in_ok-next_record.ensures delimiter left has_left) in
-    (more, has_more, same ∙ ap (kinds_after c.args.format c.records.kinds.items) split ∙ ap (λ (kinds : List Conversion). kinds_after c.args.format kinds more) (sym c.in_ok-add_record.ensures))
+    (more, has_more, same ∙ ap (kinds_after c.args.format c.records.kinds.items) split ∙ ap (λ (kinds : List Conversion). kinds_after c.args.format kinds more) (sym c.add_record.ensures))
 
 pub returns-then-not-branch : goal.returns-then-not-branch
 returns-then-not-branch g c delimiter all has =

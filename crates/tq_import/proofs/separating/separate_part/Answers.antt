@@ -1,5 +1,4 @@
 use Rattle.std.proofs.Common.{◌≡◌, ◌∙◌, ◌+◌, ◌++◌, [], ℕ, List, length, ap, append_assoc, arith, length-append, refl, subst, sym}
-use Rattle.std.specs.Global.{Vec}
 use Rattle.csv.specs.Records.{fields_of}
 use Rattle.tq_import.specs.Records.{import_record}
 use Rattle.tq_import.specs.Rejects.{AreRejectTexts, fault_of, faults_from, line_of, valid_lines}
@@ -9,13 +8,15 @@ use Rattle.tq_import.proofs.separating.separate_part.Goals as goal
 pub records-init : goal.records-init
 records-init g c = record {
   done = [];
-  written = c.line_writer.ensures;
+  written = c.new-batch.ensures.writer;
+  texts = [];
+  rejected = c.new-batch.ensures.rejected;
   later = omega arith;
   rest = λ delimiter all has. (
     all,
     has,
     refl,
-    λ text are. subst (λ (t : List ℕ). AreRejectTexts c.args.rejects c.args.plan.now (fields_of c.args.header.now) (faults_from c.args.plan.now c.args.number all) (t ++ text)) (sym c.new.ensures.items) are,
+    λ text are. are,
     omega arith,
     refl,
   );
@@ -24,17 +25,19 @@ records-init g c = record {
 pub records-preserved : goal.records-preserved
 records-preserved g c =
     let i = c.records.invariant in
-    let plan = c.args.plan.now in
-    let header = fields_of c.args.header.now in
-    let rejects = c.args.rejects in
+    let plan = c.args.separation.now.plan.now in
+    let header = fields_of c.args.separation.now.header.now in
+    let rejects = c.args.separation.now.rejects in
     let next = c.records.next in
     let fields = fields_of c.next_record.new.record in
     let here = import_record plan next fields in
     let after : c.in-Some.after ≡ next + 1 = c.in-Some.ensures.1 in
-    let (bytes, are, added) = c.in_ok-add_record.ensures.rejected in
+    let (bytes, are, added) = c.in_ok-add_record.ensures.rejected i.texts i.rejected in
     record {
       done = i.done ++ line_of here;
       written = c.in_ok-add_record.ensures.line i.done i.written;
+      texts = i.texts ++ bytes;
+      rejected = added;
       later = omega (arith, after, i.later);
       rest = λ delimiter all has.
           let (left, has_left, lines, texts, invalid, counted) = i.rest delimiter all has in
@@ -50,7 +53,7 @@ records-preserved g c =
                 let both = texts_append rejects plan header (fault_of next fields here) (faults_from plan (next + 1) more) bytes text are behind in
                 let whole = texts (bytes ++ text) (subst (λ (l : List (List (List ℕ))). AreRejectTexts rejects plan header (faults_from plan next l) (bytes ++ text)) (sym split) both) in
                 subst (λ (t : List ℕ). AreRejectTexts rejects plan header (faults_from plan c.args.number all) t)
-                (sym (append_assoc c.records.batch.rejected.items bytes text) ∙ ap (λ (t : List ℕ). t ++ text) (sym added))
+                (sym (append_assoc i.texts bytes text))
                 whole,
             omega (
               arith,
@@ -67,8 +70,8 @@ records-preserved g c =
 pub returns-then-not-branch-clause-ok : goal.returns-then-not-branch-clause-ok
 returns-then-not-branch-clause-ok g c delimiter all has =
     let i = c.records.invariant in
-    let plan = c.args.plan.now in
-    let header = fields_of c.args.header.now in
+    let plan = c.args.separation.now.plan.now in
+    let header = fields_of c.args.separation.now.header.now in
     let (left, has_left, lines, texts, invalid, counted) = i.rest delimiter all has in
     let none = rw c.if-not-branch.true at (c.in_ok-next_record.ensures delimiter left has_left) in
     let p = c.in_ok-part.ensures in
@@ -78,8 +81,8 @@ returns-then-not-branch-clause-ok g c delimiter all has =
       lines = lines
           ∙ ap (λ (l : List (List (List ℕ))). i.done ++ valid_lines plan c.records.next l) none
           ∙ ap (λ (t : List ℕ). t ++ []) (sym (p.text i.done i.written));
-      texts = λ text are. subst (λ (v : Vec ℕ). AreRejectTexts c.args.rejects plan header (faults_from plan c.args.number all) (v.items ++ text)) (sym p.rejected)
-          (texts text (subst (λ (l : List (List (List ℕ))). AreRejectTexts c.args.rejects plan header (faults_from plan c.records.next l) text) (sym none) are));
+      texts = λ text are. subst (λ (t : List ℕ). AreRejectTexts c.args.separation.now.rejects plan header (faults_from plan c.args.number all) (t ++ text)) (sym (p.rejected c.args.separation.now.rejects i.texts i.rejected))
+          (texts text (subst (λ (l : List (List (List ℕ))). AreRejectTexts c.args.separation.now.rejects plan header (faults_from plan c.records.next l) text) (sym none) are));
       invalid = omega (arith, invalid, p.invalid, ap (λ (l : List (List (List ℕ))). length (faults_from plan c.records.next l)) none);
       counted = omega (arith, counted, p.next, ap length none);
       ended = λ e. refl;
@@ -88,8 +91,8 @@ returns-then-not-branch-clause-ok g c delimiter all has =
 pub returns-clause-ok : goal.returns-clause-ok
 returns-clause-ok g c delimiter all has =
     let i = c.records.invariant in
-    let plan = c.args.plan.now in
-    let header = fields_of c.args.header.now in
+    let plan = c.args.separation.now.plan.now in
+    let header = fields_of c.args.separation.now.header.now in
     let (left, has_left, lines, texts, invalid, counted) = i.rest delimiter all has in
     let p = c.in_ok-part-2.ensures in
     record {
@@ -97,8 +100,8 @@ returns-clause-ok g c delimiter all has =
       has = λ e. has_left;
       lines = lines
           ∙ (λ j. sym (p.text i.done i.written) j ++ valid_lines plan (sym p.next j) left);
-      texts = λ text are. subst (λ (v : Vec ℕ). AreRejectTexts c.args.rejects plan header (faults_from plan c.args.number all) (v.items ++ text)) (sym p.rejected)
-          (texts text (subst (λ (n : ℕ). AreRejectTexts c.args.rejects plan header (faults_from plan n left) text) p.next are));
+      texts = λ text are. subst (λ (t : List ℕ). AreRejectTexts c.args.separation.now.rejects plan header (faults_from plan c.args.number all) (t ++ text)) (sym (p.rejected c.args.separation.now.rejects i.texts i.rejected))
+          (texts text (subst (λ (n : ℕ). AreRejectTexts c.args.separation.now.rejects plan header (faults_from plan n left) text) p.next are));
       invalid = omega (arith, invalid, p.invalid, ap (λ (n : ℕ). length (faults_from plan n left)) p.next);
       counted = omega (arith, counted, p.next);
       ended = λ e. cc (e, p.more);

@@ -11,10 +11,10 @@ use Rattle.tq_import.proofs.separating.separate_records.Goals as goal
 
 pub parts-init : goal.parts-init
 parts-init g c =
-    let header = rejects_header c.args.rejects (fields_of c.args.header.now) in
+    let header = rejects_header c.args.separation.now.rejects (fields_of c.args.separation.now.header.now) in
     record {
       later = omega arith;
-      done = row_text answer_format (table_header c.args.plan.now);
+      done = row_text answer_format (table_header c.args.separation.now.plan.now);
       written = subst (λ (t : List ℕ). Appends (g.W.Write.contents c.args.sink.now.writer) (g.W.Write.contents c.put.new.sink.writer) t) (c.deref.ensures.value ∙ c.in_ok-header_text.ensures) c.in_ok-put.ensures.whole;
       texts = [];
       rejected = subst (λ (t : List ℕ). Appends (g.V.Write.contents c.args.rejected.now.writer) (g.V.Write.contents c.put-2.new.sink.writer) t)
@@ -26,9 +26,9 @@ parts-init g c =
 pub parts-preserved : goal.parts-preserved
 parts-preserved g c =
     let i = c.parts.invariant in
-    let plan = c.args.plan.now in
-    let header = fields_of c.args.header.now in
-    let rejects = c.args.rejects in
+    let plan = c.args.separation.now.plan.now in
+    let header = fields_of c.args.separation.now.header.now in
+    let rejects = c.args.separation.now.rejects in
     let part = c.in_ok-part.part in
     record {
       later = omega (arith, i.later, c.in_ok-part.ensures.next);
@@ -53,9 +53,9 @@ parts-preserved g c =
 pub returns-then-not-part-clause-ok : goal.returns-then-not-part-clause-ok
 returns-then-not-part-clause-ok g c delimiter all has =
     let i = c.parts.invariant in
-    let plan = c.args.plan.now in
-    let header = fields_of c.args.header.now in
-    let rejects = c.args.rejects in
+    let plan = c.args.separation.now.plan.now in
+    let header = fields_of c.args.separation.now.header.now in
+    let rejects = c.args.separation.now.rejects in
     let part = c.in_ok-part.part in
     let (left, has_left, same, texts, invalid, counted) = i.rest delimiter all has in
     let p = c.in_ok-part.ensures.ok delimiter left has_left in

@@ -12,12 +12,12 @@ invariant-parts g l = record {
   done : List ℕ;
   written : Appends (g.W.Write.contents l.fn.sink.writer) (g.W.Write.contents l.sink.writer) done;
   texts : List ℕ;
-  rejected : Appends (g.V.Write.contents l.fn.rejected.writer) (g.V.Write.contents l.rejected.writer) (rejects_header l.rejects (fields_of l.header) ++ texts);
+  rejected : Appends (g.V.Write.contents l.fn.rejected.writer) (g.V.Write.contents l.rejected.writer) (rejects_header l.separation.rejects (fields_of l.separation.header.now) ++ texts);
   rest : (delimiter : ℕ) (all : List (List (List ℕ))) → HasLeft g.R.Read.remaining delimiter l.fn.reader all
       → (left : List (List (List ℕ))) × HasLeft g.R.Read.remaining delimiter l.reader left
-      × (valid_table l.plan all ≡ done ++ valid_lines l.plan l.number left)
-      × ((text : List ℕ) → AreRejectTexts l.rejects l.plan (fields_of l.header) (faults_from l.plan l.number left) text
-      → AreRejectTexts l.rejects l.plan (fields_of l.header) (faults_from l.plan 2 all) (texts ++ text))
-      × (length (faults_from l.plan 2 all) ≡ l.invalid + length (faults_from l.plan l.number left))
+      × (valid_table l.separation.plan.now all ≡ done ++ valid_lines l.separation.plan.now l.number left)
+      × ((text : List ℕ) → AreRejectTexts l.separation.rejects l.separation.plan.now (fields_of l.separation.header.now) (faults_from l.separation.plan.now l.number left) text
+      → AreRejectTexts l.separation.rejects l.separation.plan.now (fields_of l.separation.header.now) (faults_from l.separation.plan.now 2 all) (texts ++ text))
+      × (length (faults_from l.separation.plan.now 2 all) ≡ l.invalid + length (faults_from l.separation.plan.now l.number left))
       × (l.number + length left ≡ 2 + length all);
 }

@@ -1,23 +1,24 @@
 use Rattle.std.proofs.Common.{◌∙◌, ap}
 use Rattle.csv.specs.Records.{fields_of}
-use Rattle.tq_import.specs.Reading.{records_by}
+use Rattle.tq_import.specs.Encodings.{bytes_left, utf8_of}
+use Rattle.tq_import.specs.Files.{records_in}
 use Rattle.tq_import.proofs.whole.import_valid.Goals as goal
 
 pub returns-in-Ok-separate_records-clause-ok : goal.returns-in-Ok-separate_records-clause-ok
 returns-in-Ok-separate_records-clause-ok g c text is =
-    let delimiter = c.args.options.now.delimiter in
-    let has = c.record_reader-reader.ensures text (ap g.R.Read.remaining c.over.ensures ∙ is) in
-    let (rest, split, left) = rw c.if-not-has_header.false at (c.in-Ok.ensures delimiter (records_by delimiter text) has) in
+    let options = c.args.job.options.now in
+    let has = c.record_reader-reader.ensures (utf8_of options.encoding text) (ap (bytes_left g.R.Read.remaining) c.over.ensures ∙ c.over-decoder.ensures text is) in
+    let (rest, split, left) = rw c.if-not-has_header.false at (c.in-Ok.ensures options.delimiter (records_in options text) has) in
     record {
       header = fields_of c.next_record.new.record;
       rest = rest;
       split = split;
       plan_is = c.in-Ok-plan_import.ensures;
-      whole = c.in-Ok-separate_records.ensures.ok delimiter rest left;
+      whole = c.in-Ok-separate_records.ensures.ok options.delimiter rest left;
     }
 
 pub returns-then-not-has_header-clause-fault : goal.returns-then-not-has_header-clause-fault
 returns-then-not-has_header-clause-fault g c text is =
-    let delimiter = c.args.options.now.delimiter in
-    let has = c.record_reader-reader.ensures text (ap g.R.Read.remaining c.over.ensures ∙ is) in
-    rw c.if-not-has_header.true at (c.in-Ok.ensures delimiter (records_by delimiter text) has)
+    let options = c.args.job.options.now in
+    let has = c.record_reader-reader.ensures (utf8_of options.encoding text) (ap (bytes_left g.R.Read.remaining) c.over.ensures ∙ c.over-decoder.ensures text is) in
+    rw c.if-not-has_header.true at (c.in-Ok.ensures options.delimiter (records_in options text) has)

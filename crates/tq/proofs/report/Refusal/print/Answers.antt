@@ -34,6 +34,22 @@ returns-in_ok-write_printable-in-Reference g c =
     (λ end. Appends-trans _ _ _ _ _ c.in_ok-write_all-in-Reference.ensures.bytes (Appends-trans _ _ _ _ _ path end))
     c.write_all-in-Reference-2.ensures.bytes)
 
+pub returns-in_ok-write_printable-in-Split : goal.returns-in_ok-write_printable-in-Split
+returns-in_ok-write_printable-in-Split g c =
+    let path = rw c.deref-in-Split.ensures.value at c.in_ok-write_printable-in-Split.ensures in
+    rw c.in-Split.is
+    (on_ok_weaker c.write_all-in-Split-2.result
+    (λ end. Appends-trans _ _ _ _ _ c.in_ok-write_all-in-Split.ensures.bytes (Appends-trans _ _ _ _ _ path end))
+    c.write_all-in-Split-2.ensures.bytes)
+
+pub returns-in_ok-write_printable-in-Merge : goal.returns-in_ok-write_printable-in-Merge
+returns-in_ok-write_printable-in-Merge g c =
+    let path = rw c.deref-in-Merge.ensures.value at c.in_ok-write_printable-in-Merge.ensures in
+    rw c.in-Merge.is
+    (on_ok_weaker c.write_all-in-Merge-2.result
+    (λ end. Appends-trans _ _ _ _ _ c.in_ok-write_all-in-Merge.ensures.bytes (Appends-trans _ _ _ _ _ path end))
+    c.write_all-in-Merge-2.ensures.bytes)
+
 pub returns-in-NoPlace : goal.returns-in-NoPlace
 returns-in-NoPlace g c = rw c.in-NoPlace.is c.write_all-in-NoPlace.ensures.bytes
 

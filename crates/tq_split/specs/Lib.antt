@@ -1,0 +1,6 @@
+pub mod PartNumbers
+pub mod TableParts
+pub mod Splits
+pub mod RowKeys
+pub mod AnswerTexts
+pub mod Merges

@@ -1,0 +1,222 @@
+//! How the tables of a plan can be divided.
+
+ghost use Rattle.std.specs.Prelude.{◌≡◌, IfOk, IfSome, IsTrue, false, true};
+ghost use Rattle.std.specs.List.{list_any};
+ghost use Rattle.tq_plan.specs.ValidPlans.{is_aggregate, no_group};
+ghost use Rattle.tq_exec.specs.Partitioning.{AreLinkedBy, ArePartitionedBy, OnlyJoins};
+ghost use Rattle.tq_exec.specs.Partitions.{columns_in};
+ghost use Rattle.tq_split.specs.Splits.{AnswersAddUp};
+
+use std::alloc::{AllocError, Global};
+use tq_exec::laws::partitionings_make_parts;
+use tq_exec::{are_linked, can_partition_plan, column_at};
+use tq_plan::{Output, Plan, QueryPlan, QuerySource};
+
+/// How the tables of a plan are divided: for each table the column by whose values its rows go to parts. A table without a
+/// column is whole in each part.
+#[derive(Drop, Debug)]
+pub struct Split {
+    pub columns: Vec<Option<u32>>,
+}
+
+// What is known of a table's column while sources are looked at.
+#[derive(Clone, Copy)]
+enum Choice {
+    Open,
+    Divided(u32),
+    Whole,
+}
+
+// The choice after one more source of the table, whose column is equal to the place, if one is.
+fn after_source(choice: Choice, column: Option<u32>) -> Choice {
+    match (choice, column) {
+        (Choice::Open, Some(column)) => Choice::Divided(column),
+        (Choice::Divided(chosen), Some(column)) if chosen == column => choice,
+        _ => Choice::Whole,
+    }
+}
+
+fn open_choices(alloc: Global, tables: usize) -> Result<Vec<Choice>, AllocError> {
+    let mut choices = Vec::with_capacity(alloc, tables)?;
+    'tables: for _ in 0..tables {
+        choices.push(Choice::Open)?;
+    }
+    Ok(choices)
+}
+
+// Chooses for the table of each source the column that is equal to the place.
+fn choose(choices: &mut Vec<Choice>, query: &QueryPlan, place: u32) {
+    'sources: for source in query.sources.get() {
+        if let Some(choice) = choices.get_mut(source.table as usize) {
+            *choice = after_source(*choice, column_at(query, source, place));
+        }
+    }
+}
+
+fn chosen_column(choice: Choice) -> Option<u32> {
+    match choice {
+        Choice::Divided(column) => Some(column),
+        Choice::Open | Choice::Whole => None,
+    }
+}
+
+fn chosen_columns(alloc: Global, choices: &[Choice]) -> Result<Vec<Option<u32>>, AllocError> {
+    choices
+        .iter()
+        .map(|choice| chosen_column(*choice))
+        .collect(alloc)
+}
+
+// The place of the query's first output, if this is a column.
+fn first_place(query: &QueryPlan) -> Option<u32> {
+    match query.outputs.get() {
+        [Output::Column(place), ..] => Some(*place),
+        _ => None,
+    }
+}
+
+// The columns that are equal to the first output of both queries of the plan. `None` if the plan cannot be divided by them.
+fn columns_of_output(
+    alloc: Global,
+    plan: &Plan,
+    tables: usize,
+) -> Result<Option<Vec<Option<u32>>>, AllocError>
+    ensures { IfOk result (λ found. IfSome found (λ columns. ArePartitionedBy (columns_in columns.items) plan.now)) }
+{
+    let mut choices = open_choices(alloc, tables)?;
+    if let Some(place) = first_place(&plan.left) {
+        choose(&mut choices, &plan.left, place);
+    }
+    if let Some(right) = &plan.right {
+        if let Some(place) = first_place(right) {
+            choose(&mut choices, right, place);
+        }
+    }
+    let columns = chosen_columns(alloc, &choices)?;
+    if can_partition_plan(&columns, plan) {
+        Ok(Some(columns))
+    } else {
+        Ok(None)
+    }
+}
+
+// Whether nothing is grouped.
+fn is_ungrouped(query: &QueryPlan) -> bool
+    ensures { IsTrue result → no_group query.now.group ≡ true }
+{
+    query.group.get().is_empty()
+}
+
+fn is_aggregate(output: &Output) -> bool
+    ensures { result ≡ is_aggregate output.now }
+{
+    match output {
+        Output::Column(_) => false,
+        Output::Count | Output::Sum(_) => true,
+    }
+}
+
+// Whether something is counted or summed.
+fn has_aggregate(query: &QueryPlan) -> bool
+    ensures { result ≡ list_any is_aggregate query.now.outputs }
+{
+    query
+        .outputs
+        .get()
+        .iter()
+        .any(|output| is_aggregate(output))
+}
+
+// Whether nothing is grouped, counted or summed.
+fn is_plain(query: &QueryPlan) -> bool
+    ensures ungrouped { IsTrue result → no_group query.now.group ≡ true }
+    ensures uncounted { IsTrue result → list_any is_aggregate query.now.outputs ≡ false }
+{
+    if has_aggregate(query) {
+        return false;
+    }
+    is_ungrouped(query)
+}
+
+// Whether the plan only selects and joins rows.
+fn only_joins(plan: &Plan) -> bool
+    ensures { IsTrue result → OnlyJoins plan.now }
+{
+    match &plan.right {
+        None => is_plain(&plan.left),
+        Some(_) => false,
+    }
+}
+
+// How good a place is to divide by: the more sources are divided the better, and keys are better than other columns.
+fn worth_of(columns: &[Option<u32>], query: &QueryPlan, place: u32) -> u32 {
+    let mut worth: u32 = 0;
+    'sources: for source in query.sources.get() {
+        if let Some(Some(_)) = columns.get(source.table as usize) {
+            worth = worth.saturating_add(2);
+        }
+        if source.numbered && source.first == place {
+            worth = worth.saturating_add(1);
+        }
+    }
+    worth
+}
+
+// The columns that are equal to the place.
+fn columns_of_place(
+    alloc: Global,
+    query: &QueryPlan,
+    place: u32,
+    tables: usize,
+) -> Result<Vec<Option<u32>>, AllocError> {
+    let mut choices = open_choices(alloc, tables)?;
+    choose(&mut choices, query, place);
+    chosen_columns(alloc, &choices)
+}
+
+// The number of places of the query's joined row.
+fn width_of(query: &QueryPlan) -> u32 {
+    match query.sources.get().last() {
+        Some(QuerySource { first, width, .. }) => first.saturating_add(*width),
+        None => 0,
+    }
+}
+
+// The columns that link the sources and divide most of them. `None` if there are none.
+fn columns_of_link(
+    alloc: Global,
+    query: &QueryPlan,
+    tables: usize,
+) -> Result<Option<Vec<Option<u32>>>, AllocError>
+    ensures { IfOk result (λ found. IfSome found (λ columns. AreLinkedBy (columns_in columns.items) query.now)) }
+{
+    let mut best = None;
+    let mut most = 0;
+    'places: for place in 0..width_of(query) {
+        let columns = columns_of_place(alloc, query, place, tables)?;
+        let worth = worth_of(&columns, query, place);
+        if worth > most && are_linked(&columns, query, place) {
+            best = Some(columns);
+            most = worth;
+        }
+    }
+    Ok(best)
+}
+
+/// Columns by which the tables of the plan, of which there are `tables`, can be divided. `None` if there are none. A plan that
+/// only selects and joins is divided by the equalities that link most of its sources, by keys if it can be. Any other plan is
+/// divided by its first output. `AllocError` if an allocation failed.
+pub fn split_plan(alloc: Global, plan: &Plan, tables: usize) -> Result<Option<Split>, AllocError>
+    ensures { IfOk result (λ found. IfSome found (λ split. AnswersAddUp plan.now (columns_in split.columns.items))) }
+{
+    partitionings_make_parts();
+    if only_joins(plan) {
+        if let Some(columns) = columns_of_link(alloc, &plan.left, tables)? {
+            return Ok(Some(Split { columns }));
+        }
+    }
+    match columns_of_output(alloc, plan, tables)? {
+        Some(columns) => Ok(Some(Split { columns })),
+        None => Ok(None),
+    }
+}

@@ -1,0 +1,90 @@
+#!/usr/bin/env python3
+"""Divides random tables into parts, asks random statements over each part, merges the answers, and compares with `tq ask`.
+
+    gate/parts.py TQ [--statements N] [--seed S] [--lanes L]
+
+Each statement is asked of random tables, whole and in 1, 2, 7 and 64 parts: the bytes of `tq merge` must be those of `tq ask`.
+A statement whose tables cannot be divided must be refused with a reason, and one that `tq ask` refuses must be refused by
+`tq split` too. The last line is 'N passed, M failed'; before it stands how many statements were divided and how many were not.
+"""
+
+import argparse
+import concurrent.futures
+import pathlib
+import random
+import sys
+import tempfile
+
+from compare import ran, statement, tables_in
+
+PARTS = [1, 2, 7, 64]
+FEW_ROWS, MANY_ROWS, EACH = 25, 600, 10
+
+
+def read_options():
+    parser = argparse.ArgumentParser()
+    parser.add_argument("tq", type=pathlib.Path)
+    parser.add_argument("--statements", type=int, default=300)
+    parser.add_argument("--seed", type=int, default=1)
+    parser.add_argument("--lanes", type=int, default=4)
+    return parser.parse_args()
+
+
+def ask_part(program, folder):
+    """Answers the statement over the part in the folder. The result is an error, or None."""
+    words = (folder / "args").read_bytes().split(b"\0")
+    answer, errors, status = ran([program, "ask", *words])
+    (folder / "answer.csv").write_bytes(answer)
+    return None if status == 0 else f"part {folder.name} is refused: {errors.decode(errors='replace').strip()}"
+
+
+def merged(program, folder, parts):
+    """The answer that is merged from those over all parts, and an error or None."""
+    for number in range(parts):
+        error = ask_part(program, folder / str(number))
+        if error:
+            return b"", error
+    answer, errors, status = ran([program, "merge", folder])
+    return answer, None if status == 0 else f"not merged: {errors.decode(errors='replace').strip()}"
+
+
+def try_statement(options, number):
+    """What is wrong with the statement of this number, or None, and whether its tables were divided."""
+    draw = random.Random(options.seed * 1_000_003 + number)
+    with tempfile.TemporaryDirectory(prefix="tq-") as room:
+        room = pathlib.Path(room)
+        is_large = number % EACH == 0
+        most = MANY_ROWS if is_large else FEW_ROWS
+        schemas, tables = tables_in(room, draw, lambda: draw.randint(0, most))
+        asked = statement(draw, schemas, 2 if is_large else 3)
+        wanted, _, status = ran([options.tq, "ask", *tables, asked])
+        for parts in PARTS:
+            folder = room / f"parts-{parts}"
+            _, errors, split_status = ran([options.tq, "split", "--parts", str(parts), "--out", folder, *tables, asked])
+            if status != 0 or split_status != 0:
+                if split_status != 1 or not errors.strip():
+                    return f"split has status {split_status}, ask {status}: {asked}", False
+                if status == 0 and b"cannot divide" not in errors:
+                    return f"split is refused for another reason, {errors!r}: {asked}", False
+                return None, False
+            answer, error = merged(options.tq, folder, parts)
+            if error or answer != wanted:
+                return f"{parts} parts: {error or 'another answer'}: {asked}", True
+    return None, True
+
+
+def main():
+    options = read_options()
+    with concurrent.futures.ThreadPoolExecutor(options.lanes) as pool:
+        tried = list(pool.map(lambda number: try_statement(options, number), range(options.statements)))
+    wrong = [number for number, (error, _) in enumerate(tried) if error]
+    for number in wrong[:20]:
+        print(f"statement {number}: {tried[number][0]}")
+    divided = sum(is_divided for _, is_divided in tried)
+    print(f"{divided} statements over parts, {len(tried) - divided} not divided")
+    print(f"{len(tried) - len(wrong)} passed, {len(wrong)} failed")
+    return 1 if wrong else 0
+
+
+if __name__ == "__main__":
+    sys.exit(main())
