@@ -32,6 +32,7 @@ TESTS = {"tq_tests_faults": (b"", 1_000), "tq_tests_concurrency": (b"# Pieces of
 # Cases of gate/cases/: the script and the command.
 SCRIPT_CASES = (
     ("draw.test", "tq draw --table emp=examples/emp.csv 'VALIDTIME SELECT name FROM emp'"),
+    ("format.test", "tq ask --format=json --table emp=examples/emp.csv 'VALIDTIME SELECT emp, name FROM emp'"),
     ("check.test", "tq check --table emp=examples/emp.csv"),
     ("check.test", "tq check --table emp=examples/broken.csv"),
 )

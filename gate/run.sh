@@ -1,8 +1,8 @@
 #!/usr/bin/env bash
 # The gate: `rt ci`, which proves every crate and its tests from nothing, tries the must-fail edits and runs
 # tests and programs; then the cases of gate/cases/ and gate/generated.py, put to the program that it built; tasks over
-# raw exports, and imports of mutated ones, against scripts that read them by themselves; answers merged from parts of
-# tables, against whole ones; runs of it in little memory;
+# raw exports, and imports of mutated ones, against scripts that read them by themselves; the Python client, against the
+# command line; answers merged from parts of tables, against whole ones; runs of it in little memory;
 # allocations that fail in it and in programs of tests; and the documents. The last line sums all.
 # Each line of a part begins with the minutes since the start; gate/times.py makes a table of them. With --anew what
 # earlier runs proved is proved again.
@@ -53,6 +53,7 @@ wait
 part gate/program.py crates/tq/out/tq
 part gate/personnel.py crates/tq/out/tq
 part gate/mutated_exports.py crates/tq/out/tq
+part gate/clients.py crates/tq/out/tq
 part gate/parts.py crates/tq/out/tq
 part gate/distributed.py crates/tq/out/tq
 part gate/limits.py crates/tq/out/tq

@@ -3,7 +3,7 @@ use Rattle.std.proofs.Common.{◌≡◌, ◌++◌, ◌∷◌, [], List, append_a
 use Rattle.std.specs.Prelude.{Contains}
 use Rattle.std.proofs.lemmas.List.Elements.{Contains-append_left, Contains-append_right, Contains-push}
 use Rattle.tq.specs.Refusals.{IsReadRefusal, IsUnreadable}
-use Rattle.tq.specs.declared.request.TableOption.{TableOption}
+use Rattle.tq_cli.specs.declared.request.TableOption.{TableOption}
 use Rattle.tq.specs.declared.report.Refusal.{Refusal}
 
 -- an item between two lists is one of the whole list

@@ -1,11 +1,10 @@
-pub mod CommandLine
 pub mod HeaderLines
 pub mod Refusals
+pub mod Renderings
 pub mod Report
 pub mod Retained
 pub mod SessionLines
 pub mod Spans
-pub mod ByteText
 pub mod Figures
 pub mod ProfileText
 pub mod Profiles

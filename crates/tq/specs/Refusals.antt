@@ -7,7 +7,7 @@ use Rattle.tq_engine.specs.declared.execution.AnswerFault.TheVariants.{Write}
 use Rattle.tq_event.specs.declared.file.TableFile.{TableFile}
 use Rattle.tq_table.specs.declared.table.Table.{Table}
 use Rattle.tq.specs.Report.{refused_answer}
-use Rattle.tq.specs.declared.request.TableOption.{TableOption}
+use Rattle.tq_cli.specs.declared.request.TableOption.{TableOption}
 use Rattle.tq.specs.declared.report.Refusal.{Refusal}
 use Rattle.tq.specs.declared.report.Refusal.TheVariants.{CannotRead, OutOfMemory}
 

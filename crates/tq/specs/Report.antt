@@ -3,8 +3,8 @@ use Rattle.std.specs.Prelude.{◌≡◌, ℕ, Vec, List, [], ◌++◌, String, c
 use Rattle.std.specs.declared.alloc.Global.{Global}
 use Rattle.tq_engine.specs.declared.execution.AnswerFault.{AnswerFault}
 use Rattle.tq_engine.specs.declared.execution.AnswerFault.TheVariants as answer
-use Rattle.tq.specs.declared.command_line.CommandLineFault.{CommandLineFault}
-use Rattle.tq.specs.declared.command_line.CommandLineFault.TheVariants as command_line
+use Rattle.tq_cli.specs.declared.command_line.CommandLineFault.{CommandLineFault}
+use Rattle.tq_cli.specs.declared.command_line.CommandLineFault.TheVariants as command_line
 use Rattle.tq_engine.specs.declared.source.FileFault.{FileFault}
 use Rattle.tq_engine.specs.declared.source.FileFault.TheVariants as source
 use Rattle.tq_engine.specs.FaultNames.{load_name, plan_name, sql_name}

@@ -3,14 +3,13 @@
 ghost use Rattle.std.specs.Prelude.{◌≡◌, ◌≢◌, false, IfErr, IfOk, None, codes, map};
 ghost use Rattle.tq.specs.Refusals.{IsReadRefusal};
 ghost use Rattle.tq.specs.Spans.{IsRemainder};
-ghost use Rattle.tq.specs.declared.request.TableOption.{TableOption as AnyOption};
+ghost use Rattle.tq_cli.specs.declared.request.TableOption.{TableOption as AnyOption};
 ghost use Rattle.tq_event.specs.declared.file.TableFile.{TableFile as AnyFile};
 
 use crate::pieces::{len_of, read_pieces};
 use crate::progress::{Counted, Progress};
 use crate::read_errors::{file_len, reason};
 use crate::report::{Diagnostic, Refusal};
-use crate::request::TableOption;
 use crate::retained::is_read_once;
 use crate::spans::Opened;
 use std::alloc::{AllocError, Global};
@@ -20,6 +19,7 @@ use std::rt::Files;
 use std::thread::Threads;
 use std::{fs, str, thread};
 use tq_base::List;
+use tq_cli::TableOption;
 use tq_engine::{FileFault, Source, read_file};
 use tq_event::{FileBytes, TableFile};
 

@@ -3,7 +3,6 @@
 use crate::files::open_file;
 use crate::progress::{Counted, ErrorLines, Progress};
 use crate::report::{Diagnostic, Refusal};
-use crate::request::ImportRequest;
 use crate::retained::is_read_once;
 use itoa::Buffer;
 use std::alloc::{AllocError, Global};
@@ -11,6 +10,7 @@ use std::io::{self, Input, Read, Write};
 use std::rt::Files;
 use std::sync::Wait;
 use std::{fs, str};
+use tq_cli::ImportRequest;
 use tq_import::{
     Conversion, FileFault, ImportFault, ImportOptions, InputFault, Plan, PlanFaultKind,
     ReadRecords, Rejects, Separated, ValidImport, WordFault, fault_text, find_file_kinds, import,
@@ -361,14 +361,16 @@ pub fn import_file<R: Files + AllocGlobal + Input + Print + Wait>(
         output,
         all,
         rejected,
+        explain,
         words,
     } = request;
+    let explain = explain || interactive;
     if let Err(fault) = check_rejected(&path, &output, all, &rejected) {
-        return Err(refused_words(rt.alloc(), fault, interactive));
+        return Err(refused_words(rt.alloc(), fault, explain));
     }
     let options = match read_words(rt.alloc(), words) {
         Ok(options) => options,
-        Err(fault) => return Err(refused_words(rt.alloc(), fault, interactive)),
+        Err(fault) => return Err(refused_words(rt.alloc(), fault, explain)),
     };
     let found = kinds_in(rt, &path, &options, progress)?;
     let job = Job {

@@ -13,7 +13,6 @@
 ghost use Rattle.std.specs.Prelude.{◌≡◌, false, IfErr, None, OnOk};
 ghost use Rattle.tq.specs.Refusals.{IsAnswered, IsAskRefusal};
 
-mod command_line;
 mod figures;
 mod files;
 mod headers;
@@ -28,15 +27,13 @@ mod prompt;
 mod read_errors;
 mod references;
 mod refusals;
+mod rendering;
 mod report;
-mod request;
 mod retained;
 mod session_lines;
 mod spans;
 mod splits;
-mod words;
 
-use command_line::read_command_line;
 use files::{paths_of, read_path, read_table_files};
 use headers::catalogue_of;
 use imports::import_file;
@@ -46,8 +43,8 @@ use progress::{ErrorLines, Progress};
 use prompt::Prompted;
 use references::{read_references, refused_reference};
 use refusals::{RefusalOptions, header_copies, refused, refused_load};
+use rendering::{Rendering, render};
 use report::{Diagnostic, Refusal};
-use request::{AskRequest, CheckRequest, DrawRequest, Request, SessionRequest};
 use retained::{RetainedFile, is_listed, retain_files, retain_if};
 use session_lines::LineExplainer;
 use splits::split_tables;
@@ -62,15 +59,17 @@ use std::thread::{self, Threads};
 use std::time::Clock;
 use tq_base::{Catalogue, Form};
 use tq_check::{CheckFault, CheckOptions, KeyChecks, check};
+use tq_cli::{
+    AskRequest, CheckRequest, DrawRequest, QuestionRequest, Request, SessionRequest, asks_details,
+    read_command_line, read_words,
+};
 use tq_diagnostics::explain_records;
-use tq_draw::{draw, draw_svg};
 use tq_engine::{AnswerFault, AnswerOptions, FileFault, Source, query_files};
 use tq_event::TableFile;
 use tq_session::{SessionFault, session};
 use tq_table::Sink;
-use words::{asks_details, read_words};
 
-// Answers a statement on standard output after all files are read. A refusal has details at a terminal or with
+// Prints the answer of a statement as CSV after all files are read. A refusal has details at a terminal or with
 // `--explain`. With `--explain`, an answer has a profile.
 fn ask<
     R: Files<File: FileExt + Send + Sync, Dir: Send>
@@ -81,12 +80,17 @@ fn ask<
         + Threads
         + Wait
         + Sync,
->(rt: &R, request: AskRequest, interactive: bool, progress: &Progress) -> Result<(), Diagnostic>
+>(
+    rt: &R,
+    request: QuestionRequest,
+    interactive: bool,
+    progress: &Progress,
+) -> Result<(), Diagnostic>
     ensures answered { OnOk result (IsAnswered request.form request.tables.items request.statement.items) }
     ensures refused { IfErr result (λ diagnostic. IsAskRefusal request.form request.tables.items request.statement.items diagnostic.refusal) }
     ensures silent { request.explain ≡ false → interactive ≡ false → IfErr result (λ diagnostic. diagnostic.detail ≡ None) }
 {
-    let AskRequest {
+    let QuestionRequest {
         tables: options,
         workers,
         form,
@@ -118,8 +122,8 @@ fn ask<
     }
 }
 
-// Draws the answer of a statement on standard output after all files are read.
-fn draw_answer<
+// Prints the answer of a statement as a picture or in a format, after all files are read and the answer is complete.
+fn print_rendered<
     R: Files<File: FileExt + Send + Sync, Dir: Send>
         + AllocGlobal
         + Input<Reader: Send>
@@ -127,15 +131,20 @@ fn draw_answer<
         + Threads
         + Wait
         + Sync,
->(rt: &R, request: DrawRequest, interactive: bool, progress: &Progress) -> Result<(), Diagnostic> {
-    let DrawRequest { ask, width, svg } = request;
-    let AskRequest {
+>(
+    rt: &R,
+    request: QuestionRequest,
+    rendering: Rendering,
+    interactive: bool,
+    progress: &Progress,
+) -> Result<(), Diagnostic> {
+    let QuestionRequest {
         tables: options,
         workers,
         form,
         statement,
         explain,
-    } = ask;
+    } = request;
     let explain = explain || interactive;
     let paths = paths_of(rt.alloc(), &options)?;
     let tables = read_table_files(rt, options, workers, explain, progress)?;
@@ -145,12 +154,8 @@ fn draw_answer<
     match query_files(rt, rt.alloc(), tables, &statement, workers, form) {
         Ok(table) => {
             progress.end(rt);
-            let picture = if svg {
-                draw_svg(rt.alloc(), &table, form, width as usize)?
-            } else {
-                draw(rt.alloc(), &table, form, width as usize)?
-            };
-            Ok(print_bytes(rt, &picture)?)
+            let text = render(rt.alloc(), &table, rendering, form)?;
+            Ok(print_bytes(rt, &text)?)
         }
         Err(fault) => {
             let options = RefusalOptions { form, explain };
@@ -192,7 +197,8 @@ fn list_faults<R: Files + AllocGlobal + Input>(
 }
 
 // Prints a summary of the tables and of references between them on standard output after all files are read. If records
-// are invalid, it prints the complete list of them instead. At a terminal, the refusal of a file has details.
+// are invalid, it prints the complete list of them instead. The refusal of a file has details at a terminal or with
+// `--explain`.
 fn check_tables<
     R: Files<File: FileExt + Send + Sync, Dir: Send>
         + AllocGlobal
@@ -209,11 +215,13 @@ fn check_tables<
         overlaps,
         gaps,
         references,
+        explain,
     } = request;
+    let explain = explain || interactive;
     let keys = KeyChecks { overlaps, gaps };
-    let names = read_references(rt.alloc(), &references, interactive)?;
+    let names = read_references(rt.alloc(), &references, explain)?;
     let paths = paths_of(rt.alloc(), &options)?;
-    let tables = read_table_files(rt, options, workers, interactive, progress)?;
+    let tables = read_table_files(rt, options, workers, explain, progress)?;
     let headers = header_copies(rt.alloc(), &tables, !names.is_empty());
     let retained = retain_files(rt, &tables, &paths)?;
     progress.load();
@@ -235,10 +243,7 @@ fn check_tables<
                 let _ = print_bytes(rt, &list);
             }
             let fault = AnswerFault::from(fault);
-            let options = RefusalOptions {
-                form,
-                explain: interactive,
-            };
+            let options = RefusalOptions { form, explain };
             Err(refused(rt, fault, b"", Some(retained), None, options, progress))
         }
         Err(CheckFault::Reference(refused)) => Err(Diagnostic::from(refused_reference(
@@ -342,9 +347,28 @@ fn dispatch<
     progress: &Progress,
 ) -> Result<(), Diagnostic> {
     match request {
-        Request::Ask(request) => ask(rt, request, interactive, progress),
+        Request::Ask(AskRequest { question, format }) => match format {
+            None => ask(rt, question, interactive, progress),
+            Some(format) => {
+                let rendering = Rendering::Report(format);
+                print_rendered(rt, question, rendering, interactive, progress)
+            }
+        },
         Request::Session(request) => run_session(rt, request, interactive, prompts, progress),
-        Request::Draw(request) => draw_answer(rt, request, interactive, progress),
+        Request::Draw(
+            DrawRequest {
+                question,
+                width,
+                svg,
+            },
+        ) => {
+            let rendering = if svg {
+                Rendering::Svg(width as usize)
+            } else {
+                Rendering::Picture(width as usize)
+            };
+            print_rendered(rt, question, rendering, interactive, progress)
+        }
         Request::Check(request) => check_tables(rt, request, interactive, progress),
         Request::Import(request) => import_file(rt, request, interactive, progress),
         Request::Split(request) => split_tables(rt, request, progress),

@@ -3,13 +3,13 @@
 use crate::files::{open_file, read_path};
 use crate::progress::Progress;
 use crate::report::{Diagnostic, Refusal};
-use crate::request::MergeRequest;
 use itoa::Buffer;
 use std::alloc::{AllocError, Global};
 use std::io::{self, Input};
 use std::rt::Files;
 use std::str;
 use std::sync::Wait;
+use tq_cli::MergeRequest;
 use tq_engine::load_name;
 use tq_split::{
     AnswerFaultKind, Manifest, ManifestFault, MergeFault, answer_layout, merge_answers,

@@ -7,11 +7,11 @@ ghost use Rattle.tq_diagnostics.specs.Files.{IsFileDetail};
 ghost use Rattle.tq_diagnostics.specs.PlanDetails.{IsPlanDetail};
 ghost use Rattle.tq.specs.Report.{IsAnswerDetail, detail_of, line_of, reason_of, refused_answer, refused_command_line, refused_file, refused_session, status_of};
 
-use crate::command_line::{CommandLineFault, UsageError};
 use std::alloc::{AllocError, Global};
 use std::io::{self, Write};
 use std::process::ExitCode;
 use tq_base::{Catalogue, Form};
+use tq_cli::{CommandLineFault, UsageError};
 use tq_diagnostics::{explain_file, explain_plan, explain_statement};
 use tq_engine::{AnswerFault, FileFault, load_name, plan_name, sql_name};
 use tq_event::LoadFault;

@@ -3,7 +3,6 @@
 use crate::files::open_file;
 use crate::progress::{Counted, Progress};
 use crate::report::{Diagnostic, Refusal};
-use crate::request::{SplitRequest, TableOption};
 use csv::ByteRecord;
 use itoa::Buffer;
 use std::alloc::{AllocError, Global};
@@ -12,6 +11,7 @@ use std::rt::Files;
 use std::sync::Wait;
 use std::{fs, str};
 use tq_base::{Catalogue, Column, Form, List, Name, Schema, fold_name};
+use tq_cli::{SplitRequest, TableOption};
 use tq_engine::AnswerFault;
 use tq_event::steps::read_header;
 use tq_event::{LoadFault, LoadFaultKind, MAX_TABLES};

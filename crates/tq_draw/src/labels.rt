@@ -40,7 +40,9 @@ fn push_byte(text: &mut Vec<u8>, hidden: usize, byte: u8) -> Result<(), AllocErr
     Ok(())
 }
 
-fn escaped_text(alloc: Global, bytes: &[u8]) -> Result<Vec<u8>, AllocError>
+/// The bytes of a text as a terminal may show them: each byte of a hidden character is `\x` and two hexadecimal digits, and
+/// a backslash is doubled. `AllocError` if an allocation failed.
+pub fn escaped_text(alloc: Global, bytes: &[u8]) -> Result<Vec<u8>, AllocError>
     ensures { IfOk result (λ text. text.items ≡ escaped_text bytes.now) }
 {
     let mut text = Vec::new(alloc);
@@ -61,8 +63,8 @@ fn begins_char(byte: u8) -> bool
     byte < 0x80 || byte >= 0xC0
 }
 
-/// The number of characters that begin in the bytes.
-pub(crate) fn chars_in(bytes: &[u8]) -> usize
+/// The number of characters that begin in the bytes of UTF-8.
+pub fn chars_in(bytes: &[u8]) -> usize
     ensures { result ≡ chars_in bytes.now }
 {
     bytes.iter().filter(|byte| begins_char(**byte)).count()

@@ -18,5 +18,6 @@ mod scale;
 mod svg;
 mod widths;
 
+pub use labels::{chars_in, escaped_text};
 pub use pictures::draw;
 pub use svg::draw_svg;

@@ -51,6 +51,8 @@
 //!     write FROM COLUMN..                  the text of the rows in their order
 //!     draw FROM WIDTH COLUMN..             the rows in their order, as a picture of a width
 //!     draw-dates FROM WIDTH COLUMN..       the same, with instants as dates
+//!     report FROM FORMAT COLUMN..          the rows in their order, in a format of reports
+//!     report-dates FROM FORMAT COLUMN..    the same, with instants as dates
 //!     send FROM COLUMN..                   the same text, by a sink into memory
 //!     send-short FROM COLUMN..             the same, by one whose writer takes five bytes
 //!     short ROOM END FLUSH TEXT            bytes by a sink whose writer takes three bytes a call

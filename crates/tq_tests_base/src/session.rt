@@ -2,7 +2,7 @@
 
 ghost use Rattle.std.specs.Thread.{IsSync};
 
-use crate::drawing::print_picture;
+use crate::drawing::{print_picture, print_report};
 use crate::grouping::{count, group};
 use crate::lists::{show, show_counts};
 use crate::output::{print_faults, print_memory, print_text, send, send_bytes, send_short};
@@ -167,6 +167,12 @@ impl Session {
             ("draw-dates", [width, names @ ..]) => {
                 print_picture(alloc, rows, names, width, Form::Dates, out)
             }
+            ("report", [format, names @ ..]) => {
+                print_report(alloc, rows, names, format, Form::Numbers, out)
+            }
+            ("report-dates", [format, names @ ..]) => {
+                print_report(alloc, rows, names, format, Form::Dates, out)
+            }
             ("send", _) => send(alloc, rows, words, out),
             ("send-short", _) => send_short(alloc, rows, words, out),
             _ => print_nothing(out),
@@ -206,6 +212,8 @@ impl Session {
                 | "write"
                 | "draw"
                 | "draw-dates"
+                | "report"
+                | "report-dates"
                 | "send"
                 | "send-short",
                 [from, words @ ..],

@@ -1,6 +1,6 @@
 -- The paths so far are those of the options so far.
 use Rattle.std.proofs.Common.{◌≡◌, ℕ, Vec, Global, map, take}
-use Rattle.tq.specs.declared.request.TableOption.{TableOption}
+use Rattle.tq_cli.specs.declared.request.TableOption.{TableOption}
 use Rattle.tq.proofs.files.paths_of.Given as goal
 
 abbrev pub invariant-options : goal.invariant-options

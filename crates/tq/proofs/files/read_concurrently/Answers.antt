@@ -2,7 +2,7 @@ use Rattle.std.proofs.Common.{◌≡◌, ◌++◌, ◌/◌, ◌∙◌, ℕ, List
 use Rattle.std.proofs.lemmas.List.{map-append, take-append-drop}
 use Rattle.std.proofs.lemmas.Result.{err_from_is_err_and}
 use Rattle.tq_event.specs.declared.file.TableFile.{TableFile}
-use Rattle.tq.specs.declared.request.TableOption.{TableOption}
+use Rattle.tq_cli.specs.declared.request.TableOption.{TableOption}
 use Rattle.tq.specs.Refusals.{IsReadRefusal}
 use Rattle.tq.proofs.ReadErrorLemmas.{unread_back, unread_front}
 use Rattle.tq.proofs.files.read_concurrently.Goals as goal

@@ -1,7 +1,7 @@
 -- The tables so far have the names of the options so far.
 use Rattle.std.proofs.Common.{◌≡◌, ◌++◌, map}
 use Rattle.std.specs.Vec.Iter.{into_iter_items}
-use Rattle.tq.specs.declared.request.TableOption.{TableOption}
+use Rattle.tq_cli.specs.declared.request.TableOption.{TableOption}
 use Rattle.tq_event.specs.declared.file.TableFile.{TableFile}
 use Rattle.tq.proofs.files.read_sequentially.Given as goal
 

@@ -1,0 +1,3 @@
+pub mod AppLemmas
+pub mod CommandLineFacts
+pub mod RequestLemmas

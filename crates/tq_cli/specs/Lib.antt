@@ -1,0 +1,2 @@
+pub mod ByteText
+pub mod CommandLine

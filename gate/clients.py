@@ -1,0 +1,176 @@
+#!/usr/bin/env python3
+"""Compares the Python client with the command line over random questions and sessions.
+
+    gate/clients.py TQ [--questions N] [--sessions N] [--seed S] [--lanes L]
+
+Each question is asked by `tq.ask` and by `tq ask`, over files, over `tq.Table`s and, where pandas is installed, over data
+frames: rows and refusals must be the same. Texts have quotes, commas and line breaks. Each session runs by `tq.Session`, and
+once more by `tq session` with all of its lines at once: the replies must be the same bytes. The last line is 'N passed,
+M failed'.
+"""
+
+import argparse
+import concurrent.futures
+import csv
+import io
+import pathlib
+import random
+import sys
+import tempfile
+
+from compare import WORDS, Schema, ran, statement, value
+
+ROOT = pathlib.Path(__file__).resolve().parent.parent
+sys.path.insert(0, str(ROOT / "clients" / "python"))
+
+import tq  # noqa: E402
+
+try:
+    import pandas
+except ImportError:
+    pandas = None
+
+TEXTS = [*WORDS, "two\nlines", 'a "quoted"\nline', "one\r\ntwo", "\n", 'ends with "']
+ROWS = 25
+
+
+def read_options():
+    parser = argparse.ArgumentParser()
+    parser.add_argument("tq", type=pathlib.Path)
+    parser.add_argument("--questions", type=int, default=1000)
+    parser.add_argument("--sessions", type=int, default=100)
+    parser.add_argument("--seed", type=int, default=1)
+    parser.add_argument("--lanes", type=int, default=4)
+    return parser.parse_args()
+
+
+def rows_of(draw, schema):
+    """Random rows of a table: values, start, end or None."""
+    rows = []
+    for _ in range(draw.randint(0, ROWS)):
+        values = [draw.choice(TEXTS) if kind == "text" else value(draw, kind, 20) for _, kind in schema.columns]
+        start = draw.randint(0, 50)
+        rows.append((*values, start, None if draw.random() < 0.2 else start + draw.randint(1, 20)))
+    return rows
+
+
+def frame_of(table):
+    """The table as a data frame, whose open ends are missing."""
+    frame = pandas.DataFrame(table.rows, columns=[*table.columns, "from", "to"])
+    return frame.astype({name: "int64" for name, kind in table.columns.items() if kind == "int"} | {"to": "Int64"})
+
+
+def forms_of(draw, tables, room):
+    """The tables as paths, as they are, or as data frames."""
+    made = {}
+    for name, table in tables.items():
+        form = draw.choice(["file", "table", "frame" if pandas else "table"])
+        if form == "file":
+            made[name] = pathlib.Path(room) / f"{name}.csv"
+        else:
+            made[name] = frame_of(table) if form == "frame" and table.rows else table
+    return made
+
+
+def shown(cell):
+    return "forever" if cell is None else str(cell)
+
+
+def try_question(options, number):
+    """What is wrong with the question of this number, or None."""
+    draw = random.Random(options.seed * 1_000_003 + number)
+    schemas = [Schema(draw, f"t{place}") for place in range(draw.randint(1, 3))]
+    tables = {schema.name: tq.Table(schema.columns, rows_of(draw, schema)) for schema in schemas}
+    asked = statement(draw, schemas, 3)
+    with tempfile.TemporaryDirectory(prefix="tq-") as room:
+        words = []
+        for name, table in tables.items():
+            table.write(pathlib.Path(room) / f"{name}.csv")
+            words += ["--table", f"{name}={room}/{name}.csv"]
+        out, errors, status = ran([options.tq, "ask", *words, "--", asked])
+        try:
+            answer = tq.ask(forms_of(draw, tables, room), asked, workers=draw.choice([1, 3]), program=options.tq)
+        except tq.Refused as refused:
+            wanted = errors.decode().splitlines()[0] if status else "an answer"
+            return None if wanted == f"tq: {refused.line}" else f"refused {refused.line}, not {wanted}: {asked}"
+    if status != 0:
+        return f"answered, though refused with {errors!r}: {asked}"
+    header, *rows = csv.reader(io.StringIO(out.decode(), newline=""))
+    if [[shown(cell) for cell in row] for row in answer.rows] != rows or len(answer.columns) != len(header):
+        return f"other rows: {asked}"
+    return None
+
+
+class Logged(tq.Session):
+    """A session that notes its lines, and the bytes of its replies."""
+
+    def __init__(self, *tables, **how):
+        self.lines, self.replies = [], []
+        super().__init__(*tables, **how)
+
+    def _reply(self, line):
+        self.lines.append(line)
+        return super()._reply(line)
+
+    def _line(self):
+        line = super()._line()
+        self.replies.append(line)
+        return line
+
+
+def act(draw, session, schema, schemas, now):
+    """Sends one random line of a session; a refusal is a reply too."""
+    values = [draw.choice(WORDS) if kind == "text" else value(draw, kind, 3) for _, kind in schema.columns]
+    try:
+        match draw.choice(["start", "start", "end", "publish", "ask", "ask"]):
+            case "start":
+                session.start(schema.name, now, *values)
+            case "end":
+                session.end(schema.name, now, *values)
+            case "publish":
+                session.publish()
+            case "ask":
+                count = draw.randint(0, session.count + 1)
+                session.ask(statement(draw, schemas, 2), count=count, workers=draw.choice([1, 4]))
+    except tq.Refused:
+        pass
+
+
+def try_session(options, number):
+    """What is wrong with the session of this number, or None."""
+    draw = random.Random(options.seed * 7_000_003 + number)
+    schemas = [Schema(draw, f"t{place}") for place in range(draw.randint(1, 2))]
+    tables = {schema.name: tq.Table(schema.columns, rows_of(draw, schema)) for schema in schemas}
+    with tempfile.TemporaryDirectory(prefix="tq-") as room:
+        with Logged(tables, program=options.tq) as session:
+            now = 100
+            for _ in range(draw.randint(5, 40)):
+                now += draw.randint(-1, 3)
+                act(draw, session, draw.choice(schemas), schemas, now)
+        words = []
+        for name, table in tables.items():
+            table.write(pathlib.Path(room) / f"{name}.csv")
+            words += ["--table", f"{name}={room}/{name}.csv"]
+        lines = "".join(line + "\n" for line in session.lines).encode()
+        out, errors, status = ran([options.tq, "session", *words], lines)
+    if status != 0 or out != "".join(session.replies).encode():
+        return f"other replies; status {status}, {errors!r}"
+    return None
+
+
+def main():
+    options = read_options()
+    options.tq = options.tq.resolve()
+    with concurrent.futures.ThreadPoolExecutor(options.lanes) as pool:
+        tried = [(f"question {number}", error) for number, error in enumerate(pool.map(lambda it: try_question(options, it), range(options.questions)))]
+        tried += [(f"session {number}", error) for number, error in enumerate(pool.map(lambda it: try_session(options, it), range(options.sessions)))]
+    wrong = [(name, error) for name, error in tried if error]
+    for name, error in wrong[:20]:
+        print(f"{name}: {error}")
+    print(f"{'with' if pandas else 'without'} pandas")
+    print(f"{len(tried) - len(wrong)} passed, {len(wrong)} failed")
+    return 1 if wrong else 0
+
+
+if __name__ == "__main__":
+    sys.exit(main())
