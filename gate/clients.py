@@ -158,12 +158,31 @@ def try_session(options, number):
     return None
 
 
+def try_ends(options):
+    """What is wrong with a session over an invalid file, and with one whose program is killed, or None."""
+    try:
+        tq.Session({"emp": ROOT / "examples" / "broken.csv"}, program=options.tq)
+        return "a session opened an invalid file"
+    except tq.Refused as refused:
+        if (refused.kind, refused.name, refused.record) != ("load", "BadPeriod", 3):
+            return f"an invalid file is refused with {refused.line}"
+    with tq.Session({"emp": ROOT / "examples" / "emp.csv"}, program=options.tq) as session:
+        session._running.kill()
+        session._running.wait()
+        try:
+            session.publish()
+            return "a killed session replied"
+        except tq.Refused as refused:
+            return None if "ended with status" in refused.line else f"a killed session says {refused.line!r}"
+
+
 def main():
     options = read_options()
     options.tq = options.tq.resolve()
     with concurrent.futures.ThreadPoolExecutor(options.lanes) as pool:
         tried = [(f"question {number}", error) for number, error in enumerate(pool.map(lambda it: try_question(options, it), range(options.questions)))]
         tried += [(f"session {number}", error) for number, error in enumerate(pool.map(lambda it: try_session(options, it), range(options.sessions)))]
+    tried.append(("ends of sessions", try_ends(options)))
     wrong = [(name, error) for name, error in tried if error]
     for name, error in wrong[:20]:
         print(f"{name}: {error}")

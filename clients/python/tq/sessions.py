@@ -1,5 +1,6 @@
 """Sessions: changes are recorded, and questions ask as of any earlier state."""
 
+import contextlib
 import csv
 import io
 import subprocess
@@ -42,7 +43,8 @@ class Session:
 
     def close(self):
         """Ends the session."""
-        self._running.stdin.close()
+        with contextlib.suppress(BrokenPipeError):
+            self._running.stdin.close()
         self._running.wait()
         self._running.stdout.close()
         self._errors.close()
@@ -107,9 +109,10 @@ class Session:
 
     def _ended(self):
         """Why the session ended."""
-        self._running.wait()
+        status = self._running.wait()
         self._errors.seek(0)
-        return refusal_of(self._errors.read().decode(errors="replace"))
+        errors = self._errors.read().decode(errors="replace")
+        return refusal_of(errors or f"the session ended with status {status}")
 
 
 def record_of(values):
