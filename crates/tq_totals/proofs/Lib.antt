@@ -1,0 +1,8 @@
+pub mod CheckLemmas
+pub mod FaultLemmas
+pub mod GroupLemmas
+pub mod LabelLemmas
+pub mod PeriodLemmas
+pub mod SumLemmas
+pub mod TotalLemmas
+mod WritingLemmas

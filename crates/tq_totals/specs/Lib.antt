@@ -1,0 +1,4 @@
+pub mod Calendar
+pub mod Totals
+pub mod Sums
+pub mod Text

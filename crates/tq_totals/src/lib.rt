@@ -1,0 +1,25 @@
+//! Totals over time: the periods of the calendar as a table, and the totals of an answer's rows.
+//!
+//! `calendar` writes the months, quarters or years between two days as a table file; a period is a maximal run of days
+//! with one label (`calendar_text` in `specs/Calendar.antt`). `totals` sums columns of an answer over all instants,
+//! group by group (`AreTotals` in `specs/Totals.antt`), and `totals_text` writes the totals as CSV.
+//!
+//! Open `specs/Calendar.antt` and `specs/Totals.antt` first.
+#![tactic(auto)]
+
+mod checks;
+mod fault;
+mod group_totals;
+mod groups;
+mod labels;
+pub mod laws;
+mod periods;
+mod sums;
+mod text;
+mod unit;
+
+pub use fault::TotalsFault;
+pub use group_totals::{Total, totals};
+pub use periods::calendar;
+pub use text::totals_text;
+pub use unit::Unit;
