@@ -20,7 +20,7 @@ use Rattle.tq_base.specs.Keys.{no_row}
 use Rattle.tq_base.specs.declared.fragment.Fragment.{Fragment}
 use Rattle.tq_base.specs.declared.value.Value.{Value}
 use Rattle.tq_totals.specs.Sums.{row_sum, sums_over, total_pair, totals_entry, IsSumFault}
-use Rattle.tq_totals.specs.Totals.{group, key_of, size, sums_for, AreTotals, IsFault, TotalsAreUnique}
+use Rattle.tq_totals.specs.Totals.{HaveEnds, HaveNumbers, group, key_of, size, sums_for, AreTotals, IsFault, TotalsAreUnique}
 use Rattle.tq_totals.specs.declared.fault.TotalsFault.{TotalsFault}
 use Rattle.tq_totals.specs.declared.fault.TotalsFault.TheVariants as fault
 use Rattle.tq_totals.proofs.SumLemmas.{product_size}
@@ -133,13 +133,18 @@ size_within test rows n column =
     omega (arith, sizes)
 
 -- a fault of a group is one of the rows
-pub fault_is : (by summed : List ℕ) (rows : List Fragment) (values : List Value) (n : ℕ) (part : List Fragment) (fault : TotalsFault) → group by values (take n rows) ≡ part
-    → IsSumFault part fault → IsFault by summed rows fault
-fault_is by summed rows values n part (fault.OpenEnd row) is h = absurd h
-fault_is by summed rows values n part (fault.Text column row) is h = absurd h
-fault_is by summed rows values n part (fault.Overflow column) is h = (
-  values,
-  (let within = size_within (λ (row : Fragment). eq_by_cmp values_cmp values (key_of by row)) rows n column in
-      let same = ap (λ l. size l column) is in omega (arith, within, same, h)),
+pub fault_is : (by summed : List ℕ) (rows : List Fragment) → HaveEnds rows → HaveNumbers summed rows → (values : List Value) (n : ℕ) (part : List Fragment)
+    (fault : TotalsFault) → group by values (take n rows) ≡ part → IsSumFault summed part fault → IsFault by summed rows fault
+fault_is by summed rows ended numbers values n part (fault.OpenEnd row) is h = absurd h
+fault_is by summed rows ended numbers values n part (fault.Text column row) is h = absurd h
+fault_is by summed rows ended numbers values n part (fault.Overflow column) is h = (
+  ended,
+  numbers,
+  h.0,
+  (
+    values,
+    (let within = size_within (λ (row : Fragment). eq_by_cmp values_cmp values (key_of by row)) rows n column in
+        let same = ap (λ l. size l column) is in omega (arith, within, same, h.1)),
+  ),
 )
-fault_is by summed rows values n part fault.OutOfMemory is h = tt
+fault_is by summed rows ended numbers values n part fault.OutOfMemory is h = tt

@@ -1,5 +1,5 @@
 -- Sums row by row, as the code makes them.
-use Rattle.std.specs.Prelude.{ℕ, ◌+◌, ◌-◌, ◌*◌, ◌^◌, ◌≤◌, ℤ, pos, ◌+ℤ◌, ◌*ℤ◌, unsigned_abs, List, [], ◌∷◌, map, Option, Some, None, ⊤}
+use Rattle.std.specs.Prelude.{ℕ, ◌+◌, ◌-◌, ◌*◌, ◌^◌, ◌≤◌, ℤ, pos, ◌+ℤ◌, ◌*ℤ◌, unsigned_abs, List, [], ◌∷◌, map, Option, Some, None, ⊤, Contains}
 use Rattle.tq_base.specs.declared.fragment.Fragment.{Fragment}
 use Rattle.tq_base.specs.declared.value.Value.{Value}
 use Rattle.tq_totals.specs.declared.fault.TotalsFault.{TotalsFault}
@@ -25,12 +25,16 @@ abbrev pub sums_over : List ℕ → List Fragment → Option (List Sum)
 sums_over summed [] = None
 sums_over summed (row ∷ rows) = Some (map (row_sum (row ∷ rows)) summed)
 
+-- one of the columns has sizes over the rows that add up to 2^127 or more
+abbrev pub IsTooLarge : List ℕ → List Fragment → ℕ → Type 0
+IsTooLarge summed rows column = Contains summed column × (2 ^ 127 ≤ size rows column)
+
 -- what a fault says of the rows of a group
-abbrev pub IsSumFault : List Fragment → TotalsFault → Type 0
-IsSumFault rows (fault.OpenEnd row) = ⊥
-IsSumFault rows (fault.Text column row) = ⊥
-IsSumFault rows (fault.Overflow column) = 2 ^ 127 ≤ size rows column
-IsSumFault rows fault.OutOfMemory = ⊤
+abbrev pub IsSumFault : List ℕ → List Fragment → TotalsFault → Type 0
+IsSumFault summed rows (fault.OpenEnd row) = ⊥
+IsSumFault summed rows (fault.Text column row) = ⊥
+IsSumFault summed rows (fault.Overflow column) = IsTooLarge summed rows column
+IsSumFault summed rows fault.OutOfMemory = ⊤
 
 -- the values and the sums of a total
 abbrev pub total_pair : Total → List Value × List ℤ

@@ -1,5 +1,5 @@
 -- Totals of rows over time. This project's own.
-use Rattle.std.specs.Prelude.{◌≡◌, ◌≤◌, ℕ, zero, suc, ◌+◌, ◌-◌, ◌*◌, ◌^◌, ◌==◌, ℤ, pos, ◌+ℤ◌, unsigned_abs, Bool, true, false, List, [], ◌∷◌, filter, map, Option, Some, None, ⊤, sum_by}
+use Rattle.std.specs.Prelude.{◌≡◌, ◌≤◌, ℕ, zero, suc, ◌+◌, ◌-◌, ◌*◌, ◌^◌, ◌==◌, ℤ, pos, ◌+ℤ◌, unsigned_abs, Bool, true, false, List, [], ◌∷◌, filter, map, Option, Some, None, ⊤, sum_by, Contains}
 use Rattle.std.specs.List.{find, list_any, position}
 use Rattle.std.specs.List.Sorted.{IsStrictlySortedBy}
 use Rattle.std.specs.Option.{option_map}
@@ -89,11 +89,19 @@ first_row test rows = option_map (λ row. row + 1) (position test rows)
 abbrev pub size : List Fragment → ℕ → ℕ
 size rows column = sum_by (λ (row : Fragment). unsigned_abs (number_at column row) * (row.period.end - row.period.start)) rows
 
--- what a fault says of the rows: the first row without an end; the first row with a text, and the first column where it
--- has one; a column in which the sizes of one group add up to 2^127 or more
+-- all periods have an end, and below, there is no text in the columns
+abbrev pub HaveEnds : List Fragment → Type 0
+HaveEnds rows = position is_open rows ≡ None
+
+abbrev pub HaveNumbers : List ℕ → List Fragment → Type 0
+HaveNumbers summed rows = position (has_texts summed) rows ≡ None
+
+-- what a fault says of the rows: the first row without an end; else the first row with a text, and the first column where it
+-- has one; else a summed column in which the sizes of one group add up to 2^127 or more
 abbrev pub IsFault : List ℕ → List ℕ → List Fragment → TotalsFault → Type 0
 IsFault by summed rows (fault.OpenEnd row) = first_row is_open rows ≡ Some row
 IsFault by summed rows (fault.Text column row) =
-    (first_row (has_texts summed) rows ≡ Some row) × (find (has_text (values_at_number rows (row - 1))) summed ≡ Some column)
-IsFault by summed rows (fault.Overflow column) = (values : List Value) × (2 ^ 127 ≤ size (group by values rows) column)
+    HaveEnds rows × (first_row (has_texts summed) rows ≡ Some row) × (find (has_text (values_at_number rows (row - 1))) summed ≡ Some column)
+IsFault by summed rows (fault.Overflow column) =
+    HaveEnds rows × HaveNumbers summed rows × Contains summed column × ((values : List Value) × (2 ^ 127 ≤ size (group by values rows) column))
 IsFault by summed rows fault.OutOfMemory = ⊤

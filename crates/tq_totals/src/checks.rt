@@ -1,9 +1,9 @@
 // What rows need to have totals: periods with ends, and numbers in the summed columns.
 
-ghost use Rattle.std.specs.Prelude.{◌≡◌, ◌<◌, ℕ, All, IfErr, List, None, OnOk};
-ghost use Rattle.std.specs.List.{find, position};
+ghost use Rattle.std.specs.Prelude.{◌≡◌, ◌<◌, ℕ, All, IfErr, List, OnOk};
+ghost use Rattle.std.specs.List.{find};
 ghost use Rattle.tq_base.specs.declared.period.TheConstants.{FOREVER};
-ghost use Rattle.tq_totals.specs.Totals.{has_text, has_texts, is_open, is_text, IsFault};
+ghost use Rattle.tq_totals.specs.Totals.{has_text, is_text, HaveEnds, HaveNumbers, IsFault};
 
 use crate::fault::TotalsFault;
 use tq_base::{FOREVER, Row, Value, ValueRef};
@@ -32,7 +32,7 @@ fn text_column(row: &Row<'_>, summed: &[u32]) -> Option<u32>
 
 /// `OpenEnd` if a row's period has no end.
 pub(crate) fn check_ends(rows: &ResultRows<'_>) -> Result<(), TotalsFault>
-    ensures ok { OnOk result (position is_open rows.now ≡ None) }
+    ensures ok { OnOk result (HaveEnds rows.now) }
     ensures ended { OnOk result (All (λ row. row.period.end < FOREVER) rows.now) }
     ensures fault { (by summed : List ℕ) → IfErr result (IsFault by summed rows.now) }
 {
@@ -48,8 +48,8 @@ pub(crate) fn check_ends(rows: &ResultRows<'_>) -> Result<(), TotalsFault>
 
 /// `Text` if a row has a text in one of the columns.
 pub(crate) fn check_numbers(rows: &ResultRows<'_>, summed: &[u32]) -> Result<(), TotalsFault>
-    ensures ok { OnOk result (position (has_texts summed.now) rows.now ≡ None) }
-    ensures fault { (by : List ℕ) → IfErr result (IsFault by summed.now rows.now) }
+    ensures ok { OnOk result (HaveNumbers summed.now rows.now) }
+    ensures fault { (by : List ℕ) → HaveEnds rows.now → IfErr result (IsFault by summed.now rows.now) }
 {
     'rows: for row in 0..rows.len() {
         if let Some(column) = text_column(&rows.row(row), summed) {

@@ -1,11 +1,10 @@
 // Totals of an answer over time.
 
 ghost use Rattle.std.specs.BTreeMap.{get, IsOrdered};
-ghost use Rattle.std.specs.List.{position};
-ghost use Rattle.std.specs.Prelude.{◌≡◌, IfErr, IfOk, List, None, map};
+ghost use Rattle.std.specs.Prelude.{◌≡◌, IfErr, IfOk, List, map};
 ghost use Rattle.tq_base.specs.ValueOrder.{values_cmp};
 ghost use Rattle.tq_totals.specs.Sums.{total_pair, totals_entry};
-ghost use Rattle.tq_totals.specs.Totals.{has_texts, is_open, AreTotals, IsFault};
+ghost use Rattle.tq_totals.specs.Totals.{HaveEnds, HaveNumbers, AreTotals, IsFault};
 
 use crate::checks::{check_ends, check_numbers};
 use crate::fault::TotalsFault;
@@ -40,8 +39,8 @@ fn listed(alloc: Global, groups: BTreeMap<Values, Sums>) -> Result<Vec<Total>, A
 
 /// The totals of the columns `summed` for each group of rows with equal values in the columns `by`, in the order of
 /// these values. Columns are numbered from 0; a column that does not exist has the number 0 in each row. Without columns
-/// `by` all rows are one group. `OpenEnd` and `Text` name the first row of which there is no total, `Overflow` a column
-/// whose numbers are too large, and `OutOfMemory` comes if an allocation failed.
+/// `by` all rows are one group. `OpenEnd` names the first row without an end, else `Text` the first row with a text, else
+/// `Overflow` a summed column whose numbers are too large. `OutOfMemory` comes if an allocation failed.
 pub fn totals(
     alloc: Global,
     table: &Table<'_>,
@@ -49,8 +48,8 @@ pub fn totals(
     summed: &[u32],
 ) -> Result<Vec<Total>, TotalsFault>
     ensures totals { IfOk result (λ totals. AreTotals by.now summed.now table.now.rows totals.items) }
-    ensures ends { IfOk result (λ _. position is_open table.now.rows ≡ None) }
-    ensures numbers { IfOk result (λ _. position (has_texts summed.now) table.now.rows ≡ None) }
+    ensures ends { IfOk result (λ _. HaveEnds table.now.rows) }
+    ensures numbers { IfOk result (λ _. HaveNumbers summed.now table.now.rows) }
     ensures fault { IfErr result (IsFault by.now summed.now table.now.rows) }
 {
     check_ends(&table.rows)?;

@@ -8,7 +8,7 @@ ghost use Rattle.tq_base.specs.declared.value.Value.{Value};
 ghost use Rattle.tq_base.specs.RowValues.{value_at};
 ghost use Rattle.tq_base.specs.ValueOrder.{values_cmp};
 ghost use Rattle.tq_totals.specs.Sums.{row_sum, sums_over, IsSumFault};
-ghost use Rattle.tq_totals.specs.Totals.{group, IsFault};
+ghost use Rattle.tq_totals.specs.Totals.{group, HaveEnds, HaveNumbers, IsFault};
 
 use crate::fault::TotalsFault;
 use crate::sums::Sums;
@@ -56,7 +56,7 @@ fn add_row(
         → OnOk result (get values_cmp groups.new key ≡ Some (map (row_sum (rows ++ record { values = row.now; period = period } ∷ [])) summed.now)) }
     ensures others { (other : List Value) → eq_by_cmp values_cmp key other ≡ false → OnOk result (get values_cmp groups.new other ≡ get values_cmp groups.old other) }
     ensures fault { (rows : List Fragment) → get values_cmp groups.old key ≡ sums_over summed.now rows
-        → IfErr result (IsSumFault (rows ++ record { values = row.now; period = period } ∷ [])) }
+        → IfErr result (IsSumFault summed.now (rows ++ record { values = row.now; period = period } ∷ [])) }
 {
     let mut sums = take_sums(alloc, groups, &key, summed)?;
     match sums.add_row(row, period, summed) {
@@ -76,7 +76,7 @@ pub(crate) fn sums_by_group(
     summed: &[u32],
 ) -> Result<BTreeMap<Values, Sums>, TotalsFault>
     ensures sums { IfOk result (λ groups. (values : List Value) → get values_cmp groups values ≡ sums_over summed.now (group by.now values rows.now)) }
-    ensures fault { IfErr result (IsFault by.now summed.now rows.now) }
+    ensures fault { HaveEnds rows.now → HaveNumbers summed.now rows.now → IfErr result (IsFault by.now summed.now rows.now) }
 {
     let mut groups = BTreeMap::new(alloc);
     'rows: for place in 0..rows.len() {

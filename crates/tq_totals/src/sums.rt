@@ -3,8 +3,7 @@
 ghost use Rattle.std.specs.Prelude.{◌≡◌, ◌≤◌, ◌<◌, ◌+◌, ◌-◌, ◌*◌, ◌^◌, [], ◌∷◌, ◌++◌, IfErr, IfOk, List, OnOk, SomeIff, map, unsigned_abs};
 ghost use Rattle.tq_base.specs.declared.fragment.Fragment.{Fragment};
 ghost use Rattle.tq_base.specs.RowValues.{number_of};
-ghost use Rattle.tq_totals.specs.Sums.{row_sum, sum_more};
-ghost use Rattle.tq_totals.specs.Totals.{size};
+ghost use Rattle.tq_totals.specs.Sums.{row_sum, sum_more, IsTooLarge};
 
 use std::alloc::{AllocError, Global};
 use std::marker::Model;
@@ -71,7 +70,7 @@ fn add_row(sums: &mut Vec<Sum>, row: &Row<'_>, period: Period, summed: &[u32]) -
     ensures sums { (rows : List Fragment) → sums.old.items ≡ map (row_sum rows) summed.now
         → OnOk result (sums.new.items ≡ map (row_sum (rows ++ record { values = row.now; period = period } ∷ [])) summed.now) }
     ensures large { (rows : List Fragment) → sums.old.items ≡ map (row_sum rows) summed.now
-        → IfErr result (λ column. 2 ^ 127 ≤ size (rows ++ record { values = row.now; period = period } ∷ []) column) }
+        → IfErr result (IsTooLarge summed.now (rows ++ record { values = row.now; period = period } ∷ [])) }
 {
     let len = length_of(period);
     'columns: for place in 0..summed.len() {
@@ -108,7 +107,7 @@ impl Sums {
         ensures sums { (rows : List Fragment) → self.old ≡ map (row_sum rows) summed.now
             → OnOk result (self.new ≡ map (row_sum (rows ++ record { values = row.now; period = period } ∷ [])) summed.now) }
         ensures large { (rows : List Fragment) → self.old ≡ map (row_sum rows) summed.now
-            → IfErr result (λ column. 2 ^ 127 ≤ size (rows ++ record { values = row.now; period = period } ∷ []) column) }
+            → IfErr result (IsTooLarge summed.now (rows ++ record { values = row.now; period = period } ∷ [])) }
     {
         add_row(&mut self.items, row, period, summed)
     }

@@ -8,11 +8,12 @@ use Rattle.tq_totals.proofs.CheckLemmas.{any_found, first_row_is, none_found, no
 use Rattle.tq_totals.proofs.checks.check_numbers.Goals as goal
 
 pub returns-in-Some-clause-fault : goal.returns-in-Some-clause-fault
-returns-in-Some-clause-fault c by =
+returns-in-Some-clause-fault c by ended =
     let rows = c.args.rows.now in
     let summed = c.args.summed.now in
     let at = c.rows.row in
     let found = ap (λ (values : List Value). find (has_text values) summed) (sym c.row.ensures) ∙ sym c.text_column.ensures ∙ c.in-Some.is in (
+      ended,
       first_row_is (has_texts summed) rows at no_row (omega (arith, c.rows-test.true, c.len-row-end.ensures)) c.rows.invariant
           (any_found (has_text (get_or rows at no_row).values) summed c.in-Some.column found),
       ap (λ n. find (has_text (get_or rows n no_row).values) summed) (let e : at + 1 - 1 ≡ at = omega arith in e) ∙ found,

@@ -10,7 +10,7 @@ pub add_row-requires : goal.add_row-requires
 add_row-requires c = (group c.args.by.now c.in_ok-key.key (take c.rows.place c.args.rows.now), c.rows.invariant c.in_ok-key.key)
 
 pub returns-in_err-add_row-clause-fault : goal.returns-in_err-add_row-clause-fault
-returns-in_err-add_row-clause-fault c =
+returns-in_err-add_row-clause-fault c ended numbers =
     let by = c.args.by.now in
     let rows = c.args.rows.now in
     let at = c.rows.place in
@@ -20,7 +20,7 @@ returns-in_err-add_row-clause-fault c =
     let values : c.row-row.result ≡ (get_or rows at no_row).values = c.row-row.ensures in
     let is : row ≡ get_or rows at no_row = λ i. record { values = values i; period = c.period.ensures no_row i } in
     passed_on (IsFault by c.args.summed.now rows) c.from_residual-in_err-add_row.result _ c.from_residual-in_err-add_row.ensures.1
-    (fault_is by c.args.summed.now rows key (at + 1) (group by key (take at rows) ++ row ∷ []) c.in_err-add_row.field-0.0
+    (fault_is by c.args.summed.now rows ended numbers key (at + 1) (group by key (take at rows) ++ row ∷ []) c.in_err-add_row.field-0.0
     (own_group by rows at within row is key c.in_ok-key.ensures)
     (c.in_err-add_row.ensures.fault (group by key (take at rows)) (c.rows.invariant key)))
 

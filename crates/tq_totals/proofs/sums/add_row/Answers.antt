@@ -2,6 +2,7 @@ use Rattle.std.proofs.Common.{◌≡◌, ◌∙◌, ◌≤◌, ◌<◌, [], ◌�
 use Rattle.std.proofs.lemmas.Int.{to_z-of_z}
 use Rattle.std.specs.Int.{w128}
 use Rattle.std.proofs.lemmas.List.{get_or-map, length-map}
+use Rattle.std.proofs.lemmas.List.Elements.{Contains-get_or}
 use Rattle.tq_base.specs.declared.fragment.Fragment.{Fragment}
 use Rattle.tq_base.specs.RowValues.{number_of}
 use Rattle.tq_totals.specs.Sums.{row_sum}
@@ -24,7 +25,8 @@ returns-in-None-clause-large c rows is =
     let there = sum_there c.columns.sums.items rows c.args.summed.now c.columns.place c.index.result.now (omega (arith, c.columns-test.true)) parts.1 c.index.ensures in
     let fits : FitsSigned w128 c.number_of-number.result = search rules in
     let number = to_z-of_z w128 c.number_of-number.result fits ∙ c.number_of-number.ensures ∙ ap number_of c.value.ensures in
-    too_large rows row column c.index.result.now _ c.length_of-len.result there number c.length_of-len.ensures c.in-None.ensures
+    let within : c.columns.place < length c.args.summed.now = omega (arith, c.columns-test.true) in
+    (Contains-get_or c.args.summed.now c.columns.place 0 within, too_large rows row column c.index.result.now _ c.length_of-len.result there number c.length_of-len.ensures c.in-None.ensures)
 
 pub columns-preserved : goal.columns-preserved
 columns-preserved c = record {
