@@ -5,8 +5,8 @@
     gate/build.py --prove CRATE
 
 Without a name it builds tq. With --prove it builds nothing: it proves a crate and those below it, each with as many
-processors as `rt ci` gives to a proof that runs alone. The full check begins so with the crates for which most
-others wait, and takes what is proved meanwhile. `rt ci` proves a program and the crates below it in a copy of the repository that has no other
+processors as `rt ci` gives to a proof that runs alone. The full check proves the chain of the program so, and takes what is
+proved meanwhile. `rt ci` proves a program and the crates below it in a copy of the repository that has no other
 crate and no must-fail edit. It keeps on this machine each crate that it proved, by the checksums of all that it read. So a
 build that was stopped resumes with the crates that are left, the full check does not prove them again, and after a full check
 there is nothing left to prove. A program of which nothing changed since its last build is not built again: bin/CRATE.sum has

@@ -16,7 +16,7 @@ from functools import cache
 import traceability
 from traceability import definitions_of, exists, text_of
 
-FUNCTION, CRATE = "ask_with_progress", "tq"
+FUNCTION, CRATE = "ask_with_progress", "tq_commands"
 
 USE = re.compile(r"use Rattle\.(tq\w*)\.specs\.([\w.]+?)(?:\.\{(.*)\}| as (\w+))$")
 HEAD = re.compile(r"(?:(?:pub|abbrev|unfoldable|record|data) +)+([^\s:(]+)")

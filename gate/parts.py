@@ -5,20 +5,25 @@
 
 Each statement is asked of random tables, whole and in 1, 2, 7 and 64 parts: the bytes of `tq merge` must be those of `tq ask`.
 A statement whose tables cannot be divided must be refused with a reason, and one that `tq ask` refuses must be refused by
-`tq split` too. The last line is 'N passed, M failed'; before it stands how many statements were divided and how many were not.
+`tq split` too. The last line is 'N passed, M failed'; before it stands how many answers were merged, how many were added, and how many
+statements were not divided.
 """
 
 import argparse
+import collections
 import concurrent.futures
+import json
 import pathlib
 import random
 import sys
 import tempfile
 
-from compare import ran, statement, tables_in
+from compare import Query, ran, statement, tables_in
 
 PARTS = [1, 2, 7, 64]
 FEW_ROWS, MANY_ROWS, EACH = 25, 600, 10
+# How many of the statements count and sum, with their groups in front.
+SUMMED = 0.4
 
 
 def read_options():
@@ -28,6 +33,20 @@ def read_options():
     parser.add_argument("--seed", type=int, default=1)
     parser.add_argument("--lanes", type=int, default=4)
     return parser.parse_args()
+
+
+def added_statement(draw, schemas, most):
+    """A statement whose counts and sums have to be added, if its sources are linked: its groups come first, if it has some."""
+    query = Query(draw, schemas, [], most)
+    groups = list(dict.fromkeys(name for name, _ in (draw.choice(query.columns) for _ in range(draw.randint(0, 2)))))
+    numbers = [name for name, kind in query.columns if kind == "int"]
+    sums = [f"SUM({draw.choice(numbers)})" if groups and draw.random() < 0.6 else "COUNT(*)" for _ in range(draw.randint(1, 2))]
+    text = "VALIDTIME SELECT " + ", ".join(draw.sample(groups, len(groups)) + sums)
+    text += " FROM " + ", ".join(f"{schema.name} {alias}" for schema, alias in query.sources)
+    parts = query.links()
+    if parts:
+        text += " WHERE " + " AND ".join(parts)
+    return text + (" GROUP BY " + ", ".join(groups) if groups else "")
 
 
 def ask_part(program, folder):
@@ -49,28 +68,30 @@ def merged(program, folder, parts):
 
 
 def try_statement(options, number):
-    """What is wrong with the statement of this number, or None, and whether its tables were divided."""
+    """What is wrong with the statement of this number, or None, and how the answers over its parts were combined."""
     draw = random.Random(options.seed * 1_000_003 + number)
     with tempfile.TemporaryDirectory(prefix="tq-") as room:
         room = pathlib.Path(room)
         is_large = number % EACH == 0
         most = MANY_ROWS if is_large else FEW_ROWS
         schemas, tables = tables_in(room, draw, lambda: draw.randint(0, most))
-        asked = statement(draw, schemas, 2 if is_large else 3)
+        shape = added_statement if draw.random() < SUMMED else statement
+        asked = shape(draw, schemas, 2 if is_large else 3)
         wanted, _, status = ran([options.tq, "ask", *tables, asked])
         for parts in PARTS:
             folder = room / f"parts-{parts}"
             _, errors, split_status = ran([options.tq, "split", "--parts", str(parts), "--out", folder, *tables, asked])
             if status != 0 or split_status != 0:
                 if split_status != 1 or not errors.strip():
-                    return f"split has status {split_status}, ask {status}: {asked}", False
+                    return f"split has status {split_status}, ask {status}: {asked}", "refused"
                 if status == 0 and b"cannot divide" not in errors:
-                    return f"split is refused for another reason, {errors!r}: {asked}", False
-                return None, False
+                    return f"split is refused for another reason, {errors!r}: {asked}", "refused"
+                return None, "refused"
             answer, error = merged(options.tq, folder, parts)
             if error or answer != wanted:
-                return f"{parts} parts: {error or 'another answer'}: {asked}", True
-    return None, True
+                return f"{parts} parts: {error or 'another answer'}: {asked}", "divided"
+        ways = json.loads((folder / "manifest.json").read_text(encoding="utf-8"))
+    return None, "added" if ways["combine"] == "add" else "merged"
 
 
 def main():
@@ -80,8 +101,8 @@ def main():
     wrong = [number for number, (error, _) in enumerate(tried) if error]
     for number in wrong[:20]:
         print(f"statement {number}: {tried[number][0]}")
-    divided = sum(is_divided for _, is_divided in tried)
-    print(f"{divided} statements over parts, {len(tried) - divided} not divided")
+    count = collections.Counter(way for _, way in tried)
+    print(f"{count['merged']} answers merged, {count['added']} added, {count['refused']} statements not divided")
     print(f"{len(tried) - len(wrong)} passed, {len(wrong)} failed")
     return 1 if wrong else 0
 

@@ -40,6 +40,7 @@ SHELL_PAGES = [
     "docs/reference/files.md",
     "docs/reference/language.md",
     "docs/tasks.md",
+    "examples/dates.md",
 ]
 # The page whose commands are run in a terminal, and that terminal's columns.
 TERMINAL_PAGE = "examples/terminal.md"
@@ -98,15 +99,17 @@ def form_of(text):
 
 
 def cases_of_page(path):
-    """The commands that a page prints: '$ bin/tq ..' before its lines, or a statement before its answer."""
+    """The commands that a page prints: '$ bin/tq ..' before its lines, but where the shell runs them, or a statement before its
+    answer."""
     text = path.read_text()
+    by_shell = str(path.relative_to(ROOT)) in SHELL_PAGES
     form = form_of(text)
     blocks = list(blocks_of(text))
     for place, block in enumerate(blocks):
         if form and block[0].startswith("    VALIDTIME") and place + 1 < len(blocks):
             statement = block[0].strip()
             yield printed(f"{path.name}: {statement}", [*form, statement], blocks[place + 1])
-        for command, lines in commands_of(block, COMMAND):
+        for command, lines in [] if by_shell else commands_of(block, COMMAND):
             words = shlex.split(command)
             yield printed(f"{path.name}: {words[-1]}", words, lines)
 
@@ -280,10 +283,33 @@ def commands_in_terminal(program):
         yield f"{TERMINAL_PAGE}: {command}", faults
 
 
+# Words of a command line, of which the last is completed in bash, and what it becomes.
+COMPLETED = [
+    (["dr"], ["draw"]),
+    (["help", "sp"], ["split"]),
+    (["ask", "--fo"], ["--format"]),
+    (["ask", "--format", "j"], ["json", "jsonl"]),
+    (["calendar", "--by", ""], ["month", "quarter", "year"]),
+    (["total", "--by", "m"], [""]),
+    (["ask", "--statement-file", "exam"], ["examples"]),
+    (["ask", "--table", "emp", "=", "examples/em"], ["examples/emp.csv", "examples/emp.svg"]),
+    (["import", "examples/br"], ["examples/broken.csv"]),
+]
+
+
+def completed_in_bash(page):
+    """Each word that bash completes by this page, with what is wrong with it."""
+    for words, wanted in COMPLETED:
+        script = f'source "$1"; shift; COMP_WORDS=(tq "$@"); COMP_CWORD=$#; _tq; printf "%s\\n" "${{COMPREPLY[@]}}"'
+        ran = subprocess.run(["bash", "-c", script, "bash", page, *words], cwd=ROOT, stdout=subprocess.PIPE, timeout=SECONDS)
+        found = sorted(ran.stdout.decode().split("\n")[:-1])
+        yield f"bash completes {' '.join(words)}", [] if found == wanted else [f"{found}, not {wanted}"]
+
+
 def made_pages(program):
     """Each page that is made of the program's helps, with what is wrong with it: each option stands in it."""
     options = {"--help"}
-    for command in ("ask", "draw", "check", "session"):
+    for command in ("ask", "draw", "total", "calendar", "check", "session", "import", "split", "merge"):
         said = subprocess.run([program, command, "--help"], stdout=subprocess.PIPE, timeout=SECONDS).stdout.decode()
         options |= set(re.findall(r"^ +(?:-\w, )?(--[\w-]+)", said, re.MULTILINE))
     with tempfile.TemporaryDirectory(prefix="tq-") as room:
@@ -293,6 +319,7 @@ def made_pages(program):
             text = path.read_text().replace("\\-", "-").replace(" -l ", " --") if path.exists() else ""
             faults = [f"{option} is missing" for option in sorted(options) if option not in text]
             yield f"page {page}", faults + ([] if made == 0 else [f"status {made}"])
+        yield from completed_in_bash(f"{room}/tq.bash")
 
 
 def session_at_a_terminal(program):

@@ -153,7 +153,8 @@ def placed(case, folder):
     is_import = case.words[:1] == ["import"]
     for place, (before, word) in enumerate(zip([None, *case.words], case.words), 1):
         front = "--table=" if word.startswith("--table=") else ""
-        is_file = is_import and (before in ("--output", "--skip-invalid") or place == len(case.words)) and not word.startswith("-")
+        is_path = before in ("-o", "--output", "--skip-invalid", "--statement-file") or (is_import and place == len(case.words))
+        is_file = is_path and not word.startswith("-")
         name, _, path = ("", "", word) if is_file else word.removeprefix(front).partition("=")
         if (front or before == "--table" or is_file) and path not in ("", "-") and not path.startswith(("/", "examples/")):
             word = f"{folder}/{path}" if is_file else f"{front}{name}={folder}/{path}"

@@ -41,16 +41,17 @@ part() {
     fi
 }
 
-# Nearly all crates wait for these, one after the other, so each gets two processors if memory allows; with RT_JOBS it would
-# get one. The run of all crates waits for what is proved here, and proves others meanwhile.
+# The program and the crates below it are a long chain, in which each proof gets two processors if memory allows; with RT_JOBS
+# it would get one. The run of all crates waits for what is proved here, and meanwhile proves tests and tries mutants.
 if (($# == 0 && RT_JOBS >= 4)); then
-    python3 gate/build.py --prove tq_agg > /dev/null 2>&1 &
+    python3 gate/build.py --prove tq > /dev/null 2>&1 &
     sleep 3
 fi
 
 part rt ci "$@"
 wait
 part gate/program.py crates/tq/out/tq
+part gate/screens.py crates/tq/out/tq
 part gate/personnel.py crates/tq/out/tq
 part gate/mutated_exports.py crates/tq/out/tq
 part gate/clients.py crates/tq/out/tq

@@ -32,7 +32,7 @@ tq_tests_crowd   tq_tests_concurrency   crate
 
 Items            List                   type
 Seen             ValueRef               type        but tq_snapshot tq_run tq_check tq_tests_e* tq_tests_c*
-Line             RowPeriod              type        but tq tq_session
+Line             RowPeriod              type        but tq tq_commands tq_session
 Sides            SortInput              type        but tq_snapshot
 Key              SortKey                type
 Mark             RunStart               type        but tq_event
@@ -57,8 +57,8 @@ joining          merge_join             module
 told             reported               function    but tq_agg
 telling          printing               module
 
-Told             Diagnostic             type        in tq
-Kept             RetainedFile           type        in tq
+Told             Diagnostic             type        in tq_commands
+Kept             RetainedFile           type        in tq_commands
 heads_where      header_copies          definition
 converse         run_session            function
 carry_out        dispatch               function

@@ -1,10 +1,2 @@
-pub mod HeaderLines
-pub mod Refusals
-pub mod Renderings
-pub mod Report
-pub mod Retained
 pub mod SessionLines
-pub mod Spans
-pub mod Figures
-pub mod ProfileText
-pub mod Profiles
+pub mod SessionRefusals

@@ -6,9 +6,10 @@ use Rattle.clap.specs.declared.builder.command.Command.TheViews.{out-Command}
 use Rattle.clap.specs.declared.error.Error.{Error}
 use Rattle.clap.specs.declared.parser.matches.ArgMatches.{ArgMatches}
 use Rattle.clap.proofs.OnLiterals.{clap_on_literals}
-use Rattle.tq_cli.specs.CommandLine.{IsInvalid, IsPrintOf, IsRequestIn, IsUsageFault, program_app, tq_app}
+use Rattle.tq_cli.specs.Apps.{program_app, tq_app}
+use Rattle.tq_cli.specs.CommandLine.{IsInvalid, IsPrintOf, IsRequestIn, IsUsageFault}
 use Rattle.tq_cli.specs.declared.request.Request.{Request}
-use Rattle.tq_cli.specs.declared.request.Request.TheVariants.{Print, Ask, Draw, Check, Session, Import, Split, Merge}
+use Rattle.tq_cli.specs.declared.request.Request.TheVariants.{Print, Ask, Draw, Total, Calendar, Check, Session, Import, Split, Merge}
 use Rattle.clap.specs.declared.builder.arg.Arg.{Arg}
 use Rattle.clap.specs.declared.builder.command.Command.{Command}
 use Rattle.clap.proofs.SimpleLemmas.{plain_fields}
@@ -97,6 +98,8 @@ printed_by words e (Print text) (inl memory) (inl help) = cc
 printed_by words e (Print text) (inl memory) (inr version) = cc
 printed_by words e (Ask ask) kind p = absurd p
 printed_by words e (Draw draw) kind p = absurd p
+printed_by words e (Total total) kind p = absurd p
+printed_by words e (Calendar calendar) kind p = absurd p
 printed_by words e (Check check) kind p = absurd p
 printed_by words e (Session session) kind p = absurd p
 printed_by words e (Import request) kind p = absurd p

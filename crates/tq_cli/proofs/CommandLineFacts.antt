@@ -1,10 +1,11 @@
 -- What some command lines ask for, computed.
-use Rattle.std.proofs.Common.{◌≡◌, List, [], ◌∷◌, Some, true, false, codes, option_map, refl}
+use Rattle.std.proofs.Common.{◌≡◌, List, [], ◌∷◌, Some, true, false, codes, option_map, refl, None}
 use Rattle.tq_report.specs.declared.format.Format.TheVariants.{JsonLines}
 use Rattle.clap.specs.Words.{Text, fault_of, subcommand_of}
 use Rattle.clap.specs.declared.error.kind.ErrorKind.TheVariants.{DisplayHelp, DisplayVersion, MissingRequiredArgument, MissingSubcommand}
 use Rattle.clap.proofs.OnLiterals.{clap_on_literals}
-use Rattle.tq_cli.specs.CommandLine.{asks_details, format_named, is_set, list_of, number_of, table_words, text_of, tq_app}
+use Rattle.tq_cli.specs.Apps.{tq_app}
+use Rattle.tq_cli.specs.CommandLine.{asks_details, decimal_in, format_named, has_statement, is_set, list_of, number_of, table_words, text_of, word_of}
 
 abbrev words : List Text
 words = codes "ask" ∷ codes "--table" ∷ codes "a=b" ∷ codes "--table=c=d" ∷ codes "--dates" ∷ codes "VALIDTIME" ∷ []
@@ -82,3 +83,32 @@ format_found = refl
 pub csv_is_the_default : option_map (λ sub. text_of (codes "format") sub.1) (subcommand_of tq_app words) ≡ Some (codes "csv")
 unfolding clap_on_literals
 csv_is_the_default = refl
+
+pub output_found : option_map (λ sub. text_of (codes "output") sub.1) (subcommand_of tq_app (codes "ask" ∷ codes "-o" ∷ codes "x.csv" ∷ codes "--table=a=b" ∷ codes "VALIDTIME" ∷ [])) ≡ Some (codes "x.csv")
+unfolding clap_on_literals
+output_found = refl
+
+pub file_is_a_statement : option_map (λ sub. has_statement sub.1) (subcommand_of tq_app (codes "draw" ∷ codes "--statement-file=q.sql" ∷ codes "--table=a=b" ∷ [])) ≡ Some true
+unfolding clap_on_literals
+file_is_a_statement = refl
+
+pub two_statements : option_map (λ sub. has_statement sub.1) (subcommand_of tq_app (codes "draw" ∷ codes "--statement-file=q.sql" ∷ codes "--table=a=b" ∷ codes "VALIDTIME" ∷ [])) ≡ Some false
+unfolding clap_on_literals
+two_statements = refl
+
+pub sums_found : option_map (λ sub. list_of (codes "sum") sub.1) (subcommand_of tq_app (codes "total" ∷ codes "--sum=a" ∷ codes "--table=a=b" ∷ codes "--sum" ∷ codes "b" ∷ codes "VALIDTIME" ∷ [])) ≡ Some (codes "a" ∷ codes "b" ∷ [])
+unfolding clap_on_literals
+sums_found = refl
+
+pub calendar_end : option_map (λ sub. word_of (codes "end") sub.1) (subcommand_of tq_app (codes "calendar" ∷ codes "--by" ∷ codes "month" ∷ codes "2024-01-01" ∷ codes "2025-01-01" ∷ [])) ≡ Some (codes "2025-01-01")
+unfolding clap_on_literals
+calendar_end = refl
+
+pub two_places : decimal_in (codes "pay=2") ≡ Some (codes "pay", 2)
+two_places = refl
+
+pub too_many_places : decimal_in (codes "pay=19") ≡ None
+too_many_places = refl
+
+pub name_up_to_the_first_sign : decimal_in (codes "a=b=2") ≡ None
+name_up_to_the_first_sign = refl

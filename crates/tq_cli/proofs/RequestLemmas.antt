@@ -1,5 +1,5 @@
 -- What is read of the rows that clap found.
-use Rattle.std.proofs.Common.{◌≡◌, ◌∙◌, ◌<◌, ◌^◌, ◌&&◌, ℕ, Bool, true, false, List, [], ◌∷◌, length, get_or, Option, Some, None, Result, Ok, Err, map, option_map, unwrap_or, nat_lt, codes, refl, sym, ap, subst}
+use Rattle.std.proofs.Common.{is_some, ◌≡◌, ◌∙◌, ◌<◌, ◌^◌, ◌&&◌, ℕ, Bool, true, false, List, [], ◌∷◌, length, get_or, Option, Some, None, Result, Ok, Err, map, option_map, unwrap_or, nat_lt, codes, refl, sym, ap, subst}
 use Rattle.std.specs.Prelude.{IfErr, IsErrAnd}
 use Rattle.std.specs.List.{Any, list_all}
 use Rattle.std.proofs.lemmas.List.{get_or-map, length-map}
@@ -127,3 +127,8 @@ pub named_rows : {X A B : Type 0} (f : X → A) (g : X → B) (o : Option X) (a 
     → option_map (λ (p : A × B). p.1) (option_map (pair_of f g) o) ≡ Some b → option_map (pair_of f g) o ≡ Some (a, b)
 named_rows f g None a b name rows = cc
 named_rows f g (Some x) a b name rows = cc
+
+-- A value that is found is given.
+pub given_read : (r : Option (Bor Text)) (o : Option Text) → option_map (λ s. s.now) r ≡ o → is_some r ≡ is_some o
+given_read None o e = rw (← e) refl
+given_read (Some b) o e = rw (← e) refl

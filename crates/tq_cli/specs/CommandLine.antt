@@ -1,22 +1,29 @@
 -- What the words of a command line ask for. (This project's own.)
-use Rattle.std.specs.Prelude.{ℕ, Bool, List, [], ◌∷◌, ◌++◌, ◌≡◌, ◌≢◌, ◌⊎◌, ◌&&◌, ◌||◌, ◌<◌, ◌≤◌, ◌^◌, Option, Some, None, map, option_map, unwrap_or, length, count_by, nat_lt, if◌then◌else◌, codes, Contains, pos, true, false}
-use Rattle.std.specs.List.{All, Any, list_all}
+use Rattle.std.specs.Prelude.{ℕ, Bool, List, [], ◌∷◌, ◌++◌, ◌≡◌, ◌≢◌, ◌⊎◌, ◌&&◌, ◌||◌, ◌<◌, ◌≤◌, ◌^◌, ◌==◌, Option, Some, None, is_some, map, option_map, unwrap_or, length, count_by, nat_lt, not, if◌then◌else◌, codes, Contains, true, false}
+use Rattle.std.specs.List.{All, Any, after_first, before_first, list_all, list_any}
 use Rattle.std.specs.Option.{option_map_or}
 use Rattle.std.specs.Str.{bytes_eq, chars}
 use Rattle.std.specs.Char.{digit_value}
 use Rattle.std.specs.Str.Parse.{digits_value, without_leading_plus}
-use Rattle.clap.specs.Words.{App, IsAmong, Row, Rule, Text, all_of, fault_of, first_of, new_app, new_rule, one_of, subcommand_of, with_rule, with_subcommand}
-use Rattle.clap.specs.declared.builder.ArgAction.TheVariants.{Append, SetTrue}
-use Rattle.clap.specs.declared.builder.value_parser.ValueParser.TheVariants.{Signed}
+use Rattle.clap.specs.Words.{IsAmong, Row, Text, all_of, fault_of, first_of, one_of, subcommand_of}
 use Rattle.clap.specs.declared.error.kind.ErrorKind.{ErrorKind}
 use Rattle.clap.specs.declared.error.kind.ErrorKind.TheVariants.{DisplayHelp, DisplayVersion, OutOfMemory}
 use Rattle.tq_base.specs.declared.form.Form.{Form}
 use Rattle.tq_base.specs.declared.form.Form.TheVariants.{Numbers, Dates}
+use Rattle.tq_base.specs.declared.period.Period.{Period}
+use Rattle.tq_base.specs.Numbers.{instant_of, natural_up_to}
+use Rattle.tq_cli.specs.Apps.{tq_app}
 use Rattle.tq_cli.specs.ByteText.{byte_of}
 use Rattle.tq_cli.specs.declared.request.TableOption.{TableOption}
 use Rattle.tq_cli.specs.declared.request.QuestionRequest.{QuestionRequest}
 use Rattle.tq_cli.specs.declared.request.AskRequest.{AskRequest}
+use Rattle.tq_cli.specs.declared.request.LayoutRequest.{LayoutRequest}
+use Rattle.tq_cli.specs.declared.request.DecimalOption.{DecimalOption}
+use Rattle.tq_cli.specs.declared.request.TotalRequest.{TotalRequest}
+use Rattle.tq_cli.specs.declared.request.CalendarRequest.{CalendarRequest}
 use Rattle.tq_cli.specs.declared.request.DrawRequest.{DrawRequest}
+use Rattle.tq_cli.specs.declared.request.PictureFormat.{PictureFormat}
+use Rattle.tq_cli.specs.declared.request.PictureFormat.TheVariants.{Html, Svg, Text as Plain}
 use Rattle.tq_cli.specs.declared.request.CheckRequest.{CheckRequest}
 use Rattle.tq_cli.specs.declared.request.SessionRequest.{SessionRequest}
 use Rattle.tq_cli.specs.declared.request.ImportRequest.{ImportRequest}
@@ -26,9 +33,11 @@ use Rattle.tq_import.specs.declared.words.ColumnWords.{ColumnWords}
 use Rattle.tq_import.specs.declared.words.ImportWords.{ImportWords}
 use Rattle.tq_import.specs.declared.words.PeriodWords.{PeriodWords}
 use Rattle.tq_report.specs.declared.format.Format.{Format}
-use Rattle.tq_report.specs.declared.format.Format.TheVariants.{Aligned, Json, JsonLines, Markdown, Tsv}
+use Rattle.tq_report.specs.declared.format.Format.TheVariants.{Aligned, Csv, Json, JsonLines, Markdown, Tsv}
+use Rattle.tq_totals.specs.declared.unit.Unit.{Unit}
+use Rattle.tq_totals.specs.declared.unit.Unit.TheVariants.{Month, Quarter, Year}
 use Rattle.tq_cli.specs.declared.request.Request.{Request}
-use Rattle.tq_cli.specs.declared.request.Request.TheVariants.{Print, Ask, Draw, Check, Session, Import, Split, Merge}
+use Rattle.tq_cli.specs.declared.request.Request.TheVariants.{Print, Ask, Draw, Total, Calendar, Check, Session, Import, Split, Merge}
 
 -- The word of a table: its name, an equals sign, its path.
 abbrev pub option_word : TableOption → List ℕ
@@ -47,6 +56,13 @@ text_of id rows = unwrap_or (first_of id rows) []
 -- The values of --table, as bytes, in the order of the words.
 abbrev pub table_words : List Row → List (List ℕ)
 table_words rows = map bytes_in (unwrap_or (all_of (codes "table") rows) [])
+
+-- An argument was given, and below, one that is not empty.
+abbrev pub is_given : Text → List Row → Bool
+is_given id rows = is_some (first_of id rows)
+
+abbrev pub is_named : Text → List Row → Bool
+is_named id rows = nat_lt 0 (length (text_of id rows))
 
 -- A flag was given.
 abbrev pub is_set : Text → List Row → Bool
@@ -85,30 +101,134 @@ IsTablesUpTo n rows tables = IsTablesOf (table_words rows) tables × (stdin_coun
 abbrev pub list_of : Text → List Row → List (List ℕ)
 list_of id rows = map bytes_in (unwrap_or (all_of id rows) [])
 
+-- The bytes of an argument; empty if it has none.
+abbrev pub word_of : Text → List Row → List ℕ
+word_of id rows = bytes_in (text_of id rows)
+
+-- A statement is given, or the path of its file, and not both.
+abbrev pub has_statement : List Row → Bool
+has_statement rows =
+    if is_named (codes "statement-file") rows then not (is_given (codes "statement") rows) else is_given (codes "statement") rows
+
 pub record IsQuestionOf (rows : List Row) (question : QuestionRequest) : Type 0 where
   pub tables : IsTablesUpTo 1 rows question.tables.items
   pub workers : question.workers ≡ number_of (codes "workers") rows
   pub form : question.form ≡ form_of rows
-  pub statement : question.statement.items ≡ bytes_in (text_of (codes "statement") rows)
+  pub statement : question.statement.items ≡ word_of (codes "statement") rows
+  pub statement_file : question.statement_file.items ≡ word_of (codes "statement-file") rows
+  pub one : has_statement rows ≡ true
+  pub output : question.output.items ≡ word_of (codes "output") rows
   pub explain : question.explain ≡ is_set (codes "explain") rows
 
--- The format with a name. CSV has the name `csv`, and no format.
+-- The format with a name.
 abbrev pub format_named : Text → Option Format
 format_named name =
-    if bytes_eq name (codes "table") then Some Aligned
+    if bytes_eq name (codes "csv") then Some Csv
+    else (if bytes_eq name (codes "table") then Some Aligned
     else (if bytes_eq name (codes "markdown") then Some Markdown
     else (if bytes_eq name (codes "tsv") then Some Tsv
     else (if bytes_eq name (codes "json") then Some Json
-    else (if bytes_eq name (codes "jsonl") then Some JsonLines else None))))
+    else (if bytes_eq name (codes "jsonl") then Some JsonLines else None)))))
 
+-- Whether the order with a name is that of time.
+abbrev pub order_named : Text → Option Bool
+order_named name =
+    if bytes_eq name (codes "time") then Some true else (if bytes_eq name (codes "values") then Some false else None)
+
+abbrev pub is_equals : ℕ → Bool
+is_equals byte = byte == 61
+
+-- The column of amounts that a word names, NAME=PLACES: the name ends at the first equals sign, and after it are the digits of
+-- a number up to 18. None if the word has another form.
+abbrev pub decimal_in : List ℕ → Option (List ℕ × ℕ)
+decimal_in word =
+    if list_any is_equals word
+    then option_map (λ places. (before_first is_equals word, places)) (natural_up_to 18 (after_first is_equals word))
+    else None
+
+-- The columns of amounts that the words name, in their order.
+abbrev pub AreDecimalsOf : List (List ℕ) → List DecimalOption → Type 0
+AreDecimalsOf words decimals = map (λ (d : DecimalOption). Some (d.name.items, d.places)) decimals ≡ map decimal_in words
+
+pub record IsLayoutOf (rows : List Row) (layout : LayoutRequest) : Type 0 where
+  pub format : Some layout.format ≡ format_named (text_of (codes "format") rows)
+  pub pretty : layout.pretty ≡ is_set (codes "pretty") rows
+  pub order : Some layout.by_time ≡ order_named (text_of (codes "order") rows)
+  pub inclusive : layout.inclusive ≡ is_set (codes "inclusive") rows
+  pub decimals : AreDecimalsOf (list_of (codes "decimal") rows) layout.decimals.items
+  pub typed : layout.typed ≡ is_set (codes "typed") rows
+
+abbrev pub is_csv : Format → Bool
+is_csv Csv = true
+is_csv _ = false
+
+-- An answer is written otherwise than in the CSV of tables.
+abbrev pub is_changed : LayoutRequest → Bool
+is_changed layout =
+    not (is_csv layout.format) || (layout.pretty || (layout.inclusive || nat_lt 0 (length layout.decimals.items)))
+
+-- A table file is written in the CSV of tables.
 pub record IsAskOf (rows : List Row) (ask : AskRequest) : Type 0 where
   pub question : IsQuestionOf rows ask.question
-  pub format : ask.format ≡ format_named (text_of (codes "format") rows)
+  pub layout : IsLayoutOf rows ask.layout
+  pub alone : (ask.layout.typed && is_changed ask.layout) ≡ false
+
+-- The parts of a word before and after its first comma.
+pub record ArePartsOf (word start end : List ℕ) : Type 0 where
+  pub split : word ≡ start ++ 44 ∷ end
+  pub first : ¬ (Contains start 44)
+
+-- The parts are the instants of a period.
+pub record ArePeriodWords (form : Form) (first last : List ℕ) (period : Period) : Type 0 where
+  pub start : instant_of form first ≡ Some period.start
+  pub end : instant_of form last ≡ Some period.end
+
+-- The word is the start and the end of a window, with a comma between them.
+pub record IsWindow (form : Form) (word : List ℕ) (window : Period) : Type 0 where
+  pub start : List ℕ
+  pub end : List ℕ
+  pub parts : ArePartsOf word start end
+  pub period : ArePeriodWords form start end window
+
+-- The window of a picture, if one is given.
+abbrev pub IsWindowOf : List Row → Option Period → Type 0
+IsWindowOf rows None = is_given (codes "window") rows ≡ false
+IsWindowOf rows (Some window) = (is_given (codes "window") rows ≡ true) × IsWindow (form_of rows) (word_of (codes "window") rows) window
+
+-- The format of a picture; none if two are asked for.
+abbrev pub picture_format : Bool → Bool → Option PictureFormat
+picture_format false false = Some Plain
+picture_format true false = Some Svg
+picture_format false true = Some Html
+picture_format true true = None
+
+-- The format that the flags of a command ask for.
+abbrev pub picture_format_of : List Row → Option PictureFormat
+picture_format_of rows = picture_format (is_set (codes "svg") rows) (is_set (codes "html") rows)
 
 pub record IsDrawOf (rows : List Row) (draw : DrawRequest) : Type 0 where
   pub question : IsQuestionOf rows draw.question
   pub width : draw.width ≡ number_of (codes "width") rows
-  pub svg : draw.svg ≡ is_set (codes "svg") rows
+  pub format : Some draw.format ≡ picture_format_of rows
+  pub window : IsWindowOf rows draw.window
+
+pub record IsTotalOf (rows : List Row) (total : TotalRequest) : Type 0 where
+  pub question : IsQuestionOf rows total.question
+  pub by : map (λ w. w.items) total.by.items ≡ list_of (codes "by") rows
+  pub sums : map (λ w. w.items) total.sums.items ≡ list_of (codes "sum") rows
+  pub some : 0 < length total.sums.items
+
+-- The unit with a name.
+abbrev pub unit_named : Text → Option Unit
+unit_named name =
+    if bytes_eq name (codes "month") then Some Month
+    else (if bytes_eq name (codes "quarter") then Some Quarter else (if bytes_eq name (codes "year") then Some Year else None))
+
+pub record IsCalendarOf (rows : List Row) (calendar : CalendarRequest) : Type 0 where
+  pub unit : Some calendar.unit ≡ unit_named (text_of (codes "by") rows)
+  pub start : Some calendar.start ≡ instant_of Dates (word_of (codes "start") rows)
+  pub end : Some calendar.end ≡ instant_of Dates (word_of (codes "end") rows)
+  pub output : calendar.output.items ≡ word_of (codes "output") rows
 
 pub record IsCheckOf (rows : List Row) (check : CheckRequest) : Type 0 where
   pub tables : IsTablesUpTo 1 rows check.tables.items
@@ -123,10 +243,6 @@ pub record IsSessionOf (rows : List Row) (session : SessionRequest) : Type 0 whe
   pub tables : IsTablesUpTo 0 rows session.tables.items
   pub form : session.form ≡ form_of rows
   pub explain : session.explain ≡ is_set (codes "explain") rows
-
--- The bytes of an argument; empty if it has none.
-abbrev pub word_of : Text → List Row → List ℕ
-word_of id rows = bytes_in (text_of id rows)
 
 pub record IsPeriodOf (rows : List Row) (period : PeriodWords) : Type 0 where
   pub from : period.from.items ≡ word_of (codes "from") rows
@@ -167,6 +283,8 @@ pub record IsSplitOf (rows : List Row) (request : SplitRequest) : Type 0 where
   pub parts : request.parts ≡ number_of (codes "parts") rows
   pub form : request.form ≡ form_of rows
   pub statement : request.statement.items ≡ word_of (codes "statement") rows
+  pub statement_file : request.statement_file.items ≡ word_of (codes "statement-file") rows
+  pub one : has_statement rows ≡ true
   pub output : request.output.items ≡ word_of (codes "out") rows
   pub explain : request.explain ≡ is_set (codes "explain") rows
 
@@ -182,6 +300,8 @@ abbrev pub IsRequestOf : Option (Text × List Row) → Request → Type 0
 IsRequestOf sub (Print text) = ⊥
 IsRequestOf sub (Ask ask) = Names (codes "ask") (λ rows. IsAskOf rows ask) sub
 IsRequestOf sub (Draw draw) = Names (codes "draw") (λ rows. IsDrawOf rows draw) sub
+IsRequestOf sub (Total total) = Names (codes "total") (λ rows. IsTotalOf rows total) sub
+IsRequestOf sub (Calendar calendar) = Names (codes "calendar") (λ rows. IsCalendarOf rows calendar) sub
 IsRequestOf sub (Check check) = Names (codes "check") (λ rows. IsCheckOf rows check) sub
 IsRequestOf sub (Session session) = Names (codes "session") (λ rows. IsSessionOf rows session) sub
 IsRequestOf sub (Import request) = Names (codes "import") (λ rows. IsImportOf rows request) sub
@@ -211,164 +331,75 @@ HasInvalidWorkers rows =
 abbrev pub HasInvalidParts : List Row → Type 0
 HasInvalidParts rows = (number_of (codes "parts") rows < 1) ⊎ (1000 < number_of (codes "parts") rows)
 
+abbrev pub HasInvalidStatement : List Row → Type 0
+HasInvalidStatement rows = has_statement rows ≡ false
+
 abbrev pub IsInvalidSplit : List Row → Type 0
-IsInvalidSplit rows = HasInvalidTables 0 rows ⊎ HasInvalidParts rows
+IsInvalidSplit rows = HasInvalidTables 0 rows ⊎ (HasInvalidParts rows ⊎ HasInvalidStatement rows)
+
+abbrev pub IsInvalidTables : List Row → Type 0
+IsInvalidTables rows = HasInvalidTables 1 rows ⊎ HasInvalidWorkers rows
 
 abbrev pub IsInvalidQuestion : List Row → Type 0
-IsInvalidQuestion rows = HasInvalidTables 1 rows ⊎ HasInvalidWorkers rows
+IsInvalidQuestion rows = IsInvalidTables rows ⊎ HasInvalidStatement rows
 
--- The name of the format is none of the six.
-abbrev pub HasInvalidFormat : List Row → Type 0
-HasInvalidFormat rows = (format_named (text_of (codes "format") rows) ≡ None) × (text_of (codes "format") rows ≢ codes "csv")
+-- The name of the format is none of the six, that of the order neither `values` nor `time`, or a word names no column of
+-- amounts.
+abbrev pub HasInvalidDecimals : List Row → Type 0
+HasInvalidDecimals rows = Any (λ word. decimal_in word ≡ None) (list_of (codes "decimal") rows)
+
+abbrev pub IsInvalidLayout : List Row → Type 0
+IsInvalidLayout rows = (format_named (text_of (codes "format") rows) ≡ None)
+    ⊎ ((order_named (text_of (codes "order") rows) ≡ None) ⊎ HasInvalidDecimals rows)
+
+-- A table file is to be written in another way than the CSV of tables.
+abbrev pub IsTypedOtherwise : List Row → Type 0
+IsTypedOtherwise rows = (layout : LayoutRequest) × IsLayoutOf rows layout × ((layout.typed && is_changed layout) ≡ true)
 
 abbrev pub IsInvalidAsk : List Row → Type 0
-IsInvalidAsk rows = IsInvalidQuestion rows ⊎ HasInvalidFormat rows
+IsInvalidAsk rows = IsInvalidQuestion rows ⊎ (IsInvalidLayout rows ⊎ IsTypedOtherwise rows)
 
--- The subcommand has invalid values, or is none of the seven.
+-- A picture has no width.
+abbrev pub HasInvalidWidth : List Row → Type 0
+HasInvalidWidth rows = number_of (codes "width") rows ≡ 0
+
+-- The parts are not the instants of a period, the earlier one first.
+abbrev pub AreNoPeriod : Form → List ℕ → List ℕ → Type 0
+AreNoPeriod form start end = (instant_of form start ≡ None)
+    ⊎ ((instant_of form end ≡ None)
+    ⊎ ((s e : ℕ) × (instant_of form start ≡ Some s) × (instant_of form end ≡ Some e) × ¬ (s < e)))
+
+-- The word has no comma, or its parts are no period.
+abbrev pub IsNoWindow : Form → List ℕ → Type 0
+IsNoWindow form word = ¬ (Contains word 44) ⊎ ((start end : List ℕ) × ArePartsOf word start end × AreNoPeriod form start end)
+
+abbrev pub HasInvalidWindow : List Row → Type 0
+HasInvalidWindow rows = (is_given (codes "window") rows ≡ true) × IsNoWindow (form_of rows) (word_of (codes "window") rows)
+
+abbrev pub IsInvalidDraw : List Row → Type 0
+IsInvalidDraw rows = IsInvalidQuestion rows
+    ⊎ (HasInvalidWidth rows ⊎ ((picture_format_of rows ≡ None) ⊎ HasInvalidWindow rows))
+
+-- No column is summed.
+abbrev pub IsInvalidTotal : List Row → Type 0
+IsInvalidTotal rows = IsInvalidQuestion rows ⊎ (list_of (codes "sum") rows ≡ [])
+
+-- The name of the unit is none of the three, or a date is none.
+abbrev pub IsInvalidCalendar : List Row → Type 0
+IsInvalidCalendar rows = (unit_named (text_of (codes "by") rows) ≡ None)
+    ⊎ ((instant_of Dates (word_of (codes "start") rows) ≡ None) ⊎ (instant_of Dates (word_of (codes "end") rows) ≡ None))
+
+-- The subcommand has invalid values, or is none of the nine.
 abbrev pub IsInvalidRequest : Option (Text × List Row) → Type 0
 IsInvalidRequest sub = Names (codes "ask") IsInvalidAsk sub
-    ⊎ (Names (codes "draw") IsInvalidQuestion sub
-    ⊎ (Names (codes "check") IsInvalidQuestion sub
+    ⊎ (Names (codes "draw") IsInvalidDraw sub
+    ⊎ (Names (codes "check") IsInvalidTables sub
     ⊎ (Names (codes "session") (HasInvalidTables 0) sub
     ⊎ (Names (codes "split") IsInvalidSplit sub
+    ⊎ (Names (codes "total") IsInvalidTotal sub
+    ⊎ (Names (codes "calendar") IsInvalidCalendar sub
     ⊎ All (λ name. option_map (λ p. p.0) sub ≢ Some name)
-    (codes "ask" ∷ codes "draw" ∷ codes "check" ∷ codes "session" ∷ codes "import" ∷ codes "split" ∷ codes "merge" ∷ [])))))
-
--- ---- the command line that clap reads
-
-abbrev pub flag_rule : Text → Rule
-flag_rule name = record (new_rule name) { long = Some name; action = Some SetTrue }
-
-abbrev pub number_rule : Text → Text → Rule
-number_rule name default = record (new_rule name) {
-  long = Some name;
-  value_names = 1;
-  parser = Some (Signed (pos 0) (pos 4294967295));
-  defaults = default ∷ [];
-}
-
-abbrev pub text_rule : Text → Rule
-text_rule name = record (new_rule name) { long = Some name; value_names = 1 }
-
-abbrev pub required_rule : Text → Rule
-required_rule name = record (new_rule name) { long = Some name; value_names = 1; required = true }
-
-abbrev pub list_rule : Text → Rule
-list_rule name = record (new_rule name) { long = Some name; value_names = 1; action = Some Append }
-
-abbrev pub table_rule : Rule
-table_rule = record (new_rule (codes "table")) {
-  long = Some (codes "table");
-  value_names = 1;
-  required = true;
-  action = Some Append;
-}
-
-abbrev pub statement_rule : Rule
-statement_rule = record (new_rule (codes "statement")) { value_names = 1; required = true }
-
-abbrev pub path_rule : Rule
-path_rule = record (new_rule (codes "file")) { value_names = 1; required = true }
-
-abbrev pub workers_rule : Rule
-workers_rule = number_rule (codes "workers") (codes "1")
-
-abbrev pub width_rule : Rule
-width_rule = number_rule (codes "width") (codes "80")
-
-abbrev pub svg_rule : Rule
-svg_rule = flag_rule (codes "svg")
-
-abbrev pub dates_rule : Rule
-dates_rule = flag_rule (codes "dates")
-
-abbrev pub explain_rule : Rule
-explain_rule = flag_rule (codes "explain")
-
-abbrev pub overlaps_rule : Rule
-overlaps_rule = flag_rule (codes "overlaps")
-
-abbrev pub gaps_rule : Rule
-gaps_rule = flag_rule (codes "gaps")
-
-abbrev pub refers_rule : Rule
-refers_rule = list_rule (codes "refers")
-
-abbrev pub with_question : App → App
-with_question app = with_rule (with_rule (with_rule (with_rule (with_rule app table_rule) dates_rule)
-    explain_rule) workers_rule) statement_rule
-
-abbrev pub format_rule : Rule
-format_rule = record (new_rule (codes "format")) {
-  long = Some (codes "format");
-  value_names = 1;
-  defaults = codes "csv" ∷ [];
-}
-
-abbrev pub ask_app : App
-ask_app = with_question (with_rule (new_app (codes "ask")) format_rule)
-
-abbrev pub draw_app : App
-draw_app = with_question (with_rule (with_rule (new_app (codes "draw")) width_rule) svg_rule)
-
-abbrev pub check_app : App
-check_app =
-    with_rule (with_rule (with_rule (with_rule (with_rule (with_rule (with_rule (new_app (codes "check")) table_rule) dates_rule)
-    explain_rule) workers_rule) overlaps_rule) gaps_rule) refers_rule
-
-abbrev pub session_app : App
-session_app = with_rule (with_rule (with_rule (new_app (codes "session")) table_rule) dates_rule) explain_rule
-
-abbrev pub with_period : App → App
-with_period app =
-    with_rule (with_rule (with_rule (with_rule (with_rule app (required_rule (codes "from"))) (required_rule (codes "to")))
-    (text_rule (codes "date-format"))) (flag_rule (codes "inclusive"))) (list_rule (codes "open"))
-
-abbrev pub with_columns : App → App
-with_columns app =
-    with_rule (with_rule (with_rule (with_rule (with_rule (with_rule (with_rule (with_rule app (text_rule (codes "key"))) (flag_rule (codes "number")))
-    (text_rule (codes "columns"))) (text_rule (codes "without"))) (list_rule (codes "rename"))) (list_rule (codes "decimal")))
-    (list_rule (codes "int"))) (list_rule (codes "text"))
-
-abbrev pub with_numbers : App → App
-with_numbers app =
-    with_rule (with_rule (with_rule (with_rule app (text_rule (codes "encoding"))) (text_rule (codes "delimiter"))) (text_rule (codes "decimal-point")))
-    (text_rule (codes "thousands"))
-
-abbrev pub import_app : App
-import_app =
-    with_rule (with_rule (with_rule (with_rule (with_rule (with_columns (with_period (with_numbers (new_app (codes "import")))))
-    (text_rule (codes "output"))) (flag_rule (codes "all"))) (text_rule (codes "skip-invalid"))) explain_rule) path_rule
-
-abbrev pub parts_rule : Rule
-parts_rule = number_rule (codes "parts") (codes "4")
-
-abbrev pub folder_rule : Rule
-folder_rule = record (new_rule (codes "folder")) { value_names = 1; required = true }
-
-abbrev pub split_app : App
-split_app =
-    with_rule (with_rule (with_rule (with_rule (with_rule (with_rule (new_app (codes "split")) parts_rule) (required_rule (codes "out")))
-    table_rule) dates_rule) explain_rule) statement_rule
-
-abbrev pub merge_app : App
-merge_app = with_rule (new_app (codes "merge")) folder_rule
-
--- The program itself: its words begin after its name, it has a version, and a subcommand is required.
-abbrev pub program_app : App
-program_app = record (new_app (codes "tq")) {
-  top = record (new_app (codes "tq")).top {
-    has_version = true;
-    no_binary_name = true;
-    subcommand_required = true;
-  };
-}
-
--- The whole command line of tq.
-abbrev pub tq_app : App
-tq_app =
-    with_subcommand (with_subcommand (with_subcommand (with_subcommand (with_subcommand (with_subcommand (with_subcommand program_app ask_app.top)
-    draw_app.top) check_app.top) session_app.top) import_app.top) split_app.top) merge_app.top
+    (codes "ask" ∷ codes "draw" ∷ codes "total" ∷ codes "calendar" ∷ codes "check" ∷ codes "session" ∷ codes "import" ∷ codes "split" ∷ codes "merge" ∷ [])))))))
 
 -- ---- the result for the words after the program's name
 

@@ -1,2 +1,4 @@
+pub mod Apps
 pub mod ByteText
 pub mod CommandLine
+pub mod Comments

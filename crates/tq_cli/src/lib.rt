@@ -9,13 +9,23 @@
 //! Open `src/command_line.rt` first.
 #![tactic(auto)]
 
+mod arguments;
 mod command_line;
+mod commands;
+mod comments;
+mod helps;
+mod imports;
+mod layouts;
+mod questions;
 mod request;
+mod values;
 mod words;
 
 pub use command_line::{CommandLineFault, UsageError, read_command_line};
+pub use comments::blank_comments;
 pub use request::{
-    AskRequest, CheckRequest, DrawRequest, ImportRequest, MergeRequest, QuestionRequest, Request,
-    SessionRequest, SplitRequest, TableOption,
+    AskRequest, CalendarRequest, CheckRequest, DecimalOption, DrawRequest, ImportRequest,
+    LayoutRequest, MergeRequest, PictureFormat, QuestionRequest, Request, SessionRequest,
+    SplitRequest, TableOption, TotalRequest,
 };
 pub use words::{asks_details, char_text, read_words};

@@ -3,9 +3,10 @@
 
 ghost use Rattle.std.specs.Prelude.{◌≤◌};
 
-use tq_base::Form;
+use tq_base::{Form, Instant, Period};
 use tq_import::ImportWords;
 use tq_report::Format;
+use tq_totals::Unit;
 
 /// A table's name, and the path of its file.
 #[derive(Drop)]
@@ -14,33 +15,84 @@ pub struct TableOption {
     pub path: Vec<u8>,
 }
 
-/// A question: the tables in the order of their options, 1 to 16 workers, how instants are written, a statement, and
-/// whether a refusal is explained wherever it goes, and an answer.
+/// A question: the tables in the order of their options, 1 to 16 workers, how instants are written, a statement or, if it
+/// is not empty, the path of a file that has it, the path of the file for the answer, of which an empty one is standard
+/// output, and whether a refusal is explained wherever it goes, and an answer.
 #[derive(Drop)]
 pub struct QuestionRequest {
     pub tables: Vec<TableOption>,
     pub workers: u32,
     pub form: Form,
     pub statement: Vec<u8>,
+    pub statement_file: Vec<u8>,
+    pub output: Vec<u8>,
     pub explain: bool,
     ghost some_workers: { 1 ≤ workers },
     ghost few_workers: { workers ≤ 16 },
 }
 
-/// What `tq ask` was asked: a question, and the format of the answer if it is not CSV.
+/// A column whose numbers are amounts: its name, and how many digits an amount has after the point.
+#[derive(Drop)]
+pub struct DecimalOption {
+    pub name: Vec<u8>,
+    pub places: u32,
+    ghost few_places: { places ≤ 18 },
+}
+
+/// How an answer is written: its format, whether it is an aligned table at a terminal, whether its rows are in the order of time, whether the end of a period is its last
+/// instant, which columns have amounts, and whether it is a table file.
+#[derive(Drop)]
+pub struct LayoutRequest {
+    pub format: Format,
+    pub pretty: bool,
+    pub by_time: bool,
+    pub inclusive: bool,
+    pub decimals: Vec<DecimalOption>,
+    pub typed: bool,
+}
+
+/// What `tq ask` was asked: a question, and how the answer is written.
 #[derive(Drop)]
 pub struct AskRequest {
     pub question: QuestionRequest,
-    pub format: Option<Format>,
+    pub layout: LayoutRequest,
 }
 
-/// What `tq draw` was asked: a question, how wide the picture may be, in characters, and whether it is to be an image in
-/// SVG.
+/// What `tq total` was asked: a question, the names of the columns by which rows are grouped, and of those that are
+/// totalled.
+#[derive(Drop)]
+pub struct TotalRequest {
+    pub question: QuestionRequest,
+    pub by: Vec<Vec<u8>>,
+    pub sums: Vec<Vec<u8>>,
+}
+
+/// What `tq calendar` was asked: the unit of the periods, the first day and the day after the last one, and the path of the
+/// table file, of which an empty one is standard output.
+#[derive(Drop)]
+pub struct CalendarRequest {
+    pub unit: Unit,
+    pub start: Instant,
+    pub end: Instant,
+    pub output: Vec<u8>,
+}
+
+/// How a picture is printed: as text, as an image in SVG, or as an HTML page that has it.
+#[derive(Clone, Copy, Debug, PartialEq, Eq)]
+pub enum PictureFormat {
+    Text,
+    Svg,
+    Html,
+}
+
+/// What `tq draw` was asked: a question, how wide the picture may be, in characters, how it is printed, and the window that
+/// it shows, if one was given.
 #[derive(Drop)]
 pub struct DrawRequest {
     pub question: QuestionRequest,
     pub width: u32,
-    pub svg: bool,
+    pub format: PictureFormat,
+    pub window: Option<Period>,
 }
 
 /// What `tq check` was asked: the tables in the order of their options, 1 to 16 workers, how instants are written,
@@ -82,13 +134,15 @@ pub struct ImportRequest {
 }
 
 /// What `tq split` was asked: the tables in the order of their options, the number of parts, how instants are written, a
-/// statement, the path of the folder into which parts are written, and whether to explain how tables are divided.
+/// statement or, if it is not empty, the path of a file that has it, the path of the folder into which parts are written,
+/// and whether to explain how tables are divided.
 #[derive(Drop)]
 pub struct SplitRequest {
     pub tables: Vec<TableOption>,
     pub parts: u32,
     pub form: Form,
     pub statement: Vec<u8>,
+    pub statement_file: Vec<u8>,
     pub output: Vec<u8>,
     pub explain: bool,
 }
@@ -99,13 +153,16 @@ pub struct MergeRequest {
     pub folder: Vec<u8>,
 }
 
-/// What the program was asked: to print this text, to answer a statement, to draw its answer, to check tables, to hold
-/// a session, to import a file, to divide tables, or to merge answers over parts of tables.
+/// What the program was asked: to print this text, to answer a statement, to draw its answer, to total it, to write
+/// periods of the calendar, to check tables, to hold a session, to import a file, to divide tables, or to merge answers over
+/// parts of tables.
 #[derive(Drop)]
 pub enum Request {
     Print(String),
     Ask(AskRequest),
     Draw(DrawRequest),
+    Total(TotalRequest),
+    Calendar(CalendarRequest),
     Check(CheckRequest),
     Session(SessionRequest),
     Import(ImportRequest),

@@ -32,7 +32,7 @@ context =
 -- words of other dialects, and what to write instead
 abbrev pub words : List (List ℕ × List ℕ)
 words =
-    (codes "order", codes "ORDER BY is not supported: rows are sorted by the columns after SELECT, from left to right, then by time")
+    (codes "order", codes "ORDER BY is not supported: rows are sorted by the columns after SELECT, from left to right, then by time; `tq ask --order time` sorts by time first")
     ∷ (codes "having", codes "HAVING is not supported: query the answer as a table, with WHERE instead of HAVING")
     ∷ (codes "distinct", codes "DISTINCT is not supported: use GROUP BY with the same columns")
     ∷ (codes "join", codes "JOIN is not supported: write FROM a, b WHERE a.k = b.k")

@@ -69,7 +69,7 @@ const CONTEXT: [(&[u8], &[u8], &[u8]); 10] = [
 const WORDS: [(&[u8], &[u8]); 38] = [
     (
         b"order",
-        b"ORDER BY is not supported: rows are sorted by the columns after SELECT, from left to right, then by time",
+        b"ORDER BY is not supported: rows are sorted by the columns after SELECT, from left to right, then by time; `tq ask --order time` sorts by time first",
     ),
     (
         b"having",

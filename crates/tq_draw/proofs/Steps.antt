@@ -30,6 +30,18 @@ pub items_step : {X : Type 0} (f : X → List ℕ) (text : List ℕ) (xs : List 
 items_step f text xs n d within =
     flat_map_more f text (take n xs) (get_or xs n d) ∙ ap (λ l. text ++ flat_map f l) (sym (take_more xs n d within))
 
--- three pieces after a text are one piece after it
+-- two pieces after a text are one piece after it; below, three, four, five and eight
+pub two_as_one : (t a b : List ℕ) → t ++ a ++ b ≡ t ++ (a ++ b)
+two_as_one t a b = append_assoc t a b
+
 pub as_one_piece : (t a b c : List ℕ) → t ++ a ++ b ++ c ≡ t ++ (a ++ b ++ c)
 as_one_piece t a b c = ap (λ l. l ++ c) (append_assoc t a b) ∙ append_assoc t (a ++ b) c
+
+pub four_as_one : (t a b c d : List ℕ) → t ++ a ++ b ++ c ++ d ≡ t ++ (a ++ b ++ c ++ d)
+four_as_one t a b c d = simp append_assoc
+
+pub five_as_one : (t a b c d e : List ℕ) → t ++ a ++ b ++ c ++ d ++ e ≡ t ++ (a ++ b ++ c ++ d ++ e)
+five_as_one t a b c d e = simp append_assoc
+
+pub eight_as_one : (t a b c d e f g h : List ℕ) → t ++ a ++ b ++ c ++ d ++ e ++ f ++ g ++ h ≡ t ++ (a ++ b ++ c ++ d ++ e ++ f ++ g ++ h)
+eight_as_one t a b c d e f g h = simp append_assoc

@@ -1,9 +1,11 @@
 -- Names and values as a picture shows them. This project's own.
-use Rattle.std.specs.Prelude.{ℕ, ◌+◌, ◌-◌, ◌/◌, ◌%◌, ◌==◌, nat_le, nat_lt, if◌then◌else◌, List, [], ◌∷◌, ◌++◌, length, replicate, slice_index}
-use Rattle.std.specs.Fmt.{is_char_start, take_chars}
-use Rattle.std.specs.List.{count_by, flat_map, range_with_len}
+use Rattle.std.specs.Prelude.{ℕ, zero, suc, Bool, true, false, ◌&&◌, ◌+◌, ◌-◌, ◌/◌, ◌%◌, ◌==◌, nat_le, nat_lt, if◌then◌else◌, List, [], ◌∷◌, ◌++◌, length, replicate, slice_index}
+use Rattle.std.specs.Fmt.{take_chars}
+use Rattle.std.specs.List.{flat_map, range_with_len}
+use Rattle.std.specs.Str.{chars, is_utf8}
 use Rattle.tq_draw.specs.declared.labels.TheConstants.{LABEL}
 use Rattle.tq_shown.specs.Printable.{hidden_len}
+use Rattle.unicode_width.specs.Width.{str_width}
 
 -- `0` to `9` and `a` to `f`
 abbrev pub hex_digit : ℕ → ℕ
@@ -21,33 +23,44 @@ escaped_byte hidden byte =
 abbrev pub hidden_left : ℕ → List ℕ → ℕ
 hidden_left hidden bytes = if hidden == 0 then hidden_len bytes else hidden
 
+-- the same in a text with lines, whose line feeds stay
+abbrev pub shown_byte : Bool → ℕ → ℕ → List ℕ
+shown_byte has_lines hidden byte = if has_lines && (byte == 10) then byte ∷ [] else escaped_byte hidden byte
+
 -- the bytes as they are shown, if the first `hidden` of them are the rest of a hidden character
-abbrev pub escaped_after : ℕ → List ℕ → List ℕ
-escaped_after hidden [] = []
-escaped_after hidden (byte ∷ bytes) =
-    escaped_byte (hidden_left hidden (byte ∷ bytes)) byte ++ escaped_after (hidden_left hidden (byte ∷ bytes) - 1) bytes
+abbrev pub escaped_after : Bool → ℕ → List ℕ → List ℕ
+escaped_after has_lines hidden [] = []
+escaped_after has_lines hidden (byte ∷ bytes) =
+    shown_byte has_lines (hidden_left hidden (byte ∷ bytes)) byte
+    ++ escaped_after has_lines (hidden_left hidden (byte ∷ bytes) - 1) bytes
 
 -- the bytes of a text as they are shown
 abbrev pub escaped_text : List ℕ → List ℕ
-escaped_text bytes = escaped_after 0 bytes
+escaped_text bytes = escaped_after false 0 bytes
 
--- the number of characters that begin in these bytes of UTF-8
-abbrev pub chars_in : List ℕ → ℕ
-chars_in bytes = count_by is_char_start bytes
+-- the bytes of a text with lines as they are shown
+abbrev pub escaped_lines : List ℕ → List ℕ
+escaped_lines bytes = escaped_after true 0 bytes
 
--- a text as it is shown: the whole text if it has at most 24 characters, else the first 23 and `~`
+-- the columns that a text takes in a terminal (Unicode Standard Annex 11). Bytes that are not UTF-8 take one each; names
+-- and values are UTF-8.
+unfoldable pub columns_in : List ℕ → ℕ
+columns_in bytes = if is_utf8 bytes then str_width false (chars bytes) else length bytes
+
+-- the longest front of a text that has at most this many characters and takes fewer than 24 columns
+unfoldable pub narrow_front : ℕ → List ℕ → List ℕ
+narrow_front zero text = []
+narrow_front (suc n) text = let front = take_chars (suc n) text in if nat_lt (columns_in front) LABEL then front else narrow_front n text
+
+-- a text as it is shown: the whole text if it takes at most 24 columns, else a front of at most 23 characters and 23
+-- columns, and `~`
 abbrev pub label_of : List ℕ → List ℕ
 label_of bytes = let text = escaped_text bytes in
-    if nat_le (chars_in text) LABEL then text else take_chars (LABEL - 1) text ++ 126 ∷ []
+    if nat_le (columns_in text) LABEL then text else narrow_front (LABEL - 1) text ++ 126 ∷ []
 
 -- a label, filled with spaces up to the width
 abbrev pub filled : ℕ → List ℕ → List ℕ
-filled width label = label ++ replicate (width - chars_in label) 32
-
--- two labels with spaces between them up to the width, at least one space
-abbrev pub justified : ℕ → List ℕ → List ℕ → List ℕ
-justified width left right = let spaces = width - chars_in left - chars_in right in
-    left ++ replicate (if nat_le spaces 1 then 1 else spaces) 32 ++ right
+filled width label = label ++ replicate (width - columns_in label) 32
 
 -- the label of a column, filled up to its width, and two spaces
 abbrev pub column_text : ℕ → List ℕ → List ℕ

@@ -1,6 +1,10 @@
 pub mod Bars
+pub mod Calendar
+pub mod Html
 pub mod Labels
 pub mod Laws
+pub mod Marks
 pub mod Pictures
 pub mod Scales
 pub mod Svg
+pub mod Xml

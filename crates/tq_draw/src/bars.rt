@@ -1,7 +1,7 @@
 // Bars, which show when a row is valid.
 
-ghost use Rattle.std.specs.Prelude.{◌≡◌, ◌++◌, ◌<◌, OnOk};
-ghost use Rattle.tq_draw.specs.Bars.{arrow_of, bar_byte, bar_of};
+ghost use Rattle.std.specs.Prelude.{◌≡◌, ◌++◌, ◌<◌, OnOk, nat_lt};
+ghost use Rattle.tq_draw.specs.Bars.{arrow_of, bar_byte, bar_of, lead_of};
 ghost use Rattle.tq_draw.specs.Scales.{IsScale};
 
 use crate::scale::Scale;
@@ -33,11 +33,36 @@ pub(crate) fn push_bar(text: &mut Vec<u8>, scale: &Scale, period: &Period) -> Re
     Ok(())
 }
 
-/// An arrow if the period has no end.
-pub(crate) fn push_arrow(text: &mut Vec<u8>, period: &Period) -> Result<(), AllocError>
-    ensures { OnOk result (text.new.items ≡ text.old.items ++ arrow_of period.now) }
+/// Whether the period begins before the scale.
+pub(crate) fn begins_before(scale: &Scale, period: &Period) -> bool
+    ensures { result ≡ nat_lt period.now.start scale.now.first }
 {
-    if period.end.number() == FOREVER {
+    period.start.number() < scale.first
+}
+
+/// An arrow to the left if the period begins before the scale.
+pub(crate) fn push_lead(
+    text: &mut Vec<u8>,
+    scale: &Scale,
+    period: &Period,
+) -> Result<(), AllocError>
+    ensures { OnOk result (text.new.items ≡ text.old.items ++ lead_of scale.now period.now) }
+{
+    if begins_before(scale, period) {
+        text.push(b'<')?;
+    }
+    Ok(())
+}
+
+/// An arrow to the right if the period ends after the scale, or never.
+pub(crate) fn push_arrow(
+    text: &mut Vec<u8>,
+    scale: &Scale,
+    period: &Period,
+) -> Result<(), AllocError>
+    ensures { OnOk result (text.new.items ≡ text.old.items ++ arrow_of scale.now period.now) }
+{
+    if period.end.number() == FOREVER || scale.last < period.end.number() {
         text.push(b'>')?;
     }
     Ok(())

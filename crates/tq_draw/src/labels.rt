@@ -1,17 +1,19 @@
 // Names and values as a picture shows them.
 
-ghost use Rattle.std.specs.Prelude.{◌≡◌, ◌++◌, ◌<◌, ◌≤◌, IfOk, OnOk, replicate};
+ghost use Rattle.std.specs.Prelude.{◌≡◌, ◌++◌, ◌<◌, IfOk, OnOk, replicate};
 ghost use Rattle.std.specs.Fmt.{is_char_start, take_chars};
-ghost use Rattle.tq_draw.specs.Labels.{chars_in, filled, hex_digit, label_of, justified, escaped_text, escaped_byte};
-ghost use Rattle.tq_draw.specs.Pictures.{is_written, mark_label};
-ghost use Rattle.tq_table.specs.Text.{value_field};
+ghost use Rattle.tq_draw.specs.Labels.{columns_in, filled, hex_digit, label_of, narrow_front, escaped_after, escaped_lines, escaped_text, escaped_byte, shown_byte};
+ghost use Rattle.tq_base.specs.Numbers.{instant_text};
+ghost use Rattle.tq_table.specs.Text.{bound_field, value_field};
 
 use itoa::Buffer;
 use std::alloc::{AllocError, Global};
-use tq_base::{Form, Instant, LAST_DAY, Value, ValueRef, put_instant};
+use std::str;
+use tq_base::{Bound, Form, Instant, Value, ValueRef, put_instant};
 use tq_shown::hidden_len;
+use unicode_width::UnicodeWidthStr;
 
-/// The most characters of a label.
+/// The most columns of a label.
 pub(crate) const LABEL: usize = 24;
 
 fn hex_digit(digit: u8) -> u8
@@ -40,10 +42,25 @@ fn push_byte(text: &mut Vec<u8>, hidden: usize, byte: u8) -> Result<(), AllocErr
     Ok(())
 }
 
-/// The bytes of a text as a terminal may show them: each byte of a hidden character is `\x` and two hexadecimal digits, and
-/// a backslash is doubled. `AllocError` if an allocation failed.
-pub fn escaped_text(alloc: Global, bytes: &[u8]) -> Result<Vec<u8>, AllocError>
-    ensures { IfOk result (λ text. text.items ≡ escaped_text bytes.now) }
+// Appends a byte of a text, which may have lines; `hidden` bytes are left of a hidden character, with this one.
+fn push_shown(
+    text: &mut Vec<u8>,
+    has_lines: bool,
+    hidden: usize,
+    byte: u8,
+) -> Result<(), AllocError>
+    ensures { OnOk result (text.new.items ≡ text.old.items ++ shown_byte has_lines hidden byte) }
+{
+    if has_lines && byte == b'\n' {
+        text.push(byte)?;
+        return Ok(());
+    }
+    push_byte(text, hidden, byte)
+}
+
+// The bytes of a text as they are shown; `has_lines` says whether line feeds stay.
+fn escaped(alloc: Global, bytes: &[u8], has_lines: bool) -> Result<Vec<u8>, AllocError>
+    ensures { IfOk result (λ text. text.items ≡ escaped_after has_lines 0 bytes.now) }
 {
     let mut text = Vec::new(alloc);
     let mut hidden = 0;
@@ -51,10 +68,25 @@ pub fn escaped_text(alloc: Global, bytes: &[u8]) -> Result<Vec<u8>, AllocError>
         if hidden == 0 {
             hidden = hidden_len(&bytes[place..]);
         }
-        push_byte(&mut text, hidden, *byte)?;
+        push_shown(&mut text, has_lines, hidden, *byte)?;
         hidden = hidden.saturating_sub(1);
     }
     Ok(text)
+}
+
+/// The bytes of a text as a terminal may show them: each byte of a hidden character is `\x` and two hexadecimal digits, and
+/// a backslash is doubled. `AllocError` if an allocation failed.
+pub fn escaped_text(alloc: Global, bytes: &[u8]) -> Result<Vec<u8>, AllocError>
+    ensures { IfOk result (λ text. text.items ≡ escaped_text bytes.now) }
+{
+    escaped(alloc, bytes, false)
+}
+
+/// The same of a text with lines, whose line feeds stay.
+pub(crate) fn escaped_lines(alloc: Global, bytes: &[u8]) -> Result<Vec<u8>, AllocError>
+    ensures { IfOk result (λ text. text.items ≡ escaped_lines bytes.now) }
+{
+    escaped(alloc, bytes, true)
 }
 
 fn begins_char(byte: u8) -> bool
@@ -63,11 +95,21 @@ fn begins_char(byte: u8) -> bool
     byte < 0x80 || byte >= 0xC0
 }
 
-/// The number of characters that begin in the bytes of UTF-8.
-pub fn chars_in(bytes: &[u8]) -> usize
-    ensures { result ≡ chars_in bytes.now }
+/// The columns that the text takes in a terminal: 2 for a wide character, 0 for a combining one.
+pub fn columns_in(text: &str) -> usize
+    ensures { result ≡ columns_in text.now }
 {
-    bytes.iter().filter(|byte| begins_char(**byte)).count()
+    text.width()
+}
+
+/// The columns that the bytes take in a terminal as UTF-8. If they are not UTF-8, each byte counts as one.
+pub fn columns_in_bytes(bytes: &[u8]) -> usize
+    ensures { result ≡ columns_in bytes.now }
+{
+    match str::from_utf8(bytes) {
+        Ok(text) => columns_in(text),
+        Err(_) => bytes.len(),
+    }
 }
 
 // The first `chars` characters.
@@ -88,15 +130,30 @@ fn front(alloc: Global, bytes: &[u8], chars: usize) -> Result<Vec<u8>, AllocErro
     Ok(front)
 }
 
+// The longest front of at most 23 characters that takes fewer than 24 columns.
+fn narrow_front(alloc: Global, bytes: &[u8]) -> Result<Vec<u8>, AllocError>
+    ensures { IfOk result (λ front. front.items ≡ narrow_front 23 bytes.now) }
+{
+    let mut chars = LABEL - 1;
+    'chars: while chars > 0 {
+        let front = front(alloc, bytes, chars)?;
+        if columns_in_bytes(&front) < LABEL {
+            return Ok(front);
+        }
+        chars -= 1;
+    }
+    Ok(Vec::new(alloc))
+}
+
 /// The label of a text.
 pub(crate) fn label(alloc: Global, bytes: &[u8]) -> Result<Vec<u8>, AllocError>
     ensures { IfOk result (λ label. label.items ≡ label_of bytes.now) }
 {
     let text = escaped_text(alloc, bytes)?;
-    if chars_in(&text) <= LABEL {
+    if columns_in_bytes(&text) <= LABEL {
         return Ok(text);
     }
-    let mut label = front(alloc, &text, LABEL - 1)?;
+    let mut label = narrow_front(alloc, &text)?;
     label.push(b'~')?;
     Ok(label)
 }
@@ -111,35 +168,31 @@ pub(crate) fn value_label(alloc: Global, value: &Value) -> Result<Vec<u8>, Alloc
     }
 }
 
-// Whether the bound can be written in the form: in dates it must have a date.
-fn is_written(bound: u64, form: Form) -> bool
-    ensures { result ≡ is_written form bound }
+/// Appends an instant as answers write it.
+pub(crate) fn push_instant(
+    text: &mut Vec<u8>,
+    instant: Instant,
+    form: Form,
+) -> Result<(), AllocError>
+    ensures { OnOk result (text.new.items ≡ text.old.items ++ instant_text form instant) }
 {
-    match form {
-        Form::Numbers => true,
-        Form::Dates => bound <= LAST_DAY,
+    let mut date = [0; 12];
+    let len = put_instant(instant, form, &mut date);
+    text.extend_from_slice(&date[..len])
+}
+
+/// Appends a bound as answers write it.
+pub(crate) fn push_bound(text: &mut Vec<u8>, bound: Bound, form: Form) -> Result<(), AllocError>
+    ensures { OnOk result (text.new.items ≡ text.old.items ++ bound_field form bound) }
+{
+    match Instant::new(bound.number()) {
+        Some(instant) => push_instant(text, instant, form),
+        None => text.extend_from_slice(b"forever"),
     }
 }
 
-/// A bound as answers write it; empty if it cannot be written in the form.
-pub(crate) fn mark_label(alloc: Global, bound: u64, form: Form) -> Result<Vec<u8>, AllocError>
-    requires { bound ≤ 1000000000000 }
-    ensures { IfOk result (λ label. label.items ≡ mark_label form bound) }
-{
-    if !is_written(bound, form) {
-        return Ok(Vec::new(alloc));
-    }
-    match Instant::new(bound) {
-        Some(instant) => {
-            let mut text = [0; 12];
-            let len = put_instant(instant, form, &mut text);
-            Vec::from_slice(alloc, &text[..len])
-        }
-        None => Vec::from_slice(alloc, b"forever"),
-    }
-}
-
-fn push_times(text: &mut Vec<u8>, byte: u8, times: usize) -> Result<(), AllocError>
+/// Appends a byte this many times.
+pub(crate) fn push_times(text: &mut Vec<u8>, byte: u8, times: usize) -> Result<(), AllocError>
     ensures { OnOk result (text.new.items ≡ text.old.items ++ replicate times byte) }
 {
     'times: for _time in 0..times {
@@ -153,22 +206,5 @@ pub(crate) fn push_filled(text: &mut Vec<u8>, label: &[u8], width: usize) -> Res
     ensures { OnOk result (text.new.items ≡ text.old.items ++ filled width label.now) }
 {
     text.extend_from_slice(label)?;
-    push_times(text, b' ', width.saturating_sub(chars_in(label)))
-}
-
-/// Appends two labels, with spaces between them up to the width, at least one.
-pub(crate) fn push_justified(
-    text: &mut Vec<u8>,
-    left: &[u8],
-    right: &[u8],
-    width: usize,
-) -> Result<(), AllocError>
-    ensures { OnOk result (text.new.items ≡ text.old.items ++ justified width left.now right.now) }
-{
-    let spaces = width
-        .saturating_sub(chars_in(left))
-        .saturating_sub(chars_in(right));
-    text.extend_from_slice(left)?;
-    push_times(text, b' ', spaces.max(1))?;
-    text.extend_from_slice(right)
+    push_times(text, b' ', width.saturating_sub(columns_in_bytes(label)))
 }

@@ -1,6 +1,6 @@
 //! Laws of pictures, for proofs. No code calls them.
 
-ghost use Rattle.tq_draw.specs.Laws.{BarsMatchRows, CellsTile, ScalesCoverRows};
+ghost use Rattle.tq_draw.specs.Laws.{BarsMatchRows, CellsTile, LabelsAreNarrow, MarksAreFirstDays, ScalesCoverRows, WindowsAreScales};
 
 /// The cells of a scale cover its instants in order, each instant once, and no cell is empty.
 pub fn cells_tile()
@@ -12,8 +12,24 @@ pub fn bars_match_rows()
     ensures { BarsMatchRows }
 {}
 
-/// A scale does not begin after any of its rows. It does not end before the end of any row, or before the instant after
-/// the start of a row without an end.
+/// Without a window, each row has an instant in the scale. Only rows that begin at instant 0, in dates, begin before the
+/// scale, and the scale goes up to the end of each row that has one.
 pub fn scales_cover_rows()
     ensures { ScalesCoverRows }
+{}
+
+/// A window is the scale, and each row that is shown has an instant in it.
+pub fn windows_are_scales()
+    ensures { WindowsAreScales }
+{}
+
+/// In dates each mark is on the cell that holds a first day of the scale's unit, and the date of this day is written above
+/// it; only if there is no room for any such mark, there is one on the first cell. Marks are at least 12 cells apart.
+pub fn marks_are_first_days()
+    ensures { MarksAreFirstDays }
+{}
+
+/// A label takes at most 24 columns of a terminal.
+pub fn labels_are_narrow()
+    ensures { LabelsAreNarrow }
 {}

@@ -1,20 +1,20 @@
 // The lines of the column names and of the rows.
 
-ghost use Rattle.std.specs.Prelude.{◌≡◌, [], ◌++◌, OnOk, length};
+ghost use Rattle.std.specs.Prelude.{◌≡◌, [], ◌++◌, ◌-◌, IfOk, OnOk, length, slice_set};
 ghost use Rattle.std.specs.List.{flat_map};
 ghost use Rattle.tq_draw.specs.Labels.{column_text, columns_text};
-ghost use Rattle.tq_draw.specs.Pictures.{drawn_row, name_label, value_label};
+ghost use Rattle.tq_draw.specs.Pictures.{drawn_row, front_text, name_label, value_label};
 ghost use Rattle.tq_draw.specs.Scales.{IsScale};
 
-use crate::bars::{push_arrow, push_bar};
+use crate::bars::{begins_before, push_arrow, push_bar};
 use crate::labels::{label, push_filled, value_label};
 use crate::scale::Scale;
+use crate::shown_rows::ShownRows;
 use std::alloc::{AllocError, Global};
 use tq_base::{Name, Period, Row};
-use tq_table::ResultRows;
 
-// Appends a label, filled up to the width of its column, and two spaces.
-fn push_column(text: &mut Vec<u8>, label: &[u8], width: usize) -> Result<(), AllocError>
+/// Appends a label, filled up to the width of its column, and two spaces.
+pub(crate) fn push_column(text: &mut Vec<u8>, label: &[u8], width: usize) -> Result<(), AllocError>
     ensures { OnOk result (text.new.items ≡ text.old.items ++ column_text width label.now) }
 {
     push_filled(text, label, width)?;
@@ -64,6 +64,34 @@ pub(crate) fn push_values(
     Ok(())
 }
 
+// Writes `<` over the last byte, if there is one.
+fn mark_last(line: &mut Vec<u8>)
+    ensures { line.new.items ≡ slice_set line.old.items (length line.old.items - 1) 60 }
+{
+    let len = line.len();
+    if len > 0 {
+        line[len - 1] = b'<';
+    }
+}
+
+// The values of a row, with `<` before its bar if it begins before the scale.
+fn front(
+    alloc: Global,
+    row: &Row<'_>,
+    period: &Period,
+    widths: &[usize],
+    scale: &Scale,
+) -> Result<Vec<u8>, AllocError>
+    ensures { IfOk result (λ line. line.items ≡ front_text widths.now scale.now (record { values = row.now; period = period.now })) }
+{
+    let mut line = Vec::new(alloc);
+    push_values(alloc, &mut line, row, widths)?;
+    if begins_before(scale, period) {
+        mark_last(&mut line);
+    }
+    Ok(line)
+}
+
 // Appends the line of a row.
 fn push_row(
     alloc: Global,
@@ -76,9 +104,10 @@ fn push_row(
     requires { IsScale scale.now }
     ensures { OnOk result (text.new.items ≡ text.old.items ++ drawn_row widths.now scale.now (record { values = row.now; period = period.now })) }
 {
-    push_values(alloc, text, row, widths)?;
+    let front = front(alloc, row, period, widths, scale)?;
+    text.extend_from_slice(&front)?;
     push_bar(text, scale, period)?;
-    push_arrow(text, period)?;
+    push_arrow(text, scale, period)?;
     text.push(b'\n')?;
     Ok(())
 }
@@ -87,7 +116,7 @@ fn push_row(
 pub(crate) fn push_rows(
     alloc: Global,
     text: &mut Vec<u8>,
-    rows: &ResultRows<'_>,
+    rows: &ShownRows<'_, '_>,
     widths: &[usize],
     scale: &Scale,
 ) -> Result<(), AllocError>

@@ -1,10 +1,10 @@
 // The scale of time of a picture.
 
 ghost use Rattle.std.specs.Prelude.{◌≡◌, ◌≤◌, ◌<◌, length};
-ghost use Rattle.tq_draw.specs.Scales.{edge, drawn_end, greatest_end, least_start, room_of, scale_of, IsScale};
+ghost use Rattle.tq_draw.specs.Scales.{drawn_end, drawn_start, earlier, edge, first_of, greatest_end, has_say, later, least_start, room_of, scale_of, scale_over, IsScale};
 
-use tq_base::{FOREVER, Period};
-use tq_table::ResultRows;
+use crate::shown_rows::ShownRows;
+use tq_base::{FOREVER, Form, Period};
 
 /// The least number of cells, if the scale has that many instants.
 pub(crate) const MIN_CELLS: usize = 16;
@@ -32,20 +32,30 @@ impl Scale {
     }
 }
 
-fn least_start(rows: &ResultRows<'_>) -> u64
-    ensures value { result ≡ least_start rows.now }
-    ensures within { 0 < length rows.now → result < 1000000000000 }
+// Whether the period has a say in the scale.
+fn has_say(form: Form, period: &Period) -> bool
+    ensures { result ≡ has_say form period.now }
 {
-    let mut least = FOREVER;
-    'rows: for row in 0..rows.len() {
-        least = least.min(rows.period(row).start.number());
+    match form {
+        Form::Numbers => true,
+        Form::Dates => !(period.start.number() == 0 && period.end.number() == FOREVER),
     }
-    least
+}
+
+// The start of the drawn part of the period.
+fn drawn_start(form: Form, period: &Period) -> u64
+    ensures value { result ≡ drawn_start form period.now }
+    ensures within { result < 1000000000000 }
+{
+    match form {
+        Form::Dates if period.start.number() == 0 => period.end.number() - 1,
+        _ => period.start.number(),
+    }
 }
 
 // The end of the drawn part of the period.
-fn drawn_end(period: Period) -> u64
-    ensures value { result ≡ drawn_end period }
+fn drawn_end(period: &Period) -> u64
+    ensures value { result ≡ drawn_end period.now }
     ensures within { result ≤ 1000000000000 }
 {
     if period.end.number() == FOREVER {
@@ -55,14 +65,51 @@ fn drawn_end(period: Period) -> u64
     }
 }
 
+// The lesser of the number and the period's drawn start, if it has a say.
+fn earlier(form: Form, least: u64, period: &Period) -> u64
+    ensures value { result ≡ earlier form least period.now }
+    ensures within { result ≤ least }
+{
+    if has_say(form, period) {
+        least.min(drawn_start(form, period))
+    } else {
+        least
+    }
+}
+
+// The greater of the number and the period's drawn end, if it has a say.
+fn later(form: Form, greatest: u64, period: &Period) -> u64
+    requires { greatest ≤ 1000000000000 }
+    ensures value { result ≡ later form greatest period.now }
+    ensures within { result ≤ 1000000000000 }
+{
+    if has_say(form, period) {
+        greatest.max(drawn_end(period))
+    } else {
+        greatest
+    }
+}
+
+// The least drawn start of the rows.
+fn least_start(form: Form, rows: &ShownRows<'_, '_>) -> u64
+    ensures value { result ≡ least_start form rows.now }
+    ensures within { result ≤ 1000000000000 }
+{
+    let mut least = FOREVER;
+    'rows: for row in 0..rows.len() {
+        least = earlier(form, least, &rows.period(row));
+    }
+    least
+}
+
 // The greatest drawn end of the rows.
-fn greatest_end(rows: &ResultRows<'_>) -> u64
-    ensures value { result ≡ greatest_end rows.now }
+fn greatest_end(form: Form, rows: &ShownRows<'_, '_>) -> u64
+    ensures value { result ≡ greatest_end form rows.now }
     ensures within { result ≤ 1000000000000 }
 {
     let mut greatest = 0;
     'rows: for row in 0..rows.len() {
-        greatest = greatest.max(drawn_end(rows.period(row)));
+        greatest = later(form, greatest, &rows.period(row));
     }
     greatest
 }
@@ -78,18 +125,45 @@ pub(crate) fn room_of(width: usize, widths: &[usize]) -> usize
     room
 }
 
-/// The scale of the rows, with as many cells as there is room for. Requires at least one row.
-pub(crate) fn scale_of(room: usize, rows: &ResultRows<'_>) -> Scale
-    requires { 0 < length rows.now }
-    ensures value { result ≡ scale_of room rows.now }
+// The first instant of the scale of the rows.
+fn first_of(form: Form, rows: &ShownRows<'_, '_>) -> u64
+    ensures value { result ≡ first_of form rows.now }
+    ensures within { result < 1000000000000 }
+{
+    let least = least_start(form, rows);
+    if least == FOREVER { 0 } else { least }
+}
+
+// The scale over these instants, with as many cells as there is room for.
+fn scale_over(room: usize, first: u64, last: u64) -> Scale
+    requires order { first < last }
+    requires within { last ≤ 1000000000000 }
+    ensures value { result ≡ scale_over room first last }
     ensures scale { IsScale result }
 {
-    let first = least_start(rows);
-    let last = greatest_end(rows).max(first + 1);
     let wanted = room.saturating_sub(1).min(MAX_CELLS).max(MIN_CELLS);
     Scale {
         first,
         last,
         cells: wanted.min((last - first) as usize),
+    }
+}
+
+/// The scale of the window, or of the rows, with as many cells as there is room for.
+pub(crate) fn scale_of(
+    form: Form,
+    room: usize,
+    window: &Option<Period>,
+    rows: &ShownRows<'_, '_>,
+) -> Scale
+    ensures value { result ≡ scale_of form room window.now rows.now }
+    ensures scale { IsScale result }
+{
+    match window {
+        Some(window) => scale_over(room, window.start.number(), window.end.number()),
+        None => {
+            let first = first_of(form, rows);
+            scale_over(room, first, greatest_end(form, rows).max(first + 1))
+        }
     }
 }

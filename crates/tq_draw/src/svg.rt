@@ -1,89 +1,115 @@
 // A table as a picture in SVG.
 
-ghost use Rattle.std.specs.Prelude.{◌≡◌, ◌++◌, IfOk, OnOk, decimal, length};
-ghost use Rattle.std.specs.List.{flat_map};
+ghost use Rattle.std.specs.Prelude.{◌≡◌, ◌++◌, IfOk, OnOk, length};
+ghost use Rattle.std.specs.List.{flat_map, range_with_len};
+ghost use Rattle.tq_draw.specs.Marks.{AreWithin, labels_from, ruler_from};
+ghost use Rattle.tq_draw.specs.Pictures.{name_label, value_label};
 ghost use Rattle.tq_draw.specs.Scales.{IsScale};
-ghost use Rattle.tq_draw.specs.Svg.{bars_path, columns_len, empty_image, image_over, line_element, marks_element, names_element, opening, path_start, stroke, strokes, svg_of, values_element, values_elements, xml_byte};
+ghost use Rattle.tq_draw.specs.Svg.{bar_element, bar_elements, empty_image, image_over, label_elements, left_of, lefts_of, opening, spaced_label, stroke, strokes, svg_of, svg_over, text_element, title_text, values_elements, x_of};
 
-use crate::bars::{push_arrow, push_bar};
-use crate::marks::{push_marks, push_ruler};
-use crate::rows::{push_blanks, push_names, push_values};
+use crate::bars::{push_arrow, push_bar, push_lead};
+use crate::labels::{label, push_bound, push_instant, value_label};
+use crate::marks::{Tick, marks_of, push_marks, push_ruler};
+use crate::rows::{push_blanks, push_column};
 use crate::scale::{Scale, room_of, scale_of};
+use crate::shown_rows::ShownRows;
 use crate::widths::widths_of;
-use itoa::Buffer;
+use crate::xml::{push_number, push_xml};
 use std::alloc::{AllocError, Global};
 use tq_base::{Form, Name, Period, Row};
-use tq_table::{ResultRows, Table};
+use tq_table::Table;
 
-// Appends a byte of text in XML.
-fn push_xml_byte(text: &mut Vec<u8>, byte: u8) -> Result<(), AllocError>
-    ensures { OnOk result (text.new.items ≡ text.old.items ++ xml_byte byte) }
+// The columns of a terminal before each value.
+fn lefts_of(alloc: Global, widths: &[usize]) -> Result<Vec<usize>, AllocError>
+    ensures { IfOk result (λ lefts. lefts.items ≡ lefts_of widths.now) }
 {
-    if byte == b'&' {
-        return text.extend_from_slice(b"&amp;");
+    let mut blanks = Vec::new(alloc);
+    let mut lefts = Vec::new(alloc);
+    'columns: for column in 0..widths.len() {
+        lefts.push(blanks.len())?;
+        push_column(&mut blanks, b"", widths[column])?;
     }
-    if byte == b'<' {
-        return text.extend_from_slice(b"&lt;");
-    }
-    if byte == b'>' {
-        return text.extend_from_slice(b"&gt;");
-    }
-    text.push(byte)?;
-    Ok(())
+    Ok(lefts)
 }
 
-// The bytes as text in XML.
-fn xml(alloc: Global, bytes: &[u8]) -> Result<Vec<u8>, AllocError>
-    ensures { IfOk result (λ text. text.items ≡ flat_map xml_byte bytes.now) }
+// The columns of a terminal that all values take.
+fn left_of_bars(alloc: Global, widths: &[usize]) -> Result<usize, AllocError>
+    ensures { IfOk result (λ left. left ≡ left_of widths.now (length widths.now)) }
 {
-    let mut text = Vec::new(alloc);
-    'bytes: for byte in bytes {
-        push_xml_byte(&mut text, *byte)?;
-    }
-    Ok(text)
+    let mut blanks = Vec::new(alloc);
+    push_blanks(&mut blanks, widths)?;
+    Ok(blanks.len())
 }
 
-fn digits(alloc: Global, number: u128) -> Result<Vec<u8>, AllocError>
-    ensures { IfOk result (λ text. text.items ≡ decimal number) }
+fn x_of(left: usize) -> u128
+    ensures { result ≡ x_of left }
 {
-    Vec::from_slice(alloc, Buffer::new().format(number).as_bytes())
+    9 * (left as u128 + 1)
 }
 
-fn push_three(
+// Appends a text at a place.
+#[tactic(auto, unfolding(crate::specs::Svg::text_element))]
+fn push_text(text: &mut Vec<u8>, x: u128, y: u128, content: &[u8]) -> Result<(), AllocError>
+    ensures { OnOk result (text.new.items ≡ text.old.items ++ text_element x y content.now) }
+{
+    text.extend_from_slice(b"<text x=\"")?;
+    push_number(text, x)?;
+    text.extend_from_slice(b"\" y=\"")?;
+    push_number(text, y)?;
+    text.extend_from_slice(b"\">")?;
+    push_xml(text, content)?;
+    text.extend_from_slice(b"</text>\n")
+}
+
+// Appends the names of the columns.
+fn push_names(
+    alloc: Global,
     text: &mut Vec<u8>,
-    first: &[u8],
-    second: &[u8],
-    third: &[u8],
+    columns: &[Name],
+    lefts: &[usize],
+    y: u128,
 ) -> Result<(), AllocError>
-    ensures { OnOk result (text.new.items ≡ text.old.items ++ first.now ++ second.now ++ third.now) }
+    requires { length lefts.now ≡ length columns.now }
+    ensures { OnOk result (text.new.items ≡ text.old.items ++ label_elements lefts.now y (name_label columns.now)) }
 {
-    text.extend_from_slice(first)?;
-    text.extend_from_slice(second)?;
-    text.extend_from_slice(third)?;
+    'columns: for column in 0..lefts.len() {
+        let label = label(alloc, columns[column].bytes())?;
+        push_text(text, x_of(lefts[column]), y, &label)?;
+    }
     Ok(())
 }
 
-// Appends a line of text, below the line before it.
-fn push_line(alloc: Global, text: &mut Vec<u8>, line: &[u8]) -> Result<(), AllocError>
-    ensures { OnOk result (text.new.items ≡ text.old.items ++ line_element line.now) }
+// Appends the values of a row.
+fn push_values(
+    alloc: Global,
+    text: &mut Vec<u8>,
+    row: &Row<'_>,
+    lefts: &[usize],
+    y: u128,
+) -> Result<(), AllocError>
+    ensures { OnOk result (text.new.items ≡ text.old.items ++ label_elements lefts.now y (value_label row.now)) }
 {
-    let escaped = xml(alloc, line)?;
-    push_three(text, b"<tspan x=\"9\" dy=\"20\">", &escaped, b"</tspan\n>")?;
+    'columns: for column in 0..lefts.len() {
+        let label = value_label(alloc, row.value(column))?;
+        push_text(text, x_of(lefts[column]), y, &label)?;
+    }
     Ok(())
 }
 
-// The image of this size in pixels, up to its lines of text.
-fn opening(alloc: Global, width: u128, height: u128) -> Result<Vec<u8>, AllocError>
-    ensures { IfOk result (λ text. text.items ≡ opening width height) }
+// Appends the values of all rows.
+fn push_all_values(
+    alloc: Global,
+    text: &mut Vec<u8>,
+    rows: &ShownRows<'_, '_>,
+    lefts: &[usize],
+) -> Result<(), AllocError>
+    ensures { OnOk result (text.new.items ≡ text.old.items ++ values_elements lefts.now rows.now) }
 {
-    let across = digits(alloc, width)?;
-    let down = digits(alloc, height)?;
-    let mut text = Vec::from_slice(alloc, b"<svg xmlns=\"http://www.w3.org/2000/svg\" width=\"")?;
-    push_three(&mut text, &across, b"\" height=\"", &down)?;
-    text.extend_from_slice(
-        b"\" font-family=\"monospace\" font-size=\"15\">\n<rect width=\"100%\" height=\"100%\" fill=\"#fff\"/>\n<text xml:space=\"preserve\">",
-    )?;
-    Ok(text)
+    'rows: for row in 0..rows.len() {
+        let y = 20 * (row as u128 + 3);
+        push_values(alloc, text, &rows.row(row), lefts, y)?;
+    }
+    Ok(())
 }
 
 // The stroke or step for a byte of a bar.
@@ -92,6 +118,7 @@ fn stroke(byte: u8) -> &'static [u8]
 {
     match byte {
         b'#' => b"h9",
+        b'<' => b"m-8 0h2m2 0h2m2 0",
         b'>' => b"m2 0h2m2 0h2m-8 0",
         _ => b"m9 0",
     }
@@ -106,7 +133,7 @@ fn push_bar_strokes(text: &mut Vec<u8>, bar: &[u8]) -> Result<(), AllocError>
     Ok(())
 }
 
-// Appends the strokes of a row's bar, and the step to the start of the next row's.
+// Appends the strokes of a period's bar and arrows.
 fn push_strokes(
     alloc: Global,
     text: &mut Vec<u8>,
@@ -117,175 +144,230 @@ fn push_strokes(
     ensures { OnOk result (text.new.items ≡ text.old.items ++ strokes scale.now period.now) }
 {
     let mut bar = Vec::new(alloc);
+    push_lead(&mut bar, scale, period)?;
     push_bar(&mut bar, scale, period)?;
-    push_arrow(&mut bar, period)?;
-    push_bar_strokes(text, &bar)?;
-    let back = digits(alloc, 9 * scale.cells as u128)?;
-    push_three(text, b"m-", &back, b" 20")?;
-    Ok(())
+    push_arrow(&mut bar, scale, period)?;
+    push_bar_strokes(text, &bar)
 }
 
-// Appends the bars of all rows.
-fn push_bars(
-    alloc: Global,
-    text: &mut Vec<u8>,
-    scale: &Scale,
-    rows: &ResultRows<'_>,
-) -> Result<(), AllocError>
-    requires { IsScale scale.now }
-    ensures { OnOk result (text.new.items ≡ text.old.items ++ bars_path scale.now rows.now) }
-{
-    'rows: for row in 0..rows.len() {
-        push_strokes(alloc, text, scale, &rows.period(row))?;
-    }
-    Ok(())
-}
-
-// Appends the values of a row.
-fn push_values_line(
+// Appends the labels of a row's values, each with two spaces behind it.
+fn push_spaced_labels(
     alloc: Global,
     text: &mut Vec<u8>,
     row: &Row<'_>,
-    widths: &[usize],
+    columns: usize,
 ) -> Result<(), AllocError>
-    ensures { OnOk result (text.new.items ≡ text.old.items ++ values_element widths.now row.now) }
+    ensures { OnOk result (text.new.items ≡ text.old.items ++ flat_map (spaced_label row.now) (range_with_len 0 columns)) }
 {
-    let mut line = Vec::new(alloc);
-    push_values(alloc, &mut line, row, widths)?;
-    push_line(alloc, text, &line)
-}
-
-// Appends the values of all rows.
-fn push_values_lines(
-    alloc: Global,
-    text: &mut Vec<u8>,
-    rows: &ResultRows<'_>,
-    widths: &[usize],
-) -> Result<(), AllocError>
-    ensures { OnOk result (text.new.items ≡ text.old.items ++ values_elements widths.now rows.now) }
-{
-    'rows: for row in 0..rows.len() {
-        push_values_line(alloc, text, &rows.row(row), widths)?;
+    'columns: for column in 0..columns {
+        let label = value_label(alloc, row.value(column))?;
+        text.extend_from_slice(&label)?;
+        text.extend_from_slice(b"  ")?;
     }
     Ok(())
 }
 
-// Appends the line with the instants of the marks.
-fn push_marks_line(
+// What a row says: its values, its start and its end.
+#[tactic(auto, unfolding(crate::specs::Svg::title_text))]
+fn title_text(
+    alloc: Global,
+    form: Form,
+    columns: usize,
+    row: &Row<'_>,
+    period: &Period,
+) -> Result<Vec<u8>, AllocError>
+    ensures { IfOk result (λ title. title.items ≡ title_text form columns row.now period.now) }
+{
+    let mut title = Vec::new(alloc);
+    push_spaced_labels(alloc, &mut title, row, columns)?;
+    push_instant(&mut title, period.start, form)?;
+    title.extend_from_slice(b"  ")?;
+    push_bound(&mut title, period.end, form)?;
+    Ok(title)
+}
+
+// Appends the bar of a period with a title.
+#[tactic(auto, unfolding(crate::specs::Svg::bar_element))]
+fn push_bar_element(
     alloc: Global,
     text: &mut Vec<u8>,
-    widths: &[usize],
     scale: &Scale,
-    form: Form,
+    x: u128,
+    y: u128,
+    period: &Period,
+    title: &[u8],
 ) -> Result<(), AllocError>
     requires { IsScale scale.now }
-    ensures { OnOk result (text.new.items ≡ text.old.items ++ marks_element form widths.now scale.now) }
+    ensures { OnOk result (text.new.items ≡ text.old.items ++ bar_element scale.now x y period.now title.now) }
 {
-    let mut line = Vec::new(alloc);
-    push_blanks(&mut line, widths)?;
-    push_marks(alloc, &mut line, scale, form)?;
-    push_line(alloc, text, &line)
+    text.extend_from_slice(b"<path d=\"M")?;
+    push_number(text, x)?;
+    text.extend_from_slice(b" ")?;
+    push_number(text, y)?;
+    push_strokes(alloc, text, scale, period)?;
+    text.extend_from_slice(b"\"><title>")?;
+    push_xml(text, title)?;
+    text.extend_from_slice(b"</title></path>\n")
 }
 
-// Appends the line with the names and the ruler.
-fn push_names_line(
+// Appends the bars of all rows, which begin after `left` columns of a terminal.
+fn push_bars(
     alloc: Global,
     text: &mut Vec<u8>,
-    columns: &[Name],
-    widths: &[usize],
+    form: Form,
     scale: &Scale,
+    columns: usize,
+    left: usize,
+    rows: &ShownRows<'_, '_>,
 ) -> Result<(), AllocError>
-    requires { length widths.now ≡ length columns.now }
-    ensures { OnOk result (text.new.items ≡ text.old.items ++ names_element columns.now widths.now scale.now) }
+    requires { IsScale scale.now }
+    ensures { OnOk result (text.new.items ≡ text.old.items ++ bar_elements form scale.now columns left rows.now) }
 {
-    let mut line = Vec::new(alloc);
-    push_names(alloc, &mut line, columns, widths)?;
-    push_ruler(&mut line, scale.cells)?;
-    push_line(alloc, text, &line)
+    'rows: for row in 0..rows.len() {
+        let period = rows.period(row);
+        let title = title_text(alloc, form, columns, &rows.row(row), &period)?;
+        let y = 20 * row as u128 + 55;
+        push_bar_element(alloc, text, scale, x_of(left), y, &period, &title)?;
+    }
+    Ok(())
 }
 
-// The number of characters that the columns take.
-fn columns_len(alloc: Global, widths: &[usize]) -> Result<usize, AllocError>
-    ensures { IfOk result (λ len. len ≡ columns_len widths.now) }
+// Appends the image of this size in pixels, up to its texts.
+fn push_opening(text: &mut Vec<u8>, width: u128, height: u128) -> Result<(), AllocError>
+    ensures { OnOk result (text.new.items ≡ text.old.items ++ opening width height) }
 {
-    let mut line = Vec::new(alloc);
-    push_blanks(&mut line, widths)?;
-    Ok(line.len())
-}
-
-// Appends the start of the path of all bars, `left` characters from the left.
-fn push_path_start(alloc: Global, text: &mut Vec<u8>, left: usize) -> Result<(), AllocError>
-    ensures { OnOk result (text.new.items ≡ text.old.items ++ path_start left) }
-{
-    let across = digits(alloc, 9 * (left as u128 + 1))?;
-    push_three(
-        text,
-        b"</text>\n<path fill=\"none\" stroke=\"#36c\" stroke-width=\"12\" d=\"M",
-        &across,
-        b" 55",
+    text.extend_from_slice(b"<svg xmlns=\"http://www.w3.org/2000/svg\" width=\"")?;
+    push_number(text, width)?;
+    text.extend_from_slice(b"\" height=\"")?;
+    push_number(text, height)?;
+    text.extend_from_slice(
+        b"\" font-family=\"monospace\" font-size=\"15\" xml:space=\"preserve\">\n<rect width=\"100%\" height=\"100%\" fill=\"#fff\"/>\n",
     )?;
     Ok(())
 }
 
-fn empty_image(
+#[tactic(auto, unfolding(crate::specs::Svg::empty_image))]
+fn push_empty_image(
     alloc: Global,
+    text: &mut Vec<u8>,
     columns: &[Name],
-    widths: &[usize],
+    lefts: &[usize],
     left: usize,
-) -> Result<Vec<u8>, AllocError>
-    requires { length widths.now ≡ length columns.now }
-    ensures { IfOk result (λ text. text.items ≡ empty_image columns.now widths.now left) }
+) -> Result<(), AllocError>
+    requires { length lefts.now ≡ length columns.now }
+    ensures { OnOk result (text.new.items ≡ text.old.items ++ empty_image columns.now lefts.now left) }
 {
-    let mut line = Vec::new(alloc);
-    push_names(alloc, &mut line, columns, widths)?;
-    line.extend_from_slice(b"(no rows)")?;
-    let mut text = opening(alloc, 9 * (left as u128 + 12), 50)?;
-    push_line(alloc, &mut text, &line)?;
-    text.extend_from_slice(b"</text>\n</svg>\n")?;
-    Ok(text)
+    push_opening(text, 9 * (left as u128 + 12), 50)?;
+    push_names(alloc, text, columns, lefts, 20)?;
+    push_text(text, x_of(left), 20, b"(no rows)")?;
+    text.extend_from_slice(b"</svg>\n")
 }
 
-fn image_over(
+// Appends the instants of the marks.
+fn push_marks_text(
     alloc: Global,
-    table: &Table<'_>,
-    widths: &[usize],
+    text: &mut Vec<u8>,
+    left: usize,
+    scale: &Scale,
+    marks: &[Tick],
+    form: Form,
+) -> Result<(), AllocError>
+    requires scale { IsScale scale.now }
+    requires within { AreWithin marks.now }
+    ensures { OnOk result (text.new.items ≡ text.old.items ++ text_element (x_of left) 20 (labels_from form scale.now 0 marks.now)) }
+{
+    let mut line = Vec::new(alloc);
+    push_marks(alloc, &mut line, scale, marks, form)?;
+    push_text(text, x_of(left), 20, &line)
+}
+
+// Appends the ruler.
+fn push_ruler_text(
+    alloc: Global,
+    text: &mut Vec<u8>,
+    left: usize,
+    cells: usize,
+    marks: &[Tick],
+) -> Result<(), AllocError>
+    requires { AreWithin marks.now }
+    ensures { OnOk result (text.new.items ≡ text.old.items ++ text_element (x_of left) 40 (ruler_from cells 0 marks.now)) }
+{
+    let mut line = Vec::new(alloc);
+    push_ruler(&mut line, cells, marks)?;
+    push_text(text, x_of(left), 40, &line)
+}
+
+fn push_image(
+    alloc: Global,
+    text: &mut Vec<u8>,
+    columns: &[Name],
+    rows: &ShownRows<'_, '_>,
+    lefts: &[usize],
     left: usize,
     scale: &Scale,
     form: Form,
-) -> Result<Vec<u8>, AllocError>
-    requires widths { length widths.now ≡ length table.now.columns }
+) -> Result<(), AllocError>
+    requires lefts { length lefts.now ≡ length columns.now }
     requires scale { IsScale scale.now }
-    ensures { IfOk result (λ text. text.items ≡ image_over form table.now widths.now left scale.now) }
+    ensures { OnOk result (text.new.items ≡ text.old.items ++ image_over form columns.now rows.now lefts.now left scale.now) }
 {
+    let marks = marks_of(alloc, form, scale)?;
     let cells = scale.cells.max(24) as u128;
-    let lines = table.rows.len() as u128 + 2;
-    let mut text = opening(alloc, 9 * (left as u128 + cells + 3), 20 * lines + 10)?;
-    push_marks_line(alloc, &mut text, widths, scale, form)?;
-    push_names_line(alloc, &mut text, table.columns.get(), widths, scale)?;
-    push_values_lines(alloc, &mut text, &table.rows, widths)?;
-    push_path_start(alloc, &mut text, left)?;
-    push_bars(alloc, &mut text, scale, &table.rows)?;
-    text.extend_from_slice(b"\"/>\n</svg>\n")?;
-    Ok(text)
+    let lines = rows.len() as u128 + 2;
+    push_opening(text, 9 * (left as u128 + cells + 3), 20 * lines + 10)?;
+    push_marks_text(alloc, text, left, scale, &marks, form)?;
+    push_names(alloc, text, columns, lefts, 40)?;
+    push_ruler_text(alloc, text, left, scale.cells, &marks)?;
+    push_all_values(alloc, text, rows, lefts)?;
+    text.extend_from_slice(b"<g fill=\"none\" stroke=\"#36c\" stroke-width=\"12\">\n")?;
+    push_bars(alloc, text, form, scale, columns.len(), left, rows)?;
+    text.extend_from_slice(b"</g>\n</svg>\n")?;
+    Ok(())
 }
 
-/// Draws the table as a standalone SVG image, with the names, values, marks and cells that `draw` shows in a width of
-/// this many characters. `AllocError` if an allocation failed.
+/// Appends the image of the rows.
+pub(crate) fn push_svg(
+    alloc: Global,
+    text: &mut Vec<u8>,
+    form: Form,
+    width: usize,
+    window: &Option<Period>,
+    columns: &[Name],
+    rows: &ShownRows<'_, '_>,
+) -> Result<(), AllocError>
+    ensures { OnOk result (text.new.items ≡ text.old.items ++ svg_over form width window.now columns.now rows.now) }
+{
+    let widths = widths_of(alloc, columns, rows)?;
+    let lefts = lefts_of(alloc, &widths)?;
+    let left = left_of_bars(alloc, &widths)?;
+    if rows.len() == 0 {
+        return push_empty_image(alloc, text, columns, &lefts, left);
+    }
+    let scale = scale_of(form, room_of(width, &widths), window, rows);
+    push_image(alloc, text, columns, rows, &lefts, left, &scale, form)
+}
+
+/// Draws the table as a standalone SVG image, with the names, values, marks and cells that `draw` shows in this width and
+/// window. The bar of each row has a title with the row's values, start and end. `AllocError` if an allocation failed.
 pub fn draw_svg(
     alloc: Global,
     table: &Table<'_>,
     form: Form,
     width: usize,
+    window: Option<Period>,
 ) -> Result<Vec<u8>, AllocError>
-    ensures { IfOk result (λ text. text.items ≡ svg_of form width table.now) }
+    ensures { IfOk result (λ text. text.items ≡ svg_of form width window table.now) }
 {
-    let widths = widths_of(alloc, table)?;
-    let left = columns_len(alloc, &widths)?;
-    if table.rows.len() == 0 {
-        let text = empty_image(alloc, table.columns.get(), &widths, left)?;
-        return Ok(text);
-    }
-    let scale = scale_of(room_of(width, &widths), &table.rows);
-    let text = image_over(alloc, table, &widths, left, &scale, form)?;
+    let rows = ShownRows::of(alloc, &table.rows, &window)?;
+    let mut text = Vec::new(alloc);
+    push_svg(
+        alloc,
+        &mut text,
+        form,
+        width,
+        &window,
+        table.columns.get(),
+        &rows,
+    )?;
     Ok(text)
 }

@@ -1,5 +1,5 @@
 -- How the fields of a line are written: the text before each, its width and its side. This project's own.
-use Rattle.std.specs.Prelude.{ℕ, ◌+◌, ◌-◌, ◌==◌, nat_lt, max, Bool, true, false, ◌&&◌, ◌||◌, if◌then◌else◌, List, [], ◌∷◌, ◌++◌, codes, decimal, length, map, replicate, slice_index_or, take}
+use Rattle.std.specs.Prelude.{ℕ, ◌+◌, ◌==◌, max, Bool, true, false, if◌then◌else◌, List, [], ◌∷◌, ◌++◌, codes, decimal, length, map, slice_index_or, take}
 use Rattle.std.specs.List.{count_by, fold, range_with_len}
 use Rattle.std.specs.Str.{bytes_eq}
 use Rattle.tq_base.specs.Contents.{Int, Text}
@@ -7,13 +7,14 @@ use Rattle.tq_base.specs.RowValues.{value_at}
 use Rattle.tq_base.specs.declared.form.Form.{Form}
 use Rattle.tq_base.specs.declared.fragment.Fragment.{Fragment}
 use Rattle.tq_base.specs.declared.value.Value.{Value}
-use Rattle.tq_draw.specs.Labels.{chars_in}
-use Rattle.tq_report.specs.Texts.{bound_in, instant_in, is_dates, is_json, name_in, value_in}
+use Rattle.tq_draw.specs.Labels.{columns_in}
+use Rattle.tq_report.specs.Texts.{end_in, instant_in, is_dates, name_in, places_at, value_in}
 use Rattle.tq_report.specs.declared.format.Format.{Format}
-use Rattle.tq_report.specs.declared.format.Format.TheVariants.{Aligned, Json, JsonLines, Markdown, Tsv}
+use Rattle.tq_report.specs.declared.format.Format.TheVariants.{Aligned, Csv, Json, JsonLines, Markdown, Tsv}
+use Rattle.tq_report.specs.declared.options.ReportOptions.{ReportOptions}
 use Rattle.tq_table.specs.declared.table.Table.{Table}
 
--- of each field of a line: the text before it, its width in characters, and whether it is aligned to the right
+-- of each field of a line: the text before it, its width in columns of a terminal, and whether it is aligned to the right
 pub record LayoutView : Type 0 where
   pub leads : List (List ℕ)
   pub widths : List ℕ
@@ -44,6 +45,7 @@ lead_of Markdown key = 32 ∷ []
 lead_of Tsv key = []
 lead_of Json key = key_text key
 lead_of JsonLines key = key_text key
+lead_of Csv key = []
 
 -- the text before each field: those of the columns, then start and end
 abbrev pub leads_of : Format → List (List ℕ) → List (List ℕ)
@@ -52,23 +54,30 @@ leads_of format columns =
     ++ (lead_of format (codes "from") ∷ lead_of format (codes "to") ∷ [])
 
 -- a column is as wide as its longest value, or as its name
-abbrev pub column_width : List (List ℕ) → List Fragment → ℕ → ℕ
-column_width columns rows column =
-    fold (λ widest (row : Fragment). max widest (chars_in (value_in Aligned (value_at row.values column))))
-    (chars_in (name_in Aligned (name_at columns column))) rows
+abbrev pub column_width : List ℕ → List (List ℕ) → List Fragment → ℕ → ℕ
+column_width places columns rows column =
+    fold (λ widest (row : Fragment). max widest (columns_in (value_in Aligned (places_at places column) (value_at row.values column))))
+    (columns_in (name_in Aligned (name_at columns column))) rows
 
 abbrev pub start_width : Form → List Fragment → ℕ
-start_width form rows = fold (λ widest (row : Fragment). max widest (chars_in (instant_in Aligned form row.period.start))) 4 rows
+start_width form rows = fold (λ widest (row : Fragment). max widest (columns_in (instant_in Aligned form row.period.start))) 4 rows
 
-abbrev pub end_width : Form → List Fragment → ℕ
-end_width form rows = fold (λ widest (row : Fragment). max widest (chars_in (bound_in Aligned form row.period.end))) 2 rows
+abbrev pub end_width : Form → Bool → List Fragment → ℕ
+end_width form inclusive rows = fold (λ widest (row : Fragment). max widest (columns_in (end_in Aligned form inclusive row.period.end))) 2 rows
 
--- the widths of all fields; only the aligned format has some
-abbrev pub widths_of : Format → Form → Table → List ℕ
-widths_of Aligned form table =
-    map (column_width table.columns table.rows) (range_with_len 0 (length table.columns))
-    ++ (start_width form table.rows ∷ end_width form table.rows ∷ [])
-widths_of _ form table = []
+-- the widths of all fields of the aligned format
+abbrev pub aligned_widths : ReportOptions → Table → List ℕ
+aligned_widths options table =
+    map (column_width options.places.items table.columns table.rows) (range_with_len 0 (length table.columns))
+    ++ (start_width options.form table.rows ∷ end_width options.form options.inclusive table.rows ∷ [])
+
+-- only the aligned format has widths
+abbrev pub widths_in : Format → ReportOptions → Table → List ℕ
+widths_in Aligned options table = aligned_widths options table
+widths_in _ options table = []
+
+abbrev pub widths_of : ReportOptions → Table → List ℕ
+widths_of options table = widths_in options.format options table
 
 abbrev pub is_number : Value → Bool
 is_number (Int number) = true
@@ -92,9 +101,9 @@ rights_of Aligned form table = rights_in form table
 rights_of Markdown form table = rights_in form table
 rights_of _ form table = []
 
-abbrev pub layout_of : Format → Form → Table → LayoutView
-layout_of format form table = record {
-  leads = leads_of format table.columns;
-  widths = widths_of format form table;
-  rights = rights_of format form table;
+abbrev pub layout_of : ReportOptions → Table → LayoutView
+layout_of options table = record {
+  leads = leads_of options.format table.columns;
+  widths = widths_of options table;
+  rights = rights_of options.format options.form table;
 }

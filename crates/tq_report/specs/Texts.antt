@@ -1,7 +1,8 @@
 -- How each format writes a value and an instant. This project's own.
-use Rattle.std.specs.Prelude.{ℕ, ◌==◌, ◌||◌, ◌&&◌, Bool, true, false, if◌then◌else◌, List, [], ◌∷◌, ◌++◌, codes}
+use Rattle.std.specs.Prelude.{ℕ, ◌+◌, ◌-◌, ◌/◌, ◌%◌, ◌^◌, ◌==◌, ◌||◌, ◌&&◌, ℤ, pos, negsuc, Bool, true, false, if◌then◌else◌, List, [], ◌∷◌, ◌++◌, codes, decimal, length, replicate, slice_index_or}
 use Rattle.std.specs.Fmt.{signed_decimal}
 use Rattle.std.specs.List.{flat_map}
+use Rattle.csv.specs.Writing.{field_text}
 use Rattle.serde_json.specs.Data.{string}
 use Rattle.serde_json.specs.Written.{compact_text}
 use Rattle.tq_base.specs.Contents.{Int, Text}
@@ -12,7 +13,8 @@ use Rattle.tq_base.specs.declared.period.TheConstants.{FOREVER}
 use Rattle.tq_base.specs.declared.value.Value.{Value}
 use Rattle.tq_draw.specs.Labels.{escaped_text}
 use Rattle.tq_report.specs.declared.format.Format.{Format}
-use Rattle.tq_report.specs.declared.format.Format.TheVariants.{Aligned, Json, JsonLines, Markdown, Tsv}
+use Rattle.tq_report.specs.declared.format.Format.TheVariants.{Aligned, Csv, Json, JsonLines, Markdown, Tsv}
+use Rattle.tq_table.specs.Text.{answer_format}
 
 -- a tab is `\t`, a line feed `\n`, a carriage return `\r`, a backslash `\\`
 abbrev pub tsv_byte : ℕ → List ℕ
@@ -41,28 +43,53 @@ abbrev pub is_dates : Form → Bool
 is_dates Dates = true
 is_dates Numbers = false
 
--- the name of a column, in the formats with a line of names: as in a picture, or escaped
+-- the name of a column, in the formats with a line of names: as in a picture, escaped, or quoted if necessary
 abbrev pub name_in : Format → List ℕ → List ℕ
 name_in Aligned name = escaped_text name
 name_in Markdown name = flat_map markdown_byte name
 name_in Tsv name = flat_map tsv_byte name
+name_in Csv name = field_text answer_format name
 name_in _ name = name
 
 -- a text: in JSON a string, else like a name
 abbrev pub text_in : Format → List ℕ → List ℕ
 text_in format text = if is_json format then compact_text (string text) else name_in format text
 
--- a number in decimal, with all its digits
-abbrev pub value_in : Format → Value → List ℕ
-value_in format (Int number) = signed_decimal number
-value_in format (Text text) = text_in format text
+-- the number of digits after the point in a column; a column beyond the list has none
+abbrev pub places_at : List ℕ → ℕ → ℕ
+places_at places column = slice_index_or places column 0
+
+-- a number in decimal, with zeros in front up to this many digits
+abbrev pub with_zeros : ℕ → ℕ → List ℕ
+with_zeros places number = replicate (places - length (decimal number)) 48 ++ decimal number
+
+-- a number of units of 10^-places: the whole part, a point, and exactly `places` digits
+abbrev pub size_text : ℕ → ℕ → List ℕ
+size_text places size = decimal (size / 10 ^ places) ++ 46 ∷ with_zeros places (size % 10 ^ places)
+
+abbrev pub amount_text : ℕ → ℤ → List ℕ
+amount_text places (pos size) = size_text places size
+amount_text places (negsuc size) = 45 ∷ size_text places (size + 1)
+
+-- a number in decimal with all its digits, or an amount if there are digits after the point
+abbrev pub number_text : ℕ → ℤ → List ℕ
+number_text places number = if places == 0 then signed_decimal number else amount_text places number
+
+-- a value of a column with this number of digits after the point
+abbrev pub value_in : Format → ℕ → Value → List ℕ
+value_in format places (Int number) = number_text places number
+value_in format places (Text text) = text_in format text
 
 -- an instant as answers write it; in JSON a date is a string
 abbrev pub instant_in : Format → Form → ℕ → List ℕ
 instant_in format form instant =
     if is_json format && is_dates form then 34 ∷ (instant_text form instant ++ 34 ∷ []) else instant_text form instant
 
--- the same of the end of a period; a period without an end has `forever`, in JSON null
-abbrev pub bound_in : Format → Form → ℕ → List ℕ
-bound_in format form bound =
-    if bound == FOREVER then (if is_json format then codes "null" else codes "forever") else instant_in format form bound
+-- the end of a period, or its last instant
+abbrev pub last_of : Bool → ℕ → ℕ
+last_of inclusive end = if inclusive then end - 1 else end
+
+-- the end of a period, or its last instant; a period without an end has `forever`, in JSON null
+abbrev pub end_in : Format → Form → Bool → ℕ → List ℕ
+end_in format form inclusive end =
+    if end == FOREVER then (if is_json format then codes "null" else codes "forever") else instant_in format form (last_of inclusive end)

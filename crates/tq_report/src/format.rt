@@ -13,4 +13,6 @@ pub enum Format {
     Json,
     /// One JSON object on a line for each row.
     JsonLines,
+    /// CSV, as answers are by default.
+    Csv,
 }

@@ -3,17 +3,21 @@
 ghost use Rattle.std.specs.Prelude.{◌≡◌, ◌<◌, ◌++◌, [], false, IfOk, length, map, slice_index_or};
 ghost use Rattle.std.specs.List.{range_with_len};
 ghost use Rattle.tq_report.specs.Layouts.{column_width, earlier, end_width, has_numbers, is_numbers, key_of, key_text, layout_of, lead_of, leads_of, name_at, rights_of, start_width, widths_of};
+ghost use Rattle.tq_base.specs.Values.{value_ref};
+ghost use Rattle.tq_draw.specs.Labels.{columns_in};
+ghost use Rattle.tq_report.specs.Texts.{places_at, value_in};
 
 use crate::format::Format;
-use crate::texts::{fill_bound, fill_instant, fill_value, is_dates, push_name};
+use crate::options::ReportOptions;
+use crate::texts::{is_dates, is_shown, push_end, push_instant, push_name, push_value};
 use itoa::Buffer;
 use std::alloc::{AllocError, Global};
 use std::marker::Model;
 use tq_base::{Form, Name, ValueRef};
-use tq_draw::chars_in;
+use tq_draw::columns_in_bytes;
 use tq_table::Table;
 
-/// Of each field of a line: the text before it, its width in characters, and whether it is aligned to the right.
+/// Of each field of a line: the text before it, its width in columns of a terminal, and whether it is aligned to the right.
 #[derive(Drop)]
 pub(crate) struct Layout {
     leads: Vec<Vec<u8>>,
@@ -35,15 +39,14 @@ impl Layout {
     pub(crate) fn of(
         alloc: Global,
         table: &Table<'_>,
-        format: Format,
-        form: Form,
+        options: &ReportOptions,
     ) -> Result<Layout, AllocError>
-        ensures { IfOk result (λ layout. layout ≡ layout_of format form table.now) }
+        ensures { IfOk result (λ layout. layout ≡ layout_of options.now table.now) }
     {
         Ok(Layout {
-            leads: leads_of(alloc, table.columns.get(), format)?,
-            widths: widths_of(alloc, table, format, form)?,
-            rights: rights_of(alloc, table, format, form)?,
+            leads: leads_of(alloc, table.columns.get(), options.format)?,
+            widths: widths_of(alloc, table, options)?,
+            rights: rights_of(alloc, table, options.format, options.form)?,
         })
     }
 
@@ -111,7 +114,7 @@ fn lead_of(alloc: Global, key: &[u8], format: Format) -> Result<Vec<u8>, AllocEr
     let mut lead = Vec::new(alloc);
     match format {
         Format::Aligned | Format::Markdown => lead.push(b' ')?,
-        Format::Tsv => (),
+        Format::Tsv | Format::Csv => (),
         Format::Json | Format::JsonLines => {
             lead.push(b'"')?;
             lead.extend_from_slice(key)?;
@@ -148,11 +151,46 @@ fn leads_of(alloc: Global, columns: &[Name], format: Format) -> Result<Vec<Vec<u
     Ok(leads)
 }
 
-// A column is as wide as its longest value, or as its name.
-fn column_width(alloc: Global, table: &Table<'_>, column: usize) -> Result<usize, AllocError>
-    requires { column < length table.now.columns }
-    ensures { IfOk result (λ width. width ≡ column_width table.now.columns table.now.rows column) }
+// The number of digits after the point in a column.
+pub(crate) fn places_at(places: &[u32], column: usize) -> u32
+    ensures { result ≡ places_at places.now column }
 {
+    match places.get(column) {
+        Some(places) => *places,
+        None => 0,
+    }
+}
+
+// The width of a value. `cell` is room for it.
+fn value_width(
+    alloc: Global,
+    cell: &mut Vec<u8>,
+    value: ValueRef<'_>,
+    places: u32,
+) -> Result<usize, AllocError>
+    ensures { IfOk result (λ width. width ≡ columns_in (value_in Format.Aligned places (value_ref value.entry))) }
+{
+    match value {
+        ValueRef::Text(text) if is_shown(text.as_bytes()) => Ok(text.len()),
+        _ => {
+            cell.clear();
+            push_value(alloc, cell, value, Format::Aligned, places)?;
+            Ok(columns_in_bytes(cell))
+        }
+    }
+}
+
+// A column is as wide as its longest value, or as its name.
+fn column_width(
+    alloc: Global,
+    table: &Table<'_>,
+    column: usize,
+    places: &[u32],
+) -> Result<usize, AllocError>
+    requires { column < length table.now.columns }
+    ensures { IfOk result (λ width. width ≡ column_width places.now table.now.columns table.now.rows column) }
+{
+    let digits = places_at(places, column);
     let mut cell = Vec::new(alloc);
     push_name(
         alloc,
@@ -160,11 +198,10 @@ fn column_width(alloc: Global, table: &Table<'_>, column: usize) -> Result<usize
         table.columns.get()[column].bytes(),
         Format::Aligned,
     )?;
-    let mut widest = chars_in(&cell);
+    let mut widest = columns_in_bytes(&cell);
     'rows: for row in 0..table.rows.len() {
         let value = table.rows.row(row).value(column).as_ref();
-        fill_value(alloc, &mut cell, value, Format::Aligned)?;
-        widest = widest.max(chars_in(&cell));
+        widest = widest.max(value_width(alloc, &mut cell, value, digits)?);
     }
     Ok(widest)
 }
@@ -175,25 +212,29 @@ fn start_width(alloc: Global, table: &Table<'_>, form: Form) -> Result<usize, Al
     let mut cell = Vec::new(alloc);
     let mut widest = 4;
     'rows: for row in 0..table.rows.len() {
-        fill_instant(
-            &mut cell,
-            table.rows.period(row).start,
-            Format::Aligned,
-            form,
-        )?;
-        widest = widest.max(chars_in(&cell));
+        let start = table.rows.period(row).start;
+        cell.clear();
+        push_instant(&mut cell, start, Format::Aligned, form)?;
+        widest = widest.max(columns_in_bytes(&cell));
     }
     Ok(widest)
 }
 
-fn end_width(alloc: Global, table: &Table<'_>, form: Form) -> Result<usize, AllocError>
-    ensures { IfOk result (λ width. width ≡ end_width form table.now.rows) }
+fn end_width(
+    alloc: Global,
+    table: &Table<'_>,
+    form: Form,
+    inclusive: bool,
+) -> Result<usize, AllocError>
+    ensures { IfOk result (λ width. width ≡ end_width form inclusive table.now.rows) }
 {
     let mut cell = Vec::new(alloc);
     let mut widest = 2;
     'rows: for row in 0..table.rows.len() {
-        fill_bound(&mut cell, table.rows.period(row).end, Format::Aligned, form)?;
-        widest = widest.max(chars_in(&cell));
+        let end = table.rows.period(row).end;
+        cell.clear();
+        push_end(&mut cell, end, Format::Aligned, form, inclusive)?;
+        widest = widest.max(columns_in_bytes(&cell));
     }
     Ok(widest)
 }
@@ -201,20 +242,19 @@ fn end_width(alloc: Global, table: &Table<'_>, form: Form) -> Result<usize, Allo
 fn widths_of(
     alloc: Global,
     table: &Table<'_>,
-    format: Format,
-    form: Form,
+    options: &ReportOptions,
 ) -> Result<Vec<usize>, AllocError>
-    ensures { IfOk result (λ widths. widths.items ≡ widths_of format form table.now) }
+    ensures { IfOk result (λ widths. widths.items ≡ widths_of options.now table.now) }
 {
     let mut widths = Vec::new(alloc);
-    if format != Format::Aligned {
+    if options.format != Format::Aligned {
         return Ok(widths);
     }
     'columns: for column in 0..table.columns.get().len() {
-        widths.push(column_width(alloc, table, column)?)?;
+        widths.push(column_width(alloc, table, column, &options.places)?)?;
     }
-    widths.push(start_width(alloc, table, form)?)?;
-    widths.push(end_width(alloc, table, form)?)?;
+    widths.push(start_width(alloc, table, options.form)?)?;
+    widths.push(end_width(alloc, table, options.form, options.inclusive)?)?;
     Ok(widths)
 }
 

@@ -1,28 +1,23 @@
 // The lines of names and rows.
 
-ghost use Rattle.std.specs.Prelude.{◌≡◌, ◌<◌, ◌^◌, ◌++◌, ◌∷◌, [], OnOk, length, replicate};
+ghost use Rattle.std.specs.Prelude.{◌≡◌, ◌<◌, ◌+◌, ◌^◌, ◌++◌, ◌∷◌, [], OnOk, length};
 ghost use Rattle.std.specs.List.{flat_map, range_with_len};
-ghost use Rattle.tq_base.specs.RowValues.{value_at};
 ghost use Rattle.tq_report.specs.Layouts.{name_at};
-ghost use Rattle.tq_report.specs.Reports.{alignment, alignments_text, between, close_text, column_text, dashes, dashes_text, field_text, names_text, open_text, padded, row_text, rows_text, tail_text};
-ghost use Rattle.tq_report.specs.Texts.{name_in, value_in};
+ghost use Rattle.tq_report.specs.Reports.{alignment, alignments_text, between, cell_text, close_text, column_text, dashes, dashes_text, field_text, names_text, open_text, padded, row_text, rows_text, tail_text, value_text};
+ghost use Rattle.tq_report.specs.Texts.{end_in, instant_in, name_in};
 
+use crate::amounts::push_times;
 use crate::format::Format;
-use crate::layout::Layout;
-use crate::texts::{fill_bound, fill_instant, fill_value, push_name};
+use crate::layout::{Layout, places_at};
+use crate::options::ReportOptions;
+use crate::texts::{push_end, push_instant, push_name, push_value};
 use std::alloc::{AllocError, Global};
-use tq_base::{Form, Name, Period, Row};
-use tq_draw::chars_in;
+use tq_base::{Bound, Instant, Name, Period, Row, ValueRef};
+use tq_draw::columns_in_bytes;
 use tq_table::ResultRows;
 
-fn push_times(text: &mut Vec<u8>, byte: u8, times: usize) -> Result<(), AllocError>
-    ensures { OnOk result (text.new.items ≡ text.old.items ++ replicate times byte) }
-{
-    'times: for _time in 0..times {
-        text.push(byte)?;
-    }
-    Ok(())
-}
+// The values of this many rows are read before their lines are written.
+const BLOCK: usize = 64;
 
 // Appends the cell with spaces on one side, up to the width.
 fn push_padded(
@@ -33,7 +28,7 @@ fn push_padded(
 ) -> Result<(), AllocError>
     ensures { OnOk result (text.new.items ≡ text.old.items ++ padded width is_right cell.now) }
 {
-    let spaces = width.saturating_sub(chars_in(cell));
+    let spaces = width.saturating_sub(columns_in_bytes(cell));
     if is_right {
         push_times(text, b' ', spaces)?;
         text.extend_from_slice(cell)
@@ -43,16 +38,15 @@ fn push_padded(
     }
 }
 
-// Appends a field: the text before it, and the cell.
-fn push_field(
+// Appends a cell of the aligned format.
+fn push_aligned(
     text: &mut Vec<u8>,
     layout: &Layout,
     field: usize,
     cell: &[u8],
 ) -> Result<(), AllocError>
-    ensures { OnOk result (text.new.items ≡ text.old.items ++ field_text layout.now field cell.now) }
+    ensures { OnOk result (text.new.items ≡ text.old.items ++ cell_text Format.Aligned layout.now field cell.now) }
 {
-    text.extend_from_slice(layout.lead(field))?;
     push_padded(text, cell, layout.width(field), layout.is_right(field))
 }
 
@@ -62,7 +56,7 @@ fn push_open(text: &mut Vec<u8>, format: Format) -> Result<(), AllocError>
 {
     match format {
         Format::Aligned | Format::Markdown => text.extend_from_slice(b"|"),
-        Format::Tsv => Ok(()),
+        Format::Tsv | Format::Csv => Ok(()),
         Format::Json | Format::JsonLines => text.extend_from_slice(b"{"),
     }
 }
@@ -74,7 +68,7 @@ fn push_tail(text: &mut Vec<u8>, format: Format) -> Result<(), AllocError>
     match format {
         Format::Aligned | Format::Markdown => text.extend_from_slice(b" |"),
         Format::Tsv => text.extend_from_slice(b"\t"),
-        Format::Json | Format::JsonLines => text.extend_from_slice(b","),
+        Format::Json | Format::JsonLines | Format::Csv => text.extend_from_slice(b","),
     }
 }
 
@@ -84,7 +78,7 @@ fn push_close(text: &mut Vec<u8>, format: Format) -> Result<(), AllocError>
 {
     match format {
         Format::Aligned | Format::Markdown => text.extend_from_slice(b" |\n"),
-        Format::Tsv => text.extend_from_slice(b"\n"),
+        Format::Tsv | Format::Csv => text.extend_from_slice(b"\n"),
         Format::Json => text.extend_from_slice(b"}"),
         Format::JsonLines => text.extend_from_slice(b"}\n"),
     }
@@ -92,42 +86,45 @@ fn push_close(text: &mut Vec<u8>, format: Format) -> Result<(), AllocError>
 
 /// What the lines of a table have in common.
 #[derive(Drop)]
-pub(crate) struct Lines {
+pub(crate) struct Lines<'a> {
     pub alloc: Global,
-    pub format: Format,
-    pub form: Form,
+    pub options: &'a ReportOptions,
     pub columns: usize,
     pub layout: Layout,
 }
 
-// Appends the field of a column, and what ends it.
-fn push_column(
+// Appends a field: the text before it, and the cell.
+fn push_field(
     text: &mut Vec<u8>,
-    lines: &Lines,
-    column: usize,
+    lines: &Lines<'_>,
+    field: usize,
     cell: &[u8],
 ) -> Result<(), AllocError>
-    ensures { OnOk result (text.new.items ≡ text.old.items ++ field_text lines.now.layout column cell.now ++ tail_text lines.now.format) }
+    ensures { OnOk result (text.new.items ≡ text.old.items ++ field_text lines.now.options.now.format lines.now.layout field cell.now) }
 {
-    push_field(text, &lines.layout, column, cell)?;
-    push_tail(text, lines.format)
+    text.extend_from_slice(lines.layout.lead(field))?;
+    match lines.options.format {
+        Format::Aligned => push_aligned(text, &lines.layout, field, cell),
+        _ => text.extend_from_slice(cell),
+    }
 }
 
 // Appends the fields of the names.
-fn push_name_fields(text: &mut Vec<u8>, lines: &Lines, columns: &[Name]) -> Result<(), AllocError>
+fn push_name_fields(
+    text: &mut Vec<u8>,
+    lines: &Lines<'_>,
+    columns: &[Name],
+) -> Result<(), AllocError>
     ensures { OnOk result (text.new.items ≡ text.old.items
-        ++ flat_map (column_text lines.now.format lines.now.layout (λ column. name_in lines.now.format (name_at columns.now column))) (range_with_len 0 (length columns.now))) }
+        ++ flat_map (column_text lines.now.options.now.format lines.now.layout (λ column. name_in lines.now.options.now.format (name_at columns.now column))) (range_with_len 0 (length columns.now))) }
 {
+    let format = lines.options.format;
     let mut cell = Vec::new(lines.alloc);
     'columns: for column in 0..columns.len() {
         cell.clear();
-        push_name(
-            lines.alloc,
-            &mut cell,
-            columns[column].bytes(),
-            lines.format,
-        )?;
-        push_column(text, lines, column, &cell)?;
+        push_name(lines.alloc, &mut cell, columns[column].bytes(), format)?;
+        push_field(text, lines, column, &cell)?;
+        push_tail(text, format)?;
     }
     Ok(())
 }
@@ -135,54 +132,126 @@ fn push_name_fields(text: &mut Vec<u8>, lines: &Lines, columns: &[Name]) -> Resu
 /// Appends the line of the names.
 pub(crate) fn push_names(
     text: &mut Vec<u8>,
-    lines: &Lines,
+    lines: &Lines<'_>,
     columns: &[Name],
 ) -> Result<(), AllocError>
-    ensures { OnOk result (text.new.items ≡ text.old.items ++ names_text lines.now.format lines.now.layout columns.now) }
+    ensures { OnOk result (text.new.items ≡ text.old.items ++ names_text lines.now.options.now.format lines.now.layout columns.now) }
 {
-    push_open(text, lines.format)?;
+    let format = lines.options.format;
+    push_open(text, format)?;
     push_name_fields(text, lines, columns)?;
-    push_column(text, lines, columns.len(), b"from")?;
-    push_field(text, &lines.layout, columns.len() + 1, b"to")?;
-    push_close(text, lines.format)
+    push_field(text, lines, columns.len(), b"from")?;
+    push_tail(text, format)?;
+    push_field(text, lines, columns.len() + 1, b"to")?;
+    push_close(text, format)
 }
 
-// Appends the fields of the values of a row. `cell` is room for one of them.
+// Appends the value of a row in a column. `cell` is room for one value.
+fn push_value_cell(
+    text: &mut Vec<u8>,
+    cell: &mut Vec<u8>,
+    lines: &Lines<'_>,
+    row: &Row<'_>,
+    column: usize,
+) -> Result<(), AllocError>
+    ensures { OnOk result (text.new.items ≡ text.old.items
+        ++ cell_text lines.now.options.now.format lines.now.layout column (value_text lines.now.options.now row.now column)) }
+{
+    let options = lines.options;
+    let value = row.value(column).as_ref();
+    let places = places_at(&options.places, column);
+    match options.format {
+        Format::Aligned => {
+            cell.clear();
+            push_value(lines.alloc, cell, value, Format::Aligned, places)?;
+            push_aligned(text, &lines.layout, column, cell)
+        }
+        format => push_value(lines.alloc, text, value, format, places),
+    }
+}
+
+// Appends the fields of the values of a row. `cell` is room for one value.
 fn push_value_fields(
     text: &mut Vec<u8>,
     cell: &mut Vec<u8>,
-    lines: &Lines,
+    lines: &Lines<'_>,
     row: &Row<'_>,
 ) -> Result<(), AllocError>
     ensures { OnOk result (text.new.items ≡ text.old.items
-        ++ flat_map (column_text lines.now.format lines.now.layout (λ column. value_in lines.now.format (value_at row.now column))) (range_with_len 0 lines.now.columns)) }
+        ++ flat_map (column_text lines.now.options.now.format lines.now.layout (value_text lines.now.options.now row.now)) (range_with_len 0 lines.now.columns)) }
 {
     'columns: for column in 0..lines.columns {
-        fill_value(lines.alloc, cell, row.value(column).as_ref(), lines.format)?;
-        push_column(text, lines, column, cell)?;
+        text.extend_from_slice(lines.layout.lead(column))?;
+        push_value_cell(text, cell, lines, row, column)?;
+        push_tail(text, lines.options.format)?;
     }
     Ok(())
+}
+
+// Appends the start of a period. `cell` is room for it.
+fn push_start_cell(
+    text: &mut Vec<u8>,
+    cell: &mut Vec<u8>,
+    lines: &Lines<'_>,
+    start: Instant,
+) -> Result<(), AllocError>
+    ensures { OnOk result (text.new.items ≡ text.old.items
+        ++ cell_text lines.now.options.now.format lines.now.layout lines.now.columns (instant_in lines.now.options.now.format lines.now.options.now.form start)) }
+{
+    let form = lines.options.form;
+    match lines.options.format {
+        Format::Aligned => {
+            cell.clear();
+            push_instant(cell, start, Format::Aligned, form)?;
+            push_aligned(text, &lines.layout, lines.columns, cell)
+        }
+        format => push_instant(text, start, format, form),
+    }
+}
+
+// Appends the end of a period. `cell` is room for it.
+fn push_end_cell(
+    text: &mut Vec<u8>,
+    cell: &mut Vec<u8>,
+    lines: &Lines<'_>,
+    end: Bound,
+) -> Result<(), AllocError>
+    requires { lines.now.columns < 2 ^ 63 }
+    ensures { OnOk result (text.new.items ≡ text.old.items
+        ++ cell_text lines.now.options.now.format lines.now.layout (lines.now.columns + 1) (end_in lines.now.options.now.format lines.now.options.now.form lines.now.options.now.inclusive end)) }
+{
+    let options = lines.options;
+    match options.format {
+        Format::Aligned => {
+            cell.clear();
+            push_end(cell, end, Format::Aligned, options.form, options.inclusive)?;
+            push_aligned(text, &lines.layout, lines.columns + 1, cell)
+        }
+        format => push_end(text, end, format, options.form, options.inclusive),
+    }
 }
 
 // Appends the line of a row. `cell` is room for one field.
 fn push_row(
     text: &mut Vec<u8>,
     cell: &mut Vec<u8>,
-    lines: &Lines,
+    lines: &Lines<'_>,
     row: &Row<'_>,
     period: Period,
 ) -> Result<(), AllocError>
     requires { lines.now.columns < 2 ^ 63 }
     ensures { OnOk result (text.new.items ≡ text.old.items
-        ++ row_text lines.now.format lines.now.form lines.now.layout lines.now.columns (record { values = row.now; period = period })) }
+        ++ row_text lines.now.options.now lines.now.layout lines.now.columns (record { values = row.now; period = period })) }
 {
-    push_open(text, lines.format)?;
+    let format = lines.options.format;
+    push_open(text, format)?;
     push_value_fields(text, cell, lines, row)?;
-    fill_instant(cell, period.start, lines.format, lines.form)?;
-    push_column(text, lines, lines.columns, cell)?;
-    fill_bound(cell, period.end, lines.format, lines.form)?;
-    push_field(text, &lines.layout, lines.columns + 1, cell)?;
-    push_close(text, lines.format)
+    text.extend_from_slice(lines.layout.lead(lines.columns))?;
+    push_start_cell(text, cell, lines, period.start)?;
+    push_tail(text, format)?;
+    text.extend_from_slice(lines.layout.lead(lines.columns + 1))?;
+    push_end_cell(text, cell, lines, period.end)?;
+    push_close(text, format)
 }
 
 // Appends what separates a row from the row before it.
@@ -196,19 +265,63 @@ fn push_between(text: &mut Vec<u8>, format: Format, row: usize) -> Result<(), Al
     }
 }
 
+// The number of bytes of the texts of a row.
+fn text_bytes(row: &Row<'_>, columns: usize) -> usize {
+    let mut bytes: usize = 0;
+    'columns: for column in 0..columns {
+        if let ValueRef::Text(text) = row.value(column).as_ref() {
+            bytes = bytes.wrapping_add(text.len());
+        }
+    }
+    bytes
+}
+
+// Reserves room for the texts of a block of rows. Values lie anywhere in memory; in a loop that does nothing else the
+// processor overlaps many cache misses.
+fn reserve_block(
+    text: &mut Vec<u8>,
+    rows: &ResultRows<'_>,
+    columns: usize,
+    start: usize,
+) -> Result<(), AllocError>
+    ensures { text.new.items ≡ text.old.items }
+{
+    let mut bytes: usize = 0;
+    'rows: for row in start..start.saturating_add(BLOCK).min(rows.len()) {
+        bytes = bytes.wrapping_add(text_bytes(&rows.row(row), columns));
+    }
+    text.reserve(bytes)
+}
+
+// Reserves room for a block of rows if this row is the first of one.
+fn prepare_row(
+    text: &mut Vec<u8>,
+    rows: &ResultRows<'_>,
+    columns: usize,
+    row: usize,
+) -> Result<(), AllocError>
+    ensures { text.new.items ≡ text.old.items }
+{
+    if row % BLOCK == 0 {
+        reserve_block(text, rows, columns, row)
+    } else {
+        Ok(())
+    }
+}
+
 /// Appends the lines of all rows.
 pub(crate) fn push_rows(
     text: &mut Vec<u8>,
-    lines: &Lines,
+    lines: &Lines<'_>,
     rows: &ResultRows<'_>,
 ) -> Result<(), AllocError>
     requires { lines.now.columns < 2 ^ 63 }
-    ensures { OnOk result (text.new.items ≡ text.old.items
-        ++ rows_text lines.now.format lines.now.form lines.now.layout lines.now.columns rows.now) }
+    ensures { OnOk result (text.new.items ≡ text.old.items ++ rows_text lines.now.options.now lines.now.layout lines.now.columns rows.now) }
 {
     let mut cell = Vec::new(lines.alloc);
     'rows: for row in 0..rows.len() {
-        push_between(text, lines.format, row)?;
+        prepare_row(text, rows, lines.columns, row)?;
+        push_between(text, lines.options.format, row)?;
         push_row(text, &mut cell, lines, &rows.row(row), rows.period(row))?;
     }
     Ok(())

@@ -1,21 +1,31 @@
--- Merging ordered lists, one list of values after the other.
-use Rattle.std.proofs.Common.{◌≡◌, ◌<◌, ◌≤◌, ◌+◌, ◌++◌, ◌∙◌, ℕ, zero, suc, Bool, true, false, List, [], ◌∷◌, ap, arith, get_or, inl, inr, length, map, refl, subst, sym}
-use Rattle.std.specs.Prelude.{All, IsSorted, if◌then◌else◌}
+-- Merging ordered lists, one run after the other.
+use Rattle.std.proofs.Common.{◌≡◌, ◌≢◌, ◌<◌, ◌≤◌, ◌+◌, ◌++◌, ◌∙◌, ℕ, zero, suc, Bool, true, false, List, [], ◌∷◌, ap, arith, get_or, inl, inr, length, map, min, refl, subst, sym, take}
+use Rattle.std.specs.Prelude.{All, IsSorted, filter, if◌then◌else◌}
 use Rattle.std.specs.Ordering.{eq_by_cmp}
+use Rattle.std.proofs.lemmas.Bool.{cases_lt}
+use Rattle.std.proofs.lemmas.List.{take_all}
 use Rattle.std.proofs.lemmas.List.Concat.{flat_map-cons}
-use Rattle.std.proofs.lemmas.List.Elements.{All-append, All-cons, All-head, All-nil, All-tail}
+use Rattle.std.proofs.lemmas.List.Elements.{All-append, All-cons, All-filter, All-head, All-map, All-nil, All-tail}
 use Rattle.std.proofs.lemmas.List.Sorted.{IsPermutation-refl}
 use Rattle.tq_base.specs.declared.fragment.Fragment.{Fragment}
+use Rattle.tq_base.specs.declared.period.Period.{Period}
 use Rattle.tq_base.specs.declared.value.Value.{Value}
 use Rattle.tq_base.specs.Copies.{copies-append, tally}
-use Rattle.tq_base.specs.Fragments.{copies, fragment_cmp}
-use Rattle.tq_base.specs.Groups.{Below, NotAbove, below_then, grouping_starts}
+use Rattle.tq_base.specs.Fragments.{at, copies, fragment_cmp}
+use Rattle.tq_base.specs.Groups.{Below, NotAbove, below_differs, below_then, grouping_starts}
 use Rattle.tq_base.specs.Layers.{IsLayers, TakesIn}
+use Rattle.tq_base.specs.Periods.{holds}
 use Rattle.tq_base.specs.Ranges.{AreBelow, layers_follow, one_after_other}
 use Rattle.tq_base.specs.Sweep.{pairs_head}
 use Rattle.tq_base.specs.ValueOrder.{same_from_eq, values_cmp}
 use Rattle.tq_base.proofs.Unique.{copies-cons, sorted_tail, tally_is, tally_one}
-use Rattle.tq_split.specs.Merges.{AreAfter, AreMergedSoFar, BeginsAbove, after_run, run_of, runs_of}
+use Rattle.tq_ops.specs.Ordinary.{projection}
+use Rattle.tq_split.specs.declared.combine.Combine.{Combine}
+use Rattle.tq_split.specs.declared.combine.Combine.TheVariants.{Add, Merge}
+use Rattle.tq_split.specs.Adding.{combined, run_values}
+use Rattle.tq_split.specs.Merges.{AreAfter, AreInOrder, AreMergedSoFar, AreRunsBelow, BeginsAbove, after_run, run_of, runs_of}
+use Rattle.tq_split.proofs.AddingLemmas.{added_apart, first_values, has_key, keys, same_first, take_greater, take_less}
+use Rattle.tq_split.proofs.GroupLemmas.{occurrences-append}
 
 -- ---- rows with copies
 
@@ -39,81 +49,183 @@ found_row (row ∷ rows) v t some = elim (tally_is v t row) [
   | inr here ↦ (0, omega arith, λ d. here.0)
 ]
 
--- rows that are below others are below fewer of them
-below_fewer : (rows others fewer : List Fragment) → ((v : List Value) (t : ℕ) → copies fewer v t ≤ copies others v t) → AreBelow rows others → AreBelow rows fewer
-below_fewer rows others fewer few below k d less j e within =
+-- rows of lesser runs than others are of lesser runs than fewer of them
+below_fewer : (combine : Combine) (rows others fewer : List Fragment) → ((v : List Value) (t : ℕ) → copies fewer v t ≤ copies others v t) → AreRunsBelow combine rows others → AreRunsBelow combine rows fewer
+below_fewer combine rows others fewer few below k d less j e within =
     let row = get_or fewer j e in
     let (found, there, same) = found_row others row.values row.period.start (omega (arith, own_copy fewer j e within, few row.values row.period.start)) in
-    subst (λ v. Below (get_or rows k d).values v) (same e) (below k d less found e there)
+    subst (λ v. Below (run_values combine (get_or rows k d).values) (run_values combine v)) (same e) (below k d less found e there)
+
+-- ---- the order of runs
+
+run_less : (combine : Combine) (a b : List Value) → Below (run_values combine a) (run_values combine b) → Below a b
+run_less Merge a b less = less
+run_less (Add groups) a b less = take_less groups a b less
+
+run_not_above : (combine : Combine) (a b : List Value) → NotAbove a b → NotAbove (run_values combine a) (run_values combine b)
+run_not_above Merge a b not_above = not_above
+run_not_above (Add groups) a b not_above = λ greater. not_above (take_greater groups a b greater)
+
+rows_below : (combine : Combine) (rows others : List Fragment) → AreRunsBelow combine rows others → AreBelow rows others
+rows_below combine rows others below k d less j e within = run_less combine (get_or rows k d).values (get_or others j e).values (below k d less j e within)
 
 -- ---- runs
 
 -- the first row belongs to the run, or the run is empty
-copies_run : (v : List Value) (rows : List Fragment) (u : List Value) (t : ℕ) → copies (run_of v rows) u t + copies (after_run v rows) u t ≡ copies rows u t
-copies_run v [] u t = refl
-copies_run v (row ∷ rows) u t = by (eq_by_cmp values_cmp row.values v) (copies_run v rows u t)
+copies_run : (combine : Combine) (v : List Value) (rows : List Fragment) (u : List Value) (t : ℕ) → copies (run_of combine v rows) u t + copies (after_run combine v rows) u t ≡ copies rows u t
+copies_run combine v [] u t = refl
+copies_run combine v (row ∷ rows) u t = by (eq_by_cmp values_cmp (run_values combine row.values) v) (copies_run combine v rows u t)
   where
-    by : (b : Bool) → copies (run_of v rows) u t + copies (after_run v rows) u t ≡ copies rows u t
-        → copies (if b then row ∷ run_of v rows else []) u t + copies (if b then after_run v rows else row ∷ rows) u t ≡ copies (row ∷ rows) u t
-    by true rest = omega (arith, rest, copies-cons row (run_of v rows) u t, copies-cons row rows u t)
+    by : (b : Bool) → copies (run_of combine v rows) u t + copies (after_run combine v rows) u t ≡ copies rows u t
+        → copies (if b then row ∷ run_of combine v rows else []) u t + copies (if b then after_run combine v rows else row ∷ rows) u t ≡ copies (row ∷ rows) u t
+    by true rest = omega (arith, rest, copies-cons row (run_of combine v rows) u t, copies-cons row rows u t)
     by false rest = omega arith
 
-copies_runs : (v : List Value) (lists : List (List Fragment)) (u : List Value) (t : ℕ) → copies (runs_of v lists) u t + copies (one_after_other (map (after_run v) lists)) u t ≡ copies (one_after_other lists) u t
-copies_runs v [] u t = refl
-copies_runs v (rows ∷ lists) u t =
-    let run = ap (λ l. copies l u t) (flat_map-cons (run_of v) rows lists) ∙ copies-append (run_of v rows) (runs_of v lists) u t in
-    let after = ap (λ l. copies l u t) (flat_map-cons (λ (l : List Fragment). l) (after_run v rows) (map (after_run v) lists)) ∙ copies-append (after_run v rows) (one_after_other (map (after_run v) lists)) u t in
+copies_runs : (combine : Combine) (v : List Value) (lists : List (List Fragment)) (u : List Value) (t : ℕ) → copies (runs_of combine v lists) u t + copies (one_after_other (map (after_run combine v) lists)) u t ≡ copies (one_after_other lists) u t
+copies_runs combine v [] u t = refl
+copies_runs combine v (rows ∷ lists) u t =
+    let run = ap (λ l. copies l u t) (flat_map-cons (run_of combine v) rows lists) ∙ copies-append (run_of combine v rows) (runs_of combine v lists) u t in
+    let after = ap (λ l. copies l u t) (flat_map-cons (λ (l : List Fragment). l) (after_run combine v rows) (map (after_run combine v) lists)) ∙ copies-append (after_run combine v rows) (one_after_other (map (after_run combine v) lists)) u t in
     let all = ap (λ l. copies l u t) (flat_map-cons (λ (l : List Fragment). l) rows lists) ∙ copies-append rows (one_after_other lists) u t in
-    omega (arith, run, after, all, copies_run v rows u t, copies_runs v lists u t)
+    omega (arith, run, after, all, copies_run combine v rows u t, copies_runs combine v lists u t)
 
-abbrev HasValues : List Value → Fragment → Type 0
-HasValues v row = row.values ≡ v
+abbrev HasValues : Combine → List Value → Fragment → Type 0
+HasValues combine v row = run_values combine row.values ≡ v
 
-run_alike : (v : List Value) (rows : List Fragment) → All (HasValues v) (run_of v rows)
-run_alike v [] = All-nil (HasValues v)
-run_alike v (row ∷ rows) = by (eq_by_cmp values_cmp row.values v) refl (run_alike v rows)
+abbrev IsWide : ℕ → Fragment → Type 0
+IsWide width row = length row.values ≡ width
+
+run_alike : (combine : Combine) (v : List Value) (rows : List Fragment) → All (HasValues combine v) (run_of combine v rows)
+run_alike combine v [] = All-nil (HasValues combine v)
+run_alike combine v (row ∷ rows) = by (eq_by_cmp values_cmp (run_values combine row.values) v) refl (run_alike combine v rows)
   where
-    by : (b : Bool) → eq_by_cmp values_cmp row.values v ≡ b → All (HasValues v) (run_of v rows) → All (HasValues v) (if b then row ∷ run_of v rows else [])
-    by true same rest = All-cons (HasValues v) row (run_of v rows) (same_from_eq row.values v same) rest
-    by false same rest = All-nil (HasValues v)
+    by : (b : Bool) → eq_by_cmp values_cmp (run_values combine row.values) v ≡ b → All (HasValues combine v) (run_of combine v rows) → All (HasValues combine v) (if b then row ∷ run_of combine v rows else [])
+    by true same rest = All-cons (HasValues combine v) row (run_of combine v rows) (same_from_eq (run_values combine row.values) v same) rest
+    by false same rest = All-nil (HasValues combine v)
 
-runs_alike : (v : List Value) (lists : List (List Fragment)) → All (HasValues v) (runs_of v lists)
-runs_alike v [] = All-nil (HasValues v)
-runs_alike v (rows ∷ lists) =
-    subst (All (HasValues v)) (sym (flat_map-cons (run_of v) rows lists))
-    (All-append (HasValues v) (run_of v rows) (runs_of v lists) (run_alike v rows) (runs_alike v lists))
+runs_alike : (combine : Combine) (v : List Value) (lists : List (List Fragment)) → All (HasValues combine v) (runs_of combine v lists)
+runs_alike combine v [] = All-nil (HasValues combine v)
+runs_alike combine v (rows ∷ lists) =
+    subst (All (HasValues combine v)) (sym (flat_map-cons (run_of combine v) rows lists))
+    (All-append (HasValues combine v) (run_of combine v rows) (runs_of combine v lists) (run_alike combine v rows) (runs_alike combine v lists))
 
 -- ---- the rows after a run
 
-after_sorted : (v : List Value) (rows : List Fragment) → IsSorted fragment_cmp rows → IsSorted fragment_cmp (after_run v rows)
-after_sorted v [] sorted = sorted
-after_sorted v (row ∷ rows) sorted = by (eq_by_cmp values_cmp row.values v) (after_sorted v rows (sorted_tail row rows sorted))
+after_sorted : (combine : Combine) (v : List Value) (rows : List Fragment) → IsSorted fragment_cmp rows → IsSorted fragment_cmp (after_run combine v rows)
+after_sorted combine v [] sorted = sorted
+after_sorted combine v (row ∷ rows) sorted = by (eq_by_cmp values_cmp (run_values combine row.values) v) (after_sorted combine v rows (sorted_tail row rows sorted))
   where
-    by : (b : Bool) → IsSorted fragment_cmp (after_run v rows) → IsSorted fragment_cmp (if b then after_run v rows else row ∷ rows)
+    by : (b : Bool) → IsSorted fragment_cmp (after_run combine v rows) → IsSorted fragment_cmp (if b then after_run combine v rows else row ∷ rows)
     by true rest = rest
     by false rest = sorted
 
--- ordered rows that begin above values are above them
-all_above : (v : List Value) (rows : List Fragment) → IsSorted fragment_cmp rows → BeginsAbove v rows → All (λ (g : Fragment). Below v g.values) rows
-all_above v [] sorted begins = All-nil (λ (g : Fragment). Below v g.values)
-all_above v (row ∷ rows) sorted begins =
+after_wide : (combine : Combine) (width : ℕ) (v : List Value) (rows : List Fragment) → All (IsWide width) rows → All (IsWide width) (after_run combine v rows)
+after_wide combine width v [] wide = wide
+after_wide combine width v (row ∷ rows) wide = by (eq_by_cmp values_cmp (run_values combine row.values) v) (after_wide combine width v rows (All-tail (IsWide width) row rows wide))
+  where
+    by : (b : Bool) → All (IsWide width) (after_run combine v rows) → All (IsWide width) (if b then after_run combine v rows else row ∷ rows)
+    by true rest = rest
+    by false rest = wide
+
+run_wide : (combine : Combine) (width : ℕ) (v : List Value) (rows : List Fragment) → All (IsWide width) rows → All (IsWide width) (run_of combine v rows)
+run_wide combine width v [] wide = wide
+run_wide combine width v (row ∷ rows) wide = by (eq_by_cmp values_cmp (run_values combine row.values) v) (run_wide combine width v rows (All-tail (IsWide width) row rows wide))
+  where
+    by : (b : Bool) → All (IsWide width) (run_of combine v rows) → All (IsWide width) (if b then row ∷ run_of combine v rows else [])
+    by true rest = All-cons (IsWide width) row (run_of combine v rows) (All-head (IsWide width) row rows wide) rest
+    by false rest = All-nil (IsWide width)
+
+-- ordered rows that begin above a run are above it
+all_above : (combine : Combine) (v : List Value) (rows : List Fragment) → IsSorted fragment_cmp rows → BeginsAbove combine v rows → All (λ (g : Fragment). Below v (run_values combine g.values)) rows
+all_above combine v [] sorted begins = All-nil (λ (g : Fragment). Below v (run_values combine g.values))
+all_above combine v (row ∷ rows) sorted begins =
     let rising = (grouping_starts (row ∷ rows) (row ∷ rows) (IsPermutation-refl (row ∷ rows)) sorted).rising in
     let later = pairs_head (λ (f : Fragment) (g : Fragment). NotAbove f.values g.values) row rows rising in
-    All-cons (λ (g : Fragment). Below v g.values) row rows begins (λ k d less. below_then v row.values (get_or rows k d).values begins (later k d less))
+    All-cons (λ (g : Fragment). Below v (run_values combine g.values)) row rows begins
+    (λ k d less. below_then v (run_values combine row.values) (run_values combine (get_or rows k d).values) begins (run_not_above combine row.values (get_or rows k d).values (later k d less)))
 
-after_above : (v : List Value) (lists : List (List Fragment)) → All (IsSorted fragment_cmp) lists → AreAfter v lists → All (λ (g : Fragment). Below v g.values) (one_after_other (map (after_run v) lists))
-after_above v [] sorted after = All-nil (λ (g : Fragment). Below v g.values)
-after_above v (rows ∷ lists) sorted after =
-    subst (All (λ (g : Fragment). Below v g.values)) (sym (flat_map-cons (λ (l : List Fragment). l) (after_run v rows) (map (after_run v) lists)))
-    (All-append (λ (g : Fragment). Below v g.values) (after_run v rows) (one_after_other (map (after_run v) lists))
-    (all_above v (after_run v rows) (after_sorted v rows (All-head (IsSorted fragment_cmp) rows lists sorted)) (All-head (λ (l : List Fragment). BeginsAbove v (after_run v l)) rows lists after))
-    (after_above v lists (All-tail (IsSorted fragment_cmp) rows lists sorted) (All-tail (λ (l : List Fragment). BeginsAbove v (after_run v l)) rows lists after)))
+after_above : (combine : Combine) (width : ℕ) (v : List Value) (lists : List (List Fragment)) → All (AreInOrder width) lists → AreAfter combine v lists
+    → All (λ (g : Fragment). Below v (run_values combine g.values)) (one_after_other (map (after_run combine v) lists))
+after_above combine width v [] ordered after = All-nil (λ (g : Fragment). Below v (run_values combine g.values))
+after_above combine width v (rows ∷ lists) ordered after =
+    subst (All (λ (g : Fragment). Below v (run_values combine g.values))) (sym (flat_map-cons (λ (l : List Fragment). l) (after_run combine v rows) (map (after_run combine v) lists)))
+    (All-append (λ (g : Fragment). Below v (run_values combine g.values)) (after_run combine v rows) (one_after_other (map (after_run combine v) lists))
+    (all_above combine v (after_run combine v rows) (after_sorted combine v rows (All-head (AreInOrder width) rows lists ordered).0) (All-head (λ (l : List Fragment). BeginsAbove combine v (after_run combine v l)) rows lists after))
+    (after_above combine width v lists (All-tail (AreInOrder width) rows lists ordered) (All-tail (λ (l : List Fragment). BeginsAbove combine v (after_run combine v l)) rows lists after)))
 
-all_sorted : (v : List Value) (lists : List (List Fragment)) → All (IsSorted fragment_cmp) lists → All (IsSorted fragment_cmp) (map (after_run v) lists)
-all_sorted v [] sorted = All-nil (IsSorted fragment_cmp)
-all_sorted v (rows ∷ lists) sorted =
-    All-cons (IsSorted fragment_cmp) (after_run v rows) (map (after_run v) lists) (after_sorted v rows (All-head (IsSorted fragment_cmp) rows lists sorted))
-    (all_sorted v lists (All-tail (IsSorted fragment_cmp) rows lists sorted))
+all_in_order : (combine : Combine) (width : ℕ) (v : List Value) (lists : List (List Fragment)) → All (AreInOrder width) lists → All (AreInOrder width) (map (after_run combine v) lists)
+all_in_order combine width v [] ordered = All-nil (AreInOrder width)
+all_in_order combine width v (rows ∷ lists) ordered =
+    let first = All-head (AreInOrder width) rows lists ordered in
+    All-cons (AreInOrder width) (after_run combine v rows) (map (after_run combine v) lists) (after_sorted combine v rows first.0, after_wide combine width v rows first.1)
+    (all_in_order combine width v lists (All-tail (AreInOrder width) rows lists ordered))
+
+all_wide : (width : ℕ) (lists : List (List Fragment)) → All (AreInOrder width) lists → All (IsWide width) (one_after_other lists)
+all_wide width [] ordered = All-nil (IsWide width)
+all_wide width (rows ∷ lists) ordered =
+    subst (All (IsWide width)) (sym (flat_map-cons (λ (l : List Fragment). l) rows lists))
+    (All-append (IsWide width) rows (one_after_other lists) (All-head (AreInOrder width) rows lists ordered).1 (all_wide width lists (All-tail (AreInOrder width) rows lists ordered)))
+
+runs_wide : (combine : Combine) (width : ℕ) (v : List Value) (lists : List (List Fragment)) → All (AreInOrder width) lists → All (IsWide width) (runs_of combine v lists)
+runs_wide combine width v [] ordered = All-nil (IsWide width)
+runs_wide combine width v (rows ∷ lists) ordered =
+    subst (All (IsWide width)) (sym (flat_map-cons (run_of combine v) rows lists))
+    (All-append (IsWide width) (run_of combine v rows) (runs_of combine v lists) (run_wide combine width v rows (All-head (AreInOrder width) rows lists ordered).1)
+    (runs_wide combine width v lists (All-tail (AreInOrder width) rows lists ordered)))
+
+-- ---- what runs make
+
+-- the values of the rows valid at an instant
+at_all : (P : List Value → Type 0) (rows : List Fragment) (t : ℕ) → All (λ (row : Fragment). P row.values) rows → All P (at rows t)
+at_all P rows t all = All-map P (λ (row : Fragment). row.values) (filter (λ (row : Fragment). holds row.period t) rows) (All-filter (λ (row : Fragment). holds row.period t) (λ (row : Fragment). P row.values) rows all)
+
+-- the first values of a row of a run are its key
+wide_key : (groups width : ℕ) (row : Fragment) → length row.values ≡ width → projection (keys groups width) row.values ≡ take groups row.values
+wide_key groups width row wide =
+    first_values row.values (min groups width) (omega (arith, wide)) ∙ elim (cases_lt width groups) [
+      | inl more ↦
+          let all : min groups width ≡ width = omega (arith, more) in
+          take_long row.values (min groups width) groups (omega (arith, all, wide)) (omega (arith, more, wide))
+      | inr fewer ↦
+          let some : min groups width ≡ groups = omega (arith, fewer) in
+          ap (λ n. take n row.values) some
+    ]
+  where
+    take_long : (values : List Value) (m n : ℕ) → length values ≤ m → length values ≤ n → take m values ≡ take n values
+    take_long values m n one other = take_all m values one ∙ sym (take_all n values other)
+
+-- a run, and the rows after it, make what all rows make
+runs_combined : (combine : Combine) (width : ℕ) (v : List Value) (lists : List (List Fragment)) → All (AreInOrder width) lists → AreAfter combine v lists → (u : List Value) (t : ℕ)
+    → combined combine width (runs_of combine v lists) u t + combined combine width (one_after_other (map (after_run combine v) lists)) u t ≡ combined combine width (one_after_other lists) u t
+runs_combined Merge width v lists ordered after u t = copies_runs Merge v lists u t
+runs_combined (Add groups) width v lists ordered after u t =
+    added_apart groups width (at (one_after_other lists) t) (at runs t) (at rest t) v
+    (λ w. sym (occurrences-append (at runs t) (at rest t) w ∙ copies_runs (Add groups) v lists w t))
+    (at_all (λ (values : List Value). projection (keys groups width) values ≡ v) runs t
+    (λ k d less. wide_key groups width (get_or runs k d) (runs_wide (Add groups) width v lists ordered k d less) ∙ runs_alike (Add groups) v lists k d less))
+    (at_all (λ (values : List Value). projection (keys groups width) values ≢ v) rest t
+    (λ k d less same. below_differs v (take groups (get_or rest k d).values) (after_above (Add groups) width v lists ordered after k d less)
+    (sym (sym (wide_key groups width (get_or rest k d) (all_wide width (map (after_run (Add groups) v) lists) (all_in_order (Add groups) width v lists ordered) k d less)) ∙ same))))
+    u
+  where
+    runs : List Fragment
+    runs = runs_of (Add groups) v lists
+
+    rest : List Fragment
+    rest = one_after_other (map (after_run (Add groups) v) lists)
+
+-- a row that rows make is of the run of one of them
+combined_found : (combine : Combine) (width : ℕ) (rows : List Fragment) (v : List Value) (t : ℕ) → All (IsWide width) rows → 1 ≤ combined combine width rows v t
+    → (k : ℕ) × (k < length rows) × ((d : Fragment) → run_values combine (get_or rows k d).values ≡ run_values combine v)
+combined_found Merge width rows v t wide some = found_row rows v t some
+combined_found (Add groups) width rows v t wide some =
+    let has = has_key groups width (at rows t) v (omega (arith, some)) in
+    let (k, less, is) = found_row rows has.row t (omega (arith, has.stands)) in
+    let first : Fragment = get_or rows k (record { values = v; period = every }) in
+    (k, less, λ d. ap (take groups) (is d) ∙ same_first groups width (at rows t) v has (ap length (sym (is first)) ∙ wide k first less))
+  where
+    every : Period
+    every = record { start = 0; end = 1; ordered = omega arith }
 
 -- ---- what is merged so far
 
@@ -121,49 +233,67 @@ own_layers : (m : List Value → ℕ → ℕ) (rows : List Fragment) → IsLayer
 own_layers m rows layers = record { ordered = layers.ordered; coalesced = layers.coalesced; counted = λ v t. refl }
 
 -- before the first run
-pub none_merged : (lists : List (List Fragment)) → All (IsSorted fragment_cmp) lists → AreMergedSoFar lists lists []
-none_merged lists sorted = record {
+pub none_merged : (combine : Combine) (width : ℕ) (lists : List (List Fragment)) → All (AreInOrder width) lists → AreMergedSoFar combine width lists lists []
+none_merged combine width lists ordered = record {
   layers = record { ordered = λ k d low high. absurd (omega (arith, high)); coalesced = All-nil _; counted = λ v t. refl };
   counted = λ v t. omega arith;
-  below = All-nil (λ (f : Fragment). All (λ (g : Fragment). Below f.values g.values) (one_after_other lists));
-  ordered = sorted;
+  fewer = λ v t. omega arith;
+  below = All-nil (λ (f : Fragment). All (λ (g : Fragment). Below (run_values combine f.values) (run_values combine g.values)) (one_after_other lists));
+  ordered = ordered;
 }
 
 -- after one run
-pub run_merged : (v : List Value) (lists : List (List Fragment)) (layers : List Fragment) → All (IsSorted fragment_cmp) lists → AreAfter v lists → IsLayers (copies (runs_of v lists)) layers
-    → AreMergedSoFar lists (map (after_run v) lists) layers
-run_merged v lists layers sorted after are = record {
-  layers = own_layers (copies (runs_of v lists)) layers are;
-  counted = λ u t. omega (arith, are.counted u t, copies_runs v lists u t);
-  below = λ k d less j e within. subst (λ u. Below u (get_or (one_after_other (map (after_run v) lists)) j e).values) (sym (own_values k d less)) (after_above v lists sorted after j e within);
-  ordered = all_sorted v lists sorted;
+pub run_merged : (combine : Combine) (width : ℕ) (v : List Value) (lists : List (List Fragment)) (layers : List Fragment) → All (AreInOrder width) lists → AreAfter combine v lists
+    → IsLayers (combined combine width (runs_of combine v lists)) layers → AreMergedSoFar combine width lists (map (after_run combine v) lists) layers
+run_merged combine width v lists layers ordered after are = record {
+  layers = own_layers (combined combine width (runs_of combine v lists)) layers are;
+  counted = λ u t. omega (arith, are.counted u t, runs_combined combine width v lists ordered after u t);
+  fewer = λ u t. omega (arith, copies_runs combine v lists u t);
+  below = λ k d less j e within.
+      subst (λ u. Below u (run_values combine (get_or (one_after_other (map (after_run combine v) lists)) j e).values)) (sym (own_values k d less)) (after_above combine width v lists ordered after j e within);
+  ordered = all_in_order combine width v lists ordered;
 }
   where
-    own_values : (k : ℕ) (d : Fragment) → k < length layers → (get_or layers k d).values ≡ v
+    own_values : (k : ℕ) (d : Fragment) → k < length layers → run_values combine (get_or layers k d).values ≡ v
     own_values k d less =
         let row = get_or layers k d in
-        let (found, there, same) = found_row (runs_of v lists) row.values row.period.start (omega (arith, own_copy layers k d less, are.counted row.values row.period.start)) in
-        sym (same d) ∙ runs_alike v lists found d there
+        let (found, there, same) = combined_found combine width (runs_of combine v lists) row.values row.period.start (runs_wide combine width v lists ordered)
+        (omega (arith, own_copy layers k d less, are.counted row.values row.period.start)) in
+        sym (same d) ∙ runs_alike combine v lists found d there
 
 -- one run after another
-pub merged_then : (lists middle left : List (List Fragment)) (rows others : List Fragment) → AreMergedSoFar lists middle rows → AreMergedSoFar middle left others → AreMergedSoFar lists left (rows ++ others)
-merged_then lists middle left rows others first second =
-    let below : AreBelow rows others = below_fewer rows (one_after_other middle) others (λ v t. omega (arith, second.counted v t)) first.below in
-    let both = layers_follow (copies rows) (copies others) rows others first.layers second.layers below in
+pub merged_then : (combine : Combine) (width : ℕ) (lists middle left : List (List Fragment)) (rows others : List Fragment) → AreMergedSoFar combine width lists middle rows → AreMergedSoFar combine width middle left others
+    → AreMergedSoFar combine width lists left (rows ++ others)
+merged_then combine width lists middle left rows others first second =
+    let both = layers_follow (copies rows) (copies others) rows others first.layers second.layers (rows_below combine rows others below) in
     record {
       layers = own_layers (λ v t. copies rows v t + copies others v t) (rows ++ others) both;
       counted = λ v t. omega (arith, first.counted v t, second.counted v t, copies-append rows others v t);
-      below = All-append (λ (f : Fragment). All (λ (g : Fragment). Below f.values g.values) (one_after_other left)) rows others
-          (below_fewer rows (one_after_other middle) (one_after_other left) (λ v t. omega (arith, second.counted v t)) first.below) second.below;
+      fewer = λ v t. omega (arith, first.fewer v t, second.fewer v t);
+      below = All-append (λ (f : Fragment). All (λ (g : Fragment). Below (run_values combine f.values) (run_values combine g.values)) (one_after_other left)) rows others
+          (below_fewer combine rows (one_after_other middle) (one_after_other left) second.fewer first.below) second.below;
       ordered = second.ordered;
     }
+  where
+    below : AreRunsBelow combine rows others
+    below k d less j e within =
+        let row = get_or others j e in
+        let (found, there, same) = combined_found combine width (one_after_other middle) row.values row.period.start (all_wide width middle first.ordered)
+        (omega (arith, own_copy others j e within, second.counted row.values row.period.start)) in
+        subst (λ v. Below (run_values combine (get_or rows k d).values) v) (same e) (first.below k d less found e there)
+
+-- no rows make nothing
+combined_none : (combine : Combine) (width : ℕ) (rows : List Fragment) (v : List Value) (t : ℕ) → rows ≡ [] → combined combine width rows v t ≡ 0
+combined_none Merge width rows v t none = ap (λ l. copies l v t) none
+combined_none (Add groups) width rows v t none = ap (λ l. combined (Add groups) width l v t) none
 
 -- after the last run
-pub all_merged : (lists left : List (List Fragment)) (rows : List Fragment) → AreMergedSoFar lists left rows → one_after_other left ≡ [] → IsLayers (copies (one_after_other lists)) rows
-all_merged lists left rows merged none = record {
+pub all_merged : (combine : Combine) (width : ℕ) (lists left : List (List Fragment)) (rows : List Fragment) → AreMergedSoFar combine width lists left rows → one_after_other left ≡ []
+    → IsLayers (combined combine width (one_after_other lists)) rows
+all_merged combine width lists left rows merged none = record {
   ordered = merged.layers.ordered;
   coalesced = merged.layers.coalesced;
-  counted = λ v t. omega (arith, merged.counted v t, ap (λ l. copies l v t) none);
+  counted = λ v t. omega (arith, merged.counted v t, combined_none combine width (one_after_other left) v t none);
 }
 
 -- ---- a run of one row

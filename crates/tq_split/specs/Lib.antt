@@ -3,4 +3,5 @@ pub mod TableParts
 pub mod Splits
 pub mod RowKeys
 pub mod AnswerTexts
+pub mod Adding
 pub mod Merges

@@ -2,14 +2,17 @@
 
 ghost use Rattle.tq_split.specs.RowKeys.{IsKeyOf, key_prop};
 
+use crate::combine::Combine;
 use csv::{ByteRecord, Reader};
 use tq_base::{Column, Form, Fragment};
 
-/// How answers are written: the names and kinds of their columns, and the form of their instants.
+/// How answers are written and combined: the names and kinds of their columns, the form of their instants, and how the rows
+/// of all answers make those of the whole.
 #[derive(Drop, Debug)]
 pub struct AnswerLayout {
     pub columns: Vec<Column>,
     pub form: Form,
+    pub combine: Combine,
 }
 
 /// A row, and the normalized key of its first value, which decides most comparisons.

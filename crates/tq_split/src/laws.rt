@@ -1,7 +1,7 @@
 //! Laws of divided tables and of answers over their parts: functions with an empty body whose contract is the law.
 
 ghost use Rattle.tq_split.specs.PartNumbers.{PartNumbersAreBelow};
-ghost use Rattle.tq_split.specs.Splits.{MergedAnswersAnswer};
+ghost use Rattle.tq_split.specs.Splits.{AddedAnswersAnswer, MergedAnswersAnswer};
 ghost use Rattle.tq_split.specs.TableParts.{LinesLoad, PartsAppend, PartsLoad};
 
 /// Every value belongs to one of the parts.
@@ -30,4 +30,10 @@ pub fn parts_append()
 /// whole tables.
 pub fn merged_answers_answer()
     ensures { MergedAnswersAnswer }
+{}
+
+/// If tables are divided so that counts and sums add up, the layers of the sums of the groups of all answers over the parts are
+/// the answer over the whole tables.
+pub fn added_answers_answer()
+    ensures { AddedAnswersAnswer }
 {}

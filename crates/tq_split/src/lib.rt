@@ -7,8 +7,10 @@
 //! Open `src/plans.rt` first.
 #![tactic(auto)]
 
+mod adding;
 mod answer_part;
 mod columns;
+mod combine;
 mod dividing;
 mod division;
 pub mod laws;
@@ -23,11 +25,12 @@ mod tests;
 
 pub use answer_part::{AnswerLayout, AnswerPart, KeyedRow};
 pub use columns::answer_columns;
+pub use combine::Combine;
 pub use dividing::divide;
 pub use division::{Divided, Division, DivisionFault};
 pub use manifest::{
     MANIFEST_VERSION, Manifest, ManifestColumn, ManifestFault, ManifestTable, answer_layout,
-    manifest_columns, manifest_text, name_text, read_manifest,
+    combine_groups, combine_word, manifest_columns, manifest_text, name_text, read_manifest,
 };
 pub use merging::{AnswerFaultKind, MergeFault, Merged, merge_answers};
 pub use part_numbers::part_number;

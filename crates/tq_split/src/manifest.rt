@@ -4,6 +4,7 @@ ghost use Rattle.std.specs.Prelude.{IsTrue};
 ghost use Rattle.tq_base.specs.Names.{is_shown_name};
 
 use crate::answer_part::AnswerLayout;
+use crate::combine::Combine;
 use serde::{Deserialize, Serialize};
 use serde_json::{Error, to_string_pretty};
 use std::alloc::{AllocError, Global};
@@ -11,7 +12,7 @@ use std::str;
 use tq_base::{Column, Form, Kind, Name, fold_name};
 
 /// The version of manifests that this crate writes and reads.
-pub const MANIFEST_VERSION: u32 = 1;
+pub const MANIFEST_VERSION: u32 = 2;
 
 /// A column: its name, and `int` or `text`.
 #[derive(Debug, Drop, Serialize, Deserialize)]
@@ -27,7 +28,8 @@ pub struct ManifestTable {
     pub divided_by: Option<String>,
 }
 
-/// The statement, whether its instants are dates, the number of parts, the tables, and the columns of the answer.
+/// The statement, whether its instants are dates, the number of parts, the tables, and the columns of the answer. Answers are
+/// combined by `merge` or `add`. If they are added, the first `groups` columns name a group; otherwise there is no `groups`.
 #[derive(Debug, Drop, Serialize, Deserialize)]
 pub struct Manifest {
     pub version: u32,
@@ -36,6 +38,8 @@ pub struct Manifest {
     pub parts: u32,
     pub tables: Vec<ManifestTable>,
     pub columns: Vec<ManifestColumn>,
+    pub combine: String,
+    pub groups: Option<u32>,
 }
 
 /// Why a manifest is not read: it is no manifest of this version, or an allocation failed.
@@ -73,6 +77,41 @@ fn read_kind(word: &str) -> Option<Kind> {
         "int" => Some(Kind::Int),
         "text" => Some(Kind::Text),
         _ => None,
+    }
+}
+
+/// The word for a way to combine answers.
+pub fn combine_word(combine: Combine) -> &'static str {
+    match combine {
+        Combine::Merge => "merge",
+        Combine::Add { .. } => "add",
+    }
+}
+
+/// The number of columns that name a group, if answers are added.
+pub fn combine_groups(combine: Combine) -> Option<u32> {
+    match combine {
+        Combine::Merge => None,
+        Combine::Add { groups } => Some(groups),
+    }
+}
+
+fn read_combine(word: &str, groups: Option<u32>) -> Option<Combine> {
+    match (word, groups) {
+        ("merge", None) => Some(Combine::Merge),
+        ("add", Some(groups)) => Some(Combine::Add { groups }),
+        _ => None,
+    }
+}
+
+// Whether there are so many columns, and the others are numbers.
+fn can_combine(combine: Combine, columns: &[Column]) -> bool {
+    match combine {
+        Combine::Merge => true,
+        Combine::Add { groups } => match columns.get(groups as usize..) {
+            Some(sums) => !sums.is_empty() && sums.iter().all(|column| column.kind == Kind::Int),
+            None => false,
+        },
     }
 }
 
@@ -132,7 +171,8 @@ fn read_name(alloc: Global, bytes: &[u8]) -> Result<Option<Name>, AllocError> {
     fold_name(alloc, bytes)
 }
 
-/// How the answers are written. `Invalid` if a column has no valid name or kind.
+/// How the answers are written and combined. `Invalid` if a column has no valid name or kind, or if the columns cannot be
+/// combined in this way.
 pub fn answer_layout(alloc: Global, manifest: &Manifest) -> Result<AnswerLayout, ManifestFault> {
     let mut columns = Vec::with_capacity(alloc, manifest.columns.len())?;
     for column in &manifest.columns {
@@ -151,5 +191,15 @@ pub fn answer_layout(alloc: Global, manifest: &Manifest) -> Result<AnswerLayout,
     } else {
         Form::Numbers
     };
-    Ok(AnswerLayout { columns, form })
+    let Some(combine) = read_combine(manifest.combine.as_str(), manifest.groups) else {
+        return Err(ManifestFault::Invalid);
+    };
+    if !can_combine(combine, &columns) {
+        return Err(ManifestFault::Invalid);
+    }
+    Ok(AnswerLayout {
+        columns,
+        form,
+        combine,
+    })
 }

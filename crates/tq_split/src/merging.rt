@@ -1,11 +1,11 @@
 //! The answer over whole tables, from the answers over their parts.
 
-ghost use Rattle.std.specs.Prelude.{◌≡◌, ◌++◌, ◌∷◌, [], ℕ, All, IfOk, IfSome, IsSomeAnd, IsSorted, IsTrue, List, None, Ok, OnOk, Some, length, map, true};
+ghost use Rattle.std.specs.Prelude.{◌≡◌, ◌++◌, ◌∷◌, [], ℕ, All, IfOk, IfSome, IsSomeAnd, IsTrue, List, None, Ok, OnOk, Some, length, map, suc, take, true};
 ghost use Rattle.std.specs.Io.KnownBytes.{Appends};
 ghost use Rattle.std.specs.Ordering.{eq_by_cmp};
 ghost use Rattle.csv.specs.Records.{fields_of};
 ghost use Rattle.tq_base.specs.declared.fragment.Fragment.{Fragment as AnyFragment};
-ghost use Rattle.tq_base.specs.Fragments.{copies, fragment_cmp};
+ghost use Rattle.tq_base.specs.Fragments.{copies};
 ghost use Rattle.tq_base.specs.Groups.{Below};
 ghost use Rattle.tq_base.specs.Layers.{IsLayers};
 ghost use Rattle.tq_base.specs.ValueOrder.{values_cmp};
@@ -15,16 +15,20 @@ ghost use Rattle.tq_table.specs.Text.{header_text, rows_text};
 ghost use Rattle.tq_base.specs.declared.value.Value.{Value as AnyValue};
 ghost use Rattle.tq_split.specs.declared.answer_part.AnswerPart.{AnswerPart as AnyPart};
 ghost use Rattle.tq_split.specs.declared.answer_part.KeyedRow.{KeyedRow as AnyRow};
+ghost use Rattle.tq_split.specs.declared.combine.Combine.TheVariants.{Add};
+ghost use Rattle.tq_split.specs.Adding.{combined, run_values};
 ghost use Rattle.tq_split.specs.RowKeys.{IsKeyOf};
 ghost use Rattle.tq_split.specs.AnswerTexts.{AreAnswers, HasHeaderLeft, HasRows, HasRowsLeft, HaveRows, IsAnswerText, names_of};
-ghost use Rattle.tq_split.specs.Merges.{AreMerged, AreMergedRows, BeginsAbove, MergesBlock, MergesRun, after_run, run_of, runs_of};
+ghost use Rattle.tq_split.specs.Merges.{AreAfter, AreInOrder, AreMerged, AreMergedRows, BeginsAbove, MergesBlock, MergesRun, after_run, run_of, runs_of};
 
+use crate::adding::{AddFault, add_groups};
 use crate::answer_part::{AnswerLayout, AnswerPart, KeyedRow};
+use crate::combine::Combine;
 use csv::ByteRecord;
 use std::alloc::{AllocError, Global};
 use std::cmp::Ordering;
 use std::io::{Read, Write};
-use tq_base::{Form, Fragment, Name, Relation, Rows, Values, normalized_key};
+use tq_base::{Form, Fragment, Name, Relation, Rows, Value, Values, normalized_key};
 use tq_event::LoadFaultKind;
 use tq_event::steps::read_entry;
 use tq_import::{InputFault, next_record, record_reader};
@@ -49,7 +53,8 @@ pub enum AnswerFaultKind {
     Order,
 }
 
-/// Why answers were not merged: one of them is invalid, in the record with this number; a write failed; or an allocation failed.
+/// Why answers were not merged: one of them is invalid, in the record with this number; a number to be added has more than 64
+/// signed bits; a write failed; or an allocation failed.
 #[derive(Clone, Copy, Debug, PartialEq, Eq)]
 pub enum MergeFault {
     Answer {
@@ -57,6 +62,7 @@ pub enum MergeFault {
         number: u64,
         kind: AnswerFaultKind,
     },
+    Number,
     Write,
     OutOfMemory,
 }
@@ -64,6 +70,15 @@ pub enum MergeFault {
 impl From<AllocError> for MergeFault {
     fn from(_error: AllocError) -> MergeFault {
         MergeFault::OutOfMemory
+    }
+}
+
+impl From<AddFault> for MergeFault {
+    fn from(fault: AddFault) -> MergeFault {
+        match fault {
+            AddFault::Number => MergeFault::Number,
+            AddFault::OutOfMemory => MergeFault::OutOfMemory,
+        }
     }
 }
 
@@ -175,7 +190,28 @@ fn push_copy(rows: &mut Rows, row: &Fragment) -> Result<(), RowFault>
     Ok(())
 }
 
-// ---- the rows of one list of values
+// ---- the rows of one run: of one list of values, or of one group
+
+// The first values of a row, at most this many.
+fn first_values(values: &[Value], count: usize) -> &[Value]
+    ensures { result.now ≡ take count values.entry.now }
+{
+    if count < values.len() {
+        &values[..count]
+    } else {
+        values
+    }
+}
+
+// The values that the rows of a run have in common: all, or those of the group.
+fn run_values(combine: Combine, values: &Values) -> &[Value]
+    ensures { result.now ≡ run_values combine values.entry.now }
+{
+    match combine {
+        Combine::Merge => values.get(),
+        Combine::Add { groups } => first_values(values.get(), groups as usize),
+    }
+}
 
 // Where the next row of a part belongs: to the run, after it, or before it.
 #[derive(Clone, Copy, PartialEq, Eq)]
@@ -187,7 +223,8 @@ enum Place {
 
 // Whether both keys are known, and the first is less.
 fn is_less_key(key: Option<u128>, other: Option<u128>) -> bool
-    ensures { (values others : List AnyValue) → IsKeyOf key values → IsKeyOf other others → IsTrue result → Below values others }
+    ensures below { (values others : List AnyValue) → IsKeyOf key values → IsKeyOf other others → IsTrue result → Below values others }
+    ensures first { (values others : List AnyValue) (n : ℕ) → IsKeyOf key values → IsKeyOf other others → IsTrue result → Below (take (suc n) values) (take (suc n) others) }
 {
     match (key, other) {
         (Some(key), Some(other)) => key < other,
@@ -195,27 +232,37 @@ fn is_less_key(key: Option<u128>, other: Option<u128>) -> bool
     }
 }
 
-// Where the row belongs.
-fn place_in(row: &KeyedRow, run: &KeyedRow) -> Place
-    ensures within { result ≡ Place.Within → eq_by_cmp values_cmp row.now.row.values run.now.row.values ≡ true }
-    ensures after { result ≡ Place.After → Below run.now.row.values row.now.row.values }
+// Whether the keys decide that the row is of a greater run. Without columns of groups they do not.
+fn is_past(combine: Combine, row: &KeyedRow, run: &KeyedRow) -> bool
+    ensures { IsTrue result → Below (run_values combine run.now.row.values) (run_values combine row.now.row.values) }
 {
-    if is_less_key(run.key, row.key) {
+    match combine {
+        Combine::Merge => is_less_key(run.key, row.key),
+        Combine::Add { groups } => groups != 0 && is_less_key(run.key, row.key),
+    }
+}
+
+// Where the row belongs.
+fn place_in(combine: Combine, row: &KeyedRow, run: &KeyedRow) -> Place
+    ensures within { result ≡ Place.Within → eq_by_cmp values_cmp (run_values combine row.now.row.values) (run_values combine run.now.row.values) ≡ true }
+    ensures after { result ≡ Place.After → Below (run_values combine run.now.row.values) (run_values combine row.now.row.values) }
+{
+    if is_past(combine, row, run) {
         return Place::After;
     }
-    match row.row.values.compare(&run.row.values) {
+    match run_values(combine, &row.row.values).cmp(run_values(combine, &run.row.values)) {
         Ordering::Less => Place::Before,
         Ordering::Equal => Place::Within,
         Ordering::Greater => Place::After,
     }
 }
 
-fn place_of(next: &Option<KeyedRow>, run: &KeyedRow) -> Place
-    ensures within { result ≡ Place.Within → IsSomeAnd next.now (λ (next : AnyRow). eq_by_cmp values_cmp next.row.values run.now.row.values ≡ true) }
-    ensures after { result ≡ Place.After → IfSome next.now (λ (next : AnyRow). Below run.now.row.values next.row.values) }
+fn place_of(combine: Combine, next: &Option<KeyedRow>, run: &KeyedRow) -> Place
+    ensures within { result ≡ Place.Within → IsSomeAnd next.now (λ (next : AnyRow). eq_by_cmp values_cmp (run_values combine next.row.values) (run_values combine run.now.row.values) ≡ true) }
+    ensures after { result ≡ Place.After → IfSome next.now (λ (next : AnyRow). Below (run_values combine run.now.row.values) (run_values combine next.row.values)) }
 {
     match next {
-        Some(row) => place_in(row, run),
+        Some(row) => place_in(combine, row, run),
         None => Place::After,
     }
 }
@@ -238,7 +285,7 @@ fn take_row<R: Read>(
     read_next(alloc, layout, part)
 }
 
-// Moves the rows with these values to the group. `Order` if the next row has lesser values.
+// Moves the rows of the run to the group. `Order` if the next row is of a lesser run.
 fn take_run<R: Read>(
     alloc: Global,
     layout: &AnswerLayout,
@@ -247,12 +294,12 @@ fn take_run<R: Read>(
     group: &mut Rows,
 ) -> Result<(), RowFault>
     ensures width { group.new.width ≡ group.old.width }
-    ensures rows { (rows : List AnyFragment) → HasRows R.remaining layout.now part.old rows → OnOk result (HasRows R.remaining layout.now part.new (after_run run.now.row.values rows)) }
-    ensures group { (rows : List AnyFragment) → HasRows R.remaining layout.now part.old rows → OnOk result (group.new.items ≡ group.old.items ++ run_of run.now.row.values rows) }
-    ensures above { (rows : List AnyFragment) → HasRows R.remaining layout.now part.old rows → OnOk result (BeginsAbove run.now.row.values (after_run run.now.row.values rows)) }
+    ensures rows { (rows : List AnyFragment) → HasRows R.remaining layout.now part.old rows → OnOk result (HasRows R.remaining layout.now part.new (after_run layout.now.combine (run_values layout.now.combine run.now.row.values) rows)) }
+    ensures group { (rows : List AnyFragment) → HasRows R.remaining layout.now part.old rows → OnOk result (group.new.items ≡ group.old.items ++ run_of layout.now.combine (run_values layout.now.combine run.now.row.values) rows) }
+    ensures above { (rows : List AnyFragment) → HasRows R.remaining layout.now part.old rows → OnOk result (BeginsAbove layout.now.combine (run_values layout.now.combine run.now.row.values) (after_run layout.now.combine (run_values layout.now.combine run.now.row.values) rows)) }
 {
     'rows: for _ in 0..u64::MAX {
-        match place_of(&part.next, run) {
+        match place_of(layout.combine, &part.next, run) {
             Place::Within => take_row(alloc, layout, part, group)?,
             Place::After => return Ok(()),
             Place::Before => return Err(RowFault::Answer(AnswerFaultKind::Order)),
@@ -270,9 +317,9 @@ fn take_runs<R: Read>(
     group: &mut Rows,
 ) -> Result<(), MergeFault>
     ensures width { group.new.width ≡ group.old.width }
-    ensures rows { (lists : List (List AnyFragment)) → HaveRows R.remaining layout.now parts.old lists → OnOk result (HaveRows R.remaining layout.now parts.new (map (after_run run.now.row.values) lists)) }
-    ensures group { (lists : List (List AnyFragment)) → HaveRows R.remaining layout.now parts.old lists → OnOk result (group.new.items ≡ group.old.items ++ runs_of run.now.row.values lists) }
-    ensures above { (lists : List (List AnyFragment)) → HaveRows R.remaining layout.now parts.old lists → OnOk result (All (λ (rows : List AnyFragment). BeginsAbove run.now.row.values (after_run run.now.row.values rows)) lists) }
+    ensures rows { (lists : List (List AnyFragment)) → HaveRows R.remaining layout.now parts.old lists → OnOk result (HaveRows R.remaining layout.now parts.new (map (after_run layout.now.combine (run_values layout.now.combine run.now.row.values)) lists)) }
+    ensures group { (lists : List (List AnyFragment)) → HaveRows R.remaining layout.now parts.old lists → OnOk result (group.new.items ≡ group.old.items ++ runs_of layout.now.combine (run_values layout.now.combine run.now.row.values) lists) }
+    ensures above { (lists : List (List AnyFragment)) → HaveRows R.remaining layout.now parts.old lists → OnOk result (AreAfter layout.now.combine (run_values layout.now.combine run.now.row.values) lists) }
 {
     let mut number = 0;
     'parts: for part in parts.iter_mut() {
@@ -350,7 +397,30 @@ fn push_layers(alloc: Global, group: Rows, out: &mut Rows) -> Result<(), AllocEr
     Ok(())
 }
 
-// Merges the rows with the least values, and adds their layers to `out`. Returns whether there were any.
+// Adds the rows that the rows of a group make.
+fn push_sums(alloc: Global, group: Rows, groups: u32, out: &mut Rows) -> Result<(), MergeFault>
+    requires { group.width ≡ out.old.width }
+    ensures width { out.new.width ≡ out.old.width }
+    ensures pushed { OnOk result ((layers : List AnyFragment) × IsLayers (combined (Add groups) out.old.width group.items) layers × (out.new.items ≡ out.old.items ++ layers)) }
+{
+    let sums = add_groups(alloc, group, groups)?;
+    push_rows(alloc, &sums, out)?;
+    Ok(())
+}
+
+// Adds the rows of the answer that the rows of a run make.
+fn push_run(alloc: Global, combine: Combine, run: Rows, out: &mut Rows) -> Result<(), MergeFault>
+    requires { run.width ≡ out.old.width }
+    ensures width { out.new.width ≡ out.old.width }
+    ensures pushed { OnOk result ((layers : List AnyFragment) × IsLayers (combined combine out.old.width run.items) layers × (out.new.items ≡ out.old.items ++ layers)) }
+{
+    match combine {
+        Combine::Merge => Ok(push_layers(alloc, run, out)?),
+        Combine::Add { groups } => push_sums(alloc, run, groups, out),
+    }
+}
+
+// Gathers the rows of the least run, and adds the rows of the answer that they make to `out`. Returns whether there were any.
 fn merge_run<R: Read>(
     alloc: Global,
     layout: &AnswerLayout,
@@ -358,7 +428,7 @@ fn merge_run<R: Read>(
     out: &mut Rows,
 ) -> Result<bool, MergeFault>
     ensures width { out.new.width ≡ out.old.width }
-    ensures merged { (lists : List (List AnyFragment)) → HaveRows R.remaining layout.now parts.old lists → IfOk result (λ found. MergesRun R.remaining layout.now lists found parts.new out.old.items out.new.items) }
+    ensures merged { (lists : List (List AnyFragment)) → out.old.width ≡ length layout.now.columns.items → HaveRows R.remaining layout.now parts.old lists → IfOk result (λ found. MergesRun R.remaining layout.now lists found parts.new out.old.items out.new.items) }
 {
     let run = match least_row(parts)? {
         Some(run) => run,
@@ -366,7 +436,7 @@ fn merge_run<R: Read>(
     };
     let mut group = Rows::new(alloc, out.width());
     take_runs(alloc, layout, parts, &run, &mut group)?;
-    push_layers(alloc, group, out)?;
+    push_run(alloc, layout.combine, group, out)?;
     Ok(true)
 }
 
@@ -505,7 +575,7 @@ fn merge_parts<R: Read, W: Write>(
     parts: &mut [AnswerPart<R>],
     sink: &mut Sink<W>,
 ) -> Result<Merged, MergeFault>
-    ensures { (lists : List (List AnyFragment)) → HaveRows R.remaining layout.now parts.old lists → All (IsSorted fragment_cmp) lists
+    ensures { (lists : List (List AnyFragment)) → HaveRows R.remaining layout.now parts.old lists → All (AreInOrder (length layout.now.columns.items)) lists
         → IfOk result (AreMergedRows layout.now lists (W.contents sink.old.writer) (W.contents sink.new.writer)) }
 {
     let mut rows: u64 = 0;
@@ -523,8 +593,8 @@ fn merge_parts<R: Read, W: Write>(
     Err(MergeFault::OutOfMemory)
 }
 
-/// Merges the answers over all parts: writes the answer over the whole tables. Each answer is read row by row, so memory
-/// holds a block of rows and those of one list of values. Returns the number of rows.
+/// Combines the answers over all parts: writes the answer over the whole tables. Each answer is read row by row, so memory
+/// holds a block of rows and those of one list of values, or of one group. Returns the number of rows.
 pub fn merge_answers<R: Read + Drop, W: Write>(
     alloc: Global,
     layout: &AnswerLayout,

@@ -1,22 +1,24 @@
 //! How the tables of a plan can be divided.
 
-ghost use Rattle.std.specs.Prelude.{◌≡◌, IfOk, IfSome, IsTrue, false, true};
-ghost use Rattle.std.specs.List.{list_any};
+ghost use Rattle.std.specs.Prelude.{◌≡◌, ◌<◌, IfOk, IfSome, IsTrue, false, length, true};
+ghost use Rattle.std.specs.List.{list_all, list_any};
 ghost use Rattle.tq_plan.specs.ValidPlans.{is_aggregate, no_group};
 ghost use Rattle.tq_exec.specs.Partitioning.{AreLinkedBy, ArePartitionedBy, OnlyJoins};
 ghost use Rattle.tq_exec.specs.Partitions.{columns_in};
-ghost use Rattle.tq_split.specs.Splits.{AnswersAddUp};
+ghost use Rattle.tq_split.specs.Splits.{AnswersCombine, ShowsGroups, is_column};
 
+use crate::combine::Combine;
 use std::alloc::{AllocError, Global};
-use tq_exec::laws::partitionings_make_parts;
+use tq_exec::laws::{partitionings_make_parts, partitions_have_rows};
 use tq_exec::{are_linked, can_partition_plan, column_at};
 use tq_plan::{Output, Plan, QueryPlan, QuerySource};
 
 /// How the tables of a plan are divided: for each table the column by whose values its rows go to parts. A table without a
-/// column is whole in each part.
+/// column is whole in each part. And how the answers over the parts are combined.
 #[derive(Drop, Debug)]
 pub struct Split {
     pub columns: Vec<Option<u32>>,
+    pub combine: Combine,
 }
 
 // What is known of a table's column while sources are looked at.
@@ -203,20 +205,129 @@ fn columns_of_link(
     Ok(best)
 }
 
+// Whether the output is the column at the place.
+fn is_column(output: &Output, place: u32) -> bool
+    ensures { result ≡ is_column place output.now }
+{
+    match output {
+        Output::Column(shown) => *shown == place,
+        Output::Count | Output::Sum(_) => false,
+    }
+}
+
+// Whether one of the outputs is.
+fn is_shown(outputs: &[Output], place: u32) -> bool
+    ensures { result ≡ list_any (is_column place) outputs.now }
+{
+    outputs.iter().any(|output| is_column(output, place))
+}
+
+// Whether each place is shown.
+fn are_shown(places: &[u32], outputs: &[Output]) -> bool
+    ensures { result ≡ list_all (λ place. list_any (is_column place) outputs.now) places.now }
+{
+    places.iter().all(|place| is_shown(outputs, *place))
+}
+
+// Whether something is counted or summed.
+fn has_aggregates(outputs: &[Output]) -> bool
+    ensures { result ≡ list_any is_aggregate outputs.now }
+{
+    outputs.iter().any(|output| is_aggregate(output))
+}
+
+// Whether everything is.
+fn are_aggregates(outputs: &[Output]) -> bool
+    ensures { result ≡ list_all is_aggregate outputs.now }
+{
+    outputs.iter().all(|output| is_aggregate(output))
+}
+
+// The number of the first output that is counted or summed.
+fn first_aggregate(outputs: &[Output]) -> Option<usize>
+    ensures { IfSome result (λ place. place < length outputs.now) }
+{
+    outputs.iter().position(|output| is_aggregate(output))
+}
+
+// Whether the columns are those of the groups, and the others counts and sums.
+fn shows_groups(group: &[u32], columns: &[Output], sums: &[Output]) -> bool
+    ensures columns { IsTrue result → list_any is_aggregate columns.now ≡ false }
+    ensures sums { IsTrue result → list_all is_aggregate sums.now ≡ true }
+    ensures shown { IsTrue result → list_all (λ place. list_any (is_column place) columns.now) group.now ≡ true }
+{
+    if has_aggregates(columns) || !are_aggregates(sums) {
+        return false;
+    }
+    are_shown(group, columns)
+}
+
+// The number, if it has at most 32 bits.
+fn short_number(number: usize) -> Option<u32>
+    ensures { IfSome result (λ short. short ≡ number) }
+{
+    match u32::try_from(number) {
+        Ok(short) => Some(short),
+        Err(_) => None,
+    }
+}
+
+// The number of leading outputs, if these are the columns of the groups and all others are counts and sums.
+fn shown_groups(query: &QueryPlan) -> Option<u32>
+    ensures { IfSome result (ShowsGroups query.now) }
+{
+    let outputs = query.outputs.get();
+    let place = first_aggregate(outputs)?;
+    let groups = short_number(place)?;
+    let (columns, sums) = outputs.split_at(place);
+    if shows_groups(query.group.get(), columns, sums) {
+        Some(groups)
+    } else {
+        None
+    }
+}
+
+// The columns that link the sources of a plan whose counts and sums can be added.
+fn split_groups(alloc: Global, plan: &Plan, tables: usize) -> Result<Option<Split>, AllocError>
+    ensures { IfOk result (λ found. IfSome found (λ split. AnswersCombine plan.now (columns_in split.columns.items) split.combine)) }
+{
+    partitions_have_rows();
+    if plan.right.is_some() {
+        return Ok(None);
+    }
+    let Some(groups) = shown_groups(&plan.left) else {
+        return Ok(None);
+    };
+    match columns_of_link(alloc, &plan.left, tables)? {
+        Some(columns) => Ok(Some(Split {
+            columns,
+            combine: Combine::Add { groups },
+        })),
+        None => Ok(None),
+    }
+}
+
 /// Columns by which the tables of the plan, of which there are `tables`, can be divided. `None` if there are none. A plan that
 /// only selects and joins is divided by the equalities that link most of its sources, by keys if it can be. Any other plan is
-/// divided by its first output. `AllocError` if an allocation failed.
+/// divided by its first output. If that cannot be, a plan that counts or sums and shows its groups first is divided by the
+/// equalities that link its sources, and the answers are added. `AllocError` if an allocation failed.
 pub fn split_plan(alloc: Global, plan: &Plan, tables: usize) -> Result<Option<Split>, AllocError>
-    ensures { IfOk result (λ found. IfSome found (λ split. AnswersAddUp plan.now (columns_in split.columns.items))) }
+    ensures { IfOk result (λ found. IfSome found (λ split. AnswersCombine plan.now (columns_in split.columns.items) split.combine)) }
 {
     partitionings_make_parts();
     if only_joins(plan) {
         if let Some(columns) = columns_of_link(alloc, &plan.left, tables)? {
-            return Ok(Some(Split { columns }));
+            return Ok(Some(Split {
+                columns,
+                combine: Combine::Merge,
+            }));
         }
     }
     match columns_of_output(alloc, plan, tables)? {
-        Some(columns) => Ok(Some(Split { columns })),
-        None => Ok(None),
+        Some(columns) => Ok(Some(Split {
+            columns,
+            combine: Combine::Merge,
+        })),
+        None => split_groups(alloc, plan, tables),
     }
 }

@@ -53,6 +53,12 @@
 //!     draw-dates FROM WIDTH COLUMN..       the same, with instants as dates
 //!     report FROM FORMAT COLUMN..          the rows in their order, in a format of reports
 //!     report-dates FROM FORMAT COLUMN..    the same, with instants as dates
+//!     report-amounts FROM FORMAT PLACES,.. COLUMN..
+//!                                          the same, with decimal places in each column and the last instants of periods
+//!     by-time FROM COLUMN..                the rows as CSV, ordered by start, then end, then values
+//!     typed FROM COLUMN..                  the rows as a table file; columns with t.. as their name have texts
+//!     totals FROM GROUPS COLUMN..          totals of all columns but the first GROUPS, which group the rows
+//!     calendar UNIT START END              the months, quarters or years between two dates
 //!     send FROM COLUMN..                   the same text, by a sink into memory
 //!     send-short FROM COLUMN..             the same, by one whose writer takes five bytes
 //!     short ROOM END FLUSH TEXT            bytes by a sink whose writer takes three bytes a call
@@ -80,6 +86,7 @@ mod session;
 mod sort_input;
 mod tables;
 mod tests;
+mod totals;
 mod values;
 mod with_columns;
 mod words;

@@ -2,13 +2,16 @@
 
 ghost use Rattle.std.specs.Thread.{IsSync};
 
-use crate::drawing::{print_picture, print_report};
+use crate::drawing::{
+    print_amounts, print_by_time, print_page, print_picture, print_report, print_typed, window_of,
+};
 use crate::grouping::{count, group};
 use crate::lists::{show, show_counts};
 use crate::output::{print_faults, print_memory, print_text, send, send_bytes, send_short};
 use crate::relations::{print_lent, print_pairs, print_picked};
 use crate::sort_input::{print_sorted, print_sorted_list, print_within};
 use crate::tests::{check, check_chains, may_pass};
+use crate::totals::{print_calendar, print_totals};
 use crate::values::print_of_numbers;
 use crate::words::{columns_of, period_of};
 use std::alloc::{AllocError, Global};
@@ -162,10 +165,15 @@ impl Session {
             ("coalesce", _) => print_text(alloc, rows, words, true, out),
             ("write", _) => print_text(alloc, rows, words, false, out),
             ("draw", [width, names @ ..]) => {
-                print_picture(alloc, rows, names, width, Form::Numbers, out)
+                print_picture(alloc, rows, names, width, Form::Numbers, None, out)
             }
+            ("draw-window", [start, end, width, names @ ..]) => {
+                let window = window_of(start, end);
+                print_picture(alloc, rows, names, width, Form::Numbers, window, out)
+            }
+            ("page", names) => print_page(alloc, rows, names, out),
             ("draw-dates", [width, names @ ..]) => {
-                print_picture(alloc, rows, names, width, Form::Dates, out)
+                print_picture(alloc, rows, names, width, Form::Dates, None, out)
             }
             ("report", [format, names @ ..]) => {
                 print_report(alloc, rows, names, format, Form::Numbers, out)
@@ -173,6 +181,12 @@ impl Session {
             ("report-dates", [format, names @ ..]) => {
                 print_report(alloc, rows, names, format, Form::Dates, out)
             }
+            ("report-amounts", [format, places, names @ ..]) => {
+                print_amounts(alloc, rows, names, format, places, out)
+            }
+            ("by-time", names) => print_by_time(alloc, rows, names, out),
+            ("typed", names) => print_typed(alloc, rows, names, out),
+            ("totals", [groups, names @ ..]) => print_totals(alloc, rows, groups, names, out),
             ("send", _) => send(alloc, rows, words, out),
             ("send-short", _) => send_short(alloc, rows, words, out),
             _ => print_nothing(out),
@@ -205,6 +219,7 @@ impl Session {
             }
             ("sent", [text]) => print_memory(alloc, text, out),
             ("faults", []) => print_faults(out),
+            ("calendar", [unit, start, end]) => print_calendar(alloc, unit, start, end, out),
             (
                 "show"
                 | "counts"
@@ -212,8 +227,14 @@ impl Session {
                 | "write"
                 | "draw"
                 | "draw-dates"
+                | "draw-window"
+                | "page"
                 | "report"
                 | "report-dates"
+                | "report-amounts"
+                | "by-time"
+                | "typed"
+                | "totals"
                 | "send"
                 | "send-short",
                 [from, words @ ..],

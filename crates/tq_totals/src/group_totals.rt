@@ -15,10 +15,10 @@ use std::collections::BTreeMap;
 use tq_base::{List, Values};
 use tq_table::Table;
 
-/// A group of rows with equal values in some columns, and the total of each summed column. A total is the sum, over all
-/// instants, of the column's numbers in the group's rows that are valid then.
+// A group of rows with equal values in some columns, and the total of each summed column. A total is the sum, over all
+// instants, of the column's numbers in the group's rows that are valid then.
 #[derive(Drop, Debug)]
-pub struct Total {
+pub(crate) struct Total {
     pub values: Values,
     pub sums: List<i128>,
 }
@@ -37,11 +37,9 @@ fn listed(alloc: Global, groups: BTreeMap<Values, Sums>) -> Result<Vec<Total>, A
     Ok(totals)
 }
 
-/// The totals of the columns `summed` for each group of rows with equal values in the columns `by`, in the order of
-/// these values. Columns are numbered from 0; a column that does not exist has the number 0 in each row. Without columns
-/// `by` all rows are one group. `OpenEnd` names the first row without an end, else `Text` the first row with a text, else
-/// `Overflow` a summed column whose numbers are too large. `OutOfMemory` comes if an allocation failed.
-pub fn totals(
+// The totals of the columns `summed` for each group of rows with equal values in the columns `by`, in the order of
+// these values.
+pub(crate) fn totals(
     alloc: Global,
     table: &Table<'_>,
     by: &[u32],

@@ -138,11 +138,10 @@ fn text_written(writer: Writer<Vec<u8>>) -> Result<Vec<u8>, AllocError>
     }
 }
 
-/// The totals as CSV in the format of answers: a header line with the names of the columns `by` and `summed`, then a line
-/// for each total with its values and sums. `AllocError` if an allocation failed. Not inlined, so that the writer's
-/// buffers leave the stack.
+// The totals as CSV in the format of answers: a header line with the names of the columns `by` and `summed`, then a line
+// for each total with its values and sums. Not inlined, so that the writer's buffers leave the stack.
 #[inline(never)]
-pub fn totals_text(
+pub(crate) fn totals_text(
     alloc: Global,
     columns: &[Name],
     by: &[u32],

@@ -1,7 +1,7 @@
-use Rattle.std.proofs.Common.{◌≡◌, ◌++◌, map}
-use Rattle.std.specs.List.{range_with_len}
-use Rattle.tq_draw.specs.Bars.{ruler_byte}
+use Rattle.std.proofs.Common.{◌≡◌, ◌++◌, drop}
+use Rattle.tq_draw.specs.Marks.{ruler_from}
 use Rattle.tq_draw.proofs.marks.push_ruler.Given as goal
 
-abbrev pub invariant-cells : goal.invariant-cells
-invariant-cells l = l.text.items ≡ l.initial.text.items ++ map (ruler_byte l.cells) (range_with_len 0 l.cell)
+abbrev pub invariant-marks : goal.invariant-marks
+invariant-marks l =
+    l.text.items ++ ruler_from l.cells l.column (drop l.mark-index l.marks) ≡ l.initial.text.items ++ ruler_from l.cells 0 l.marks

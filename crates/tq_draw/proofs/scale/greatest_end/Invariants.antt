@@ -4,6 +4,6 @@ use Rattle.tq_draw.proofs.scale.greatest_end.Given as goal
 
 abbrev pub invariant-rows : goal.invariant-rows
 invariant-rows l = record {
-  value : l.greatest ≡ greatest_end (take l.row l.rows);
+  value : l.greatest ≡ greatest_end l.form (take l.row l.rows);
   within : l.greatest ≤ 1000000000000;
 }

@@ -6,7 +6,7 @@ use Rattle.tq_draw.proofs.widths.widths_of.Goals as goal
 
 pub columns-preserved : goal.columns-preserved
 columns-preserved c =
-    let width = width_of c.args.table.now.columns c.args.table.now.rows in
+    let width = width_of c.args.columns.now c.args.rows.now in
     let at = c.columns.column in
     c.in_ok-push.ensures.items
     ∙ ap (λ (l : List ℕ). l ++ c.in_ok-width_of.field-0 ∷ []) c.columns.invariant

@@ -7,4 +7,4 @@ use Rattle.tq_report.proofs.lines.push_name_fields.Given as goal
 
 abbrev pub invariant-columns : goal.invariant-columns
 invariant-columns l = l.text.items ≡ l.initial.text.items
-    ++ flat_map (column_text l.lines.format l.lines.layout (λ column. name_in l.lines.format (name_at l.columns column))) (range_with_len 0 l.column)
+    ++ flat_map (column_text l.lines.options.now.format l.lines.layout (λ column. name_in l.lines.options.now.format (name_at l.columns column))) (range_with_len 0 l.column)

@@ -1,3 +1,0 @@
-pub mod ReadErrorLemmas
-pub mod SpanLemmas
-pub mod FigureLemmas

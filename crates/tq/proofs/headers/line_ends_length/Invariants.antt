@@ -1,7 +1,0 @@
-use Rattle.std.proofs.Common.{◌≡◌, ◌+◌, drop}
-use Rattle.std.specs.List.{prefix_len}
-use Rattle.tq.specs.HeaderLines.{is_line_end}
-use Rattle.tq.proofs.headers.line_ends_length.Given as goal
-
-abbrev pub invariant-loop-place : goal.invariant-loop-place
-invariant-loop-place l = l.place + prefix_len is_line_end (drop l.place l.bytes) ≡ prefix_len is_line_end l.bytes

@@ -1,0 +1,15 @@
+use Rattle.std.proofs.Common.{codes, refl}
+use Rattle.std.proofs.lemmas.Result.{IfOk-weaker}
+use Rattle.tq_cli.specs.Apps.{dates_rule, explain_rule, output_rule, statement_rule, table_rule, text_rule, workers_rule}
+use Rattle.tq_cli.proofs.AppLemmas.{with_arg}
+use Rattle.tq_cli.proofs.commands.question_arguments.Goals as goal
+
+pub returns : goal.returns
+returns c =
+    let one = with_arg c.args.command c.in_ok-arg.field-0 c.table_argument.result _ table_rule refl c.table_argument.ensures refl c.in_ok-arg.ensures in
+    let two = with_arg c.in_ok-arg.field-0 c.in_ok-arg-2.field-0 c.dates_argument.result _ dates_rule one c.dates_argument.ensures refl c.in_ok-arg-2.ensures in
+    let three = with_arg c.in_ok-arg-2.field-0 c.in_ok-arg-3.field-0 c.explain_argument.result _ explain_rule two c.explain_argument.ensures refl c.in_ok-arg-3.ensures in
+    let four = with_arg c.in_ok-arg-3.field-0 c.in_ok-arg-4.field-0 c.workers_argument.result _ workers_rule three c.workers_argument.ensures refl c.in_ok-arg-4.ensures in
+    let five = with_arg c.in_ok-arg-4.field-0 c.in_ok-arg-5.field-0 c.statement_file_argument.result _ (text_rule (codes "statement-file")) four c.statement_file_argument.ensures refl c.in_ok-arg-5.ensures in
+    let six = with_arg c.in_ok-arg-5.field-0 c.in_ok-arg-6.field-0 c.output_argument.result _ output_rule five c.output_argument.ensures refl c.in_ok-arg-6.ensures in
+    IfOk-weaker c.arg-7.result _ _ (λ r added. with_arg c.in_ok-arg-6.field-0 r c.statement_argument.result _ statement_rule six c.statement_argument.ensures refl added) c.arg-7.ensures

@@ -1,0 +1,2 @@
+pub mod ReadErrorLemmas
+pub mod SpanLemmas

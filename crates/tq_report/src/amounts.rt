@@ -1,0 +1,61 @@
+// Numbers, and amounts that are whole numbers of their smallest unit.
+
+ghost use Rattle.std.specs.Prelude.{◌≡◌, ◌++◌, ◌/◌, ◌%◌, ◌^◌, OnOk, replicate};
+ghost use Rattle.tq_report.specs.Texts.{number_text, size_text, with_zeros};
+
+use itoa::Buffer;
+use std::alloc::AllocError;
+
+/// Appends a byte this many times.
+pub(crate) fn push_times(text: &mut Vec<u8>, byte: u8, times: usize) -> Result<(), AllocError>
+    ensures { OnOk result (text.new.items ≡ text.old.items ++ replicate times byte) }
+{
+    'times: for _time in 0..times {
+        text.push(byte)?;
+    }
+    Ok(())
+}
+
+// The whole part of a number of units of 10^-places, and the units after the point.
+fn split(size: u128, places: u32) -> (u128, u128)
+    ensures whole { result.0 ≡ size / 10 ^ places }
+    ensures units { result.1 ≡ size % 10 ^ places }
+{
+    match 10_u128.checked_pow(places) {
+        Some(unit) => (size / unit, size % unit),
+        None => (0, size),
+    }
+}
+
+// Appends a number with zeros in front, up to this many digits.
+fn push_with_zeros(text: &mut Vec<u8>, places: u32, number: u128) -> Result<(), AllocError>
+    ensures { OnOk result (text.new.items ≡ text.old.items ++ with_zeros places number) }
+{
+    let mut buffer = Buffer::new();
+    let digits = buffer.format(number).as_bytes();
+    push_times(text, b'0', (places as usize).saturating_sub(digits.len()))?;
+    text.extend_from_slice(digits)
+}
+
+// Appends an amount without its sign.
+fn push_size(text: &mut Vec<u8>, size: u128, places: u32) -> Result<(), AllocError>
+    ensures { OnOk result (text.new.items ≡ text.old.items ++ size_text places size) }
+{
+    let (whole, units) = split(size, places);
+    text.extend_from_slice(Buffer::new().format(whole).as_bytes())?;
+    text.push(b'.')?;
+    push_with_zeros(text, places, units)
+}
+
+/// Appends a number of units of 10^-places.
+pub(crate) fn push_number(text: &mut Vec<u8>, number: i128, places: u32) -> Result<(), AllocError>
+    ensures { OnOk result (text.new.items ≡ text.old.items ++ number_text places number) }
+{
+    if places == 0 {
+        return text.extend_from_slice(Buffer::new().format(number).as_bytes());
+    }
+    if number < 0 {
+        text.push(b'-')?;
+    }
+    push_size(text, number.unsigned_abs(), places)
+}
