@@ -487,6 +487,85 @@ fn explanation(alloc: Global, manifest: &Manifest) -> Result<Vec<u8>, AllocError
     Ok(text)
 }
 
+// The tables of a statement, its plan, and how they are divided.
+#[derive(Drop)]
+struct PlannedSplit {
+    tables: Vec<DividedTable>,
+    catalogue: Catalogue,
+    plan: Plan,
+    split: Split,
+}
+
+// How the plan's tables are divided, or why they cannot be.
+fn split_of(alloc: Global, plan: &Plan, tables: usize) -> Result<Split, Refusal> {
+    match split_plan(alloc, plan, tables)? {
+        Some(split) => Ok(split),
+        None => Err(Refusal::Split(reason_of(plan).as_bytes().to_vec(alloc)?)),
+    }
+}
+
+// Plans how the tables of the options are divided for the statement.
+fn planned_split<R: Files + AllocGlobal>(
+    rt: &R,
+    options: Vec<TableOption>,
+    statement: &[u8],
+    form: Form,
+) -> Result<PlannedSplit, Refusal> {
+    let tables = read_files(rt, options)?;
+    let catalogue = catalogue_of(rt.alloc(), &tables)?;
+    let plan = match plan_of(rt.alloc(), &catalogue, statement, form) {
+        Ok(plan) => plan,
+        Err(fault) => return Err(Refusal::from(fault)),
+    };
+    let split = split_of(rt.alloc(), &plan, tables.len())?;
+    Ok(PlannedSplit {
+        tables,
+        catalogue,
+        plan,
+        split,
+    })
+}
+
+// The manifest of the parts.
+fn manifest_of(
+    alloc: Global,
+    parts: Parts<'_>,
+    planned: &PlannedSplit,
+    statement: &[u8],
+) -> Result<Manifest, AllocError> {
+    // What has a plan is UTF-8.
+    let statement = String::from_str(alloc, str::from_utf8(statement).unwrap_or(""))?;
+    let tables = manifest_tables(alloc, &planned.tables, &planned.split)?;
+    let columns = answer_columns(alloc, &planned.catalogue, &planned.plan)?;
+    let columns = manifest_columns(alloc, &columns)?;
+    Ok(Manifest {
+        version: MANIFEST_VERSION,
+        statement,
+        dates: matches!(parts.form, Form::Dates),
+        parts: parts.count,
+        tables,
+        columns,
+        combine: String::from_str(alloc, combine_word(planned.split.combine))?,
+        groups: combine_groups(planned.split.combine),
+    })
+}
+
+// Writes the folders, files and arguments of all parts, and the manifest.
+fn write_parts<R: Files + AllocGlobal>(
+    rt: &R,
+    parts: Parts<'_>,
+    planned: &PlannedSplit,
+    statement: &[u8],
+    progress: &Progress,
+) -> Result<Manifest, Refusal> {
+    make_folders(rt, parts)?;
+    let paths = write_tables(rt, parts, &planned.tables, &planned.split, progress)?;
+    write_arguments(rt, parts, &planned.tables, &paths, statement)?;
+    let manifest = manifest_of(rt.alloc(), parts, planned, statement)?;
+    write_manifest(rt, parts, &manifest)?;
+    Ok(manifest)
+}
+
 /// Divides the tables of a statement: writes a folder for each part, with the files of tables that are divided and the
 /// arguments of `tq ask`, and a manifest. With `explain`, prints on standard error by what each table is divided.
 pub fn split_tables<R: Files + AllocGlobal + Input + Wait>(
@@ -495,8 +574,8 @@ pub fn split_tables<R: Files + AllocGlobal + Input + Wait>(
     progress: &Progress,
 ) -> Result<(), Diagnostic> {
     let SplitRequest {
-        tables: options,
-        parts,
+        tables,
+        parts: count,
         form,
         statement,
         statement_file,
@@ -507,41 +586,16 @@ pub fn split_tables<R: Files + AllocGlobal + Input + Wait>(
     let Ok(folder) = str::from_utf8(&output) else {
         return Err(Diagnostic::from(Refusal::CannotWrite(output)));
     };
-    let alloc = rt.alloc();
-    let tables = read_files(rt, options)?;
-    let catalogue = catalogue_of(alloc, &tables)?;
-    let plan = match plan_of(alloc, &catalogue, &statement, form) {
-        Ok(plan) => plan,
-        Err(fault) => return Err(Diagnostic::from(Refusal::from(fault))),
-    };
-    let Some(split) = split_plan(alloc, &plan, tables.len())? else {
-        let reason = reason_of(&plan).as_bytes().to_vec(alloc)?;
-        return Err(Diagnostic::from(Refusal::Split(reason)));
-    };
-    // What has a plan is UTF-8.
-    let text = str::from_utf8(&statement).unwrap_or("");
     let parts = Parts {
         folder,
-        count: parts,
+        count,
         form,
     };
-    make_folders(rt, parts)?;
-    let paths = write_tables(rt, parts, &tables, &split, progress)?;
-    write_arguments(rt, parts, &tables, &paths, &statement)?;
-    let manifest = Manifest {
-        version: MANIFEST_VERSION,
-        statement: String::from_str(alloc, text)?,
-        dates: matches!(form, Form::Dates),
-        parts: parts.count,
-        tables: manifest_tables(alloc, &tables, &split)?,
-        columns: manifest_columns(alloc, &answer_columns(alloc, &catalogue, &plan)?)?,
-        combine: String::from_str(alloc, combine_word(split.combine))?,
-        groups: combine_groups(split.combine),
-    };
-    write_manifest(rt, parts, &manifest)?;
+    let planned = planned_split(rt, tables, &statement, form)?;
+    let manifest = write_parts(rt, parts, &planned, &statement, progress)?;
     progress.end(rt);
     if explain {
-        progress.print(rt, &explanation(alloc, &manifest)?);
+        progress.print(rt, &explanation(rt.alloc(), &manifest)?);
     }
     Ok(())
 }
