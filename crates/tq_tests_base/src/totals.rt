@@ -33,7 +33,8 @@ pub(crate) fn print_totals(
     out: &mut String,
 ) -> Result<(), AllocError> {
     let table = table_of(alloc, lines(alloc, rows)?, names)?;
-    let all: Vec<u32> = (0..names.len() as u32).collect(alloc)?;
+    let columns = u32::try_from(names.len()).unwrap_or(u32::MAX);
+    let all: Vec<u32> = (0..columns).collect(alloc)?;
     let (by, summed) = all.split_at(groups.parse().unwrap_or(0).min(all.len()));
     match totals_csv(alloc, &table, by, summed) {
         Ok(text) => print_lines(&text, out),
