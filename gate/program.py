@@ -98,11 +98,10 @@ def form_of(text):
     return next((shlex.split(found[1]) for found in map(FORM.match, text.split("\n")) if found), None)
 
 
-def cases_of_page(path):
+def cases_of_page(path, by_shell=False):
     """The commands that a page prints: '$ bin/tq ..' before its lines, but where the shell runs them, or a statement before its
     answer."""
     text = path.read_text()
-    by_shell = str(path.relative_to(ROOT)) in SHELL_PAGES
     form = form_of(text)
     blocks = list(blocks_of(text))
     for place, block in enumerate(blocks):
@@ -374,7 +373,7 @@ def image_of_the_front_page():
 def main():
     program = str(Path(sys.argv[1]).resolve())
     pages = ["README.md", "examples/payroll.md", "examples/dates.md", "examples/session.md"]
-    shown = {page: list(cases_of_page(ROOT / page)) for page in pages}
+    shown = {page: list(cases_of_page(ROOT / page, page in SHELL_PAGES)) for page in pages}
     shown["the help"] = list(cases_of_help(program))
     shown["examples/emp.svg"] = [image_of_the_front_page()]
     shown["gate/cases"] = script.table()

@@ -136,7 +136,7 @@ def is_possible(case):
 
 def cases_of_program():
     """The cases of tq, and how many others are left out."""
-    table = [case for page in PAGES for case in program.cases_of_page(ROOT / page)]
+    table = [case for page in PAGES for case in program.cases_of_page(ROOT / page, page in program.SHELL_PAGES)]
     table += [program.image_of_the_front_page(), *script.table(), *generated.table()]
     folder = ROOT / "crates" / PROGRAM
     words = (folder / "args").read_text().splitlines()

@@ -191,10 +191,14 @@ def faults_of_runs(command, every):
         yield f"{command.name}: no run had too little memory"
 
 
+def table_paths(words):
+    return [after.partition("=")[2] for word, after in zip(words, words[1:]) if word == "--table"]
+
+
 def over_several_files(page):
-    """The questions of a page over several files, but for those whose answers go through other programs."""
+    """The questions of a page over several files of examples/, but for those whose answers go through other programs."""
     asked = [case for case in cases_of_page(page) if case.words[0] == "ask" and "|" not in case.words]
-    found = [case for case in asked if case.words.count("--table") > 1]
+    found = [case for case in asked if len(table_paths(case.words)) > 1 and all(path.startswith("examples/") for path in table_paths(case.words))]
     if not found:
         raise SystemExit(f"FAILED: {page.name} asks no question over several files")
     return found
