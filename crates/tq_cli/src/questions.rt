@@ -20,7 +20,7 @@ use std::alloc::Global;
 use tq_base::{Bound, Form, Instant, Period, read_instant};
 use tq_totals::Unit;
 
-/// The tables that a command is about, in the order of their options, of which so many may come from standard input.
+/// The tables of a command, in the order of their options. At most `inputs` of them may be read from standard input.
 pub(crate) fn read_tables(
     alloc: Global,
     command: &ArgMatches<'_>,

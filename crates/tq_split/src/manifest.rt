@@ -104,7 +104,8 @@ fn read_combine(word: &str, groups: Option<u32>) -> Option<Combine> {
     }
 }
 
-// Whether there are so many columns, and the others are numbers.
+// Whether the columns suit the way in which answers are combined: to add them, there are more columns than those of the
+// groups, and the others are numbers.
 fn can_combine(combine: Combine, columns: &[Column]) -> bool {
     match combine {
         Combine::Merge => true,

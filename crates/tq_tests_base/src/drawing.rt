@@ -86,8 +86,8 @@ fn numbers_in(alloc: Global, text: &str) -> Result<Vec<u32>, AllocError> {
         .collect(alloc)
 }
 
-/// Prints a table of the rows in a format, with so many decimal places in each column, and with the last instant of each
-/// period.
+/// Prints a table of the rows in a format, with the decimal places that `places` lists for the columns, and with the last
+/// instant of each period.
 pub(crate) fn print_amounts(
     alloc: Global,
     rows: &Rows,

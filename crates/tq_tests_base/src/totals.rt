@@ -24,7 +24,7 @@ fn print_fault(fault: TotalsFault, out: &mut String) -> Result<(), AllocError> {
     }
 }
 
-/// Prints the totals of a table of the rows: the first columns, so many, group the rows, and the others are summed.
+/// Prints the totals of a table of the rows. The first `groups` columns group the rows, and the others are summed.
 pub(crate) fn print_totals(
     alloc: Global,
     rows: &Rows,
