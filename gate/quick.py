@@ -17,6 +17,7 @@ case is printed. The last line is 'quick: N passed, M failed; nothing was proved
 """
 
 import argparse
+import contextlib
 import os
 import re
 import subprocess
@@ -63,7 +64,10 @@ class Outcome:
 
 
 def put_last(running):
-    """Gives the lowest priority to the process in which `rt try` looks for reserved names while it builds."""
+    """Gives the lowest priority to the process in which `rt try` looks for reserved names while it builds: among the
+    processes of its session, and to its session among others. The build has a session of its own."""
+    with contextlib.suppress(OSError):
+        Path(f"/proc/{running.pid}/autogroup").write_text("19")
     for _ in range(60):
         time.sleep(0.5)
         try:
@@ -77,7 +81,7 @@ def put_last(running):
 
 def try_crate(crate, words, taken=b""):
     """Runs `rt try` in the crate's folder: its status, standard output and standard error."""
-    how = {"stdin": subprocess.PIPE, "stdout": subprocess.PIPE, "stderr": subprocess.PIPE}
+    how = {"stdin": subprocess.PIPE, "stdout": subprocess.PIPE, "stderr": subprocess.PIPE, "start_new_session": True}
     with subprocess.Popen(["rt", "try", *words], cwd=ROOT / "crates" / crate, **how) as running:
         threading.Thread(target=put_last, args=(running,), daemon=True).start()
         out, err = running.communicate(taken)
