@@ -8,7 +8,7 @@
 //!     bench_claims             a little of each
 #![tactic(auto)]
 
-ghost use Rattle.std.specs.Prelude.{◌≡◌, ◌≤◌, ◌^◌, ◌*◌, ◌%◌};
+ghost use Rattle.std.specs.Prelude.{◌≤◌, ◌^◌, ◌*◌};
 
 use std::alloc::{AllocError, Global};
 use std::thread::Threads;

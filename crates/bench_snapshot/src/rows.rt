@@ -1,6 +1,6 @@
 // The rows: each starts at the instant of its number and has its own key.
 
-ghost use Rattle.std.specs.Prelude.{◌≡◌, ◌≤◌, IfOk, length};
+ghost use Rattle.std.specs.Prelude.{◌≤◌, IfOk, length};
 ghost use Rattle.tq_event.specs.History.{IsHistory};
 
 use anyhow::anyhow;

@@ -10,7 +10,7 @@ ghost use Rattle.tq_agg.specs.declared.bounds.End.{End};
 ghost use Rattle.tq_agg.specs.Bounds.{end_in, moved, start_in};
 
 use std::alloc::AllocError;
-use tq_base::{Bound, Instant, Period, Side, SortInput, SortKey};
+use tq_base::{Bound, Period, Side, SortInput, SortKey};
 
 // The end of a row, and the row.
 #[derive(Clone, Copy)]

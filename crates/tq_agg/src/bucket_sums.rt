@@ -1,6 +1,6 @@
 //! Counts of the rows of each value of one column that has few values, and sums of another column over them, in buckets.
 
-ghost use Rattle.std.specs.Prelude.{◌≡◌, ◌+◌, ◌+ℤ◌, ◌<◌, ◌≤◌, ◌&&◌, ◌^◌, ℕ, ℤ, pos, true, [], ◌∷◌, All, IfOk, IfSome, List, OnOk, if◌then◌else◌, length};
+ghost use Rattle.std.specs.Prelude.{◌≡◌, ◌+◌, ◌+ℤ◌, ◌<◌, ◌&&◌, ◌^◌, ℕ, ℤ, pos, true, [], ◌∷◌, IfOk, IfSome, List, OnOk, if◌then◌else◌, length};
 ghost use Rattle.tq_base.specs.declared.value.Value.{Value};
 ghost use Rattle.tq_base.specs.Fragments.{at, copies, occurrences};
 ghost use Rattle.tq_base.specs.RowValues.{value_at};

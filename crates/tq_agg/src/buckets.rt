@@ -1,7 +1,7 @@
 //! Counts of the rows of each value of one column that has few values. The rows are not sorted: each goes into the bucket of its
 //! value, which its normalized key prefix determines.
 
-ghost use Rattle.std.specs.Prelude.{◌≡◌, ◌+◌, ◌+ℤ◌, ◌<◌, ◌≤◌, ◌&&◌, ℕ, ℤ, pos, true, [], ◌∷◌, All, IfOk, IfSome, List, OnOk, if◌then◌else◌, length, nat_lt, slice_index_or};
+ghost use Rattle.std.specs.Prelude.{◌≡◌, ◌+◌, ◌+ℤ◌, ◌<◌, ◌≤◌, ◌&&◌, ℕ, ℤ, pos, true, [], ◌∷◌, IfOk, IfSome, List, OnOk, if◌then◌else◌, length, nat_lt, slice_index_or};
 ghost use Rattle.std.specs.List.{count_by};
 ghost use Rattle.tq_base.specs.declared.period.Period.{Period};
 ghost use Rattle.tq_base.specs.declared.value.Value.{Value};

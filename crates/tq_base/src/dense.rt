@@ -246,7 +246,7 @@ impl DenseRows {
         })
     }
 
-    /// The same as `followed_by`. With several workers and many rows in `other`, one thread moves the values while
+    /// These rows, then the others. With several workers and many rows in `other`, one thread moves the values while
     /// another moves the periods.
     pub(crate) fn followed_by_among<R: Threads>(
         self,

@@ -54,8 +54,8 @@ impl<'a> Prefetch<'a> {
         longest
     }
 
-    // The same, if only bytes after the first 14 are read next: a medium text has those in the value, so its box is not
-    // read.
+    // The length of the longest text among the values, if only bytes after the first 14 are read next: a medium text has
+    // those in the value, so its box is not read.
     pub(crate) fn longest_after_tail(&self) -> usize {
         let mut longest = SHORT;
         if self.count_boxed() == 0 {

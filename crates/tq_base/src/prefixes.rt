@@ -43,7 +43,7 @@ pub fn normalized_key(value: &Value) -> u128
     }
 }
 
-// The same, faster for values without a box.
+// `normalized_key`, faster for values without a box.
 pub(crate) fn prefix_in_place(value: &Value) -> u128
     ensures prefix { result ≡ normalized_key value.now }
     ensures bytes { HasBytes value.now }

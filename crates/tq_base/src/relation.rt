@@ -395,8 +395,8 @@ impl<'a> Relation<'a> {
         Ok(out)
     }
 
-    /// The same as `take_rows`, as a relation that borrows the rows. `AllocError` if an allocation failed or there are
-    /// 2^32 numbers or more.
+    /// The rows with these numbers, in their order, as a relation that borrows them. `AllocError` if an allocation failed
+    /// or there are 2^32 numbers or more.
     pub fn take_rows_ref(&self, alloc: Global, numbers: &[u32]) -> Result<Relation<'_>, AllocError>
         requires { All (λ number. number < length self.now.items) numbers.now }
         ensures width { IfOk result (λ out. out.width ≡ self.now.width) }

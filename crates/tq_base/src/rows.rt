@@ -363,7 +363,7 @@ impl Rows {
         Ok(DenseRows::of_values(self.width(), values, periods))
     }
 
-    // The same rows, storing all columns.
+    // These rows, moved; a copy is made if some columns are not stored.
     fn into_dense(self) -> Result<DenseRows, AllocError>
         ensures { IfOk result (λ dense. dense ≡ self) }
     {
@@ -470,7 +470,7 @@ impl Rows {
         })
     }
 
-    /// The same as `followed_by`. With several workers and many rows in `other`, one thread moves the values while
+    /// These rows, then the others. With several workers and many rows in `other`, one thread moves the values while
     /// another moves the periods.
     pub fn followed_by_among<R: Threads>(
         self,

@@ -70,12 +70,12 @@ orphan row place missing = record { place = place; start = row.period.start; end
 abbrev pub orphan_of : Linked → Fragment → ℕ → Option Orphan
 orphan_of linked row place = option_map (orphan row place) (missing_of linked row)
 
--- those among the rows from a place of the child on
+-- the orphans among the rows of the child, of which the first is at this place
 unfoldable pub orphans_from : Linked → ℕ → List Fragment → List Orphan
 orphans_from linked place [] = []
 orphans_from linked place (row ∷ rows) = cons_option (orphan_of linked row place) (orphans_from linked (place + 1) rows)
 
--- those of the child, in the order of its rows
+-- the orphans of the child, in the order of its rows
 abbrev pub orphans_of : Linked → List Orphan
 orphans_of linked = orphans_from linked 0 linked.children
 

@@ -14,8 +14,8 @@ use tq_event::{LoadFault, MAX_EVENTS, TableFile, Tables};
 use tq_load::{LoadOptions, load_tables_parallel};
 use tq_run::Open;
 
-/// How files are checked: by 1 to 16 workers, the calling thread among them, how the files and the text write instants,
-/// and what is said of the rows of one key.
+/// How files are checked: by 1 to 16 workers, one of which is the calling thread. `form` is how the files and the text
+/// write instants, and `keys` says which lines there are about rows of one key.
 #[derive(Clone, Copy, Debug)]
 pub struct CheckOptions {
     pub workers: u32,

@@ -1,10 +1,8 @@
 // Periods in which rows with a value are valid. Those of one value are disjoint and do not meet.
 
-ghost use Rattle.std.specs.Prelude.{◌≡◌, ◌++◌, [], ◌∷◌, AllPairs, IfOk, List, All, IsPermutation, map};
+ghost use Rattle.std.specs.Prelude.{◌≡◌, ◌++◌, [], ◌∷◌, IfOk, List};
 ghost use Rattle.tq_base.specs.declared.sort_input.SortKey.{SortKey as OneKey};
-ghost use Rattle.tq_base.specs.Keys.{held, held_on, key_cmp, IsSortKey};
 ghost use Rattle.tq_base.specs.SortInputs.{state_of};
-ghost use Rattle.tq_base.specs.declared.sort_input.Side.TheVariants as side;
 ghost use Rattle.tq_check.specs.Covers.{continues, cover_of, covers_after, covers_of, extended, AreCovers};
 ghost use Rattle.tq_check.specs.CoverKeys.{AreParentKeys};
 

@@ -43,7 +43,7 @@ fn is_found(finding: Finding, pair: &KeyPair) -> bool
     }
 }
 
-// The row, if it has the key of the other.
+// The last row, if it has the key of this one.
 fn of_key(last: Option<KeyedRow>, row: &KeyedRow) -> Option<KeyedRow>
     ensures { result ≡ of_key last row.now }
 {

@@ -13,7 +13,7 @@ use itoa::Buffer;
 use std::alloc::{AllocError, Global};
 use tq_base::{Form, Instant, Relation, Rows, ValueRef, put_instant};
 
-/// What the summary says of the rows of one key: how many overlap an earlier one, and how many gaps there are.
+/// Which lines the summary has about rows of one key: rows that overlap an earlier one, and gaps.
 #[derive(Clone, Copy, Debug)]
 pub struct KeyChecks {
     pub overlaps: bool,
@@ -41,7 +41,7 @@ fn push_value(text: &mut Vec<u8>, value: ValueRef<'_>) -> Result<(), AllocError>
     }
 }
 
-// The key of a row, on a line of its own.
+// Begins a line with the key of a row.
 fn push_key(text: &mut Vec<u8>, rows: &Relation<'_>, row: &KeyedRow) -> Result<(), AllocError>
     ensures { OnOk result (text.new.items ≡ text.old.items ++ key_text rows.now.items row.now) }
 {
@@ -49,7 +49,7 @@ fn push_key(text: &mut Vec<u8>, rows: &Relation<'_>, row: &KeyedRow) -> Result<(
     push_value(text, rows.row(row.place as usize).value(0).as_ref())
 }
 
-// The record of a row, after its label. The header is record 1.
+// Appends the label and the number of the row's record. The header is record 1.
 fn push_record(text: &mut Vec<u8>, label: &[u8], row: &KeyedRow) -> Result<(), AllocError>
     ensures { OnOk result (text.new.items ≡ text.old.items ++ record_text label.now row.now) }
 {
@@ -71,7 +71,7 @@ pub(crate) fn push_period(
     push_bound(text, end, form)
 }
 
-// Two rows that overlap.
+// Appends the line about two rows that overlap.
 fn push_overlap(
     text: &mut Vec<u8>,
     rows: &Relation<'_>,
@@ -87,7 +87,7 @@ fn push_overlap(
     push_period(text, pair.row.start, end, form)
 }
 
-// The gap between two rows.
+// Appends the line about the gap between two rows.
 fn push_gap(
     text: &mut Vec<u8>,
     rows: &Relation<'_>,
@@ -139,7 +139,7 @@ fn label_of(finding: Finding) -> &'static [u8]
     }
 }
 
-// How many rows were found, and the first of them.
+// Appends how many rows were found, and the first of them.
 fn push_findings(
     alloc: Global,
     text: &mut Vec<u8>,
@@ -158,7 +158,7 @@ fn push_findings(
     Ok(())
 }
 
-// The same if the finding is wanted, else nothing.
+// Appends the count and the first pairs of a finding, if it is wanted.
 fn push_wanted(
     alloc: Global,
     text: &mut Vec<u8>,

@@ -28,7 +28,8 @@ pub fn all_orphans_are_listed()
     ensures { AllOrphansAreListed }
 {}
 
-/// What is listed of a row as missing is the first maximal period within its own in which it has no parent.
+/// The period that is listed as missing for a row is the first maximal period, within that of the row, in which the row
+/// has no parent.
 pub fn missing_periods_are_first()
     ensures { MissingPeriodsAreFirst }
 {}

@@ -1,12 +1,13 @@
 //! A summary of tables, as text, for a first look at data.
 //!
 //! `check` loads files and describes each table: columns, number of rows, rows without an end, first start, last
-//! change, how many rows overlap or meet an earlier row with equal values, and, if wanted, which rows overlap an earlier
-//! row of their key and which gaps there are between rows of a key. After that, `check` lists the rows of a table that
-//! have no parent in another table at some time. The contract cites `IsSummaryOf` in `specs/Reports.antt` and
-//! `AreReferenceTexts` in `specs/ReferenceReports.antt`. `specs/Numbers.antt` defines the numbers,
-//! `specs/EqualRows.antt` those of equal rows, `specs/KeyRows.antt` those of keys, and `specs/Orphans.antt` those of
-//! references.
+//! change, and how many rows overlap or meet an earlier row with equal values. If wanted, it lists which rows overlap
+//! an earlier row of their key, and which gaps there are between rows of a key. After that, it lists the rows of a
+//! table that have no parent in another table at some time.
+//!
+//! The contract cites `IsSummaryOf` in `specs/Reports.antt` and `AreReferenceTexts` in `specs/ReferenceReports.antt`.
+//! `specs/Numbers.antt` defines the numbers, `specs/EqualRows.antt` those of equal rows, `specs/KeyRows.antt` those of
+//! keys, and `specs/Orphans.antt` those of references.
 //!
 //! Open `src/report.rt` first; `src/equal_rows.rt`, `src/findings.rt`, `src/covers.rt` and `src/orphans.rt` have the
 //! algorithms.

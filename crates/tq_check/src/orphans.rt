@@ -7,7 +7,7 @@ ghost use Rattle.tq_base.specs.Keys.{key_values, no_row, IsSortKey};
 ghost use Rattle.tq_base.specs.SortInputs.{state_of};
 ghost use Rattle.tq_check.specs.Covers.{is_covering, is_passed, AreCovers};
 ghost use Rattle.tq_check.specs.OrphanPasses.{missing_case, missing_until, of_values};
-ghost use Rattle.tq_check.specs.Orphans.{linked_rows, missing_in, orphan_cmp, orphan_of, orphans_from, orphans_of, IsOrphanOrder};
+ghost use Rattle.tq_check.specs.Orphans.{linked_rows, missing_in, orphan_cmp, orphan_of, orphans_of, IsOrphanOrder};
 ghost use Rattle.tq_check.specs.declared.orphans.Orphan.{Orphan as OneOrphan};
 
 use crate::covers::{Cover, covers_of};
@@ -73,7 +73,7 @@ fn missing_until(from: u64, end: u64, next: Option<Cover>) -> Missing
     Missing { from, to }
 }
 
-// What is missing in a period, of which the first cover contains the start, or else begins after it.
+// What is missing first from `start` to `end`, if anything. The cover `first` contains the start or begins after it.
 fn missing_case(first: Option<Cover>, next: Option<Cover>, start: u64, end: u64) -> Option<Missing>
     ensures { result ≡ missing_case first next start end }
 {

@@ -30,7 +30,7 @@ fn push_shown(text: &mut Vec<u8>, value: ValueRef<'_>) -> Result<(), AllocError>
     }
 }
 
-// The value of a row of the child, on a line of its own.
+// Begins a line with the value of a row of the child.
 fn push_value(
     text: &mut Vec<u8>,
     children: &Relation<'_>,
@@ -49,7 +49,7 @@ fn push_value(
     )
 }
 
-// The period in which a row has no parent.
+// Appends the period in which a row has no parent.
 fn push_missing(text: &mut Vec<u8>, missing: &Missing, form: Form) -> Result<(), AllocError>
     ensures { OnOk result (text.new.items ≡ text.old.items ++ missing_text form missing.now) }
 {
@@ -59,7 +59,8 @@ fn push_missing(text: &mut Vec<u8>, missing: &Missing, form: Form) -> Result<(),
     push_bound(text, missing.to, form)
 }
 
-// A row of the child: its value, its record, of which the header is record 1, its period, and what it misses.
+// Appends the line about a row of the child: its value, its record (the header is record 1), its period, and what it
+// misses.
 #[tactic(auto, unfolding(crate::specs::ReferenceReports::orphan_text))]
 fn push_orphan(
     text: &mut Vec<u8>,
@@ -101,7 +102,7 @@ fn column_name(schema: &Schema, column: u32) -> &[u8]
     }
 }
 
-// A column after its table and a point.
+// Appends a table's name, a point and the name of the column.
 fn push_place(text: &mut Vec<u8>, schemas: &[Schema], place: ColumnPlace) -> Result<(), AllocError>
     requires { place.table < length schemas.now }
     ensures { OnOk result (text.new.items ≡ text.old.items ++ place_text schemas.now place) }
@@ -128,7 +129,7 @@ fn push_head(
     push_place(text, schemas, reference.parent)
 }
 
-// The number of the rows, and the first of them.
+// Appends the number of the rows, and the first of them.
 fn push_listed(
     text: &mut Vec<u8>,
     children: &Relation<'_>,

@@ -44,7 +44,7 @@ pub enum Part {
     Parent,
 }
 
-/// Why names are not those of a reference. Of several faults the first one is reported, first those of the child.
+/// Why names are not those of a reference. The faults of the child come before those of the parent.
 #[derive(Clone, Copy, Debug, Error)]
 pub enum ReferenceFault {
     #[error("UnknownTable")]
@@ -57,7 +57,7 @@ pub enum ReferenceFault {
     OutOfMemory,
 }
 
-// The parts before and after the first such byte.
+// The parts before and after the first byte that equals `byte`.
 fn split_once(word: &[u8], byte: u8) -> Option<(&[u8], &[u8])>
     ensures { IfSome result (λ parts. word.now ≡ parts.0.now ++ byte ∷ parts.1.now) }
 {
@@ -123,7 +123,7 @@ struct FoundColumn {
     kind: Kind,
 }
 
-// The column with the name, which is that part of a reference.
+// The column with the name. A fault says of which part of the reference it is.
 fn column_named(
     catalogue: &Catalogue,
     name: &ColumnName,

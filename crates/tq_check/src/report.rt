@@ -21,7 +21,7 @@ fn kind_text(kind: Kind) -> &'static [u8]
     }
 }
 
-// A column, after a space.
+// Appends a space, then the name and the kind of a column.
 fn push_column(text: &mut Vec<u8>, column: &Column) -> Result<(), AllocError>
     ensures { OnOk result (text.new.items ≡ text.old.items ++ column_text column.now) }
 {
@@ -49,7 +49,7 @@ fn push_head(text: &mut Vec<u8>, schema: &Schema) -> Result<(), AllocError>
     push_columns(text, schema.columns.get())
 }
 
-// An instant; `none` if there are no periods.
+// Appends an instant, or `none` if there are no periods.
 fn push_instant(
     text: &mut Vec<u8>,
     periods: &[Period],
@@ -67,7 +67,7 @@ fn push_instant(
     text.extend_from_slice(&room[..len])
 }
 
-// The same, after its label.
+// Appends a label, then the time, or `none`.
 fn push_time(
     text: &mut Vec<u8>,
     label: &[u8],
@@ -122,7 +122,7 @@ fn push_tally(alloc: Global, text: &mut Vec<u8>, rows: &Rows) -> Result<(), Allo
     push_count(text, b"\n  meeting      ", tally.meeting)
 }
 
-// The summary of a table. `lines` are those about the rows of one key.
+// Appends the summary of a table. `lines` are those about rows of one key.
 fn push_table(
     alloc: Global,
     text: &mut Vec<u8>,
@@ -141,8 +141,8 @@ fn push_table(
     Ok(())
 }
 
-/// The summary of the tables, in their order; `form` says how instants are written, and `keys` what is said of the rows
-/// of one key. Requires rows for each table. `AllocError` if an allocation failed.
+/// The summary of the tables, in their order; `form` says how instants are written, and `keys` which lines there are
+/// about rows of one key. Requires rows for each table. `AllocError` if an allocation failed.
 pub fn check_text(
     alloc: Global,
     tables: &Tables,

@@ -1,5 +1,5 @@
 -- One byte of a statement's file after another.
-use Rattle.std.proofs.Common.{arith, ◌≡◌, ◌∙◌, ◌<◌, ◌-◌, ℕ, List, [], ◌∷◌, ◌++◌, length, take, drop, slice_index_or, ap, append_assoc, append-nil, sym, subst}
+use Rattle.std.proofs.Common.{arith, ◌≡◌, ◌∙◌, ◌<◌, ◌-◌, ℕ, List, [], ◌∷◌, ◌++◌, length, take, drop, slice_index_or, ap, append_assoc, append-nil, sym}
 use Rattle.std.proofs.Math.Seq.{take-length}
 use Rattle.tq_cli.specs.Comments.{begins_comment, blanked, place_after, place_at, shown}
 use Rattle.tq_cli.specs.declared.comments.Place.{Place}

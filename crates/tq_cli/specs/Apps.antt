@@ -1,5 +1,5 @@
 -- The command line that clap reads. (This project's own.)
-use Rattle.std.specs.Prelude.{ℕ, List, [], ◌∷◌, Some, codes, pos, true}
+use Rattle.std.specs.Prelude.{[], ◌∷◌, Some, codes, pos, true}
 use Rattle.clap.specs.Words.{App, Rule, Text, new_app, new_rule, with_rule, with_subcommand}
 use Rattle.clap.specs.declared.builder.ArgAction.TheVariants.{Append, SetTrue}
 use Rattle.clap.specs.declared.builder.value_parser.ValueParser.TheVariants.{Signed}
@@ -100,7 +100,7 @@ abbrev pub ask_app : App
 ask_app = with_question (with_layout (new_app (codes "ask")))
 
 abbrev pub total_app : App
-total_app = with_question (with_rule (with_rule (new_app (codes "total")) (list_rule (codes "by"))) (list_rule (codes "sum")))
+total_app = with_question (with_rule (with_rule (with_rule (new_app (codes "total")) (list_rule (codes "by"))) (list_rule (codes "sum"))) (list_rule (codes "decimal")))
 
 abbrev pub calendar_app : App
 calendar_app =

@@ -217,6 +217,7 @@ pub record IsTotalOf (rows : List Row) (total : TotalRequest) : Type 0 where
   pub by : map (λ w. w.items) total.by.items ≡ list_of (codes "by") rows
   pub sums : map (λ w. w.items) total.sums.items ≡ list_of (codes "sum") rows
   pub some : 0 < length total.sums.items
+  pub decimals : AreDecimalsOf (list_of (codes "decimal") rows) total.decimals.items
 
 -- The unit with a name.
 abbrev pub unit_named : Text → Option Unit
@@ -380,9 +381,9 @@ abbrev pub IsInvalidDraw : List Row → Type 0
 IsInvalidDraw rows = IsInvalidQuestion rows
     ⊎ (HasInvalidWidth rows ⊎ ((picture_format_of rows ≡ None) ⊎ HasInvalidWindow rows))
 
--- No column is summed.
+-- No column is summed, or a word names no column of amounts.
 abbrev pub IsInvalidTotal : List Row → Type 0
-IsInvalidTotal rows = IsInvalidQuestion rows ⊎ (list_of (codes "sum") rows ≡ [])
+IsInvalidTotal rows = IsInvalidQuestion rows ⊎ ((list_of (codes "sum") rows ≡ []) ⊎ HasInvalidDecimals rows)
 
 -- The name of the unit is none of the three, or a date is none.
 abbrev pub IsInvalidCalendar : List Row → Type 0

@@ -1,5 +1,5 @@
 -- Statements in files, with comments. This project's own.
-use Rattle.std.specs.Prelude.{ℕ, ◌==◌, ◌&&◌, Bool, true, false, if◌then◌else◌, List, [], ◌∷◌}
+use Rattle.std.specs.Prelude.{ℕ, ◌==◌, ◌&&◌, Bool, false, if◌then◌else◌, List, [], ◌∷◌}
 use Rattle.tq_cli.specs.declared.comments.Place.{Place}
 use Rattle.tq_cli.specs.declared.comments.Place.TheVariants.{Outside, Text, Comment}
 

@@ -157,7 +157,7 @@ pub(crate) fn text_argument<'a>(alloc: Global, id: &'a str, name: &'a str, help:
     Arg::new(alloc, id).long(id).value_name(name).help(help)
 }
 
-/// The same, of an argument that has to be given.
+/// An argument that has a value and must be given.
 pub(crate) fn required_argument<'a>(
     alloc: Global,
     id: &'a str,
@@ -173,7 +173,7 @@ pub(crate) fn required_argument<'a>(
         .required(true)
 }
 
-/// The same, of an argument that may be given several times.
+/// An argument that has a value and may be given several times.
 pub(crate) fn list_argument<'a>(alloc: Global, id: &'a str, name: &'a str, help: &'a str) -> Arg<'a>
     ensures { rule_of result ≡ list_rule id.entry.now }
 {
@@ -182,6 +182,18 @@ pub(crate) fn list_argument<'a>(alloc: Global, id: &'a str, name: &'a str, help:
         .value_name(name)
         .help(help)
         .action(ArgAction::Append)
+}
+
+/// The columns of amounts of an answer.
+pub(crate) fn amounts_argument<'a>(alloc: Global) -> Arg<'a>
+    ensures { rule_of result ≡ list_rule (codes "decimal") }
+{
+    list_argument(
+        alloc,
+        "decimal",
+        "NAME=PLACES",
+        "A column of amounts, with PLACES digits after the point: 1234 is 12.34 with 2",
+    )
 }
 
 /// An argument without a value.

@@ -5,8 +5,8 @@ ghost use Rattle.clap.specs.Words.{app_of};
 ghost use Rattle.tq_cli.specs.Apps.{ask_app, calendar_app, check_app, draw_app, import_app, merge_app, session_app, split_app, total_app, tq_app, with_columns, with_layout, with_numbers, with_period, with_question};
 
 use crate::arguments::{
-    dates_argument, explain_argument, flag_argument, folder_argument, format_argument,
-    gaps_argument, html_argument, list_argument, order_argument, output_argument,
+    amounts_argument, dates_argument, explain_argument, flag_argument, folder_argument,
+    format_argument, gaps_argument, html_argument, list_argument, order_argument, output_argument,
     overlaps_argument, parts_argument, path_argument, positional_argument, refers_argument,
     required_argument, statement_argument, statement_file_argument, svg_argument, table_argument,
     text_argument, width_argument, window_argument, workers_argument,
@@ -78,12 +78,7 @@ pub(crate) fn layout_arguments<'a>(
             "inclusive",
             "The end of a period is its last day or number, not the next one",
         ))?
-        .arg(list_argument(
-            alloc,
-            "decimal",
-            "NAME=PLACES",
-            "A column of amounts, with so many digits after the point: 1234 is 12.34 with 2",
-        ))?
+        .arg(amounts_argument(alloc))?
         .arg(flag_argument(
             alloc,
             "typed",
@@ -120,7 +115,8 @@ pub(crate) fn total_command<'a>(alloc: Global) -> Result<Command<'a>, AllocError
             "sum",
             "NAME",
             "A column of the answer that is summed",
-        ))?;
+        ))?
+        .arg(amounts_argument(alloc))?;
     question_arguments(alloc, command)
 }
 

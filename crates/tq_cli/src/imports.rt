@@ -1,6 +1,6 @@
 // What `tq import` was asked.
 
-ghost use Rattle.std.specs.Prelude.{◌≡◌, IfOk};
+ghost use Rattle.std.specs.Prelude.{IfOk};
 ghost use Rattle.clap.specs.Words.{found_of, rows_of};
 ghost use Rattle.tq_cli.specs.CommandLine.{AreColumnsOf, AreWordsOf, IsImportOf, IsPeriodOf};
 

@@ -97,8 +97,11 @@ fn decimals_of(alloc: Global, words: &[&str]) -> Result<Vec<DecimalOption>, Comm
     Ok(all)
 }
 
-// The columns of amounts of an answer.
-fn read_decimals(alloc: Global, command: &ArgMatches<'_>) -> Result<Vec<DecimalOption>, UsageError>
+/// The columns of amounts of an answer.
+pub(crate) fn read_decimals(
+    alloc: Global,
+    command: &ArgMatches<'_>,
+) -> Result<Vec<DecimalOption>, UsageError>
     ensures decimals { IfOk result (λ all. AreDecimalsOf (list_of (codes "decimal") (rows_of (found_of command.now))) all.items) }
     ensures refused { IfErr result (λ e. e.fault ≡ CommandLineFault.BadCommandLine → HasInvalidDecimals (rows_of (found_of command.now))) }
 {

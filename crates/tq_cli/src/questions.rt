@@ -7,6 +7,7 @@ ghost use Rattle.tq_base.specs.declared.form.Form.TheVariants.{Dates};
 ghost use Rattle.tq_cli.specs.CommandLine.{AreNoPeriod, ArePeriodWords, HasInvalidTables, HasInvalidWidth, HasInvalidWindow, HasInvalidWorkers, IsCalendarOf, IsDrawOf, IsInvalidCalendar, IsInvalidDraw, IsInvalidQuestion, IsInvalidTotal, IsNoWindow, IsQuestionOf, IsTablesUpTo, IsTotalOf, IsWindow, IsWindowOf, has_statement, number_of, picture_format, picture_format_of, text_of, unit_named, word_of};
 
 use crate::command_line::{CommandLineFault, UsageError, WORKER_LIMIT};
+use crate::layouts::read_decimals;
 use crate::request::{
     CalendarRequest, DrawRequest, PictureFormat, QuestionRequest, TableOption, TotalRequest,
 };
@@ -227,7 +228,13 @@ pub(crate) fn read_total(alloc: Global, total: &ArgMatches<'_>) -> Result<TotalR
             "error: give a column to sum by --sum NAME\n\nFor more information, try '--help'.\n"
         )));
     }
-    Ok(TotalRequest { question, by, sums })
+    let decimals = read_decimals(alloc, total)?;
+    Ok(TotalRequest {
+        question,
+        by,
+        sums,
+        decimals,
+    })
 }
 
 // The unit with a name.

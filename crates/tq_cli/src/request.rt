@@ -58,13 +58,14 @@ pub struct AskRequest {
     pub layout: LayoutRequest,
 }
 
-/// What `tq total` was asked: a question, the names of the columns by which rows are grouped, and of those that are
-/// totalled.
+/// What `tq total` was asked: a question, the names of the columns by which rows are grouped, of those that are totalled,
+/// and the columns of amounts.
 #[derive(Drop)]
 pub struct TotalRequest {
     pub question: QuestionRequest,
     pub by: Vec<Vec<u8>>,
     pub sums: Vec<Vec<u8>>,
+    pub decimals: Vec<DecimalOption>,
 }
 
 /// What `tq calendar` was asked: the unit of the periods, the first day and the day after the last one, and the path of the

@@ -1,6 +1,6 @@
 // The values that clap found for arguments.
 
-ghost use Rattle.std.specs.Prelude.{◌≡◌, ◌∷◌, ◌++◌, IfOk, IfErr, IfSome, Contains, None, codes, map};
+ghost use Rattle.std.specs.Prelude.{◌≡◌, ◌∷◌, ◌++◌, IfOk, IfErr, IfSome, Contains, None, map};
 ghost use Rattle.std.specs.List.{Any};
 ghost use Rattle.clap.specs.Words.{found_of, rows_of};
 ghost use Rattle.tq_cli.specs.CommandLine.{IsTablesOf, bytes_in, form_of, is_given, is_named, is_set, list_of, number_of, stdin_count, text_of};

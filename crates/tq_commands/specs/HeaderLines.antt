@@ -1,5 +1,5 @@
 -- The header line of a table's file: its first line that is not empty. This project's own.
-use Rattle.std.specs.Prelude.{ℕ, Bool, ◌==◌, ◌||◌, not, List, drop, map, take}
+use Rattle.std.specs.Prelude.{ℕ, Bool, ◌==◌, ◌||◌, not, List, drop, take}
 use Rattle.std.specs.List.{prefix_len}
 use Rattle.tq_event.specs.declared.file.TableFile.{TableFile}
 

@@ -70,7 +70,7 @@ fn count_named(columns: &[Column], name: &[u8]) -> usize {
         .count()
 }
 
-// The place of the one column with the name, in any case of letters.
+// The place of the one column with the name; letters match in either case.
 fn place_of(alloc: Global, columns: &[Column], word: &[u8]) -> Result<usize, Refusal> {
     let Some(name) = fold_name(alloc, word)? else {
         return Err(refused_column(alloc, word, b"no such column in the answer")?);
@@ -87,7 +87,7 @@ fn place_of(alloc: Global, columns: &[Column], word: &[u8]) -> Result<usize, Ref
     }
 }
 
-// The same, of a column that must have numbers.
+// The place of the column with this name, which must have numbers.
 fn number_place(alloc: Global, columns: &[Column], word: &[u8]) -> Result<usize, Refusal> {
     let place = place_of(alloc, columns, word)?;
     match columns.get(place) {
@@ -122,7 +122,7 @@ pub fn unique_places(
     Ok(places)
 }
 
-/// Of each column the number of digits after the point.
+/// For each column, the number of digits after the point.
 pub fn places_of(
     alloc: Global,
     columns: &[Column],
@@ -158,7 +158,7 @@ fn typed_header(alloc: Global, columns: &[Column]) -> Result<ByteRecord, AllocEr
     Ok(record)
 }
 
-/// The refusal of the first column with which the columns are not those of a table; `None` if there is none.
+/// The refusal of the first column that a table cannot have after those before it; `None` if there is none.
 pub fn refused_typed_column(
     alloc: Global,
     columns: &[Column],

@@ -70,8 +70,9 @@ fn refused_file(alloc: Global, path: &[u8], fault: &FileFault<'_>, seen: &ReadRe
     }
 }
 
-// What is imported: a file's path, the options, the kinds that were found, what is written of invalid records if the first
-// one does not stop the import, and the path of their file, or nothing.
+// What is imported: a file's path, the options, and the kinds that were found. If the first invalid record does not
+// stop the import, `rejects` says what is written about invalid records, and the last path is that of their file or
+// empty.
 #[derive(Clone, Copy)]
 struct Job<'a> {
     path: &'a [u8],
@@ -275,7 +276,7 @@ fn kinds_in<R: Files + AllocGlobal>(
     }
 }
 
-// What is wrong with the path of the file for invalid records, if there is one.
+// Fails if the path of the file for invalid records cannot be used.
 fn check_rejected(path: &[u8], output: &[u8], all: bool, rejected: &[u8]) -> Result<(), WordFault> {
     if rejected.is_empty() {
         return Ok(());
@@ -289,7 +290,7 @@ fn check_rejected(path: &[u8], output: &[u8], all: bool, rejected: &[u8]) -> Res
     Ok(())
 }
 
-// What is written of invalid records; nothing, if the first one stops the import.
+// What is written about invalid records; `None` if the first one stops the import.
 fn rejects_of<'a>(
     path: &'a [u8],
     all: bool,

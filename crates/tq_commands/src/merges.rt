@@ -65,7 +65,7 @@ fn open_answers<R: Files + AllocGlobal>(
     Ok(files)
 }
 
-// Where an answer is invalid, and why.
+// A text with the part and the record at which an answer is invalid, and why.
 fn answer_fault_text(
     alloc: Global,
     part: u32,

@@ -13,7 +13,7 @@ pub struct PartFile<'a> {
 }
 
 impl<'a> PartFile<'a> {
-    /// The file for a path, and the file itself, open and empty.
+    /// Creates the file under its other name. Returns it with the open, empty file.
     pub fn create<R: Files + AllocGlobal>(
         rt: &R,
         path: &'a [u8],

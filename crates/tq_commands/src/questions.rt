@@ -24,7 +24,9 @@ use std::sync::Wait;
 use std::thread::Threads;
 use std::time::Clock;
 use tq_base::{Column, Form};
-use tq_cli::{AskRequest, DrawRequest, LayoutRequest, QuestionRequest, TotalRequest};
+use tq_cli::{
+    AskRequest, DecimalOption, DrawRequest, LayoutRequest, QuestionRequest, TotalRequest,
+};
 use tq_engine::{AnswerOptions, query_files};
 use tq_report::{Format, ReportOptions, by_time, report, typed_text};
 use tq_table::{Sink, Table};
@@ -218,7 +220,7 @@ fn layout_text<R: AllocGlobal>(
     Ok(report(rt.alloc(), &table, &options)?)
 }
 
-// The layout with the format of a terminal, if the answer is shown on one and that is asked for.
+// The layout. CSV becomes the aligned format if the layout asks for it and the answer is shown on a terminal.
 fn shown_layout(layout: LayoutRequest, on_screen: bool) -> LayoutRequest {
     if layout.pretty && on_screen && matches!(layout.format, Format::Csv) {
         LayoutRequest {
@@ -314,11 +316,13 @@ fn totals_of(
     answered: &AnsweredTable<'_>,
     by: &[Vec<u8>],
     sums: &[Vec<u8>],
+    decimals: &[DecimalOption],
 ) -> Result<Vec<u8>, Refusal> {
     let AnsweredTable { table, columns, .. } = answered;
     let by = unique_places(alloc, columns, by, false)?;
     let sums = unique_places(alloc, columns, sums, true)?;
-    match totals_csv(alloc, table, &by, &sums) {
+    let places = places_of(alloc, columns, decimals)?;
+    match totals_csv(alloc, table, &by, &sums, &places) {
         Ok(text) => Ok(text),
         Err(fault) => Err(refused_totals(alloc, columns, fault)),
     }
@@ -334,10 +338,15 @@ pub fn print_totals<
         + Wait
         + Sync,
 >(rt: &R, request: TotalRequest, interactive: bool, progress: &Progress) -> Result<(), Diagnostic> {
-    let TotalRequest { question, by, sums } = request;
+    let TotalRequest {
+        question,
+        by,
+        sums,
+        decimals,
+    } = request;
     let question = with_statement(rt, question, interactive, progress)?;
     let answered = answer_table(rt, question, interactive, progress)?;
-    let text = totals_of(rt.alloc(), &answered, &by, &sums)?;
+    let text = totals_of(rt.alloc(), &answered, &by, &sums, &decimals)?;
     progress.end(rt);
     Ok(print_to(rt, &answered.output, &text)?)
 }

@@ -17,7 +17,7 @@ use tq_engine::AnswerFault;
 use tq_event::{LoadFault, TableFile};
 use tq_plan::PlanFault;
 
-// The refusal of this file, which was not loaded, with details. It is read again if its bytes are not retained.
+// The refusal of a file that was not loaded, with details. The file is read again if its bytes are not retained.
 fn refused_file<R: Files + AllocGlobal + Input>(
     rt: &R,
     fault: LoadFault,

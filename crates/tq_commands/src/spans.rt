@@ -22,7 +22,7 @@ pub trait ReadAt {
         ensures bytes { ReadsFrom (bytes self.now) offset result buffer.new };
 }
 
-/// An open file. The standard library knows no bytes of a file, so none are known here.
+/// An open file. No contract of the standard library says which bytes a file has, so none are known here.
 #[derive(Clone, Copy)]
 pub struct Opened<'f, F> {
     pub file: &'f F,

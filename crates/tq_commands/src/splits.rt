@@ -22,7 +22,7 @@ use tq_split::{
     Division, DivisionFault, MANIFEST_VERSION, Manifest, ManifestTable, Split, answer_columns,
     combine_groups, combine_word, divide, manifest_columns, manifest_text, name_text, split_plan,
 };
-use tq_sql::{Statement, read};
+use tq_sql::read;
 use tq_table::Sink;
 
 // A table: its name and columns, and the paths of its files.
@@ -186,7 +186,7 @@ fn reason_of(plan: &Plan) -> &'static str {
     }
 }
 
-// A text with the number of a part in it.
+// The path of a part's folder.
 fn part_folder(alloc: Global, folder: &str, part: u32) -> Result<String, AllocError> {
     format!(in alloc; "{folder}/{part}")
 }
@@ -463,7 +463,7 @@ fn write_manifest<R: Files + AllocGlobal>(
     }
 }
 
-// By what each table is divided, a line each, and a line if answers are added.
+// One line for each table, with the column that divides it, and one more if answers are added.
 fn explanation(alloc: Global, manifest: &Manifest) -> Result<Vec<u8>, AllocError> {
     let mut text = Vec::new(alloc);
     text.extend_from_slice(b"divided into ")?;
@@ -533,7 +533,7 @@ fn manifest_of(
     planned: &PlannedSplit,
     statement: &[u8],
 ) -> Result<Manifest, AllocError> {
-    // What has a plan is UTF-8.
+    // A statement that has a plan is UTF-8.
     let statement = String::from_str(alloc, str::from_utf8(statement).unwrap_or(""))?;
     let tables = manifest_tables(alloc, &planned.tables, &planned.split)?;
     let columns = answer_columns(alloc, &planned.catalogue, &planned.plan)?;
@@ -567,7 +567,7 @@ fn write_parts<R: Files + AllocGlobal>(
 }
 
 /// Divides the tables of a statement: writes a folder for each part, with the files of tables that are divided and the
-/// arguments of `tq ask`, and a manifest. With `explain`, prints on standard error by what each table is divided.
+/// arguments of `tq ask`, and a manifest. With `explain`, prints on standard error which column divides each table.
 pub fn split_tables<R: Files + AllocGlobal + Input + Wait>(
     rt: &R,
     request: SplitRequest,

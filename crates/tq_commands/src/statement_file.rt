@@ -8,7 +8,7 @@ use std::io::Input;
 use std::rt::Files;
 use tq_cli::{QuestionRequest, blank_comments};
 
-// The statement in the file at the path, with blanks in place of comments.
+// The statement in the file at the path, with blanks instead of comments.
 fn read_statement<R: Files + AllocGlobal + Input>(
     rt: &R,
     path: Vec<u8>,

@@ -1,6 +1,6 @@
 // The world: a history, its readers and the pieces of its answers.
 
-ghost use Rattle.std.specs.Prelude.{◌≡◌, ◌↔◌, ◌<◌, ◌≤◌, ◌∷◌, ◌++◌, [], ℕ, IsTrue, All, Contains, IfOk, OnErr, length, slice_get, take};
+ghost use Rattle.std.specs.Prelude.{◌≡◌, ◌↔◌, ◌<◌, ◌≤◌, IsTrue, All, Contains, IfOk, OnErr, length};
 ghost use Rattle.tq_base.specs.Catalogues.{IsCatalogue};
 ghost use Rattle.tq_core.specs.World.{Rise};
 ghost use Rattle.tq_core.specs.Runs.{AnswersAgree, AnswersOverLast, AnswersUpToShown, ClaimsInOrder, FinishesWhole, PublishesUpToLast};

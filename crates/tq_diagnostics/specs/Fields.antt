@@ -1,5 +1,5 @@
 -- Messages about the fields of a record. This project's own.
-use Rattle.std.specs.Prelude.{ℕ, ◌+◌, ◌==◌, nat_lt, Bool, false, if◌then◌else◌, List, [], ◌∷◌, ◌++◌, codes, decimal, is_some, length, map, min, slice_get, take, Option, None, Some, Result, Ok, Err}
+use Rattle.std.specs.Prelude.{ℕ, ◌+◌, ◌==◌, nat_lt, Bool, false, if◌then◌else◌, List, [], ◌∷◌, ◌++◌, codes, decimal, is_some, length, min, slice_get, take, Option, None, Some, Result, Ok, Err}
 use Rattle.tq_base.specs.Numbers.{bound_of, instant_of}
 use Rattle.tq_base.specs.declared.catalogue.Column.{Column}
 use Rattle.tq_base.specs.declared.catalogue.Kind.{Kind}

@@ -1,6 +1,6 @@
 -- Hints for the header of a file that is not a table file: another separator, reserved words, other names of the period.
 -- This project's own.
-use Rattle.std.specs.Prelude.{ℕ, ◌-◌, ◌==◌, ◌&&◌, ◌||◌, nat_lt, Bool, true, false, if◌then◌else◌, List, [], ◌∷◌, ◌++◌, codes, drop, is_some, length, position, slice_get, take, Option, None, Some, ◌+◌}
+use Rattle.std.specs.Prelude.{ℕ, ◌-◌, ◌==◌, ◌&&◌, ◌||◌, nat_lt, Bool, if◌then◌else◌, List, [], ◌∷◌, ◌++◌, codes, drop, is_some, length, position, slice_get, take, Option, None, Some, ◌+◌}
 use Rattle.std.specs.List.{list_any}
 use Rattle.std.specs.Str.{str_eq_ignore_ascii_case}
 use Rattle.tq_base.specs.Names.{is_reserved}

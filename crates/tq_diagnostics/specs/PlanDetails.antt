@@ -77,7 +77,7 @@ abbrev pub window_line : Form → List ℕ
 window_line Numbers = codes "  write the window as '[10 - 20)' or '[10 - forever)', with its start before its end\n"
 window_line Dates = codes "  write the window as '[2024-02-29 - 2024-03-01)' or '[2024-02-29 - forever)', with its start before its end\n"
 
--- for a window that is one in the other form, by the form that was asked for
+-- for a window that is valid only in the other form of instants, by the wanted one
 abbrev pub other_form_line : Form → List ℕ
 other_form_line Numbers = codes "  the window has dates: use --dates\n"
 other_form_line Dates = codes "  with --dates write days, as in '[2024-02-29 - 2024-03-01)' or '[2024-02-29 - forever)'\n"

@@ -52,7 +52,7 @@ fn end_usage(form: Form) -> &'static [u8]
     }
 }
 
-// How the command with this name is written; nothing for another word.
+// How the command with this name is written; empty for another word.
 fn usage_of(form: Form, word: &[u8]) -> &'static [u8]
     ensures { result.now ≡ spec.usage_of form word.now }
 {
@@ -84,7 +84,7 @@ fn push_unknown_command(alloc: Global, text: &mut Vec<u8>, word: &[u8]) -> Resul
     push_listed(text, b"commands", &names)
 }
 
-// Appends how the command is written, or for nothing the names of the commands.
+// Appends how the command is written or, if `usage` is empty, the names of the commands.
 fn push_usage(
     alloc: Global,
     text: &mut Vec<u8>,

@@ -1,6 +1,6 @@
 // What the bytes of a file are, by the first of them.
 
-ghost use Rattle.std.specs.Prelude.{◌≡◌, ◌∷◌, []};
+ghost use Rattle.std.specs.Prelude.{◌≡◌};
 ghost use Rattle.tq_diagnostics.specs.Contents.{begins_as_utf16, begins_with, content_of, is_blank, is_plain};
 ghost use Rattle.tq_diagnostics.specs.Lines.{is_line_end};
 

@@ -1,6 +1,6 @@
 // Messages about the fields of a record.
 
-ghost use Rattle.std.specs.Prelude.{◌≡◌, ◌+◌, ◌-◌, ◌<◌, ◌≤◌, ◌++◌, [], OnOk, Some, codes, decimal, length, slice_get};
+ghost use Rattle.std.specs.Prelude.{◌≡◌, ◌+◌, ◌-◌, ◌<◌, ◌≤◌, ◌++◌, OnOk, Some, codes, decimal, length, slice_get};
 ghost use Rattle.csv.specs.Records.{fields_of};
 ghost use Rattle.tq_diagnostics.specs.Fields as spec;
 

@@ -2,7 +2,6 @@
 
 ghost use Rattle.std.specs.Prelude.{◌≡◌, ◌≤◌, ◌++◌, OnOk, Some};
 ghost use Rattle.csv.specs.Records.{fields_of};
-ghost use Rattle.tq_diagnostics.specs.Fields.{field_of};
 ghost use Rattle.tq_diagnostics.specs.FileHints as spec;
 ghost use Rattle.tq_diagnostics.specs.HeaderHints.{header_hint};
 ghost use Rattle.tq_diagnostics.specs.Records.{record_of};
@@ -55,7 +54,7 @@ fn instant_line(form: Form, record: &ByteRecord) -> &'static [u8]
     b""
 }
 
-// The same for the record with this number, from 1.
+// Appends the message for the record with this number, from 1, if its last two fields are one instant.
 fn push_instant_hint(
     alloc: Global,
     text: &mut Vec<u8>,

@@ -50,7 +50,7 @@ fn separator_line(field: &[u8]) -> &'static [u8]
     b""
 }
 
-// The same, if the header is one field.
+// The hint about separators, if the header is one field.
 fn separator_hint(fields: &[&[u8]]) -> &'static [u8]
     ensures { result.now ≡ spec.separator_hint (name_views fields.now) }
 {
@@ -110,7 +110,7 @@ fn push_reserved_word(text: &mut Vec<u8>, word: &[u8]) -> Result<(), AllocError>
     text.extend_from_slice(b"` is a reserved word\n")
 }
 
-// The same, if there is a word.
+// Appends that the word is reserved; nothing if it is empty.
 fn push_reserved_line(text: &mut Vec<u8>, word: &[u8]) -> Result<(), AllocError>
     ensures { OnOk result (text.new.items ≡ text.old.items ++ spec.reserved_line word.now) }
 {
@@ -142,7 +142,7 @@ fn pair_named<'a>(start: &[u8], end: &[u8], fields: &[&'a [u8]]) -> Option<(&'a 
     Some((from, to))
 }
 
-// The fields with the first names of which there are both.
+// The fields of the first pair of names in the table of which the header has both.
 fn first_pair<'a>(
     mut table: &[(&'static [u8], &'static [u8])],
     fields: &[&'a [u8]],

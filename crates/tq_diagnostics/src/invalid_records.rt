@@ -1,6 +1,6 @@
 // Messages about each invalid record of a file.
 
-ghost use Rattle.std.specs.Prelude.{◌≡◌, ◌++◌, ℕ, List, IfOk, OnOk, codes, decimal, drop, length, map, nat_lt, take};
+ghost use Rattle.std.specs.Prelude.{◌≡◌, ◌++◌, ℕ, List, IfOk, OnOk, codes, decimal, drop, length, nat_lt, take};
 ghost use Rattle.std.specs.List.{flat_map};
 ghost use Rattle.csv.specs.Records.{fields_of};
 ghost use Rattle.tq_event.specs.Loading.{csv_records};
@@ -16,7 +16,7 @@ use crate::files::{column_if, file_meaning, is_header_invalid, push_line};
 use crate::lines::{line_scanner, next_line};
 use csv::{ByteRecord, Reader};
 use std::alloc::{AllocError, Global};
-use tq_base::{Column, Form, Value};
+use tq_base::{Column, Form};
 use tq_event::LoadFaultKind;
 use tq_event::steps::{next_record, record_reader};
 use tq_shown::push_printable;

@@ -1,6 +1,6 @@
 // Lists of the tables, sources and columns that exist.
 
-ghost use Rattle.std.specs.Prelude.{◌≡◌, ◌++◌, ◌∷◌, [], IfOk, None, OnOk, Some, codes, map, option_copied};
+ghost use Rattle.std.specs.Prelude.{◌≡◌, ◌++◌, ◌∷◌, [], IfOk, None, OnOk, Some, map, option_copied};
 ghost use Rattle.std.specs.List.{flat_map};
 ghost use Rattle.tq_base.specs.declared.catalogue.Column.{Column as AnyColumn};
 ghost use Rattle.tq_base.specs.declared.catalogue.Schema.{Schema as AnySchema};

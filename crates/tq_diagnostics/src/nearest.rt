@@ -8,7 +8,7 @@ use crate::fields::push_value;
 use std::alloc::{AllocError, Global};
 use strsim::generic_levenshtein;
 
-// The least number of bytes that are inserted, removed or replaced to make the name of the word.
+// The least number of bytes to insert, remove or replace to turn the word into the name.
 fn distance(alloc: Global, word: &[u8], name: &[u8]) -> Result<usize, AllocError>
     ensures { IfOk result (λ count. count ≡ distance word.now name.now) }
 {
@@ -39,7 +39,7 @@ fn best<'a>(alloc: Global, word: &[u8], names: &[&'a [u8]]) -> Result<Option<&'a
     Ok(found)
 }
 
-// The same. No other name is nearer, and none before it is as near.
+// The nearest name within reach. No other name is nearer, and none before it is as near.
 fn nearest<'a>(
     alloc: Global,
     word: &[u8],

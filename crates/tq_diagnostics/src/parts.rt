@@ -1,6 +1,6 @@
 // The parts of a statement that are planned by themselves.
 
-ghost use Rattle.std.specs.Prelude.{◌≡◌, ◌+◌, ◌++◌, ◌∷◌, [], IfOk, OnOk, map, option_copied, reverse};
+ghost use Rattle.std.specs.Prelude.{◌≡◌, ◌+◌, ◌++◌, ◌∷◌, [], IfOk, OnOk, option_copied, reverse};
 ghost use Rattle.tq_diagnostics.specs.Parts.{alias_size, after_group, after_items, after_pair, after_pairs, after_query, after_sources, column_part, column_size, first_name, group_parts, item_parts, item_size, pair_part, pair_parts, pairs_of, query_parts, right_parts, source_parts, source_size, statement_parts, sum_part, term_name, term_parts, term_size, what_parts, what_size, where_pairs};
 ghost use Rattle.tq_diagnostics.specs.Views.{pair_views, part_views, part_view};
 

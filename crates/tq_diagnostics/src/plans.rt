@@ -138,7 +138,7 @@ fn window_line(form: Form) -> &'static [u8]
     }
 }
 
-// For a window that is one in the other form, by the form that was asked for.
+// The message for a window that is valid only in the other form of instants; `form` is the wanted one.
 fn other_form_line(form: Form) -> &'static [u8]
     ensures { result.now ≡ other_form_line form }
 {
@@ -150,7 +150,7 @@ fn other_form_line(form: Form) -> &'static [u8]
     }
 }
 
-// For a window that ends with a square bracket.
+// The message for a window that ends with a square bracket.
 fn closed_line(form: Form) -> &'static [u8]
     ensures { result.now ≡ closed_line form }
 {

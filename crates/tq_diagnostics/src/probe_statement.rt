@@ -1,6 +1,6 @@
 // Probes: parts of a query, each planned by itself.
 
-ghost use Rattle.std.specs.Prelude.{◌≡◌, IfOk, None, Some, map, option_copied, take};
+ghost use Rattle.std.specs.Prelude.{◌≡◌, IfOk, None, Some, option_copied, take};
 ghost use Rattle.tq_base.specs.declared.form.Form.TheVariants.{Numbers};
 ghost use Rattle.tq_plan.specs.Plans.{plan_of};
 ghost use Rattle.tq_sql.specs.declared.statement.Cond.TheVariants.{Is};

@@ -67,7 +67,7 @@ fn push_open_quote(text: &mut Vec<u8>, line: usize) -> Result<(), AllocError>
     Ok(())
 }
 
-// The same if there is a line.
+// Appends that the quote opened on the line is not closed; nothing if the line is 0.
 fn push_quote_line(text: &mut Vec<u8>, line: usize) -> Result<(), AllocError>
     ensures { OnOk result (text.new.items ≡ text.old.items ++ quote_text line) }
 {

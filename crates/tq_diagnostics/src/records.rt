@@ -29,7 +29,7 @@ pub(crate) fn read_record(
     Ok(found)
 }
 
-// The byte at which the record begins, after the line ends before it; `bytes` is where it was read from.
+// The byte at which the record begins, after the line ends before it. `bytes` is what it was read from.
 fn record_offset(bytes: &[u8], record: &ByteRecord) -> usize
     ensures { result ≤ length bytes.now }
 {

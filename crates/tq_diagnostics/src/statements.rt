@@ -52,7 +52,7 @@ fn explanation(
     }
 }
 
-/// Appends an explanation as a line of its own; nothing for nothing.
+/// Appends an explanation as a line of its own, unless it is empty.
 pub(crate) fn push_line(text: &mut Vec<u8>, explanation: &[u8]) -> Result<(), AllocError>
     ensures { OnOk result (text.new.items ≡ text.old.items ++ line_of explanation.now) }
 {

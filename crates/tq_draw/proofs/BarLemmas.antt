@@ -5,10 +5,10 @@ use Rattle.std.proofs.lemmas.Bool.Decides.{nat_tests}
 use Rattle.std.proofs.lemmas.List.FromFn.{get_or-map-range_with_len, length-map-range_with_len}
 use Rattle.tq_base.specs.declared.period.Period.{Period}
 use Rattle.tq_draw.specs.Bars.{bar_byte, bar_of, is_valid_in}
-use Rattle.tq_draw.specs.Laws.{BarsMatchRows, IsValidIn}
+use Rattle.tq_draw.specs.Laws.{BarsMatchRows, InstantsAreDrawn, IsValidIn}
 use Rattle.tq_draw.specs.Scales.{edge, IsScale}
 use Rattle.tq_draw.specs.declared.scale.Scale.{Scale}
-use Rattle.tq_draw.proofs.EdgeLemmas.{edge_grows}
+use Rattle.tq_draw.proofs.EdgeLemmas.{cells_tile, edge_grows}
 
 byte_at : (scale : Scale) (period : Period) (cell : ℕ) → cell < scale.cells → get_or (bar_of scale period) cell 0 ≡ bar_byte scale period cell
 byte_at scale period cell within = get_or-map-range_with_len (bar_byte scale period) 0 scale.cells cell cell 0 within (omega arith)
@@ -78,3 +78,8 @@ bars_match_rows scale period is = record {
       let byte = byte_at scale period cell within in
       byte ∙ empty_is (is_valid_in scale period cell) (λ here. other (byte ∙ here));
 }
+
+pub instants_are_drawn : InstantsAreDrawn
+instants_are_drawn scale period is (instant, from, before, valid) =
+    let (cell, within, covers) = (cells_tile scale is).one instant from before in
+    (cell, within, ((bars_match_rows scale period is).filled cell within).1 (instant, covers, valid))

@@ -11,7 +11,7 @@ use Rattle.tq_base.specs.declared.fragment.Fragment.{Fragment}
 use Rattle.tq_base.specs.declared.period.Period.{Period}
 use Rattle.tq_base.specs.declared.period.TheConstants.{FOREVER}
 use Rattle.tq_draw.specs.Laws.{HasInstant, IsCovered, ScalesCoverRows, WindowsAreScales}
-use Rattle.tq_draw.specs.Scales.{drawn_end, drawn_start, earlier, first_of, greatest_end, has_say, is_in_window, later, least_start, scale_of, shown_rows}
+use Rattle.tq_draw.specs.Scales.{drawn_end, drawn_start, earlier, first_of, greatest_end, counts_in_scale, is_in_window, later, least_start, scale_of, shown_rows}
 use Rattle.tq_draw.specs.declared.scale.Scale.{Scale}
 
 abbrev lesser : Form → ℕ → Fragment → ℕ
@@ -26,21 +26,21 @@ earlier_below form least period = grind (arith, min-le_left)
 later_above : (form : Form) (greatest : ℕ) (period : Period) → greatest ≤ later form greatest period
 later_above form greatest period = grind (arith, le-max_left)
 
-earlier_at : (form : Form) (least : ℕ) (period : Period) → has_say form period ≡ true → earlier form least period ≤ drawn_start form period
-earlier_at form least period say = rw say (min-le_right least (drawn_start form period))
+earlier_at : (form : Form) (least : ℕ) (period : Period) → counts_in_scale form period ≡ true → earlier form least period ≤ drawn_start form period
+earlier_at form least period counted = rw counted (min-le_right least (drawn_start form period))
 
-later_at : (form : Form) (greatest : ℕ) (period : Period) → has_say form period ≡ true → drawn_end period ≤ later form greatest period
-later_at form greatest period say = rw say (le-max_right greatest (drawn_end period))
+later_at : (form : Form) (greatest : ℕ) (period : Period) → counts_in_scale form period ≡ true → drawn_end period ≤ later form greatest period
+later_at form greatest period counted = rw counted (le-max_right greatest (drawn_end period))
 
 least_below : (form : Form) (least : ℕ) (rows : List Fragment) → fold (lesser form) least rows ≤ least
 least_below form least [] = omega arith
 least_below form least (row ∷ rows) = le_trans (least_below form (lesser form least row) rows) (earlier_below form least row.period)
 
 least_at : (form : Form) (least : ℕ) (rows : List Fragment) (place : ℕ) (d : Fragment) → place < length rows
-    → has_say form (get_or rows place d).period ≡ true → fold (lesser form) least rows ≤ drawn_start form (get_or rows place d).period
-least_at form least [] place d within say = absurd (omega arith)
-least_at form least (row ∷ rows) zero d within say = le_trans (least_below form (lesser form least row) rows) (earlier_at form least row.period say)
-least_at form least (row ∷ rows) (suc place) d within say = least_at form (lesser form least row) rows place d (omega arith) say
+    → counts_in_scale form (get_or rows place d).period ≡ true → fold (lesser form) least rows ≤ drawn_start form (get_or rows place d).period
+least_at form least [] place d within counted = absurd (omega arith)
+least_at form least (row ∷ rows) zero d within counted = le_trans (least_below form (lesser form least row) rows) (earlier_at form least row.period counted)
+least_at form least (row ∷ rows) (suc place) d within counted = least_at form (lesser form least row) rows place d (omega arith) counted
 
 greatest_above : (form : Form) (greatest : ℕ) (rows : List Fragment) → greatest ≤ fold (greater form) greatest rows
 greatest_above form greatest [] = omega arith
@@ -48,11 +48,11 @@ greatest_above form greatest (row ∷ rows) =
     le_trans (later_above form greatest row.period) (greatest_above form (greater form greatest row) rows)
 
 greatest_at : (form : Form) (greatest : ℕ) (rows : List Fragment) (place : ℕ) (d : Fragment) → place < length rows
-    → has_say form (get_or rows place d).period ≡ true → drawn_end (get_or rows place d).period ≤ fold (greater form) greatest rows
-greatest_at form greatest [] place d within say = absurd (omega arith)
-greatest_at form greatest (row ∷ rows) zero d within say =
-    le_trans (later_at form greatest row.period say) (greatest_above form (greater form greatest row) rows)
-greatest_at form greatest (row ∷ rows) (suc place) d within say = greatest_at form (greater form greatest row) rows place d (omega arith) say
+    → counts_in_scale form (get_or rows place d).period ≡ true → drawn_end (get_or rows place d).period ≤ fold (greater form) greatest rows
+greatest_at form greatest [] place d within counted = absurd (omega arith)
+greatest_at form greatest (row ∷ rows) zero d within counted =
+    le_trans (later_at form greatest row.period counted) (greatest_above form (greater form greatest row) rows)
+greatest_at form greatest (row ∷ rows) (suc place) d within counted = greatest_at form (greater form greatest row) rows place d (omega arith) counted
 
 -- a drawn end is after the start, and shows the end unless there is none
 ends : (period : Period) (last : ℕ) → drawn_end period ≤ last → (period.start < last) × ((period.end ≤ last) ⊎ (period.end ≡ FOREVER))
@@ -96,23 +96,23 @@ covered_always scale period some before zero_start no_end =
       end = inr no_end;
     }
 
-abbrev Says : Form → Scale → Period → Type 0
-Says form scale period = has_say form period ≡ true → (scale.first ≤ drawn_start form period) × (drawn_end period ≤ scale.last)
+abbrev Counts : Form → Scale → Period → Type 0
+Counts form scale period = counts_in_scale form period ≡ true → (scale.first ≤ drawn_start form period) × (drawn_end period ≤ scale.last)
 
-covered_by_say : (form : Form) (scale : Scale) (period : Period) → scale.first < scale.last → scale.first < FOREVER → Says form scale period
+covered_if_counted : (form : Form) (scale : Scale) (period : Period) → scale.first < scale.last → scale.first < FOREVER → Counts form scale period
     → IsCovered form scale period
-covered_by_say Numbers scale period some before say = let (from, below) = say refl in covered Numbers scale period from below
-covered_by_say Dates scale period some before say =
+covered_if_counted Numbers scale period some before counted = let (from, below) = counted refl in covered Numbers scale period from below
+covered_if_counted Dates scale period some before counted =
     elim (eqb_tells period.start 0) [
       | inl first ↦ elim (eqb_tells period.end FOREVER) [
         | inl no_end ↦ covered_always scale period some before first.1 no_end.1
         | inr end ↦
-            let says = say (rw (first.0, end.0)) in
-            covered_at_end scale period first.1 (rw first.0 at says.0) (rw end.0 at says.1)
+            let bounds = counted (rw (first.0, end.0)) in
+            covered_at_end scale period first.1 (rw first.0 at bounds.0) (rw end.0 at bounds.1)
       ]
       | inr after ↦
-          let says = say (rw after.0) in
-          covered Dates scale period (rw after.0 at says.0) says.1
+          let bounds = counted (rw after.0) in
+          covered Dates scale period (rw after.0 at bounds.0) bounds.1
     ]
 
 first_below : (form : Form) (rows : List Fragment) → (first_of form rows ≤ least_start form rows) × (first_of form rows < FOREVER)
@@ -128,12 +128,12 @@ scales_cover_rows form room rows bounded place d within =
     let first = first_below form rows in
     let period = (get_or rows place d).period in
     let scale = scale_of form room None rows in
-    covered_by_say form scale period
+    covered_if_counted form scale period
     (let after = le-max_right (greatest_end form rows) (first_of form rows + 1) in omega arith)
     first.1
-    (λ say. (
-      le_trans first.0 (least_at form FOREVER rows place d within say),
-      le_trans (greatest_at form 0 rows place d within say) (le-max_left (greatest_end form rows) (first_of form rows + 1)),
+    (λ counted. (
+      le_trans first.0 (least_at form FOREVER rows place d within counted),
+      le_trans (greatest_at form 0 rows place d within counted) (le-max_left (greatest_end form rows) (first_of form rows + 1)),
     ))
 
 first_of_both : (a b c d : ℕ) → (nat_lt a b && nat_lt c d) ≡ true → a < b

@@ -51,6 +51,11 @@ BarsMatchRows = (scale : Scale) (period : Period) → IsScale scale → IsBar sc
 abbrev pub HasInstant : Scale → Period → Type 0
 HasInstant scale period = (instant : ℕ) × (scale.first ≤ instant) × (instant < scale.last) × IsTrue (holds period instant)
 
+-- the bar of a period with an instant in the scale has a filled cell
+abbrev pub InstantsAreDrawn : Type 0
+InstantsAreDrawn = (scale : Scale) (period : Period) → IsScale scale → HasInstant scale period →
+    (cell : ℕ) × (cell < scale.cells) × (slice_index (bar_of scale period) cell ≡ 35)
+
 -- the period is valid at an instant of the scale; it does not begin before the scale, unless it begins at instant 0 in
 -- dates; the scale does not end before it, if it has an end
 pub record IsCovered (form : Form) (scale : Scale) (period : Period) : Type 0 where

@@ -30,10 +30,10 @@ is_in_window (Some window) period = nat_lt period.start window.end && nat_lt win
 abbrev pub shown_rows : Option Period → List Fragment → List Fragment
 shown_rows window rows = filter (λ (row : Fragment). is_in_window window row.period) rows
 
--- whether a period has a say in the scale: in dates it has none if it begins at instant 0 and has no end
-abbrev pub has_say : Form → Period → Bool
-has_say Numbers period = true
-has_say Dates period = not ((period.start == 0) && (period.end == FOREVER))
+-- whether a period counts in the scale: in dates it does not if it begins at instant 0 and has no end
+abbrev pub counts_in_scale : Form → Period → Bool
+counts_in_scale Numbers period = true
+counts_in_scale Dates period = not ((period.start == 0) && (period.end == FOREVER))
 
 -- the start of the drawn part of a period: its start; in dates, one instant before its end if it begins at instant 0
 abbrev pub drawn_start : Form → Period → ℕ
@@ -44,15 +44,15 @@ drawn_start Dates period = if period.start == 0 then period.end - 1 else period.
 abbrev pub drawn_end : Period → ℕ
 drawn_end period = if period.end == FOREVER then period.start + 1 else period.end
 
--- the lesser of the number and the period's drawn start, if it has a say
+-- the lesser of the number and the period's drawn start, if it counts
 abbrev pub earlier : Form → ℕ → Period → ℕ
-earlier form least period = if has_say form period then min least (drawn_start form period) else least
+earlier form least period = if counts_in_scale form period then min least (drawn_start form period) else least
 
--- the greater of the number and the period's drawn end, if it has a say
+-- the greater of the number and the period's drawn end, if it counts
 abbrev pub later : Form → ℕ → Period → ℕ
-later form greatest period = if has_say form period then max greatest (drawn_end period) else greatest
+later form greatest period = if counts_in_scale form period then max greatest (drawn_end period) else greatest
 
--- the least drawn start of the rows that have a say
+-- the least drawn start of the rows that count
 abbrev pub least_start : Form → List Fragment → ℕ
 least_start form rows = fold (λ least (row : Fragment). earlier form least row.period) FOREVER rows
 
@@ -70,7 +70,7 @@ abbrev pub scale_over : ℕ → ℕ → ℕ → Scale
 scale_over room first last =
     record { first = first; last = last; cells = min (max (min (room - 1) MAX_CELLS) MIN_CELLS) (last - first) }
 
--- the first instant of the rows' scale: their least drawn start, or 0 if no row has a say
+-- the first instant of the rows' scale: their least drawn start, or 0 if no row counts
 abbrev pub first_of : Form → List Fragment → ℕ
 first_of form rows = let least = least_start form rows in if least == FOREVER then 0 else least
 

@@ -1,6 +1,6 @@
 // Names and values as a picture shows them.
 
-ghost use Rattle.std.specs.Prelude.{◌≡◌, ◌++◌, ◌<◌, IfOk, OnOk, replicate};
+ghost use Rattle.std.specs.Prelude.{◌≡◌, ◌++◌, ◌<◌, IfOk, OnOk};
 ghost use Rattle.std.specs.Fmt.{is_char_start, take_chars};
 ghost use Rattle.tq_draw.specs.Labels.{columns_in, filled, hex_digit, label_of, narrow_front, escaped_after, escaped_lines, escaped_text, escaped_byte, shown_byte};
 ghost use Rattle.tq_base.specs.Numbers.{instant_text};
@@ -11,6 +11,7 @@ use std::alloc::{AllocError, Global};
 use std::str;
 use tq_base::{Bound, Form, Instant, Value, ValueRef, put_instant};
 use tq_shown::hidden_len;
+use tq_table::push_times;
 use unicode_width::UnicodeWidthStr;
 
 /// The most columns of a label.
@@ -82,7 +83,7 @@ pub fn escaped_text(alloc: Global, bytes: &[u8]) -> Result<Vec<u8>, AllocError>
     escaped(alloc, bytes, false)
 }
 
-/// The same of a text with lines, whose line feeds stay.
+/// A text with lines as a terminal may show it: line feeds stay.
 pub(crate) fn escaped_lines(alloc: Global, bytes: &[u8]) -> Result<Vec<u8>, AllocError>
     ensures { IfOk result (λ text. text.items ≡ escaped_lines bytes.now) }
 {
@@ -189,16 +190,6 @@ pub(crate) fn push_bound(text: &mut Vec<u8>, bound: Bound, form: Form) -> Result
         Some(instant) => push_instant(text, instant, form),
         None => text.extend_from_slice(b"forever"),
     }
-}
-
-/// Appends a byte this many times.
-pub(crate) fn push_times(text: &mut Vec<u8>, byte: u8, times: usize) -> Result<(), AllocError>
-    ensures { OnOk result (text.new.items ≡ text.old.items ++ replicate times byte) }
-{
-    'times: for _time in 0..times {
-        text.push(byte)?;
-    }
-    Ok(())
 }
 
 /// Appends the label, filled with spaces up to the width.

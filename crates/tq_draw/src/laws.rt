@@ -1,6 +1,6 @@
 //! Laws of pictures, for proofs. No code calls them.
 
-ghost use Rattle.tq_draw.specs.Laws.{BarsMatchRows, CellsTile, LabelsAreNarrow, MarksAreFirstDays, ScalesCoverRows, WindowsAreScales};
+ghost use Rattle.tq_draw.specs.Laws.{BarsMatchRows, CellsTile, InstantsAreDrawn, LabelsAreNarrow, MarksAreFirstDays, ScalesCoverRows, WindowsAreScales};
 
 /// The cells of a scale cover its instants in order, each instant once, and no cell is empty.
 pub fn cells_tile()
@@ -10,6 +10,11 @@ pub fn cells_tile()
 /// A bar is filled exactly in the cells with an instant at which its row is valid.
 pub fn bars_match_rows()
     ensures { BarsMatchRows }
+{}
+
+/// The bar of a row that is valid at an instant of the scale has a filled cell.
+pub fn instants_are_drawn()
+    ensures { InstantsAreDrawn }
 {}
 
 /// Without a window, each row has an instant in the scale. Only rows that begin at instant 0, in dates, begin before the

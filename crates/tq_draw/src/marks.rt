@@ -6,10 +6,10 @@ ghost use Rattle.tq_draw.specs.Marks.{AreWithin, cell_of, day_marks, end_text, i
 ghost use Rattle.tq_draw.specs.Scales.{IsScale};
 
 use crate::calendar::days_to_mark;
-use crate::labels::push_times;
 use crate::scale::Scale;
 use std::alloc::{AllocError, Global};
 use tq_base::{Form, Instant, LAST_DAY, put_instant};
+use tq_table::push_times;
 
 /// A mark on a cell, with the instant whose label is above it.
 #[derive(Clone, Copy, Debug)]

@@ -1,7 +1,7 @@
 // The scale of time of a picture.
 
-ghost use Rattle.std.specs.Prelude.{◌≡◌, ◌≤◌, ◌<◌, length};
-ghost use Rattle.tq_draw.specs.Scales.{drawn_end, drawn_start, earlier, edge, first_of, greatest_end, has_say, later, least_start, room_of, scale_of, scale_over, IsScale};
+ghost use Rattle.std.specs.Prelude.{◌≡◌, ◌≤◌, ◌<◌};
+ghost use Rattle.tq_draw.specs.Scales.{drawn_end, drawn_start, earlier, edge, first_of, greatest_end, counts_in_scale, later, least_start, room_of, scale_of, scale_over, IsScale};
 
 use crate::shown_rows::ShownRows;
 use tq_base::{FOREVER, Form, Period};
@@ -32,9 +32,9 @@ impl Scale {
     }
 }
 
-// Whether the period has a say in the scale.
-fn has_say(form: Form, period: &Period) -> bool
-    ensures { result ≡ has_say form period.now }
+// Whether the period counts in the scale.
+fn counts_in_scale(form: Form, period: &Period) -> bool
+    ensures { result ≡ counts_in_scale form period.now }
 {
     match form {
         Form::Numbers => true,
@@ -65,25 +65,25 @@ fn drawn_end(period: &Period) -> u64
     }
 }
 
-// The lesser of the number and the period's drawn start, if it has a say.
+// The lesser of the number and the period's drawn start, if it counts.
 fn earlier(form: Form, least: u64, period: &Period) -> u64
     ensures value { result ≡ earlier form least period.now }
     ensures within { result ≤ least }
 {
-    if has_say(form, period) {
+    if counts_in_scale(form, period) {
         least.min(drawn_start(form, period))
     } else {
         least
     }
 }
 
-// The greater of the number and the period's drawn end, if it has a say.
+// The greater of the number and the period's drawn end, if it counts.
 fn later(form: Form, greatest: u64, period: &Period) -> u64
     requires { greatest ≤ 1000000000000 }
     ensures value { result ≡ later form greatest period.now }
     ensures within { result ≤ 1000000000000 }
 {
-    if has_say(form, period) {
+    if counts_in_scale(form, period) {
         greatest.max(drawn_end(period))
     } else {
         greatest

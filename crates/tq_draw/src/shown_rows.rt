@@ -1,6 +1,6 @@
 // The rows that a picture shows.
 
-ghost use Rattle.std.specs.Prelude.{◌≡◌, ◌<◌, IfOk, IfSome, length, slice_index_or};
+ghost use Rattle.std.specs.Prelude.{◌≡◌, ◌<◌, IfOk, length, slice_index_or};
 ghost use Rattle.tq_base.specs.Relations.{values_at_number};
 ghost use Rattle.tq_draw.specs.Scales.{is_in_window, shown_rows};
 

@@ -1,6 +1,5 @@
 -- Files and a statement have exactly one outcome.
-use Rattle.std.proofs.Common.{◌≡◌, ◌≢◌, ◌⊎◌, ℕ, List, length, Result, Ok, Err, inl, inr, refl, sym, ap, ◌∙◌, subst}
-use Rattle.tq_base.specs.declared.catalogue.Catalogue.{Catalogue}
+use Rattle.std.proofs.Common.{◌≡◌, ◌≢◌, ◌⊎◌, ℕ, List, length, Result, Ok, Err, inl, inr, refl, sym, ap, ◌∙◌}
 use Rattle.tq_base.specs.declared.form.Form.{Form}
 use Rattle.tq_event.specs.declared.fault.LoadFault.{LoadFault}
 use Rattle.tq_event.specs.declared.file.Loaded.{Loaded}
@@ -18,7 +17,7 @@ use Rattle.tq_sql.specs.Reading.{IsSqlFault, ParsesTo}
 use Rattle.tq_table.specs.declared.table.Table.{Table}
 use Rattle.tq_engine.specs.declared.execution.AnswerFault.{AnswerFault}
 use Rattle.tq_engine.specs.declared.execution.AnswerFault.TheVariants as answer
-use Rattle.tq_engine.specs.Answers.{AnswersAreUnique, HasAnswer, HasSqlFault, HasStatementFault, IsFault, IsOutcome, OutcomesAreUnique, OutcomesExist}
+use Rattle.tq_engine.specs.Answers.{AnswersAreUnique, HasAnswer, IsFault, IsOutcome, OutcomesAreUnique, OutcomesExist}
 use Rattle.tq_engine.proofs.UniqueLemmas.{same_catalogue, same_statement}
 
 -- the outcome of files, by their contents, the statement's text and its plan

@@ -1,11 +1,11 @@
 // Loading files.
 
-ghost use Rattle.std.specs.Prelude.{◌≡◌, ◌≢◌, ◌+◌, ◌<◌, ◌≤◌, ◌++◌, ◌∷◌, ◌==◌, [], Err, IfErr, IfOk, List, OnOk, Ok, if◌then◌else◌, length, map, sum_by};
+ghost use Rattle.std.specs.Prelude.{◌≡◌, ◌≢◌, ◌+◌, ◌<◌, ◌≤◌, ◌++◌, ◌∷◌, ◌==◌, [], Err, IfErr, IfOk, List, OnOk, Ok, if◌then◌else◌, length, sum_by};
 ghost use Rattle.tq_base.specs.RowLists.{RowList};
 ghost use Rattle.tq_event.specs.Entries.{Entry};
-ghost use Rattle.tq_event.specs.Projection.{AreProjectedFiles, AreProjectedTables, IsProjectedAfter, IsProjectedTable, projected_from, wanted_lists, wanted_of};
+ghost use Rattle.tq_event.specs.Projection.{AreProjectedFiles, AreProjectedTables, IsProjectedAfter, IsProjectedTable, projected_from, wanted_lists};
 ghost use Rattle.tq_event.specs.Loading.{IsLoaded, contents_of, event_count, has_table, next_contents, next_name, out_of_memory, table_contents};
-ghost use Rattle.tq_event.specs.Tables.{AreRead, AreTables, entries_from, row_entry};
+ghost use Rattle.tq_event.specs.Tables.{AreRead, AreTables, entries_from};
 
 use crate::bytes::FileBytes;
 use crate::entry::entries_of;
@@ -135,7 +135,7 @@ fn read_table(
     unreachable!()
 }
 
-// The same as `read_table`, for bytes that may be in several lists; these are first copied into one.
+// Reads a table from bytes that may be in several lists; these are first copied into one.
 fn read_bytes(
     alloc: Global,
     rules: Rules,

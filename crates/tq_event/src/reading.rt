@@ -1,11 +1,11 @@
 // The values and the period of a data record.
 
-ghost use Rattle.std.specs.Prelude.{◌≡◌, ◌≢◌, ℕ, ◌+◌, ◌≤◌, [], Err, IfErr, IfOk, IfSome, IsTrue, OnOk, Ok, length};
+ghost use Rattle.std.specs.Prelude.{◌≡◌, ◌≢◌, ℕ, ◌≤◌, [], Err, IfErr, IfOk, IfSome, IsTrue, OnOk, Ok, length};
 ghost use Rattle.std.specs.Str.{IsAscii, IsUtf8};
 ghost use Rattle.csv.specs.Records.{fields_of};
 ghost use Rattle.tq_base.specs.Contents.{Int};
 ghost use Rattle.tq_event.specs.Projection.{projected_value, AreProjectedValues, IsProjectedEntry, IsProjectedValue};
-ghost use Rattle.tq_event.specs.Loading.{entry_of, make_period, period_fields, period_of, value_fields, value_of, values_after};
+ghost use Rattle.tq_event.specs.Loading.{entry_of, make_period, period_fields, period_of, value_of, values_after};
 
 use crate::fault::LoadFaultKind;
 use crate::projection::is_wanted;

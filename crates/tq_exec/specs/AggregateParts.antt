@@ -20,18 +20,18 @@ group_columns query = query.group ++ summed_places query.outputs
 abbrev pub aggregate_input : QueryPlan → List (List Row) → List Row
 aggregate_input query lists = map (projection (group_columns query)) (selection query.test (product_of lists))
 
--- the groups of rows of such values: the first of them are those after GROUP BY
+-- the groups of rows of these values, by the first ones, which are those after GROUP BY
 abbrev pub groups_of_values : QueryPlan → List Row → List (List Row)
 groups_of_values query rows = grouped_by (range_with_len 0 (length query.group)) rows
 
--- the query's outputs for a group of such rows
+-- the query's outputs for a group of rows of these values
 abbrev pub items_of_values : QueryPlan → List Row → Row
 items_of_values query group =
     let keys = range_with_len 0 (length query.group) in
     let sums = range_with_len (length query.group) (length (summed_places query.outputs)) in
     projection (item_places query.group (length query.group + 1) query.outputs) (group_row keys sums group)
 
--- the rows that the query makes of such rows, one of each group
+-- the rows that the query makes of rows of these values, one of each group
 abbrev pub rows_of_values : QueryPlan → List Row → List Row
 rows_of_values query rows = map (items_of_values query) (groups_of_values query rows)
 

@@ -16,7 +16,7 @@ abbrev pub IsMade : Wanted → ℕ → List Fragment → Made → Type 0
 IsMade Rows width rows made = (made.rows.items ≡ rows) × AreOfWidth width made.rows
 IsMade (Text form) width rows made = (made.text.items ≡ rows_text form rows) × (made.len ≡ length rows)
 
--- a part with the layers of rows of `width` values, which are valid so often
+-- a part with the layers of rows of `width` values; `times` says how often each row is valid
 pub record IsAnswerPart (wanted : Wanted) (width : ℕ) (times : Row → ℕ → ℕ) (part : AnswerPart) : Type 0 where
   pub layers : IsLayers times part.rows
   pub made : IsMade wanted width part.rows part.made
@@ -26,7 +26,7 @@ abbrev pub AreMade : Wanted → ℕ → List Fragment → List Made → Type 0
 AreMade Rows width rows made = (all_rows (map (λ (one : Made). one.rows) made) ≡ rows) × All (AreOfWidth width) (map (λ (one : Made). one.rows) made)
 AreMade (Text form) width rows made = (bytes_of (map (λ (one : Made). one.text) made) ≡ rows_text form rows) × (sum_by (λ (one : Made). one.len) made ≡ length rows)
 
--- the parts are together the layers of rows of `width` values, which are valid so often
+-- the parts are together the layers of rows of `width` values; `times` says how often each row is valid
 pub record HaveAnswer (wanted : Wanted) (width : ℕ) (times : Row → ℕ → ℕ) (made : List Made) : Type 0 where
   pub rows : List Fragment
   pub layers : IsLayers times rows

@@ -25,11 +25,11 @@ use Rattle.tq_plan.specs.ValidPlans.{IsPlan}
 abbrev pub ValidRows : Type 0
 ValidRows = ℕ → ℕ → List Row
 
--- those of a history as of its first n events
+-- the rows that are valid by the first n events of a history
 abbrev pub as_of : List Event → ℕ → ValidRows
 as_of history n = λ table t. valid_at history n table t
 
--- those of tables of rows, each row with its period
+-- the valid rows of tables of rows, each row with its period
 abbrev pub in_tables : List (List Fragment) → ValidRows
 in_tables tables = λ table t. at (rows_in tables table) t
 
@@ -37,7 +37,7 @@ in_tables tables = λ table t. at (rows_in tables table) t
 abbrev pub lists_at : ValidRows → ℕ → List ℕ → List (List Row)
 lists_at valid t tables = map (λ table. valid table t) tables
 
--- how often the row stands in the query's ordinary answer over the rows valid at the instant
+-- how often the row is in the query's ordinary answer over the rows valid at the instant
 abbrev pub times_in : ValidRows → QueryPlan → Row → ℕ → ℕ
 times_in valid query v t = occurrences (ordinary query (lists_at valid t (tables_of query))) v
 
@@ -45,12 +45,12 @@ abbrev pub times_in_right : ValidRows → Option QueryPlan → Row → ℕ → �
 times_in_right valid None v t = 0
 times_in_right valid (Some query) v t = times_in valid query v t
 
--- how often the row stands in the ordinary answer of the statement: as often as on the left, less the
--- times on the right (EXCEPT ALL)
+-- how often the row is in the ordinary answer of the statement: its times on the left, less its times on the right
+-- (EXCEPT ALL)
 abbrev pub times_by : ValidRows → Plan → Row → ℕ → ℕ
 times_by valid plan v t = times_in valid plan.left v t - times_in_right valid plan.right v t
 
--- the same in a period, and nowhere outside it
+-- the same at instants of a period, and 0 at others
 abbrev pub times_within : ValidRows → Plan → Period → Row → ℕ → ℕ
 times_within valid plan period v t = if holds period t then times_by valid plan v t else 0
 

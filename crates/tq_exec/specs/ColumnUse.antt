@@ -32,7 +32,7 @@ pub record LookAt (left right : List Bool) (plan : Plan) : Type 0 where
 
 -- ---- columns
 
--- whether the source is one of the table, and its column stands at one of the places
+-- whether the source is one of the table, and its column is at one of the places
 abbrev pub names : List Bool → ℕ → ℕ → QuerySource → Bool
 names places table column source = (source.table == table) && is_wanted places (source.first + column)
 
@@ -40,7 +40,7 @@ abbrev pub right_names : List Bool → Option QueryPlan → ℕ → ℕ → Bool
 right_names places None table column = false
 right_names places (Some query) table column = list_any (names places table column) query.sources
 
--- whether a source of one of the queries is so
+-- whether a source of one of the queries names the column of the table
 abbrev pub plan_names : List Bool → List Bool → Plan → ℕ → ℕ → Bool
 plan_names left right plan table column = list_any (names left table column) plan.left.sources || right_names right plan.right table column
 

@@ -15,16 +15,16 @@ use Rattle.tq_event.specs.Recorded.{HasTable}
 use Rattle.tq_event.specs.Tables.{HoldsRows, rows_in}
 use Rattle.tq_exec.specs.Answers.{ValidRows}
 
--- each row that is valid in a table at some instant fits the table of this number in the catalogue; so none is valid
--- where the catalogue has no such table
+-- each row that is valid in a table at some instant fits the table of this number in the catalogue; so none is valid if
+-- the catalogue has no such table
 abbrev pub AreFitting : Catalogue → ValidRows → Type 0
 AreFitting catalogue valid = (table t : ℕ) → All (HasTable catalogue table) (valid table t)
 
--- the same of each row of tables of rows, at whatever period
+-- the same for each row of tables of rows, whatever its period
 abbrev pub AreAllFitting : Catalogue → List (List Fragment) → Type 0
 AreAllFitting catalogue tables = (table : ℕ) → All (λ (row : Fragment). HasTable catalogue table row.values) (rows_in tables table)
 
--- where tables hold what a history over a catalogue holds, their rows fit the catalogue's tables
+-- if tables hold what a history over a catalogue holds, their rows fit the catalogue's tables
 abbrev pub HeldRowsFit : Type 0
 HeldRowsFit = (catalogue : Catalogue) (tables : List (List Fragment)) (history : List Event) (n : ℕ) → IsHistory catalogue history
     → ((table : ℕ) → HoldsRows tables history n table) → AreAllFitting catalogue tables

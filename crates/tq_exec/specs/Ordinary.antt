@@ -1,4 +1,4 @@
--- The ordinary query over one list of rows for each of its sources, after SQL over bags. Nothing is null.
+-- The ordinary query over one list of rows for each of its sources, after SQL over bags. There is no NULL.
 use Rattle.std.specs.Prelude.{ℕ, pos, Bool, true, false, List, [], ◌∷◌, length, map}
 use Rattle.std.specs.List.{list_any}
 use Rattle.tq_base.specs.declared.value.Value.{Value}
@@ -17,8 +17,8 @@ abbrev pub alone_or_together : Bool → List Row → List (List Row)
 alone_or_together true rows = rows ∷ []
 alone_or_together false rows = map (λ row. row ∷ []) rows
 
--- each row of an answer is made of a group of rows: those of one key under GROUP BY; without it, all rows
--- together where they are counted, else each row alone
+-- each row of an answer is made of a group of rows: those of one key under GROUP BY; without it, all rows together if
+-- they are counted, else each row alone
 abbrev pub groups : List ℕ → List Output → List Row → List (List Row)
 groups [] outputs rows = alone_or_together (list_any is_aggregate outputs) rows
 groups (first ∷ more) outputs rows = grouped_by (first ∷ more) rows

@@ -34,8 +34,8 @@ summed_places (Sum place ∷ outputs) = place ∷ summed_places outputs
 abbrev pub number_in : List ℕ → ℕ → ℕ
 number_in places place = unwrap_or (position (λ p. p == place) places) 0
 
--- where the items stand in the row of a group: the keys first, then the count, then the sums, of which
--- the next one stands at the given place
+-- the places of the items in the row of a group: the keys come first, then the count, then the sums, of which the next
+-- one is at the given place
 abbrev pub item_places : List ℕ → ℕ → List Output → List ℕ
 item_places group next [] = []
 item_places group next (Column place ∷ outputs) = number_in group place ∷ item_places group next outputs

@@ -1,4 +1,4 @@
--- When a partitioning suits a plan over so many tables. This project's own.
+-- When a partitioning suits a plan over a number of tables. This project's own.
 use Rattle.std.specs.Prelude.{◌≡◌, ◌≤◌, ℕ, None, false, length, ⊤}
 use Rattle.std.specs.Global.{Vec}
 use Rattle.tq_base.specs.declared.period.Period.{Period}

@@ -1,6 +1,6 @@
 -- The law of a divided execution: each way to divide the rows of a plan makes parts that add up to the whole. This
 -- project's own.
-use Rattle.std.specs.Prelude.{◌≡◌, ◌≤◌, ◌<◌, ◌+◌, ℕ, List, length, map, slice_index_or, sum_by}
+use Rattle.std.specs.Prelude.{◌≡◌, ◌≤◌, ◌<◌, ℕ, List, length, map, slice_index_or, sum_by}
 use Rattle.std.specs.List.{range_with_len}
 use Rattle.tq_base.specs.declared.catalogue.Catalogue.{Catalogue}
 use Rattle.tq_base.specs.declared.fragment.Fragment.{Fragment}

@@ -48,17 +48,17 @@ AreApart ranges = (key : ℤ) → ranges_with ranges key ≤ 1
 abbrev pub HasSourceKeys : QueryPlan → QuerySource → List KeyRange → Type 0
 HasSourceKeys query source ranges = (row : Row) → HasKey source row → IsTrue (admits query.test row) → 1 ≤ ranges_with ranges (key_at source row)
 
--- of each source of the table
+-- the same for each source of the table
 abbrev pub HasQueryKeys : ℕ → List KeyRange → QueryPlan → Type 0
 HasQueryKeys table ranges query = All (λ (source : QuerySource). source.table ≡ table → HasSourceKeys query source ranges) query.sources
 
--- of both queries of the plan
+-- the same for both queries of the plan
 abbrev pub HasPlanKeys : ℕ → List KeyRange → Plan → Type 0
 HasPlanKeys table ranges plan = HasQueryKeys table ranges plan.left × ((query : QueryPlan) → plan.right ≡ Some query → HasQueryKeys table ranges query)
 
 -- ---- rows that are enough for a plan
 
--- of these valid rows each with a key of a range stands as often in the list, and each other at most as often
+-- each of these valid rows is in the list equally often if its key is in a range, and at most as often otherwise
 pub record AreSomeRowsIn (ranges : List KeyRange) (valid rows : List Row) : Type 0 where
   pub same : (v : Row) → 1 ≤ ranges_with ranges (key_of v) → occurrences rows v ≡ occurrences valid v
   pub at_most : (v : Row) → occurrences rows v ≤ occurrences valid v
@@ -69,7 +69,7 @@ pub record HasNeededRows (valid : ValidRows) (plan : Plan) (table : ℕ) (rows :
   pub needed : HasPlanKeys table ranges plan
   pub same : (t : ℕ) → IsTrue (holds plan.window t) → AreSomeRowsIn ranges (valid table t) (at rows t)
 
--- a row of the table's rows that fit it
+-- the row fits the table
 abbrev pub FitsTable : Catalogue → ℕ → Fragment → Type 0
 FitsTable catalogue table row = HasTable catalogue table row.values
 
@@ -78,7 +78,7 @@ pub record IsReadTable (catalogue : Catalogue) (valid : ValidRows) (plan : Plan)
   pub needed : HasNeededRows valid plan table rows.items
   pub fit : All (FitsTable catalogue table) rows.items
 
--- such rows of each table
+-- the same for each table
 pub record AreReadTables (catalogue : Catalogue) (valid : ValidRows) (plan : Plan) (tables : List RowList) : Type 0 where
   pub many : length tables ≡ length catalogue.tables
   pub each : (table : ℕ) (d : RowList) → table < length tables → IsReadTable catalogue valid plan table (slice_index_or tables table d)
@@ -110,7 +110,7 @@ pub record IsCut (history : List Event) (n : ℕ) (plan : Plan) (table : ℕ) (p
   pub needed : HasPlanKeys table ranges plan
   pub cut : AreCut history n plan.window table ranges pieces.pieces.items
 
--- those of each of `count` tables
+-- the same for each of `count` tables
 pub record AreAllCut (history : List Event) (n : ℕ) (plan : Plan) (count : ℕ) (tables : List TablePieces) : Type 0 where
   pub many : length tables ≡ count
   pub each : (table : ℕ) (d : TablePieces) → table < length tables → IsCut history n plan table (slice_index_or tables table d)

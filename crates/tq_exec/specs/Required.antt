@@ -37,11 +37,11 @@ pub record LooksAt (places : ℕ → Bool) (query : QueryPlan) : Type 0 where
 
 -- ---- columns that are wanted
 
--- those columns of the source are wanted that stand at these places
+-- the columns of the source that are at these places are wanted
 abbrev pub Wants : List Bool → (ℕ → Bool) → QuerySource → Type 0
 Wants wanted places source = (column : ℕ) → column < source.width → places (source.first + column) ≡ true → is_wanted wanted column ≡ true
 
--- of each source the columns are wanted at which the query looks
+-- for each source, the columns at which the query looks are wanted
 pub record Serves (wanted : List (List Bool)) (query : QueryPlan) : Type 0 where
   pub places : ℕ → Bool
   pub looks : LooksAt places query
@@ -53,38 +53,39 @@ Serve wanted plan = Serves wanted plan.left × ((query : QueryPlan) → plan.rig
 
 -- ---- rows of which only wanted values are kept
 
--- what is valid
+-- the valid rows, with only the wanted values
 abbrev pub projected_in : List (List Bool) → ValidRows → ValidRows
 projected_in wanted valid = λ table t. map (projected_values (wanted_of wanted table)) (valid table t)
 
--- tables of rows
+-- tables of rows, with only the wanted values
 abbrev pub AreProjectedLists : List (List Bool) → List (List Fragment) → List (List Fragment) → Type 0
 AreProjectedLists wanted tables kept = (table : ℕ) → rows_in kept table ≡ map (projected_row (wanted_of wanted table)) (rows_in tables table)
 
 -- ---- laws
 
--- where the wanted columns are those that a plan names, the values of the others change nothing of its answer
+-- if all columns that a plan names are wanted, the values of the others do not change its answer
 abbrev pub RequiredColumnsSuffice : Type 0
 RequiredColumnsSuffice = (wanted : List (List Bool)) (catalogue : Catalogue) (valid : ValidRows) (plan : Plan) → AreFitting catalogue valid → AreQueriesOver catalogue plan → Serve wanted plan
     → (v : Row) (t : ℕ) → times_at (projected_in wanted valid) plan v t ≡ times_at valid plan v t
 
--- where nothing is told of any table, every value is kept
+-- if there is no list of wanted columns for any table, every value is kept
 abbrev pub AllColumnsSuffice : Type 0
 AllColumnsSuffice = (valid : ValidRows) (plan : Plan) (v : Row) (t : ℕ) → times_at (projected_in [] valid) plan v t ≡ times_at valid plan v t
 
--- rows that fit the tables of a catalogue still fit them
+-- rows that fit the tables of a catalogue still fit them with only the wanted values
 abbrev pub ProjectedRowsFit : Type 0
 ProjectedRowsFit = (wanted : List (List Bool)) (catalogue : Catalogue) (valid : ValidRows) → AreFitting catalogue valid → AreFitting catalogue (projected_in wanted valid)
 
--- and so do those of tables of rows
+-- the same for tables of rows
 abbrev pub ProjectedTablesFit : Type 0
 ProjectedTablesFit = (wanted : List (List Bool)) (catalogue : Catalogue) (tables kept : List (List Fragment)) → AreProjectedLists wanted tables kept → AreAllFitting catalogue tables → AreAllFitting catalogue kept
 
--- and answer a plan as the whole tables do, where the columns are wanted that it names, or nothing is told of any table
+-- an answer over tables with only the wanted values is one over the whole tables, if all columns that the plan names
+-- are wanted, or there is no list of wanted columns for any table
 abbrev pub ProjectedTablesAnswer : Type 0
 ProjectedTablesAnswer = (wanted : List (List Bool)) (catalogue : Catalogue) (tables kept : List (List Fragment)) (plan : Plan) (table : Table) → AreProjectedLists wanted tables kept → AreAllFitting catalogue tables → AreQueriesOver catalogue plan → (wanted ≢ [] → Serve wanted plan)
     → IsTablesAnswer kept plan table → IsTablesAnswer tables plan table
 
--- in which at each instant those rows are valid that were, of which only wanted values are kept
+-- the rows that are valid in tables with only the wanted values are those of the whole tables, with only these values
 abbrev pub ProjectedTablesHold : Type 0
 ProjectedTablesHold = (wanted : List (List Bool)) (tables kept : List (List Fragment)) → AreProjectedLists wanted tables kept → (table t : ℕ) → in_tables kept table t ≡ projected_in wanted (in_tables tables) table t

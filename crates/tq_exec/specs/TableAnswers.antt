@@ -8,7 +8,7 @@ use Rattle.tq_plan.specs.declared.plans.Plan.{Plan}
 use Rattle.tq_plan.specs.ValidPlans.{IsPlan}
 use Rattle.tq_exec.specs.Answers.{tables_read, IsPlanAnswer, IsTablesAnswer}
 
--- where the tables that a plan reads hold what a history holds, both give it the same answer
+-- if the tables that a plan reads hold what a history holds, both give it the same answer
 abbrev pub TablesAnswer : Type 0
 TablesAnswer = (tables : List (List Fragment)) (history : List Event) (n : ℕ) (plan : Plan) (table : Table) → IsPlan plan
     → All (HoldsRows tables history n) (tables_read plan) → IsTablesAnswer tables plan table → IsPlanAnswer history n plan table

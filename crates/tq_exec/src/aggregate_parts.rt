@@ -70,8 +70,9 @@ fn numbers_between(alloc: Global, first: usize, end: usize) -> Result<Vec<u32>, 
     Ok(numbers)
 }
 
-/// The rows of a query with GROUP BY at each instant of the window, from rows as `aggregate_input` returns them. All such
-/// rows make the rows of the query; some of them make the rows of their groups. `AllocError` if an allocation failed.
+/// The rows of a query with GROUP BY at each instant of the window, from rows as `aggregate_input` returns them. If all
+/// of them are given, the result has the rows of the query; if those of some groups are given, the rows of these
+/// groups. `AllocError` if an allocation failed.
 pub fn groups_of<'a>(
     alloc: Global,
     rows: &Relation<'_>,

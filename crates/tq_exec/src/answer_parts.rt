@@ -21,7 +21,7 @@ pub enum Wanted {
     Text(Form),
 }
 
-/// Copies of the rows of a part, or their text; the other one is empty.
+/// Copies of the rows of a part, or their text; the other field is empty.
 #[derive(Drop, Debug)]
 pub struct Made {
     pub rows: Rows,
@@ -37,7 +37,7 @@ pub struct AnswerPart<'a> {
     pub made: Made,
 }
 
-// What is wanted of the rows.
+// Copies of the rows, or their text, as `wanted` says.
 fn make(alloc: Global, rows: &ResultRows<'_>, wanted: Wanted) -> Result<Made, AllocError>
     ensures { (width : ℕ) → All (λ (row : Fragment). length row.values ≡ width) rows.now → IfOk result (IsMade wanted width rows.now) }
 {
@@ -88,7 +88,7 @@ pub(crate) fn are_ascending(parts: &[AnswerPart<'_>]) -> bool
     true
 }
 
-// What was made of the part.
+// The copies or the text of the part.
 fn made_of_part(part: AnswerPart<'_>) -> Made
     ensures { result ≡ part.entry.made }
 {
@@ -96,7 +96,7 @@ fn made_of_part(part: AnswerPart<'_>) -> Made
     made
 }
 
-/// What was made of each part. `AllocError` if an allocation failed.
+/// The copies or the text of each part. `AllocError` if an allocation failed.
 pub(crate) fn made_of(alloc: Global, parts: Vec<AnswerPart<'_>>) -> Result<Vec<Made>, AllocError>
     ensures { IfOk result (λ made. made.items ≡ map (λ (part : AnyPart). part.made) parts.entry.items) }
 {

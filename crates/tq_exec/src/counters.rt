@@ -89,7 +89,7 @@ impl QueryCounters {
         self.rows.fetch_add(rows as u64, Ordering::SeqCst);
     }
 
-    // Adds the rows of the query, if it has been executed.
+    // Adds the rows of the query, unless its execution failed.
     pub(crate) fn add_all(&self, rows: &Result<Relation<'_>, AllocError>) {
         if let Ok(rows) = rows {
             self.add_rows(rows.len());
@@ -183,7 +183,7 @@ impl Counters {
         self.ranges.load(Ordering::SeqCst) > 0
     }
 
-    // Adds the rows of EXCEPT ALL, if there are any.
+    // Adds the rows of EXCEPT ALL, unless its execution failed.
     pub(crate) fn add_difference(&self, rows: &Result<Relation<'_>, AllocError>) {
         if let Ok(rows) = rows {
             self.difference

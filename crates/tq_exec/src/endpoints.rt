@@ -4,7 +4,7 @@ use std::alloc::{AllocError, Global};
 use tq_base::{Bound, Period, Rows};
 use tq_plan::{Plan, QuerySource};
 
-// The number of rows of each source, about, that are sampled.
+// About this many rows of each source are sampled.
 const SAMPLES: usize = 2_048;
 
 // Appends the periods of a sample of the rows.

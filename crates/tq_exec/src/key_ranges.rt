@@ -8,10 +8,10 @@ use tq_base::{KeyRange, ValueRef, Values};
 use tq_event::Event;
 use tq_plan::{Plan, QueryPlan, QuerySource};
 
-// The number of places of a history, about, at which events are sampled.
+// Events are sampled at about this many places of the history.
 const SAMPLES: usize = 1_024;
 
-// The number of events that are sampled at each of these places.
+// The number of events that are sampled at each place.
 const AT_EACH: usize = 4;
 
 /// Keys of a table whose rows are to be read.
@@ -54,7 +54,7 @@ fn unite(
     }
 }
 
-// The ranges and one more. Those that have a key in common with it are united with it.
+// The ranges with one more. Those that have a key in common with it are united with it.
 fn add_range(
     alloc: Global,
     ranges: &[KeyRange],

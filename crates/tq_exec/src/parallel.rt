@@ -1,10 +1,10 @@
-//! Executes a plan over tables of rows with several workers: the one way that `text_among`, `answer_among` and
-//! `answer_with` take.
+//! Executes a plan over tables of rows with several workers, for `text_among` and `answer_among`. `text_with` and
+//! `answer_with` do so too, once several workers have read the rows of a `Db`.
 //!
-//! `partitioning.rt` chooses how the work is divided. If a column partitions the plan, each partition is executed and made
-//! on its own: `bucket_counts.rt` if it only counts the rows of few values, else `partitions.rt`. Otherwise the rows are
-//! found first, in partitions of a join (`join_partitions.rt`) or in periods of the window (`period_pieces.rt`), and then
-//! coalesced and made in ranges of their values (`output_ranges.rt`).
+//! `partitioning.rt` chooses how the work is divided. If a column partitions the plan, each partition is executed and
+//! made on its own: `bucket_counts.rt` if it only counts the rows of few values, else `partitions.rt`. Otherwise the
+//! rows are found first, in partitions of a join (`join_partitions.rt`) or in periods of the window
+//! (`period_pieces.rt`), and then coalesced and made in ranges of their values (`output_ranges.rt`).
 
 ghost use Rattle.std.specs.Prelude.{◌≡◌, ◌≤◌, IfOk, IfSome, length, ℕ};
 ghost use Rattle.tq_agg.specs.Grouping.{Row};
@@ -90,7 +90,7 @@ fn find_rows<'a, R: Threads + Sync, G: Gate + Sync>(
     }
 }
 
-// The one part of the layers of the rows.
+// The layers of the rows, as one part.
 fn one_part(alloc: Global, rows: Relation<'_>, wanted: Wanted) -> Result<Vec<Made>, AllocError>
     ensures { IfOk result (λ made. HaveAnswer wanted rows.entry.width (copies rows.entry.items) made.items) }
 {
@@ -139,7 +139,7 @@ fn parts_by_column<'p, R: Threads + Sync, G: Gate + Sync>(
     parts_by_value(workers, all, plan, by, wanted)
 }
 
-// The parts of the plan's answer, of rows that are found first.
+// The parts of the plan's answer: all its rows are found first, then coalesced in parts.
 fn parts_of_found<R: Threads + Sync, G: Gate + Sync>(
     workers: &Workers<'_, R, G>,
     all: TablesOfRows<'_>,

@@ -17,7 +17,7 @@ use tq_run::{Gate, Work, run_with};
 // The rows of a chunk, which is a piece of work.
 pub(crate) const CHUNK_ROWS: usize = 65_536;
 
-// The number of rows, about, that are sampled for each partition.
+// About this many rows are sampled for each partition.
 const SAMPLES: usize = 64;
 
 // The partition of the value. It compares with each cut point, so that there is no branch to predict.
@@ -215,7 +215,7 @@ fn first_of_partition(len: usize, partition: usize, partitions: usize) -> usize 
     len.saturating_mul(parts.saturating_sub(left.saturating_mul(left))) / parts
 }
 
-/// Those of the ordered keys at which the partitions begin, each once.
+/// The keys at which the partitions begin, of keys in order, each once.
 pub(crate) fn spaced_cut_points(
     alloc: Global,
     keys: &[u128],

@@ -6,10 +6,10 @@ use std::alloc::{AllocError, Global};
 use tq_base::{Relation, Row, normalized_key};
 use tq_table::{ResultRows, coalesce, is_below};
 
-// The number of rows, about, that are sampled for each range.
+// About this many rows are sampled for each range.
 const SAMPLES: usize = 64;
 
-// The most ranges are 2 to this power.
+// There are at most 2^`HALVES` ranges.
 const HALVES: usize = 7;
 
 // A bound: the normalized key of its first value, and its place in the sampled rows.

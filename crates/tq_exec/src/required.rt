@@ -146,7 +146,7 @@ fn names(places: &[bool], source: &QuerySource, table: usize, column: usize) -> 
     source.table as usize == table && looks_at(places, source.first as usize + column)
 }
 
-// Whether it uses the column in some source.
+// Whether the query uses the column in some source.
 fn query_names(places: &[bool], sources: &[QuerySource], table: usize, column: usize) -> bool
     requires { column < 2 ^ 32 }
     ensures { result ≡ list_any (names places.now table column) sources.now }

@@ -18,7 +18,7 @@ pub struct Workers<'w, R, G> {
     pub few: usize,
     /// It gets each piece before the piece is executed.
     pub gate: &'w G,
-    /// They get the rows of each operator.
+    /// They count the rows that each operator makes.
     pub counters: Counters,
     ghost some: { 1 ≤ count },
     ghost at_most: { count ≤ 16 },

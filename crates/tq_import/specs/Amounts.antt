@@ -54,7 +54,7 @@ are_parts places len whole fraction = nat_lt 0 (length whole) && not (length who
 abbrev pub has_parts : ℕ → ℕ → List ℕ → Bool
 has_parts point places number = are_parts places (length number) (whole_part point number) (fraction_part point number)
 
--- the digits with this many zeros behind
+-- the digits, then this many zeros
 unfoldable pub with_zeros : ℕ → List ℕ → List ℕ
 with_zeros zero digits = digits
 with_zeros (suc n) digits = with_zeros n (digits ++ 48 ∷ [])

@@ -42,7 +42,8 @@ abbrev pub AreKindsOf : NumberFormat → List (List (List ℕ)) → List Convers
 AreKindsOf format [] kinds = kinds ≡ []
 AreKindsOf format (header ∷ records) kinds = kinds ≡ kinds_after format (repeat (length header) (Number 0 ∷ [])) records
 
--- the table file of the valid records was written, after the plan for their header, and what is to be written of the others
+-- the table file of the valid records was written, by the plan for their header, and the rows or messages about the
+-- others
 pub record IsSeparatedImportOf (options : ImportOptions) (rejects : Rejects) (records : List (List (List ℕ))) (found : List Conversion) (old new old_rejected new_rejected : Option (List ℕ)) (plan : Plan) (separated : Separated) : Type 0 where
   pub header : List (List ℕ)
   pub rest : List (List (List ℕ))

@@ -2,7 +2,7 @@
 use Rattle.std.specs.Prelude.{ℕ, ◌==◌, ◌&&◌, not, Bool, true, false, if◌then◌else◌, List, [], ◌∷◌, ◌++◌, length}
 use Rattle.std.specs.Char.{is_ascii_alphanumeric, is_ascii_digit, to_ascii_lowercase}
 
--- what stands between the bytes so far and the next letter or digit
+-- what comes between the bytes so far and the next letter or digit
 abbrev pub gap_text : List ℕ → Bool → List ℕ
 gap_text name gap = if gap && not (length name == 0) then 95 ∷ [] else []
 

@@ -30,7 +30,7 @@ kind_word Text = codes ":text"
 abbrev pub column_field : PlannedColumn → List ℕ
 column_field column = column.name ++ kind_word column.conversion
 
--- the column of record numbers, if it was asked for
+-- the column of record numbers, if records are numbered
 abbrev pub number_header : Bool → List (List ℕ)
 number_header numbered = if numbered then codes "row:int" ∷ [] else []
 

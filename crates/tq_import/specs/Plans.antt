@@ -18,17 +18,17 @@ use Rattle.tq_import.specs.Tables.{AreTableColumns, IsLoadable}
 
 -- ---- columns
 
--- the name that was asked for, else the one that the header suggests
+-- the name that the options give to the column, else the one that the header suggests
 abbrev pub new_name : List Rename → List ℕ → List ℕ
 new_name [] field = suggested_name field
 new_name (rename ∷ renames) field = if bytes_eq rename.old field then rename.new else new_name renames field
 
--- the kind that was asked for, else this one
+-- the kind that the options give to the column, else this one
 abbrev pub kind_for : List GivenKind → List ℕ → Conversion → Conversion
 kind_for [] field found = found
 kind_for (given ∷ more) field found = if bytes_eq given.name field then given.conversion else kind_for more field found
 
--- whether the column is one of those that were asked for
+-- whether the options select the column
 abbrev pub is_selected : Selection → List ℕ → Bool
 is_selected Every field = true
 is_selected (Only names) field = list_any (λ name. bytes_eq name field) names
@@ -38,7 +38,7 @@ abbrev pub is_key : Option (List ℕ) → List ℕ → Bool
 is_key None field = false
 is_key (Some key) field = bytes_eq key field
 
--- a column of the table besides the key: it was asked for, and is neither the key nor a part of the period
+-- a column of the table besides the key: the options select it, and it is neither the key nor a part of the period
 abbrev pub is_value : ImportOptions → List ℕ → Bool
 is_value options field =
     is_selected options.selection field && not (is_key options.key field) && not (bytes_eq options.from field) && not (bytes_eq options.to field)

@@ -51,7 +51,7 @@ values_after values format [] fields = Ok values
 values_after values format (c ∷ columns) fields =
     and_then (at_place c.place (convert format c.conversion (field_of fields c.place))) (λ value. values_after (values ++ value ∷ []) format columns fields)
 
--- the number of the record among those after the header, if a column of these numbers was asked for
+-- the number of the record among those after the header, if records are numbered
 abbrev pub row_number : Bool → ℕ → List (List ℕ)
 row_number numbered number = if numbered then decimal (number - 1) ∷ [] else []
 

@@ -1,5 +1,5 @@
--- A file of which only the valid records are imported: the text of the table file, and what is written of the invalid
--- records. This project's own.
+-- A file of which only the valid records are imported: the text of the table file, and what is written about the
+-- invalid records. This project's own.
 use Rattle.std.specs.Prelude.{◌≡◌, ℕ, ◌+◌, true, false, Some, List, [], ◌∷◌, ◌++◌, length, map, Option, Result, Ok, Err}
 use Rattle.std.specs.Global.{Vec}
 use Rattle.std.specs.Io.KnownBytes.{Appends}
@@ -56,7 +56,7 @@ faults_from plan number (fields ∷ records) = fault_of number fields (import_re
 abbrev pub valid_table : Plan → List (List (List ℕ)) → List ℕ
 valid_table plan records = row_text answer_format (table_header plan) ++ valid_lines plan 2 records
 
--- ---- what is written of invalid records
+-- ---- what is written about invalid records
 
 -- CSV with this byte between fields
 abbrev pub separated_format : ℕ → WriterBuilder
@@ -67,7 +67,7 @@ abbrev pub rejects_header : Rejects → List (List ℕ) → List ℕ
 rejects_header (reject.Records delimiter) header = row_text (separated_format delimiter) header
 rejects_header (reject.Messages path) header = []
 
--- what is written of an invalid record: its fields, or what is wrong with it and the line on which it begins
+-- what is written about an invalid record: its fields, or what is wrong with it and the line on which it begins
 abbrev pub IsRejectText : Rejects → Plan → List (List ℕ) → InvalidRecord → List ℕ → Type 0
 IsRejectText (reject.Records delimiter) plan header invalid text = text ≡ row_text (separated_format delimiter) invalid.fields
 IsRejectText (reject.Messages path) plan header invalid text = (line : ℕ) × (text ≡ message_line path.now plan header line invalid.fault invalid.fields)
@@ -79,7 +79,7 @@ pub record HasRows (delimiter : ℕ) (writer : Writer (Vec ℕ)) (text : List �
   pub fields : fields_written writer ≡ 0
   pub begun : has_written writer ≡ false
 
--- this text is what is written of invalid records so far
+-- this text is what is written about invalid records so far
 abbrev pub HasRejected : Rejects → RejectText → List ℕ → Type 0
 HasRejected (reject.Records delimiter) (written.Rows writer) text = HasRows delimiter writer text
 HasRejected (reject.Records delimiter) (written.Messages bytes) text = ⊥
@@ -112,7 +112,7 @@ pub record IsSeparatedPart {R : Type 0} (plan : Plan) (rejects : Rejects) (heade
   pub counted : part.next + length rest ≡ number + length left
   pub ended : part.more ≡ false → rest ≡ []
 
--- the table file of the valid records was written, and what is to be written of the invalid ones
+-- the table file of the valid records was written, and the rows or messages about the invalid ones
 pub record IsSeparated (plan : Plan) (rejects : Rejects) (header : List (List ℕ)) (records : List (List (List ℕ))) (old new old_rejected new_rejected : Option (List ℕ)) (separated : Separated) : Type 0 where
   pub table : Appends old new (valid_table plan records)
   pub texts : List ℕ

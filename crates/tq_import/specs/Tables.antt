@@ -27,7 +27,7 @@ table_kind Text = kind.Text
 abbrev pub table_column : PlannedColumn → Column
 table_column column = record { name = column.name; kind = table_kind column.conversion }
 
--- the column of row numbers, if it was asked for, and the planned columns
+-- the column of row numbers, if rows are numbered, and the planned columns
 abbrev pub columns_with : Bool → List PlannedColumn → List Column
 columns_with numbered columns = (if numbered then record { name = codes "row"; kind = kind.Int } ∷ [] else []) ++ map table_column columns
 

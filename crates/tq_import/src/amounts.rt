@@ -48,7 +48,7 @@ fn begins_with(mark: u8, whole: &[u8]) -> bool
     }
 }
 
-// Whether a byte with `more` bytes after it is a mark exactly if one belongs there.
+// Whether a byte is the separator exactly if it must be: before each group of three digits. `more` bytes come after it.
 fn is_placed(mark: u8, byte: u8, more: usize) -> bool
     ensures { result ≡ is_placed mark byte more }
 {

@@ -46,7 +46,7 @@ fn is_utf8(field: &[u8]) -> bool
     }
 }
 
-// The fault of a text.
+// Fails if the field is not a valid text.
 fn check_text(field: &[u8]) -> Result<(), RecordFaultKind>
     ensures ok { OnOk result (text_field field.now ≡ Ok field.now) }
     ensures fault { IfErr result (λ kind. text_field field.now ≡ Err kind) }
@@ -60,7 +60,7 @@ fn check_text(field: &[u8]) -> Result<(), RecordFaultKind>
     Ok(())
 }
 
-// Appends what a value becomes.
+// Appends the converted value.
 fn push_converted(
     format: NumberFormat,
     conversion: Conversion,

@@ -87,7 +87,7 @@ fn day_first(format: &[u8], bytes: &[u8]) -> Option<[u8; 10]>
     Some([*g, *h, *i, *j, b'-', *d, *e, b'-', *a, *b])
 }
 
-// The same, if the format is `yyyy-mm-dd`, with any separators.
+// The date as `yyyy-mm-dd`, if the format is `yyyy-mm-dd` with any separators.
 fn year_first(format: &[u8], bytes: &[u8]) -> Option<[u8; 10]>
     ensures { IfSome result (IsIsoOf format.now bytes.now) }
 {

@@ -20,7 +20,7 @@ fn next_digit(number: u64, byte: u8, limit: u64) -> Option<u64>
     Some(next)
 }
 
-/// The number with these digits behind it. `None` if a byte is not a digit or the number is above the limit.
+/// The number with these digits appended. `None` if a byte is not a digit or the number is above the limit.
 pub fn add_digits(number: u64, digits: &[u8], limit: u64) -> Option<u64>
     requires { number ≤ limit }
     ensures value { result ≡ natural_after limit number digits.now }
@@ -45,7 +45,8 @@ fn next_unmarked(number: u64, mark: u8, byte: u8, limit: u64) -> Option<u64>
     next_digit(number, byte, limit)
 }
 
-/// The same for the digits between marks.
+/// The number with these digits appended; the marks between them are skipped. `None` if another byte is not a digit or
+/// the number is above the limit.
 pub fn add_unmarked(number: u64, mark: u8, digits: &[u8], limit: u64) -> Option<u64>
     requires { number ≤ limit }
     ensures value { result ≡ natural_after limit number (filter (λ b. not (b == mark)) digits.now) }
@@ -58,7 +59,7 @@ pub fn add_unmarked(number: u64, mark: u8, digits: &[u8], limit: u64) -> Option<
     Some(sum)
 }
 
-/// The number with this many zeros behind it. `None` if it is above the limit.
+/// The number with this many zeros appended. `None` if it is above the limit.
 pub fn add_zeros(number: u64, count: usize, limit: u64) -> Option<u64>
     requires { number ≤ limit }
     ensures value { result ≡ natural_after limit number (with_zeros count []) }

@@ -7,16 +7,16 @@ ghost use Rattle.tq_import.specs.Imports.{IsFaultAfter, IsFirstFault, IsImport, 
 ghost use Rattle.tq_import.specs.Reading.{HasLeft};
 
 use crate::converting::import_record;
-use crate::fault::{ImportFault, InputFault, NumberedFault, RecordFault, RecordFaultKind};
+use crate::fault::{ImportFault, NumberedFault, RecordFault, RecordFaultKind};
 use crate::part::{Imported, Part};
 use crate::plan::Plan;
 use crate::reading::next_record;
 use crate::scratch::Scratch;
-use crate::writing::{header_text, line_writer, text_written, write_line};
+use crate::writing::header_text;
 use csv::{ByteRecord, Reader};
-use std::alloc::{AllocError, Global};
+use std::alloc::Global;
 use std::io::{Read, Write};
-use tq_table::Sink;
+use tq_table::{Sink, line_writer, text_written, write_line};
 
 // The most records of a part, whose lines are written together.
 const PART: u32 = 1024;
@@ -93,7 +93,8 @@ pub(crate) fn put<W: Write>(sink: &mut Sink<W>, bytes: &[u8]) -> Result<(), Impo
 
 /// Writes the table file of the records that the reader has still to read, which come after the header, record 1. Lines
 /// are written as records are read, so memory does not grow with their number. Returns the first fault in the order of
-/// records and checks, with the invalid record in `record`; `Read` if the reader failed, `Write` if the writer failed, `OutOfMemory` if an allocation failed.
+/// records and checks, with the invalid record in `record`; `Read` if the reader failed, `Write` if the writer failed,
+/// `OutOfMemory` if an allocation failed.
 pub fn import_records<R: Read, W: Write>(
     alloc: Global,
     plan: &Plan<'_>,

@@ -1,6 +1,6 @@
 // The kinds of columns that the values of a file suggest.
 
-ghost use Rattle.std.specs.Prelude.{◌≡◌, ◌∷◌, [], ℕ, IfOk, List, length};
+ghost use Rattle.std.specs.Prelude.{◌≡◌, ◌∷◌, [], ℕ, IfOk, List};
 ghost use Rattle.std.specs.List.{repeat};
 ghost use Rattle.csv.specs.Records.{fields_of};
 ghost use Rattle.tq_import.specs.Kinds.{kinds_after, next_kind, next_kinds};

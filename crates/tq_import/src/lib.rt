@@ -47,4 +47,3 @@ pub use planning::{PlanFault, PlanFaultKind, plan_import};
 pub use reading::{next_record, record_reader};
 pub use whole::{FileFault, ReadRecords, ValidImport, find_file_kinds, import, import_valid};
 pub use words::{ColumnWords, ImportWords, PeriodWords, WordFault, read_words};
-pub use writing::{line_writer, text_written, write_line};

@@ -1,5 +1,5 @@
-// The lines on which records begin. The `csv` reader counts line feeds up to the end of a record. Those of the record and
-// the one after it are taken off again.
+// The lines on which records begin. The `csv` reader counts line feeds up to the end of a record. The line feeds in the
+// record and the one after it are subtracted.
 
 ghost use Rattle.std.specs.Prelude.{◌≡◌};
 

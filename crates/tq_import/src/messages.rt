@@ -1,6 +1,6 @@
 // What people are shown of an import.
 
-ghost use Rattle.std.specs.Prelude.{◌≡◌, ◌++◌, ◌==◌, ◌&&◌, IfOk, List, OnOk, codes, decimal, if◌then◌else◌, length, ℕ};
+ghost use Rattle.std.specs.Prelude.{◌≡◌, ◌++◌, ◌==◌, ◌&&◌, IfOk, OnOk, codes, decimal, if◌then◌else◌};
 ghost use Rattle.csv.specs.Records.{fields_of};
 ghost use Rattle.tq_import.specs.Messages.{IsFaultText, fault_detail, front, instant_rule, is_number, message_line, number_rule, places_at, places_or, places_rule, quoted, reason, record_message};
 ghost use Rattle.tq_import.specs.Records.{field_of};
@@ -94,7 +94,7 @@ fn decimals(places: usize) -> &'static [u8]
     }
 }
 
-// Appends what a number with too many digits after the point is not.
+// Appends that a number needs at most this many digits after the point.
 fn push_places_rule(text: &mut Vec<u8>, places: usize) -> Result<(), AllocError>
     ensures { OnOk result (text.new.items ≡ text.old.items ++ places_rule places) }
 {
@@ -115,7 +115,7 @@ fn push_number_rule(text: &mut Vec<u8>, places: usize) -> Result<(), AllocError>
     push_places_rule(text, places)
 }
 
-// Appends what a field that is not a date in the format is not.
+// Appends that a field is not a date in the format.
 fn push_format(text: &mut Vec<u8>, format: &[u8]) -> Result<(), AllocError>
     ensures { OnOk result (text.new.items ≡ text.old.items ++ (codes " is not a date in the format " ++ format.now)) }
 {

@@ -1,4 +1,4 @@
-// What an import is asked to do, with columns by the names in the header.
+// The options of an import, with columns by the names in the header.
 
 use crate::encoding::Encoding;
 use crate::plan::{Conversion, NumberFormat, TimeFormat};
@@ -26,7 +26,7 @@ pub enum Selection {
     Without(List<List<u8>>),
 }
 
-/// What an import is asked to do. `delimiter` is the byte between fields. `from`, `to` and `key` are names in the header, in
+/// The options of an import. `delimiter` is the byte between fields. `from`, `to` and `key` are names in the header, in
 /// UTF-8 as all texts here; without a key, rows are numbered. Kinds that are not given are found.
 #[derive(Drop, Debug)]
 pub struct ImportOptions {

@@ -1,4 +1,5 @@
-// What became of records. These types have a module of their own because the definitions that contracts cite name them.
+// Results for the records of a file. These types have a module of their own because the definitions that contracts cite
+// name them.
 
 use csv::Writer;
 
@@ -8,7 +9,7 @@ pub struct Imported {
     pub rows: u64,
 }
 
-/// What became of some records: their lines, the number of the next record, and whether there may be more records.
+/// The result for some records: their lines, the number of the next record, and whether there may be more records.
 #[derive(Drop)]
 pub struct Part {
     pub text: Vec<u8>,
@@ -16,7 +17,7 @@ pub struct Part {
     pub more: bool,
 }
 
-/// What is written of invalid records: their fields, as CSV with this byte between them, or what is wrong with each, with
+/// What is written about invalid records: their fields, as CSV with this byte between them, or a message for each, with
 /// this path of the file.
 #[derive(Clone, Copy, Debug)]
 pub enum Rejects<'a> {
@@ -24,7 +25,7 @@ pub enum Rejects<'a> {
     Messages(&'a [u8]),
 }
 
-/// What is written of invalid records so far: rows of CSV, or messages.
+/// What is written about invalid records so far: rows of CSV, or messages.
 #[derive(Drop)]
 pub enum RejectText {
     Rows(Writer<Vec<u8>>),
@@ -38,7 +39,7 @@ pub struct Separated {
     pub invalid: u64,
 }
 
-/// What became of some records of which invalid ones are not imported: the lines of the valid ones, what is written of the
+/// The result for some records if invalid ones are not imported: the lines of the valid ones, what is written about the
 /// invalid ones and their number, the number of the next record, and whether there may be more records.
 #[derive(Drop)]
 pub struct SeparatedPart {

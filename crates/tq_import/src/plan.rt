@@ -18,9 +18,9 @@ pub enum Conversion {
     Text,
 }
 
-/// How periods are written: `dates` is the format of dates, as `dd.mm.yyyy`, or `None` for
-/// instants that are written as numbers; `open`
-/// has the spellings of an open end; `inclusive` says that the last instant of the period is given, and not the next one.
+/// How periods are written: `dates` is the format of dates, as `dd.mm.yyyy`, or `None` for instants that are written as
+/// numbers; `open` has the spellings of an open end; `inclusive` says that the last instant of the period is given, and
+/// not the next one.
 #[derive(Drop, Debug)]
 pub struct TimeFormat {
     pub dates: Option<List<u8>>,

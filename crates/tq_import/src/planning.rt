@@ -17,7 +17,7 @@ use crate::reading::field_at;
 use csv::ByteRecord;
 use std::alloc::{AllocError, Global};
 use thiserror::Error;
-use tq_base::{List, Name, fold_name};
+use tq_base::{List, fold_name};
 
 // The most columns of a table file.
 const MAX_COLUMNS: usize = 16;
@@ -99,7 +99,7 @@ fn find_place(alloc: Global, header: &ByteRecord, name: &[u8]) -> Result<usize, 
     }
 }
 
-// The name that was asked for, else the one that the header suggests.
+// The name that the options give to the column, else the one that the header suggests.
 fn new_name(alloc: Global, renames: &[Rename], field: &[u8]) -> Result<Vec<u8>, AllocError>
     ensures { IfOk result (λ name. name.items ≡ new_name renames.now field.now) }
 {
@@ -113,7 +113,7 @@ fn new_name(alloc: Global, renames: &[Rename], field: &[u8]) -> Result<Vec<u8>, 
     suggested_name(alloc, field)
 }
 
-// The kind that was asked for, else this one.
+// The kind that the options give to the column, else this one.
 fn kind_for(kinds: &[GivenKind], field: &[u8], found: Conversion) -> Conversion
     ensures { result ≡ kind_for kinds.now field.now found }
 {
@@ -133,7 +133,7 @@ fn has_name(names: &[List<u8>], field: &[u8]) -> bool
     names.iter().any(|name| name.get() == field)
 }
 
-// Whether the column is one of those that were asked for.
+// Whether the options select the column.
 fn is_selected(selection: &Selection, field: &[u8]) -> bool
     ensures { result ≡ is_selected selection.now field.now }
 {
@@ -318,7 +318,7 @@ fn plan_columns(
     Ok(columns)
 }
 
-// Whether the header has each name.
+// Fails if the header lacks one of the names.
 fn check_names(alloc: Global, header: &ByteRecord, names: &[List<u8>]) -> Result<(), PlanFault> {
     'names: for name in names {
         find_place(alloc, header, name.get())?;
@@ -326,7 +326,7 @@ fn check_names(alloc: Global, header: &ByteRecord, names: &[List<u8>]) -> Result
     Ok(())
 }
 
-// Whether the header has each name that the options speak of.
+// Fails if the header lacks a name that the options use.
 fn check_options(
     alloc: Global,
     options: &ImportOptions,
@@ -348,8 +348,8 @@ fn check_options(
 }
 
 /// The plan for files with this header. `found` has the kinds of columns that were found; those that are neither given
-/// nor found are texts. The columns are those of a table that loads. Errors are a name that the header lacks, that is not valid, or that two columns have; a key that
-/// is a text; more than 16 columns; and `OutOfMemory`.
+/// nor found are texts. The columns are those of a table that loads. Errors are a name that the header lacks, that is
+/// not valid, or that two columns have; a key that is a text; more than 16 columns; and `OutOfMemory`.
 pub fn plan_import<'a>(
     alloc: Global,
     options: &'a ImportOptions,

@@ -1,6 +1,6 @@
 // The records of a file, read one at a time.
 
-ghost use Rattle.std.specs.Prelude.{◌≡◌, ℕ, IfOk, List, Some, slice_index_or};
+ghost use Rattle.std.specs.Prelude.{◌≡◌, ℕ, IfOk, List, Some};
 ghost use Rattle.csv.specs.Records.{fields_of};
 ghost use Rattle.tq_import.specs.Reading.{HasLeft, TakesFirst, records_by};
 ghost use Rattle.tq_import.specs.Records.{field_of};

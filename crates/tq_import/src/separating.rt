@@ -1,9 +1,8 @@
-// From the records of a file to a table file of the valid ones, a part at a time. What is written of the invalid ones goes
-// to a writer of its own.
+// From the records of a file to a table file of the valid ones, a part at a time. Rows or messages about the invalid
+// ones go to a writer of their own.
 
 ghost use Rattle.std.specs.Prelude.{◌≡◌, ◌++◌, [], ◌≤◌, ◌+◌, ℕ, IfErr, IfOk, List, OnOk, length};
 ghost use Rattle.std.specs.Borrow.{Bor};
-ghost use Rattle.std.specs.Io.KnownBytes.{Appends};
 ghost use Rattle.csv.specs.Records.{fields_of};
 ghost use Rattle.csv.specs.Writing.{row_text};
 ghost use Rattle.tq_table.specs.Writing.{HasWritten};
@@ -21,16 +20,16 @@ use crate::part::{RejectText, Rejects, Separated, SeparatedPart};
 use crate::plan::Plan;
 use crate::reading::next_record;
 use crate::scratch::Scratch;
-use crate::writing::{header_text, line_writer, text_written, write_line};
+use crate::writing::header_text;
 use csv::{ByteRecord, Reader, Writer, WriterBuilder};
 use std::alloc::{AllocError, Global};
 use std::io::{Read, Write};
-use tq_table::Sink;
+use tq_table::{Sink, line_writer, text_written, write_line};
 
 // The most records of a part, whose lines are written together.
 const PART: u32 = 1024;
 
-/// How invalid records are separated from others: the plan of the file, what is written of them, and the header.
+/// How invalid records are separated from others: the plan of the file, what is written about them, and the header.
 #[derive(Clone, Copy)]
 pub(crate) struct Separation<'a> {
     pub plan: &'a Plan<'a>,
@@ -91,7 +90,7 @@ fn rejects_header(
     }
 }
 
-// Nothing, as what is written of no invalid records.
+// The text about invalid records while there are none: it is empty.
 fn no_rejects(alloc: Global, rejects: Rejects<'_>) -> RejectText
     ensures { HasRejected rejects.entry result [] }
 {
@@ -101,7 +100,7 @@ fn no_rejects(alloc: Global, rejects: Rejects<'_>) -> RejectText
     }
 }
 
-// What was written of invalid records.
+// What was written about invalid records.
 fn rejected_text(rejected: RejectText) -> Result<Vec<u8>, AllocError>
     ensures { (rejects : Rejects) (text : List ℕ) → HasRejected rejects rejected text → IfOk result (λ written. written.items ≡ text) }
 {
@@ -111,7 +110,7 @@ fn rejected_text(rejected: RejectText) -> Result<Vec<u8>, AllocError>
     }
 }
 
-// Appends a message about an invalid record. Where rows are asked for, there is none.
+// Appends a message about an invalid record, or nothing if rows are written instead.
 fn push_message(
     alloc: Global,
     separation: &Separation<'_>,
@@ -136,7 +135,7 @@ fn push_message(
     }
 }
 
-// Appends what is written of an invalid record.
+// Appends the row of an invalid record, or a message about it.
 fn push_reject(
     alloc: Global,
     separation: &Separation<'_>,
@@ -159,7 +158,7 @@ fn push_reject(
     }
 }
 
-// The lines of valid records, what is written of invalid ones with their number, and memory that is used again.
+// The lines of valid records, what is written about invalid ones with their number, and memory that is used again.
 #[derive(Drop)]
 struct Batch {
     writer: Writer<Vec<u8>>,
@@ -170,7 +169,7 @@ struct Batch {
 }
 
 impl Batch {
-    // No records.
+    // A batch without records.
     fn new(alloc: Global, rejects: Rejects<'_>) -> Batch
         ensures writer { HasWritten result.writer [] }
         ensures rejected { HasRejected rejects.entry result.rejected [] }
@@ -215,7 +214,7 @@ fn add_reject<R: Read + LineEnds>(
     Ok(())
 }
 
-// Adds the record with this number to the batch: its line, or what is written of it if it is invalid.
+// Adds the record with this number to the batch: its line, or what is written about it if it is invalid.
 fn add_record<R: Read + LineEnds>(
     alloc: Global,
     separation: &Separation<'_>,
@@ -254,7 +253,7 @@ fn add_record<R: Read + LineEnds>(
     }
 }
 
-// Ends a part.
+// The part that the batch makes; `next` is the number of the next record.
 fn part_of(batch: Batch, next: u64, more: bool) -> Result<SeparatedPart, AllocError>
     ensures text { (text : List ℕ) → HasWritten batch.writer text → IfOk result (λ part. part.text.items ≡ text) }
     ensures rejected { (rejects : Rejects) (text : List ℕ) → HasRejected rejects batch.rejected text → IfOk result (λ part. part.rejected.items ≡ text) }
@@ -279,8 +278,8 @@ fn part_of(batch: Batch, next: u64, more: bool) -> Result<SeparatedPart, AllocEr
     })
 }
 
-// Reads at most `PART` records, the first of which has this number, and makes what is written of them. Not inlined, so that
-// the writer's buffers leave the stack.
+// Reads at most `PART` records, the first of which has this number, and makes the texts of the valid and of the invalid
+// ones. Not inlined, so that the writer's buffers leave the stack.
 #[inline(never)]
 fn separate_part<R: Read + LineEnds>(
     alloc: Global,
@@ -313,8 +312,9 @@ fn separate_part<R: Read + LineEnds>(
 }
 
 /// Writes the table file of the valid records that the reader has still to read, which come after the header, record 1.
-/// What the separation asks for is written of the invalid ones. Both are written as records are read, so memory does not grow with
-/// their number. `Read` if the reader failed, `Write` if a writer failed, `OutOfMemory` if an allocation failed.
+/// Rows or messages about the invalid ones go to `rejected`. Both are written as records are read, so memory does not
+/// grow with their number. `Read` if the reader failed, `Write` if a writer failed, `OutOfMemory` if an allocation
+/// failed.
 pub(crate) fn separate_records<R: Read + LineEnds, W: Write, V: Write>(
     alloc: Global,
     separation: &Separation<'_>,

@@ -16,7 +16,7 @@ use crate::planning::{PlanFault, plan_import};
 use crate::reading::{next_record, record_reader};
 use crate::separating::{Separation, separate_records};
 use csv::ByteRecord;
-use std::alloc::{AllocError, Global};
+use std::alloc::Global;
 use std::io::{Read, Write};
 use tq_table::Sink;
 
@@ -105,8 +105,8 @@ pub fn import<'a, R: Read + Drop, W: Write>(
     }
 }
 
-/// How the valid records of a file are imported: what is asked for, the kinds of columns that are not given, and what is
-/// written of invalid records.
+/// How the valid records of a file are imported: the options, the kinds of columns that they do not give, and what is
+/// written about invalid records.
 #[derive(Clone, Copy)]
 pub struct ValidImport<'a, 'f> {
     pub options: &'a ImportOptions,
@@ -114,8 +114,8 @@ pub struct ValidImport<'a, 'f> {
     pub rejects: Rejects<'f>,
 }
 
-/// Imports the valid records of a file: writes the table file of them to `sink`, and what `rejects` asks for of the invalid
-/// ones to `rejected`. After a fault of the header, `seen` has it.
+/// Imports the valid records of a file: writes their table file to `sink`, and rows or messages about the invalid ones
+/// to `rejected`. After a fault of the header, `seen` has it.
 pub fn import_valid<'a, R: Read + Drop, W: Write, V: Write>(
     alloc: Global,
     job: ValidImport<'a, '_>,

@@ -7,7 +7,7 @@ use crate::plan::{Conversion, NumberFormat, TimeFormat};
 use std::alloc::{AllocError, Global};
 use tq_base::{List, read_natural};
 
-// The most digits after the point that can be asked for.
+// The most digits after the point that an option takes.
 const MAX_PLACES: u64 = 18;
 
 /// The options of an import, as they were given. An option that was not given is empty.
@@ -75,7 +75,7 @@ fn read_encoding(word: &[u8]) -> Result<Encoding, WordFault> {
     }
 }
 
-// Whether a byte of the file as UTF-8 can be these: in Latin-1 a byte that is not ASCII becomes two.
+// Fails if one of these bytes is not ASCII and files are in Latin-1: there such a byte becomes two in UTF-8.
 fn check_ascii(encoding: Encoding, delimiter: u8, numbers: NumberFormat) -> Result<(), WordFault> {
     let are_ascii = delimiter.is_ascii()
         && numbers.point.is_ascii()

@@ -1,46 +1,17 @@
 // The lines of a table file.
 
-ghost use Rattle.std.specs.Prelude.{◌≡◌, ◌++◌, ◌∷◌, [], ℕ, IfOk, List, OnOk, codes};
+ghost use Rattle.std.specs.Prelude.{◌≡◌, ◌++◌, ◌∷◌, [], ℕ, IfOk, List, OnOk};
 ghost use Rattle.csv.specs.Records.{fields_of};
 ghost use Rattle.csv.specs.Writing.{row_text};
 ghost use Rattle.tq_table.specs.Text.{answer_format};
-ghost use Rattle.tq_table.specs.Writing.{HasWritten};
 ghost use Rattle.tq_import.specs.Imports.{column_field, kind_word, number_header, table_header};
 ghost use Rattle.tq_import.specs.Records.{HasFields};
 
 use crate::converting::push_field;
 use crate::plan::{Conversion, Plan, PlannedColumn};
-use csv::{ByteRecord, Writer, WriterBuilder};
+use csv::ByteRecord;
 use std::alloc::{AllocError, Global};
-
-/// A writer of lines that has written none.
-pub fn line_writer(alloc: Global) -> Writer<Vec<u8>>
-    ensures { HasWritten result [] }
-{
-    WriterBuilder::new()
-        .flexible(true)
-        .from_writer(Vec::new(alloc))
-}
-
-/// Writes a line. Over a vector only an allocation can fail.
-pub fn write_line(writer: &mut Writer<Vec<u8>>, fields: &ByteRecord) -> Result<(), AllocError>
-    ensures { (text : List ℕ) → HasWritten writer.old text → OnOk result (HasWritten writer.new (text ++ row_text answer_format (fields_of fields.now))) }
-{
-    match writer.write_byte_record(fields) {
-        Ok(()) => Ok(()),
-        Err(_) => Err(AllocError),
-    }
-}
-
-/// The text that was written.
-pub fn text_written(writer: Writer<Vec<u8>>) -> Result<Vec<u8>, AllocError>
-    ensures { (text : List ℕ) → HasWritten writer text → IfOk result (λ written. written.items ≡ text) }
-{
-    match writer.into_inner() {
-        Ok(text) => Ok(text),
-        Err(_) => Err(AllocError),
-    }
-}
+use tq_table::{line_writer, text_written, write_line};
 
 fn kind_word(conversion: Conversion) -> &'static [u8]
     ensures { result.now ≡ kind_word conversion }

@@ -68,7 +68,7 @@ fn tables_of_parts<R: Threads + Sync, G: Gate + Sync>(
     }))
 }
 
-// The same as `load_projected_parallel`, with parts of length `least` or more instead of 64 KiB.
+// `load_projected_parallel` with parts of length `least` or more instead of 64 KiB.
 fn load_by_parts<R: Threads + Sync, G: Gate + Sync>(
     rt: &R,
     alloc: Global,
@@ -94,7 +94,7 @@ fn load_by_parts<R: Threads + Sync, G: Gate + Sync>(
     load_projected(alloc, files, wanted, options.limit, options.form)
 }
 
-/// The same as `load_tables_parallel`, with parts of length `least` or more instead of 64 KiB. Public for tests, which
+/// `load_tables_parallel` with parts of length `least` or more instead of 64 KiB. Public for tests, which
 /// cut small inputs.
 pub fn load_tables_by_parts<R: Threads + Sync, G: Gate + Sync>(
     rt: &R,

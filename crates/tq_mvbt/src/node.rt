@@ -1,6 +1,6 @@
 //! Nodes: a range of keys, a life in versions, and entries.
 
-ghost use Rattle.std.specs.Prelude.{◌≡◌, ◌+◌, ◌<◌, ◌≤◌, ◌++◌, ◌-◌, length, take, filter, count_by, slice_get, Some, IsTrue, true, ◌↔◌, IfSome, MatchOption};
+ghost use Rattle.std.specs.Prelude.{◌≡◌, ◌+◌, ◌<◌, ◌≤◌, ◌++◌, ◌-◌, length, filter, count_by, slice_get, Some, IsTrue, true, ◌↔◌, IfSome, MatchOption};
 ghost use Rattle.arrayvec.specs.ArrayVec.{array_vec_len};
 ghost use Rattle.smallvec.specs.SmallVec.{small_vec_len, HasRoomFor};
 ghost use Rattle.tq_mvbt.specs.Points.{is_live, leads, IsChild, end_of};

@@ -1,6 +1,6 @@
 //! Roots, and the directory that names the root of each version.
 
-ghost use Rattle.std.specs.Prelude.{◌≡◌, ℕ, ◌+◌, ◌-◌, ◌<◌, ◌≤◌, length, All, slice_get, IfSome, IfNone, MatchOption};
+ghost use Rattle.std.specs.Prelude.{◌≡◌, ◌+◌, ◌-◌, ◌<◌, ◌≤◌, length, All, slice_get, IfSome, IfNone};
 ghost use Rattle.std.specs.List.Sorted.{IsNonDecreasingBy};
 ghost use Rattle.tq_mvbt.specs.Shape.{IsSomeForest, IsFound, IsFilled};
 ghost use Rattle.tq_mvbt.specs.Links.{KeepsLinks};

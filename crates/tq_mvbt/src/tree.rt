@@ -1,6 +1,6 @@
 //! The tree and its calls.
 
-ghost use Rattle.std.specs.Prelude.{◌≡◌, ◌≢◌, ℕ, ◌+◌, ◌<◌, ◌≤◌, ◌++◌, ◌^◌, true, false, length, min, slice_get, Some, IsTrue, ◌↔◌, OnOk, OnErr, IfOk, All, vec_len, vec_capacity};
+ghost use Rattle.std.specs.Prelude.{◌≡◌, ◌≢◌, ℕ, ◌+◌, ◌<◌, ◌≤◌, ◌++◌, ◌^◌, true, false, length, min, slice_get, Some, OnOk, OnErr, IfOk, All, vec_len, vec_capacity};
 ghost use Rattle.std.specs.Option.{option_to_list};
 ghost use Rattle.tq_mvbt.specs.Shape.{with_life};
 ghost use Rattle.tq_mvbt.specs.Directory.{root_of};

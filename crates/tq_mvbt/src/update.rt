@@ -1,9 +1,8 @@
 //! An update: a key's life begins or ends, and the nodes on its path are replaced from the leaf upwards if they must
 //! be.
 
-ghost use Rattle.std.specs.Prelude.{◌≡◌, ◌+◌, ◌*◌, ◌<◌, ◌≤◌, ◌∷◌, [], true, false, length};
+ghost use Rattle.std.specs.Prelude.{◌≡◌, ◌+◌, ◌*◌, ◌<◌, ◌≤◌, [], length};
 ghost use Rattle.tq_mvbt.specs.Shape.{IsFound};
-ghost use Rattle.tq_mvbt.specs.Steps.{HasRoom, Changes, edited};
 ghost use Rattle.tq_mvbt.specs.Links.{AreUntouched, UpdatesLinks};
 ghost use Rattle.tq_mvbt.specs.Unsettled.{IsForestBy, IsReady, IsSettling, Grows, KeyChanges};
 

@@ -36,7 +36,7 @@ use Rattle.tq_plan.specs.Plans.{column_output, group_after, grouped_sum, has_agg
 use Rattle.tq_plan.specs.Conditions.{where_of}
 use Rattle.tq_plan.specs.Scope.{Field, Sources, add_numbered, add_source, add_table, alias_of, is_numbered, no_sources, resolved, source_of, sources_after}
 use Rattle.tq_plan.specs.Windows.{window_plan}
-use Rattle.tq_plan.specs.ValidPlans.{HasColumns, IsPlanOver, IsQueryOver, AreContiguousFrom, are_valid_items, is_valid_item}
+use Rattle.tq_plan.specs.ValidPlans.{HasColumns, IsPlanOver, IsQueryOver, AreContiguousFrom, is_valid_item}
 
 -- the result of a call in two steps comes from both
 record Both {A B E : Type 0} (first : Result A E) (next : A → Result B E) (b : B) : Type 0 where

@@ -1,11 +1,11 @@
 -- Windows that are written in dates.
-use Rattle.std.proofs.Common.{◌≡◌, ℕ, ◌+◌, ◌<◌, ◌≤◌, Bool, true, false, cond, List, Option, Some, None, Ok, drop, take, nat_lt, refl, sym, ap, ◌∙◌, subst, arith, inr}
+use Rattle.std.proofs.Common.{◌≡◌, ℕ, ◌+◌, ◌≤◌, Bool, true, false, cond, List, Option, Some, None, Ok, drop, take, nat_lt, refl, ap, ◌∙◌, subst, arith, inr}
 use Rattle.tq_base.specs.Numbers.{bound_of, instant_of, DatesRoundTrip, IsDated}
 use Rattle.tq_base.specs.declared.dates.TheConstants.{LAST_DAY}
 use Rattle.tq_base.specs.declared.form.Form.TheVariants.{Dates}
 use Rattle.tq_base.specs.declared.period.Period.{Period}
 use Rattle.tq_plan.specs.ValidPlans.{WindowsAreDated}
-use Rattle.tq_plan.specs.Windows.{always, around_dash, between, dash_after, dashed_bytes, without_leading_spaces, inside_of, is_bracketed, ordered_if, period_between, period_in, trimmed, window_of, window_or_fault, window_plan}
+use Rattle.tq_plan.specs.Windows.{always, around_dash, between, dash_after, dashed_bytes, without_leading_spaces, inside_of, is_bracketed, ordered_if, period_in, trimmed, window_of, window_or_fault, window_plan}
 use Rattle.tq_plan.proofs.PlanLemmas.{window_is}
 
 -- the period begins at a day that has a date, and ends at one or never

@@ -3,7 +3,7 @@ use Rattle.std.specs.Prelude.{◌≡◌, ◌==◌, ℕ, ℤ, pos, IsTrue, if◌t
 use Rattle.std.specs.Int.{w64}
 use Rattle.tq_base.specs.declared.key_range.KeyRange.{KeyRange}
 use Rattle.tq_base.specs.declared.value.Value.{Value}
-use Rattle.tq_base.specs.Contents.{Int, Text}
+use Rattle.tq_base.specs.Contents.{Int}
 use Rattle.tq_base.specs.KeyRanges.{IsInSomeRange}
 use Rattle.tq_base.specs.RowValues.{number_of, value_at}
 use Rattle.tq_ops.specs.Ordinary.{admits}

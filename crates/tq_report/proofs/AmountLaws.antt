@@ -18,9 +18,9 @@ use Rattle.std.proofs.lemmas.List.Folds.{list_all-append}
 use Rattle.tq_base.specs.Numbers.{natural_up_to}
 use Rattle.tq_base.specs.Contents.{Int, has_exact_prefix}
 use Rattle.tq_import.specs.declared.plan.NumberFormat.{NumberFormat}
-use Rattle.tq_import.specs.Amounts.{are_parts, fraction_part, has_parts, is_negative, signed_units, unit_digits, units_in, unsigned, whole_digits, whole_part}
+use Rattle.tq_import.specs.Amounts.{fraction_part, is_negative, unit_digits, units_in, unsigned, whole_part}
 use Rattle.tq_import.specs.Amounts as import
-use Rattle.tq_report.specs.Texts.{number_text, size_text, with_zeros}
+use Rattle.tq_table.specs.Amounts.{number_text, size_text, with_zeros}
 
 -- ---- digits
 

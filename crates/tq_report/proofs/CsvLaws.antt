@@ -18,7 +18,8 @@ use Rattle.tq_report.specs.Laws.{CsvIsTheAnswer}
 use Rattle.tq_report.specs.Layouts.{LayoutView, layout_of, name_at}
 use Rattle.tq_report.specs.Reports.{line_text, names_text, report_of}
 use Rattle.tq_report.specs.Reports as report
-use Rattle.tq_report.specs.Texts.{end_in, instant_in, places_at, value_in}
+use Rattle.tq_table.specs.Amounts.{places_at}
+use Rattle.tq_report.specs.Texts.{end_in, instant_in, value_in}
 use Rattle.tq_report.proofs.CsvLemmas.{end_is, instant_is, value_is}
 use Rattle.tq_table.specs.Text.{answer_format, bound_field, header_fields, row_fields, text_of, value_field}
 use Rattle.tq_table.specs.declared.table.Table.{Table}

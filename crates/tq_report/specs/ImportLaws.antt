@@ -9,7 +9,8 @@ use Rattle.tq_import.specs.declared.plan.TimeFormat.{TimeFormat}
 use Rattle.tq_import.specs.Amounts.{units_in}
 use Rattle.tq_import.specs.Times.{bound_in, last_instant}
 use Rattle.tq_report.specs.declared.format.Format.TheVariants.{Csv}
-use Rattle.tq_report.specs.Texts.{end_in, number_text}
+use Rattle.tq_report.specs.Texts.{end_in}
+use Rattle.tq_table.specs.Amounts.{number_text}
 
 -- numbers with a point, and without separators of thousands
 abbrev pub plain_numbers : NumberFormat

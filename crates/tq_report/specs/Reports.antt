@@ -7,7 +7,8 @@ use Rattle.tq_base.specs.declared.fragment.Fragment.{Fragment}
 use Rattle.tq_base.specs.declared.value.Value.{Value}
 use Rattle.tq_draw.specs.Labels.{columns_in}
 use Rattle.tq_report.specs.Layouts.{LayoutView, layout_of, name_at}
-use Rattle.tq_report.specs.Texts.{end_in, instant_in, name_in, places_at, value_in}
+use Rattle.tq_table.specs.Amounts.{places_at}
+use Rattle.tq_report.specs.Texts.{end_in, instant_in, name_in, value_in}
 use Rattle.tq_report.specs.declared.format.Format.{Format}
 use Rattle.tq_report.specs.declared.format.Format.TheVariants.{Aligned, Csv, Json, JsonLines, Markdown, Tsv}
 use Rattle.tq_report.specs.declared.options.ReportOptions.{ReportOptions}

@@ -1,6 +1,5 @@
 -- How each format writes a value and an instant. This project's own.
-use Rattle.std.specs.Prelude.{ℕ, ◌+◌, ◌-◌, ◌/◌, ◌%◌, ◌^◌, ◌==◌, ◌||◌, ◌&&◌, ℤ, pos, negsuc, Bool, true, false, if◌then◌else◌, List, [], ◌∷◌, ◌++◌, codes, decimal, length, replicate, slice_index_or}
-use Rattle.std.specs.Fmt.{signed_decimal}
+use Rattle.std.specs.Prelude.{ℕ, ◌+◌, ◌-◌, ◌==◌, ◌||◌, ◌&&◌, Bool, true, false, if◌then◌else◌, List, [], ◌∷◌, ◌++◌, codes}
 use Rattle.std.specs.List.{flat_map}
 use Rattle.csv.specs.Writing.{field_text}
 use Rattle.serde_json.specs.Data.{string}
@@ -14,6 +13,7 @@ use Rattle.tq_base.specs.declared.value.Value.{Value}
 use Rattle.tq_draw.specs.Labels.{escaped_text}
 use Rattle.tq_report.specs.declared.format.Format.{Format}
 use Rattle.tq_report.specs.declared.format.Format.TheVariants.{Aligned, Csv, Json, JsonLines, Markdown, Tsv}
+use Rattle.tq_table.specs.Amounts.{number_text}
 use Rattle.tq_table.specs.Text.{answer_format}
 
 -- a tab is `\t`, a line feed `\n`, a carriage return `\r`, a backslash `\\`
@@ -54,26 +54,6 @@ name_in _ name = name
 -- a text: in JSON a string, else like a name
 abbrev pub text_in : Format → List ℕ → List ℕ
 text_in format text = if is_json format then compact_text (string text) else name_in format text
-
--- the number of digits after the point in a column; a column beyond the list has none
-abbrev pub places_at : List ℕ → ℕ → ℕ
-places_at places column = slice_index_or places column 0
-
--- a number in decimal, with zeros in front up to this many digits
-abbrev pub with_zeros : ℕ → ℕ → List ℕ
-with_zeros places number = replicate (places - length (decimal number)) 48 ++ decimal number
-
--- a number of units of 10^-places: the whole part, a point, and exactly `places` digits
-abbrev pub size_text : ℕ → ℕ → List ℕ
-size_text places size = decimal (size / 10 ^ places) ++ 46 ∷ with_zeros places (size % 10 ^ places)
-
-abbrev pub amount_text : ℕ → ℤ → List ℕ
-amount_text places (pos size) = size_text places size
-amount_text places (negsuc size) = 45 ∷ size_text places (size + 1)
-
--- a number in decimal with all its digits, or an amount if there are digits after the point
-abbrev pub number_text : ℕ → ℤ → List ℕ
-number_text places number = if places == 0 then signed_decimal number else amount_text places number
 
 -- a value of a column with this number of digits after the point
 abbrev pub value_in : Format → ℕ → Value → List ℕ

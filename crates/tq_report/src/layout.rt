@@ -1,11 +1,10 @@
 // How the fields of a line are written.
 
-ghost use Rattle.std.specs.Prelude.{◌≡◌, ◌<◌, ◌++◌, [], false, IfOk, length, map, slice_index_or};
-ghost use Rattle.std.specs.List.{range_with_len};
-ghost use Rattle.tq_report.specs.Layouts.{column_width, earlier, end_width, has_numbers, is_numbers, key_of, key_text, layout_of, lead_of, leads_of, name_at, rights_of, start_width, widths_of};
+ghost use Rattle.std.specs.Prelude.{◌≡◌, ◌<◌, [], false, IfOk, length, map, slice_index_or};
+ghost use Rattle.tq_report.specs.Layouts.{column_width, earlier, end_width, has_numbers, key_of, layout_of, lead_of, leads_of, rights_of, start_width, widths_of};
 ghost use Rattle.tq_base.specs.Values.{value_ref};
 ghost use Rattle.tq_draw.specs.Labels.{columns_in};
-ghost use Rattle.tq_report.specs.Texts.{places_at, value_in};
+ghost use Rattle.tq_report.specs.Texts.{value_in};
 
 use crate::format::Format;
 use crate::options::ReportOptions;
@@ -15,9 +14,10 @@ use std::alloc::{AllocError, Global};
 use std::marker::Model;
 use tq_base::{Form, Name, ValueRef};
 use tq_draw::columns_in_bytes;
-use tq_table::Table;
+use tq_table::{Table, places_at};
 
-/// Of each field of a line: the text before it, its width in columns of a terminal, and whether it is aligned to the right.
+/// For each field of a line: the text before it, its width in columns of a terminal, and whether it is aligned to the
+/// right.
 #[derive(Drop)]
 pub(crate) struct Layout {
     leads: Vec<Vec<u8>>,
@@ -87,7 +87,7 @@ impl Layout {
         &self.widths
     }
 
-    /// Of all fields, whether they are aligned to the right.
+    /// For each field, whether it is aligned to the right.
     pub(crate) fn rights(&self) -> &[bool]
         ensures { result.now ≡ self.now.rights }
     {
@@ -149,16 +149,6 @@ fn leads_of(alloc: Global, columns: &[Name], format: Format) -> Result<Vec<Vec<u
     leads.push(lead_of(alloc, b"from", format)?)?;
     leads.push(lead_of(alloc, b"to", format)?)?;
     Ok(leads)
-}
-
-// The number of digits after the point in a column.
-pub(crate) fn places_at(places: &[u32], column: usize) -> u32
-    ensures { result ≡ places_at places.now column }
-{
-    match places.get(column) {
-        Some(places) => *places,
-        None => 0,
-    }
 }
 
 // The width of a value. `cell` is room for it.

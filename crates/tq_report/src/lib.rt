@@ -7,7 +7,6 @@
 //! Open `src/reports.rt` first.
 #![tactic(auto)]
 
-mod amounts;
 mod format;
 pub mod laws;
 mod layout;

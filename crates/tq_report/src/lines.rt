@@ -1,20 +1,19 @@
 // The lines of names and rows.
 
-ghost use Rattle.std.specs.Prelude.{◌≡◌, ◌<◌, ◌+◌, ◌^◌, ◌++◌, ◌∷◌, [], OnOk, length};
+ghost use Rattle.std.specs.Prelude.{◌≡◌, ◌<◌, ◌+◌, ◌^◌, ◌++◌, OnOk, length};
 ghost use Rattle.std.specs.List.{flat_map, range_with_len};
 ghost use Rattle.tq_report.specs.Layouts.{name_at};
-ghost use Rattle.tq_report.specs.Reports.{alignment, alignments_text, between, cell_text, close_text, column_text, dashes, dashes_text, field_text, names_text, open_text, padded, row_text, rows_text, tail_text, value_text};
+ghost use Rattle.tq_report.specs.Reports.{alignment, alignments_text, between, cell_text, close_text, column_text, dashes_text, field_text, names_text, open_text, padded, row_text, rows_text, tail_text, value_text};
 ghost use Rattle.tq_report.specs.Texts.{end_in, instant_in, name_in};
 
-use crate::amounts::push_times;
 use crate::format::Format;
-use crate::layout::{Layout, places_at};
+use crate::layout::Layout;
 use crate::options::ReportOptions;
 use crate::texts::{push_end, push_instant, push_name, push_value};
 use std::alloc::{AllocError, Global};
 use tq_base::{Bound, Instant, Name, Period, Row, ValueRef};
 use tq_draw::columns_in_bytes;
-use tq_table::ResultRows;
+use tq_table::{ResultRows, places_at, push_times};
 
 // The values of this many rows are read before their lines are written.
 const BLOCK: usize = 64;

@@ -1,6 +1,6 @@
 // A table in a format.
 
-ghost use Rattle.std.specs.Prelude.{◌≡◌, ◌++◌, ◌<◌, ◌^◌, IfOk, OnOk, length};
+ghost use Rattle.std.specs.Prelude.{◌≡◌, ◌++◌, ◌<◌, IfOk, OnOk};
 ghost use Rattle.tq_report.specs.Reports.{foot_text, head_text, report_of};
 
 use crate::format::Format;

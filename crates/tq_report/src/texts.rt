@@ -10,12 +10,12 @@ ghost use Rattle.tq_draw.specs.Labels.{columns_in, escaped_text};
 ghost use Rattle.tq_report.specs.Texts.{end_in, instant_in, is_dates, is_json, is_markup, last_of, markdown_byte, name_in, text_in, tsv_byte, value_in};
 ghost use Rattle.tq_table.specs.Text.{answer_format};
 
-use crate::amounts::push_number;
 use crate::format::Format;
 use serde_json::Value as Json;
 use std::alloc::{AllocError, Global};
 use tq_base::{Bound, Form, Instant, ValueRef, put_instant};
 use tq_draw::escaped_text;
+use tq_table::push_number;
 
 fn push_tsv_byte(text: &mut Vec<u8>, byte: u8) -> Result<(), AllocError>
     ensures { OnOk result (text.new.items ≡ text.old.items ++ tsv_byte byte) }

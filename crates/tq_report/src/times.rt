@@ -1,8 +1,7 @@
 // Rows in the order of time.
 
-ghost use Rattle.std.specs.Prelude.{◌≡◌, IfOk, IsPermutation, IsSorted, OnOk, length, map};
+ghost use Rattle.std.specs.Prelude.{◌≡◌, IfOk, IsPermutation, IsSorted, length, map};
 ghost use Rattle.std.specs.List.{range_with_len};
-ghost use Rattle.tq_base.specs.Keys.{no_row};
 ghost use Rattle.tq_base.specs.Relations.{row_period_of};
 ghost use Rattle.tq_base.specs.ValueOrder.{values_cmp};
 ghost use Rattle.tq_report.specs.Times.{row_key, time_cmp};

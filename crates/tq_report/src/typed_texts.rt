@@ -5,7 +5,7 @@ ghost use Rattle.std.specs.List.{flat_map};
 ghost use Rattle.csv.specs.Writing.{field_text, row_text};
 ghost use Rattle.tq_report.specs.Texts.{value_in};
 ghost use Rattle.tq_report.specs.TypedTexts.{typed_fields, typed_header, typed_name, typed_rows, typed_text_of};
-ghost use Rattle.tq_table.specs.Text.{answer_format, value_field};
+ghost use Rattle.tq_table.specs.Text.{answer_format};
 
 use crate::format::Format;
 use crate::texts::{push_csv, push_end, push_instant, push_value};

@@ -1,5 +1,5 @@
 // Several workers, each of which claims piece after piece.
-ghost use Rattle.std.specs.Prelude.{◌≡◌, ℕ, ◌+◌, ◌-◌, ◌<◌, ◌≤◌, ◌++◌, [], ◌∷◌, true, false, IfOk, OnOk, length, vec_len, All};
+ghost use Rattle.std.specs.Prelude.{◌≡◌, ◌+◌, ◌-◌, ◌<◌, ◌≤◌, ◌++◌, [], ◌∷◌, IfOk, OnOk, vec_len, All};
 ghost use denote.Param.Send.{IsSync};
 ghost use Rattle.tq_run.specs.Results.{IsResultList};
 ghost use Rattle.tq_run.specs.Sharing.{AreNewClaimants, IsFresh, IsWorkerResult, Leads};

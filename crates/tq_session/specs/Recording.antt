@@ -23,7 +23,7 @@ pub record IsNamed (catalogue : Catalogue) (name : List ℕ) : Type 0 where
   pub table : ℕ
   pub named : table_number catalogue name ≡ Some table
 
--- why there is no such table, or no such values
+-- why no table has the name, or the fields are not a row of it
 abbrev pub NotFound : Catalogue → List ℕ → List ℕ → Refusal → Type 0
 NotFound catalogue name fields refusal.UnknownTable = table_number catalogue name ≡ None
 NotFound catalogue name fields refusal.BadValues = AreBadValues catalogue name fields

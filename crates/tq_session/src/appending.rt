@@ -1,6 +1,6 @@
 // Commands that start and end rows.
 
-ghost use Rattle.std.specs.Prelude.{◌≡◌, MatchResult};
+ghost use Rattle.std.specs.Prelude.{MatchResult};
 ghost use Rattle.tq_session.specs.Recording.{AreFound, NotFound};
 ghost use Rattle.tq_session.specs.Transcripts.{Ends, Records, Starts};
 

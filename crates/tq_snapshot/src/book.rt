@@ -141,7 +141,7 @@ impl Prefix {
         self.len
     }
 
-    /// The same prefix.
+    /// A copy of the prefix, which shares its events.
     pub fn copy(&self) -> Prefix
         ensures { result ≡ self.now }
     {

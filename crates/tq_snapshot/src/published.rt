@@ -25,7 +25,7 @@ impl<J: StoreId> Protocol<SharedStore, LastFind> for Published<J> {
     ghost first = { [] };
 }
 
-/// Entering finds such a value, which begins with the reader's last find. Publishing shows such a value.
+/// Entering finds a value that follows the rule and begins with the reader's last find. Publishing shows one.
 impl<J: StoreId> Outcome<SharedStore, LastFind> for Published<J> {
     ghost use Rattle.std.specs.Prelude.{◌≡◌};
     ghost use mathlib.Core.List.{IsPrefix};

@@ -1,6 +1,6 @@
 // The writer's steps on the book and on the shared value.
 
-ghost use Rattle.std.specs.Prelude.{◌≡◌, ◌+◌, ◌<◌, ◌≤◌, ◌∷◌, [], ◌++◌, length, take, drop, IfOk, IsTrue, OnOk, OnErr, MatchResult};
+ghost use Rattle.std.specs.Prelude.{◌≡◌, ◌+◌, ◌<◌, ◌≤◌, [], ◌++◌, length, drop, IsTrue, OnOk, MatchResult};
 ghost use Rattle.tq_snapshot.specs.StoreValue.{IsOf, store_value};
 ghost use Rattle.tq_snapshot.specs.Sound.{IsStaged, IsCommitted};
 

@@ -1,8 +1,8 @@
 // The writer.
 
-ghost use Rattle.std.specs.Prelude.{◌≡◌, ◌-◌, ◌<◌, ◌≤◌, ◌∷◌, [], ◌++◌, length, slice_get, None, Some, IfSome, IsSomeAnd, OnOk, OnErr, MatchBool, MatchOption, MatchResult};
+ghost use Rattle.std.specs.Prelude.{◌≡◌, ◌-◌, ◌<◌, ◌∷◌, [], ◌++◌, length, None, Some, IfSome, OnOk, OnErr, MatchBool, MatchOption, MatchResult};
 ghost use Rattle.tq_event.specs.declared.event.Event.{Event};
-ghost use Rattle.tq_event.specs.History.{IsAdmissible, IsHistory, IsNotBefore, IsOpenBefore};
+ghost use Rattle.tq_event.specs.History.{IsAdmissible, IsNotBefore, IsOpenBefore};
 ghost use Rattle.tq_event.specs.Opening.{open_row};
 ghost use Rattle.tq_event.specs.Recorded.{HasTable};
 ghost use Rattle.tq_snapshot.specs.OpenIndex.{next_row};

@@ -65,7 +65,7 @@ AreRunsBelow combine rows others = All (λ (f : Fragment). All (λ (g : Fragment
 abbrev pub AreInOrder : ℕ → List Fragment → Type 0
 AreInOrder width rows = IsSorted fragment_cmp rows × All (λ (row : Fragment). length row.values ≡ width) rows
 
--- the rows so far are what those make that are no longer left, and are of lesser runs than those that are
+-- the rows so far are what the rows make that are no longer left; they are of lesser runs than the rows that are left
 pub record AreMergedSoFar (combine : Combine) (width : ℕ) (lists left : List (List Fragment)) (rows : List Fragment) : Type 0 where
   pub layers : IsLayers (copies rows) rows
   pub counted : (v : List Value) (t : ℕ) → copies rows v t + combined combine width (one_after_other left) v t ≡ combined combine width (one_after_other lists) v t
@@ -73,7 +73,7 @@ pub record AreMergedSoFar (combine : Combine) (width : ℕ) (lists left : List (
   pub below : AreRunsBelow combine rows (one_after_other left)
   pub ordered : All (AreInOrder width) left
 
--- the rows of a block are what the rows make that were first; the others are left. Without more, none are
+-- the rows of a block are what the first rows make; the other rows are left. Without more, none are left
 pub record MergesBlock {R : Type 0} (remaining : R → Option (List ℕ)) (layout : AnswerLayout) (lists : List (List Fragment)) (more : Bool) (parts : List (AnswerPart R)) (rows : List Fragment) : Type 0 where
   pub left : List (List Fragment)
   pub has : more ≡ true → HaveRows remaining layout parts left

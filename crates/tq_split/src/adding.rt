@@ -33,7 +33,7 @@ impl From<AllocError> for AddFault {
     }
 }
 
-// The greater of the number and that of the period's end.
+// The greater of `last` and the number of the period's end.
 fn later(last: u64, period: &Period) -> u64
     ensures kept { last ≤ result }
     ensures bound { last ≤ FOREVER → result ≤ FOREVER }
@@ -86,7 +86,7 @@ fn is_summable_at(row: &Row<'_>, column: &u32) -> bool
     is_summable(row.value(*column as usize))
 }
 
-// Whether the values of the row in the columns are such.
+// Whether each value of the row in the columns is a number of 64 signed bits, or a text.
 fn is_row_summable(row: &Row<'_>, columns: &[u32]) -> bool
     ensures { IsTrue result → AreSummable columns.now row.now }
 {
@@ -104,7 +104,7 @@ fn is_summable_in(rows: &Relation<'_>, row: usize, columns: &[u32]) -> bool
     is_row_summable(&rows.row(row), columns)
 }
 
-// Whether those of all rows are.
+// Whether each value of all rows in the columns is a number of 64 signed bits, or a text.
 fn are_summable(rows: &Relation<'_>, columns: &[u32]) -> bool
     ensures { IsTrue result → All (λ (row : Fragment). AreSummable columns.now row.values) rows.now.items }
 {

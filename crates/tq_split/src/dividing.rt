@@ -18,8 +18,8 @@ use std::io::{Read, Write};
 use tq_base::Value;
 use tq_event::LoadFaultKind;
 use tq_event::steps::{read_entry, read_header};
-use tq_import::{InputFault, line_writer, next_record, record_reader, text_written, write_line};
-use tq_table::Sink;
+use tq_import::{InputFault, next_record, record_reader};
+use tq_table::{Sink, line_writer, text_written, write_line};
 
 // The most records of a batch, whose lines are written together.
 const BATCH: u32 = 1024;
@@ -47,7 +47,7 @@ fn record_fault(number: u64, kind: LoadFaultKind) -> DivisionFault
     }
 }
 
-// For each of this many columns, whether it is this one.
+// A list of `columns` entries, of which only that of the column is true.
 fn only_column(alloc: Global, columns: usize, column: usize) -> Result<Vec<bool>, AllocError>
     requires { column < columns }
     ensures { IfOk result (λ wanted. IsTrue (is_wanted wanted.items column)) }
@@ -57,7 +57,7 @@ fn only_column(alloc: Global, columns: usize, column: usize) -> Result<Vec<bool>
     Ok(wanted)
 }
 
-// The columns of the table with this header.
+// How the records of a table with this header are read. Fails if the header is not valid or lacks the column.
 fn cut_of(alloc: Global, division: Division, header: &ByteRecord) -> Result<Cut, DivisionFault>
     ensures ok { IfOk result (IsCut division (fields_of header.now)) }
     ensures fault { IfErr result (IsHeaderFault division (fields_of header.now)) }

@@ -1,5 +1,5 @@
-// How a table file is divided, and what became of it. These types have a module of their own because the definitions
-// that contracts cite name them.
+// How a table file is divided, and the results. These types have a module of their own because the definitions that
+// contracts cite name them.
 
 use std::alloc::AllocError;
 use thiserror::Error;
@@ -82,7 +82,7 @@ pub struct Cut {
     pub wanted: Vec<bool>,
 }
 
-/// What became of some records: for each part its lines, the number of the next record, and whether there may be more
+/// The result for some records: for each part its lines, the number of the next record, and whether there may be more
 /// records.
 #[derive(Drop, Debug)]
 pub struct Batch {

@@ -1,8 +1,8 @@
-//! Questions over tables that are divided into parts: on several machines, or of more rows than one process takes.
+//! Queries over tables that are divided into parts: on several machines, or of more rows than one process takes.
 //!
-//! `split_plan` finds columns by which the tables of a plan can be divided (`AnswersAddUp` in `specs/Splits.antt`). `divide`
-//! reads a table file record by record and writes a file for each part. Any engine asks the statement over the files of each
-//! part. `merge_answers` reads the answers and writes the answer over the whole tables.
+//! `split_plan` finds columns by which the tables of a plan can be divided (`AnswersAddUp` in `specs/Splits.antt`).
+//! `divide` reads a table file record by record and writes a file for each part. Any engine executes the statement over
+//! the files of each part. `merge_answers` reads the answers and writes the answer over the whole tables.
 //!
 //! Open `src/plans.rt` first.
 #![tactic(auto)]
@@ -16,12 +16,8 @@ mod division;
 pub mod laws;
 mod manifest;
 mod merging;
-#[cfg(test)]
-mod merging_tests;
 mod part_numbers;
 mod plans;
-#[cfg(test)]
-mod tests;
 
 pub use answer_part::{AnswerLayout, AnswerPart, KeyedRow};
 pub use columns::answer_columns;

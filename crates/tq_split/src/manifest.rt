@@ -42,7 +42,7 @@ pub struct Manifest {
     pub groups: Option<u32>,
 }
 
-/// Why a manifest is not read: it is no manifest of this version, or an allocation failed.
+/// Why a manifest is not read: it is not a manifest of this version, or an allocation failed.
 #[derive(Clone, Copy, Debug, PartialEq, Eq)]
 pub enum ManifestFault {
     Invalid,
@@ -144,7 +144,7 @@ pub fn manifest_text(alloc: Global, manifest: &Manifest) -> Result<String, Manif
     Ok(to_string_pretty(alloc, manifest)?)
 }
 
-/// Reads a manifest. `Invalid` if the bytes are none of this version.
+/// Reads a manifest. `Invalid` if the bytes are not a manifest of this version.
 pub fn read_manifest(alloc: Global, bytes: &[u8]) -> Result<Manifest, ManifestFault> {
     let manifest: Manifest = serde_json::from_slice(alloc, bytes)?;
     if manifest.version == MANIFEST_VERSION {
@@ -161,7 +161,7 @@ fn counted_name(alloc: Global, word: &[u8]) -> Result<Name, AllocError>
     Ok(Name::of(Vec::from_slice(alloc, word)?))
 }
 
-// The name of a column of an answer; `None` if the bytes are none.
+// The name of a column of an answer; `None` if the bytes are not a valid name.
 fn read_name(alloc: Global, bytes: &[u8]) -> Result<Option<Name>, AllocError> {
     if bytes == b"count".as_slice() {
         return Ok(Some(counted_name(alloc, b"count")?));

@@ -43,8 +43,8 @@ pub struct Merged {
     pub rows: u64,
 }
 
-/// What is wrong with an answer: it can't be read; its header is another one; a record is no row; or a row is before the row
-/// in front of it.
+/// Why an answer is invalid: it cannot be read; it has another header; a record is not a row; or a row comes before the
+/// one above it in the order of rows.
 #[derive(Clone, Copy, Debug, PartialEq, Eq)]
 pub enum AnswerFaultKind {
     Read,
@@ -308,7 +308,7 @@ fn take_run<R: Read>(
     Err(RowFault::Answer(AnswerFaultKind::Read))
 }
 
-// The same for all parts.
+// Moves the rows of the run from all parts to the group.
 fn take_runs<R: Read>(
     alloc: Global,
     layout: &AnswerLayout,
@@ -331,7 +331,7 @@ fn take_runs<R: Read>(
     Ok(())
 }
 
-// Whether the row has lesser values.
+// Whether the row is before the other, by key and then by values.
 fn is_less(row: &KeyedRow, other: &KeyedRow) -> bool {
     is_less_key(row.key, other.key)
         || !is_less_key(other.key, row.key) && row.row.values.compare(&other.row.values).is_lt()

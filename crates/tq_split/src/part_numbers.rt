@@ -1,7 +1,6 @@
 // The number of the part that a row of a divided table belongs to: a hash of one of its values, scaled.
 
 ghost use Rattle.std.specs.Prelude.{◌≡◌, ◌≤◌};
-ghost use Rattle.tq_base.specs.Values.{value_ref};
 ghost use Rattle.tq_split.specs.PartNumbers.{number_code, part_number, scaled, spread, text_code, value_code};
 
 use tq_base::{Value, ValueRef};

@@ -13,15 +13,15 @@ use tq_exec::laws::{partitionings_make_parts, partitions_have_rows};
 use tq_exec::{are_linked, can_partition_plan, column_at};
 use tq_plan::{Output, Plan, QueryPlan, QuerySource};
 
-/// How the tables of a plan are divided: for each table the column by whose values its rows go to parts. A table without a
-/// column is whole in each part. And how the answers over the parts are combined.
+/// How the tables of a plan are divided, and how the answers over the parts are combined. For each table, `columns` has
+/// the column by whose values its rows go to parts. A table without one is whole in each part.
 #[derive(Drop, Debug)]
 pub struct Split {
     pub columns: Vec<Option<u32>>,
     pub combine: Combine,
 }
 
-// What is known of a table's column while sources are looked at.
+// How a table is divided, as far as its sources are known.
 #[derive(Clone, Copy)]
 enum Choice {
     Open,
@@ -29,7 +29,7 @@ enum Choice {
     Whole,
 }
 
-// The choice after one more source of the table, whose column is equal to the place, if one is.
+// The choice after one more source of the table. `column` is the source's column that is equal to the place, if any.
 fn after_source(choice: Choice, column: Option<u32>) -> Choice {
     match (choice, column) {
         (Choice::Open, Some(column)) => Choice::Divided(column),
@@ -102,7 +102,7 @@ fn columns_of_output(
     }
 }
 
-// Whether nothing is grouped.
+// Whether the query has no GROUP BY.
 fn is_ungrouped(query: &QueryPlan) -> bool
     ensures { IsTrue result → no_group query.now.group ≡ true }
 {
@@ -118,7 +118,7 @@ fn is_aggregate(output: &Output) -> bool
     }
 }
 
-// Whether something is counted or summed.
+// Whether the query counts or sums.
 fn has_aggregate(query: &QueryPlan) -> bool
     ensures { result ≡ list_any is_aggregate query.now.outputs }
 {
@@ -129,7 +129,7 @@ fn has_aggregate(query: &QueryPlan) -> bool
         .any(|output| is_aggregate(output))
 }
 
-// Whether nothing is grouped, counted or summed.
+// Whether the query neither groups, counts nor sums.
 fn is_plain(query: &QueryPlan) -> bool
     ensures ungrouped { IsTrue result → no_group query.now.group ≡ true }
     ensures uncounted { IsTrue result → list_any is_aggregate query.now.outputs ≡ false }
@@ -215,35 +215,35 @@ fn is_column(output: &Output, place: u32) -> bool
     }
 }
 
-// Whether one of the outputs is.
+// Whether one of the outputs is the column at the place.
 fn is_shown(outputs: &[Output], place: u32) -> bool
     ensures { result ≡ list_any (is_column place) outputs.now }
 {
     outputs.iter().any(|output| is_column(output, place))
 }
 
-// Whether each place is shown.
+// Whether the column at each place is one of the outputs.
 fn are_shown(places: &[u32], outputs: &[Output]) -> bool
     ensures { result ≡ list_all (λ place. list_any (is_column place) outputs.now) places.now }
 {
     places.iter().all(|place| is_shown(outputs, *place))
 }
 
-// Whether something is counted or summed.
+// Whether one of the outputs is a count or a sum.
 fn has_aggregates(outputs: &[Output]) -> bool
     ensures { result ≡ list_any is_aggregate outputs.now }
 {
     outputs.iter().any(|output| is_aggregate(output))
 }
 
-// Whether everything is.
+// Whether all outputs are counts and sums.
 fn are_aggregates(outputs: &[Output]) -> bool
     ensures { result ≡ list_all is_aggregate outputs.now }
 {
     outputs.iter().all(|output| is_aggregate(output))
 }
 
-// The number of the first output that is counted or summed.
+// The number of the first output that is a count or a sum.
 fn first_aggregate(outputs: &[Output]) -> Option<usize>
     ensures { IfSome result (λ place. place < length outputs.now) }
 {

@@ -1,9 +1,8 @@
 //! A history that is queried as of any number of its events.
 
-ghost use Rattle.std.specs.Prelude.{ℕ, All, ◌≡◌, ◌↔◌, ◌+◌, ◌*◌, ◌/◌, ◌<◌, ◌≤◌, ◌∷◌, ◌++◌, [], IsTrue, IfOk, OnOk, OnErr, if◌then◌else◌, length, map, min};
+ghost use Rattle.std.specs.Prelude.{All, ◌≡◌, ◌↔◌, ◌+◌, ◌*◌, ◌/◌, ◌<◌, ◌≤◌, ◌∷◌, ◌++◌, [], IsTrue, IfOk, OnErr, if◌then◌else◌, length, map, min};
 ghost use Rattle.tq_base.specs.declared.period.TheConstants.{FOREVER};
-ghost use Rattle.tq_event.specs.History.{CanHappen, IsAdmissible, IsHistory, IsNotBefore, time_of};
-ghost use Rattle.tq_event.specs.Recorded.{HasTable};
+ghost use Rattle.tq_event.specs.History.{IsAdmissible, IsHistory, time_of};
 ghost use Rattle.tq_event.specs.Versions.{version_at};
 ghost use Rattle.tq_scan.specs.Windows.{whole_of};
 ghost use Rattle.tq_store.specs.Index.{AreIndexes, CanEnd, stored_rows};

@@ -2,8 +2,6 @@
 
 ghost use Rattle.std.specs.Prelude.{◌≡◌, ◌<◌, slice_get, IsSomeAnd, IfOk};
 ghost use Rattle.tq_base.specs.declared.period.TheConstants.{FOREVER};
-ghost use Rattle.tq_event.specs.History.{time_of};
-ghost use Rattle.tq_event.specs.Recorded.{table_of};
 ghost use Rattle.tq_store.specs.Stored.{IsStart, IsStored, end_as_of, row_view, stored_row, values_at};
 
 use crate::index::RowEvents;

@@ -1,7 +1,7 @@
 pub mod RowPeriodLists
 mod PrefetchLemmas
 mod BorrowLemmas
-mod WritingLemmas
+pub mod WritingLemmas
 pub mod Disjoint
 pub mod KeyGroups
 pub mod MergeLemmas

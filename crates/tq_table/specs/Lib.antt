@@ -5,3 +5,4 @@ pub mod Sink
 pub mod Text
 pub mod Writing
 pub mod Merging
+pub mod Amounts

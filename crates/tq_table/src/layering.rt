@@ -61,7 +61,7 @@ pub fn layered(alloc: Global, periods: &[Period]) -> Result<Vec<Period>, AllocEr
     Ok(made)
 }
 
-// The same, in the order of the ends.
+// The layers of the periods, in the order of their ends.
 fn unordered(alloc: Global, periods: &[Period]) -> Result<Vec<Period>, AllocError>
     ensures layering { IfOk result (λ made. IsLayering periods.now made.items) }
     ensures no_more { IfOk result (λ made. vec_len made ≤ length periods.now) }

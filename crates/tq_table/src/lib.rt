@@ -8,6 +8,7 @@
 //! Open `src/coalescing.rt` first.
 #![tactic(auto)]
 
+mod amounts;
 mod coalescing;
 mod layering;
 mod lines;
@@ -19,7 +20,9 @@ mod sending;
 mod sink;
 mod table;
 mod text;
+mod writing;
 
+pub use amounts::{places_at, push_number, push_times};
 pub use coalescing::coalesce;
 pub use lines::ResultRows;
 pub use merging::{chained, merge};
@@ -27,3 +30,4 @@ pub use ranges::is_below;
 pub use sink::{Sink, WriteFault};
 pub use table::Table;
 pub use text::{header_text, rows_text, table_text, write_table};
+pub use writing::{end_line, line_writer, text_written, write_field, write_line, write_value};

@@ -1,6 +1,6 @@
 // Merging: the layers of several ordered lists of rows.
 
-ghost use Rattle.std.specs.Prelude.{◌≡◌, ◌<◌, ◌++◌, All, IfOk, IsSorted, List, length, map};
+ghost use Rattle.std.specs.Prelude.{◌≡◌, ◌<◌, ◌++◌, All, IfOk, IsSorted, length, map};
 ghost use Rattle.std.specs.Global.{Vec};
 ghost use Rattle.std.specs.List.{range_with_len, sum};
 ghost use Rattle.tq_base.specs.declared.fragment.Fragment.{Fragment};

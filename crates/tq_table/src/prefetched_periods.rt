@@ -1,9 +1,8 @@
 //! The periods of the rows of keys, read in batches of some thousands.
 
-ghost use Rattle.std.specs.Prelude.{◌≡◌, ◌<◌, ◌≤◌, ◌+◌, List, All, IfOk, OnOk, length, map, slice_index_or, slice_range};
+ghost use Rattle.std.specs.Prelude.{◌≡◌, ◌<◌, ◌≤◌, ◌+◌, List, All, IfOk, OnOk, length, slice_range};
 ghost use Rattle.tq_base.specs.declared.period.Period.{Period};
 ghost use Rattle.tq_base.specs.declared.sort_input.SortKey.{SortKey};
-ghost use Rattle.tq_base.specs.Keys.{no_row};
 ghost use Rattle.tq_table.specs.Prefetching.{periods_of_keys, ArePrefetched};
 
 use std::alloc::{AllocError, Global};

@@ -1,6 +1,6 @@
 // Rows of ranges of values.
 
-ghost use Rattle.std.specs.Prelude.{◌≡◌, IsSorted, IsTrue};
+ghost use Rattle.std.specs.Prelude.{IsSorted, IsTrue};
 ghost use Rattle.tq_base.specs.Fragments.{fragment_cmp};
 ghost use Rattle.tq_base.specs.Groups.{Below};
 ghost use Rattle.tq_base.specs.Ranges.{AreBelow};

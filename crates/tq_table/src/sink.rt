@@ -1,10 +1,10 @@
 // A writer with a count of its failed calls. Nothing else has access to either. A failure is counted exactly if a write
 // or flush of the writer failed, and no call is repeated.
 
-ghost use Rattle.std.specs.Prelude.{◌≡◌, ◌≤◌, ◌<◌, length, take, OnOk, OnErr, IfOk, IfErr, if◌then◌else◌};
+ghost use Rattle.std.specs.Prelude.{◌≡◌, ◌≤◌, ◌<◌, length, take, OnErr, IfOk, IfErr, if◌then◌else◌};
 ghost use Rattle.std.specs.Result.{is_err};
 ghost use Rattle.std.specs.Io.KnownBytes.{Appends, Keeps};
-ghost use Rattle.tq_table.specs.Sink.{AppendsPrefix, one_more};
+ghost use Rattle.tq_table.specs.Sink.{one_more};
 
 use std::io::Write;
 use std::marker::Model;

@@ -14,43 +14,14 @@ ghost use Rattle.tq_table.specs.Writing.{borrowed, HasWritten, IsWriting};
 use crate::lines::ResultRows;
 use crate::sink::{Sink, WriteFault};
 use crate::table::Table;
-use csv::{Writer, WriterBuilder};
-use itoa::Buffer;
+use crate::writing::{end_line, line_writer, text_written, write_field, write_value};
+use csv::Writer;
 use std::alloc::{AllocError, Global};
 use std::io::Write;
 use tq_base::{Bound, Form, Instant, Name, Period, Row, Value, ValueRef, put_instant};
 
 // The values of this many rows are read before their lines are written.
 const BLOCK: usize = 64;
-
-// Writes one more field of the line. Over a vector only an allocation can fail.
-fn write_field(writer: &mut Writer<Vec<u8>>, field: &[u8]) -> Result<(), AllocError>
-    ensures { (text : List ℕ) (fields : List (List ℕ)) → IsWriting writer.old text fields → OnOk result (IsWriting writer.new text (fields ++ field.now ∷ [])) }
-{
-    match writer.write_field(field) {
-        Ok(()) => Ok(()),
-        Err(_) => Err(AllocError),
-    }
-}
-
-fn end_line(writer: &mut Writer<Vec<u8>>) -> Result<(), AllocError>
-    ensures { (text : List ℕ) (fields : List (List ℕ)) → IsWriting writer.old text fields → OnOk result (HasWritten writer.new (text ++ row_text answer_format fields)) }
-{
-    match writer.end_record() {
-        Ok(()) => Ok(()),
-        Err(_) => Err(AllocError),
-    }
-}
-
-// Writes a value as one more field of the line.
-fn write_value(writer: &mut Writer<Vec<u8>>, value: ValueRef<'_>) -> Result<(), AllocError>
-    ensures { (text : List ℕ) (fields : List (List ℕ)) → IsWriting writer.old text fields → OnOk result (IsWriting writer.new text (fields ++ value_field (value_ref value.entry) ∷ [])) }
-{
-    match value {
-        ValueRef::Int(number) => write_field(writer, Buffer::new().format(number).as_bytes()),
-        ValueRef::Text(text) => write_field(writer, text.as_bytes()),
-    }
-}
 
 fn write_instant(
     writer: &mut Writer<Vec<u8>>,
@@ -195,24 +166,6 @@ fn write_header(writer: &mut Writer<Vec<u8>>, columns: &[Name]) -> Result<(), Al
     write_field(writer, b"from")?;
     write_field(writer, b"to")?;
     end_line(writer)
-}
-
-// A writer of lines that has written none.
-fn line_writer(alloc: Global) -> Writer<Vec<u8>>
-    ensures { HasWritten result [] }
-{
-    WriterBuilder::new()
-        .flexible(true)
-        .from_writer(Vec::new(alloc))
-}
-
-fn text_written(writer: Writer<Vec<u8>>) -> Result<Vec<u8>, AllocError>
-    ensures { (text : List ℕ) → HasWritten writer text → IfOk result (λ written. written.items ≡ text) }
-{
-    match writer.into_inner() {
-        Ok(text) => Ok(text),
-        Err(_) => Err(AllocError),
-    }
 }
 
 /// The header line: the column names, `from` and `to`. `AllocError` if an allocation failed.

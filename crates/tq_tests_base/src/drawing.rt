@@ -79,8 +79,8 @@ pub(crate) fn print_report(
     }
 }
 
-// The numbers that the text has between commas; 0 for what is no number.
-fn numbers_in(alloc: Global, text: &str) -> Result<Vec<u32>, AllocError> {
+/// The numbers that the text has between commas; 0 for what is no number.
+pub(crate) fn numbers_in(alloc: Global, text: &str) -> Result<Vec<u32>, AllocError> {
     text.split(',')
         .map(|part| part.parse::<u32>().unwrap_or(0))
         .collect(alloc)

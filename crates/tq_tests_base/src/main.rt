@@ -58,6 +58,8 @@
 //!     by-time FROM COLUMN..                the rows as CSV, ordered by start, then end, then values
 //!     typed FROM COLUMN..                  the rows as a table file; columns with t.. as their name have texts
 //!     totals FROM GROUPS COLUMN..          totals of all columns but the first GROUPS, which group the rows
+//!     total-amounts FROM GROUPS PLACES,.. COLUMN..
+//!                                          the same, with decimal places in each column
 //!     calendar UNIT START END              the months, quarters or years between two dates
 //!     send FROM COLUMN..                   the same text, by a sink into memory
 //!     send-short FROM COLUMN..             the same, by one whose writer takes five bytes

@@ -186,7 +186,10 @@ impl Session {
             }
             ("by-time", names) => print_by_time(alloc, rows, names, out),
             ("typed", names) => print_typed(alloc, rows, names, out),
-            ("totals", [groups, names @ ..]) => print_totals(alloc, rows, groups, names, out),
+            ("totals", [groups, names @ ..]) => print_totals(alloc, rows, groups, "", names, out),
+            ("total-amounts", [groups, places, names @ ..]) => {
+                print_totals(alloc, rows, groups, places, names, out)
+            }
             ("send", _) => send(alloc, rows, words, out),
             ("send-short", _) => send_short(alloc, rows, words, out),
             _ => print_nothing(out),
@@ -235,6 +238,7 @@ impl Session {
                 | "by-time"
                 | "typed"
                 | "totals"
+                | "total-amounts"
                 | "send"
                 | "send-short",
                 [from, words @ ..],

@@ -1,6 +1,6 @@
 //! Totals of rows, and periods of the calendar.
 
-use crate::drawing::print_lines;
+use crate::drawing::{numbers_in, print_lines};
 use crate::output::{lines, table_of};
 use std::alloc::{AllocError, Global};
 use tq_base::{Form, Rows, read_instant};
@@ -24,11 +24,13 @@ fn print_fault(fault: TotalsFault, out: &mut String) -> Result<(), AllocError> {
     }
 }
 
-/// Prints the totals of a table of the rows. The first `groups` columns group the rows, and the others are summed.
+/// Prints the totals of a table of the rows, with the decimal places that `places` lists for the columns. The first `groups`
+/// columns group the rows, and the others are summed.
 pub(crate) fn print_totals(
     alloc: Global,
     rows: &Rows,
     groups: &str,
+    places: &str,
     names: &[&str],
     out: &mut String,
 ) -> Result<(), AllocError> {
@@ -36,7 +38,7 @@ pub(crate) fn print_totals(
     let columns = u32::try_from(names.len()).unwrap_or(u32::MAX);
     let all: Vec<u32> = (0..columns).collect(alloc)?;
     let (by, summed) = all.split_at(groups.parse().unwrap_or(0).min(all.len()));
-    match totals_csv(alloc, &table, by, summed) {
+    match totals_csv(alloc, &table, by, summed, &numbers_in(alloc, places)?) {
         Ok(text) => print_lines(&text, out),
         Err(fault) => print_fault(fault, out),
     }

@@ -5,4 +5,3 @@ pub mod LabelLemmas
 pub mod PeriodLemmas
 pub mod SumLemmas
 pub mod TotalLemmas
-mod WritingLemmas

@@ -96,8 +96,8 @@ HaveEnds rows = position is_open rows ≡ None
 abbrev pub HaveNumbers : List ℕ → List Fragment → Type 0
 HaveNumbers summed rows = position (has_texts summed) rows ≡ None
 
--- what a fault says of the rows: the first row without an end; else the first row with a text, and the first column where it
--- has one; else a summed column in which the sizes of one group add up to 2^127 or more
+-- what a fault says about the rows: the first row without an end; else the first row with a text, and the first column
+-- in which it has one; else a summed column in which the sizes of one group add up to 2^127 or more
 abbrev pub IsFault : List ℕ → List ℕ → List Fragment → TotalsFault → Type 0
 IsFault by summed rows (fault.OpenEnd row) = first_row is_open rows ≡ Some row
 IsFault by summed rows (fault.Text column row) =

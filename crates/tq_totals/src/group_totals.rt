@@ -1,6 +1,6 @@
 // Totals of an answer over time.
 
-ghost use Rattle.std.specs.BTreeMap.{get, IsOrdered};
+ghost use Rattle.std.specs.BTreeMap.{IsOrdered};
 ghost use Rattle.std.specs.Prelude.{◌≡◌, IfErr, IfOk, List, map};
 ghost use Rattle.tq_base.specs.ValueOrder.{values_cmp};
 ghost use Rattle.tq_totals.specs.Sums.{total_pair, totals_entry};

@@ -1,67 +1,87 @@
 // The text of totals.
 
-ghost use Rattle.std.specs.Fmt.{signed_decimal};
 ghost use Rattle.std.specs.Prelude.{◌≡◌, [], ◌++◌, ◌∷◌, IfOk, List, OnOk, map, ℕ};
 ghost use Rattle.std.specs.List.{flat_map};
-ghost use Rattle.csv.specs.Writing.{row_text};
-ghost use Rattle.tq_table.specs.Text.{answer_format, value_field};
+ghost use Rattle.tq_base.specs.Values.{value_ref};
 ghost use Rattle.tq_table.specs.Writing.{HasWritten, IsWriting};
-ghost use Rattle.tq_totals.specs.Text.{header_line, name_at, total_line, totals_text};
+ghost use Rattle.tq_totals.specs.Text.{amount_field, group_fields, header_line, name_at, places_of, sum_fields, total_line, totals_text};
 
 use crate::group_totals::Total;
-use csv::{Writer, WriterBuilder};
-use itoa::Buffer;
+use csv::Writer;
 use std::alloc::{AllocError, Global};
 use tq_base::{Name, Value, ValueRef};
+use tq_table::{end_line, line_writer, places_at, push_number, text_written, write_field};
 
-// Writes one more field of the line. Over a vector only an allocation can fail.
-fn write_field(writer: &mut Writer<Vec<u8>>, field: &[u8]) -> Result<(), AllocError>
-    ensures { (text : List ℕ) (fields : List (List ℕ)) → IsWriting writer.old text fields → OnOk result (IsWriting writer.new text (fields ++ field.now ∷ [])) }
+// Writes a value as one more field of the line: a number with this many digits after the point, or a text. The list only
+// gives room for digits.
+fn write_amount(
+    writer: &mut Writer<Vec<u8>>,
+    value: ValueRef<'_>,
+    places: u32,
+    room: &mut Vec<u8>,
+) -> Result<(), AllocError>
+    ensures { (text : List ℕ) (fields : List (List ℕ)) → IsWriting writer.old text fields → OnOk result (IsWriting writer.new text (fields ++ amount_field places (value_ref value.entry) ∷ [])) }
 {
-    match writer.write_field(field) {
-        Ok(()) => Ok(()),
-        Err(_) => Err(AllocError),
-    }
-}
-
-fn end_line(writer: &mut Writer<Vec<u8>>) -> Result<(), AllocError>
-    ensures { (text : List ℕ) (fields : List (List ℕ)) → IsWriting writer.old text fields → OnOk result (HasWritten writer.new (text ++ row_text answer_format fields)) }
-{
-    match writer.end_record() {
-        Ok(()) => Ok(()),
-        Err(_) => Err(AllocError),
-    }
-}
-
-fn write_number(writer: &mut Writer<Vec<u8>>, number: i128) -> Result<(), AllocError>
-    ensures { (text : List ℕ) (fields : List (List ℕ)) → IsWriting writer.old text fields → OnOk result (IsWriting writer.new text (fields ++ signed_decimal number ∷ [])) }
-{
-    write_field(writer, Buffer::new().format(number).as_bytes())
-}
-
-fn write_value(writer: &mut Writer<Vec<u8>>, value: &Value) -> Result<(), AllocError>
-    ensures { (text : List ℕ) (fields : List (List ℕ)) → IsWriting writer.old text fields → OnOk result (IsWriting writer.new text (fields ++ value_field value.now ∷ [])) }
-{
-    match value.as_ref() {
-        ValueRef::Int(number) => write_number(writer, number),
+    match value {
+        ValueRef::Int(number) => {
+            room.clear();
+            push_number(room, number, places)?;
+            write_field(writer, room)
+        }
         ValueRef::Text(text) => write_field(writer, text.as_bytes()),
     }
 }
 
-fn write_values(writer: &mut Writer<Vec<u8>>, values: &[Value]) -> Result<(), AllocError>
-    ensures { (text : List ℕ) (fields : List (List ℕ)) → IsWriting writer.old text fields → OnOk result (IsWriting writer.new text (fields ++ map value_field values.now)) }
+// The number of digits after the point of the column at the place among these columns.
+fn places_of(columns: &[u32], places: &[u32], place: usize) -> u32
+    ensures { result ≡ places_of columns.now places.now place }
 {
-    'values: for value in values {
-        write_value(writer, value)?;
+    match columns.get(place) {
+        Some(column) => places_at(places, *column as usize),
+        None => places_at(places, 0),
+    }
+}
+
+// Writes the values of a group in the columns `by`.
+fn write_group(
+    writer: &mut Writer<Vec<u8>>,
+    by: &[u32],
+    places: &[u32],
+    values: &[Value],
+    room: &mut Vec<u8>,
+) -> Result<(), AllocError>
+    ensures { (text : List ℕ) (fields : List (List ℕ)) → IsWriting writer.old text fields
+        → OnOk result (IsWriting writer.new text (fields ++ group_fields by.now places.now values.now)) }
+{
+    'values: for place in 0..values.len() {
+        write_amount(
+            writer,
+            values[place].as_ref(),
+            places_of(by, places, place),
+            room,
+        )?;
     }
     Ok(())
 }
 
-fn write_numbers(writer: &mut Writer<Vec<u8>>, numbers: &[i128]) -> Result<(), AllocError>
-    ensures { (text : List ℕ) (fields : List (List ℕ)) → IsWriting writer.old text fields → OnOk result (IsWriting writer.new text (fields ++ map signed_decimal numbers.now)) }
+// Writes the sums of a group in the columns `summed`.
+fn write_sums(
+    writer: &mut Writer<Vec<u8>>,
+    summed: &[u32],
+    places: &[u32],
+    sums: &[i128],
+    room: &mut Vec<u8>,
+) -> Result<(), AllocError>
+    ensures { (text : List ℕ) (fields : List (List ℕ)) → IsWriting writer.old text fields
+        → OnOk result (IsWriting writer.new text (fields ++ sum_fields summed.now places.now sums.now)) }
 {
-    'numbers: for number in numbers {
-        write_number(writer, *number)?;
+    'sums: for place in 0..sums.len() {
+        write_amount(
+            writer,
+            ValueRef::Int(sums[place]),
+            places_of(summed, places, place),
+            room,
+        )?;
     }
     Ok(())
 }
@@ -103,55 +123,53 @@ fn write_header(
     end_line(writer)
 }
 
-fn write_total(writer: &mut Writer<Vec<u8>>, total: &Total) -> Result<(), AllocError>
-    ensures { (text : List ℕ) → HasWritten writer.old text → OnOk result (HasWritten writer.new (text ++ total_line total.now)) }
+fn write_total(
+    writer: &mut Writer<Vec<u8>>,
+    by: &[u32],
+    summed: &[u32],
+    places: &[u32],
+    total: &Total,
+    room: &mut Vec<u8>,
+) -> Result<(), AllocError>
+    ensures { (text : List ℕ) → HasWritten writer.old text → OnOk result (HasWritten writer.new (text ++ total_line by.now summed.now places.now total.now)) }
 {
-    write_values(writer, total.values.get())?;
-    write_numbers(writer, total.sums.get())?;
+    write_group(writer, by, places, total.values.get(), room)?;
+    write_sums(writer, summed, places, total.sums.get(), room)?;
     end_line(writer)
 }
 
-fn write_totals(writer: &mut Writer<Vec<u8>>, totals: &[Total]) -> Result<(), AllocError>
-    ensures { (text : List ℕ) → HasWritten writer.old text → OnOk result (HasWritten writer.new (text ++ flat_map total_line totals.now)) }
+fn write_totals(
+    alloc: Global,
+    writer: &mut Writer<Vec<u8>>,
+    by: &[u32],
+    summed: &[u32],
+    places: &[u32],
+    totals: &[Total],
+) -> Result<(), AllocError>
+    ensures { (text : List ℕ) → HasWritten writer.old text → OnOk result (HasWritten writer.new (text ++ flat_map (total_line by.now summed.now places.now) totals.now)) }
 {
+    let mut room = Vec::new(alloc);
     'totals: for total in totals {
-        write_total(writer, total)?;
+        write_total(writer, by, summed, places, total, &mut room)?;
     }
     Ok(())
 }
 
-// A writer of lines that has written none.
-fn line_writer(alloc: Global) -> Writer<Vec<u8>>
-    ensures { HasWritten result [] }
-{
-    WriterBuilder::new()
-        .flexible(true)
-        .from_writer(Vec::new(alloc))
-}
-
-fn text_written(writer: Writer<Vec<u8>>) -> Result<Vec<u8>, AllocError>
-    ensures { (text : List ℕ) → HasWritten writer text → IfOk result (λ written. written.items ≡ text) }
-{
-    match writer.into_inner() {
-        Ok(text) => Ok(text),
-        Err(_) => Err(AllocError),
-    }
-}
-
 // The totals as CSV in the format of answers: a header line with the names of the columns `by` and `summed`, then a line
-// for each total with its values and sums. Not inlined, so that the writer's buffers leave the stack.
+// for each total with its values and sums. `places` has the digits after the point of each column. Not inlined, so that the writer's buffers leave the stack.
 #[inline(never)]
 pub(crate) fn totals_text(
     alloc: Global,
     columns: &[Name],
     by: &[u32],
     summed: &[u32],
+    places: &[u32],
     totals: &[Total],
 ) -> Result<Vec<u8>, AllocError>
-    ensures { IfOk result (λ text. text.items ≡ totals_text columns.now by.now summed.now totals.now) }
+    ensures { IfOk result (λ text. text.items ≡ totals_text columns.now by.now summed.now places.now totals.now) }
 {
     let mut writer = line_writer(alloc);
     write_header(&mut writer, columns, by, summed)?;
-    write_totals(&mut writer, totals)?;
+    write_totals(alloc, &mut writer, by, summed, places, totals)?;
     text_written(writer)
 }

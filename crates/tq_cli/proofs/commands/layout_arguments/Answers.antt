@@ -10,5 +10,5 @@ returns c =
     let two = with_arg c.in_ok-arg.field-0 c.in_ok-arg-2.field-0 c.flag_argument.result _ (flag_rule (codes "pretty")) one c.flag_argument.ensures refl c.in_ok-arg-2.ensures in
     let three = with_arg c.in_ok-arg-2.field-0 c.in_ok-arg-3.field-0 c.order_argument.result _ order_rule two c.order_argument.ensures refl c.in_ok-arg-3.ensures in
     let four = with_arg c.in_ok-arg-3.field-0 c.in_ok-arg-4.field-0 c.flag_argument-2.result _ (flag_rule (codes "inclusive")) three c.flag_argument-2.ensures refl c.in_ok-arg-4.ensures in
-    let five = with_arg c.in_ok-arg-4.field-0 c.in_ok-arg-5.field-0 c.list_argument.result _ (list_rule (codes "decimal")) four c.list_argument.ensures refl c.in_ok-arg-5.ensures in
+    let five = with_arg c.in_ok-arg-4.field-0 c.in_ok-arg-5.field-0 c.amounts_argument.result _ (list_rule (codes "decimal")) four c.amounts_argument.ensures refl c.in_ok-arg-5.ensures in
     IfOk-weaker c.arg-6.result _ _ (λ r added. with_arg c.in_ok-arg-5.field-0 r c.flag_argument-3.result _ (flag_rule (codes "typed")) five c.flag_argument-3.ensures refl added) c.arg-6.ensures

@@ -1,6 +1,5 @@
-use Rattle.std.proofs.Common.{arith, rules, ◌≡◌, ◌∙◌, ◌++◌, ◌∷◌, []}
-use Rattle.tq_cli.specs.Comments.{begins_comment, place_at}
-use Rattle.tq_cli.specs.declared.comments.Place.TheVariants.{Outside}
+use Rattle.std.proofs.Common.{arith, rules}
+use Rattle.tq_cli.specs.Comments.{place_at}
 use Rattle.tq_cli.proofs.CommentLemmas.{all_shown, byte_shown}
 use Rattle.tq_cli.proofs.comments.blank_comments.Goals as goal
 

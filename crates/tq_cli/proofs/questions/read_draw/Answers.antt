@@ -1,4 +1,4 @@
-use Rattle.std.proofs.Common.{inl, inr}
+use Rattle.std.proofs.Common.{inr}
 use Rattle.tq_cli.proofs.RequestLemmas.{passed_on}
 use Rattle.tq_cli.proofs.questions.read_draw.Goals as goal
 

@@ -1,6 +1,5 @@
-use Rattle.std.proofs.Common.{ℕ, Err, List, ap, inl, inr, subst}
+use Rattle.std.proofs.Common.{inl}
 use Rattle.std.proofs.lemmas.Result.{err_from_is_err_and}
-use Rattle.tq_engine.specs.Answers.{HasAnswer, IsFault}
 use Rattle.tq_commands.proofs.questions.answer_table.Goals as goal
 
 pub returns-in_err-tables-clause-refused : goal.returns-in_err-tables-clause-refused

@@ -1,4 +1,4 @@
-use Rattle.std.proofs.Common.{◌≡◌, ◌∙◌, ◌+◌, [], max, true, false, nat_le, ap, sym, arith, count_by, drop}
+use Rattle.std.proofs.Common.{◌≡◌, ◌∙◌, [], max, true, false, nat_le, ap, sym, arith, count_by, drop}
 use Rattle.std.proofs.lemmas.Bool.{leb-false, leb-true}
 use Rattle.std.proofs.lemmas.List.{drop_all}
 use Rattle.csv.specs.Records.{fields_of}

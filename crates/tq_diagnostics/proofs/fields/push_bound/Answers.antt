@@ -1,5 +1,5 @@
 -- An end that is not empty is reported as an instant.
-use Rattle.std.proofs.Common.{◌≡◌, ◌++◌, if◌then◌else◌, OnOk, [], codes, length, rules, subst, sym}
+use Rattle.std.proofs.Common.{◌≡◌, ◌++◌, if◌then◌else◌, OnOk, [], codes, length, subst, sym}
 use Rattle.std.proofs.lemmas.Bool.{ne_eqb}
 use Rattle.tq_diagnostics.specs.Fields as spec
 use Rattle.tq_diagnostics.proofs.fields.push_bound.Goals as goal

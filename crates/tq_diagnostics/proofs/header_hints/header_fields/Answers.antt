@@ -1,4 +1,4 @@
-use Rattle.std.proofs.Common.{◌≡◌, ◌∙◌, ◌∷◌, ◌++◌, [], ℕ, List, ap, arith, sym}
+use Rattle.std.proofs.Common.{◌∙◌, ◌∷◌, ◌++◌, [], ℕ, List, ap, arith, sym}
 use Rattle.csv.specs.Records.{fields_of}
 use Rattle.tq_diagnostics.proofs.RecordLemmas.{take_next}
 use Rattle.tq_diagnostics.proofs.header_hints.header_fields.Goals as goal

@@ -1,5 +1,5 @@
 -- The field at the place is shown.
-use Rattle.std.proofs.Common.{◌≡◌, ◌++◌, ◌∙◌, OnOk, ap, append_assoc, codes, rules, subst}
+use Rattle.std.proofs.Common.{◌≡◌, ◌++◌, ◌∙◌, OnOk, ap, append_assoc, codes, subst}
 use Rattle.tq_diagnostics.specs.Fields.{shown_value}
 use Rattle.tq_diagnostics.proofs.headers.push_column.Goals as goal
 

@@ -1,7 +1,6 @@
-use Rattle.std.proofs.Common.{◌≡◌, ◌∙◌, ◌+◌, ◌++◌, ◌∷◌, [], ℕ, List, ap, arith, drop, length, refl, sym, slice_get}
-use Rattle.std.specs.Prelude.{slice_index}
+use Rattle.std.proofs.Common.{◌≡◌, ◌∙◌, ◌+◌, ◌++◌, [], ℕ, List, ap, arith, drop, length, sym, slice_get}
 use Rattle.std.proofs.lemmas.List.{drop_all}
-use Rattle.tq_diagnostics.specs.Lines.{line_if_start, lines_from, lines_left, state_of}
+use Rattle.tq_diagnostics.specs.Lines.{line_if_start, lines_from, state_of}
 use Rattle.tq_diagnostics.proofs.FaultLemmas.{lines_next}
 use Rattle.tq_diagnostics.proofs.lines.next_line.Goals as goal
 

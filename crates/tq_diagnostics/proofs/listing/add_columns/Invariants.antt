@@ -1,6 +1,5 @@
 use Rattle.std.proofs.Common.{◌≡◌, ◌++◌, map, take}
 use Rattle.tq_base.specs.declared.catalogue.Column.{Column}
-use Rattle.tq_diagnostics.specs.Listing.{table_columns}
 use Rattle.tq_diagnostics.specs.Views.{name_views}
 use Rattle.tq_diagnostics.proofs.listing.add_columns.Given as goal
 

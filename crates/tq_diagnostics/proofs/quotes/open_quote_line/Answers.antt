@@ -1,7 +1,5 @@
-use Rattle.std.proofs.Common.{◌≡◌, ◌∙◌, [], ap, arith, drop, sym}
-use Rattle.std.proofs.lemmas.List.{drop_all}
+use Rattle.std.proofs.Common.{◌∙◌, arith, sym}
 use Rattle.tq_diagnostics.specs.Lines.{state_of}
-use Rattle.tq_diagnostics.specs.Quotes.{open_quote_from}
 use Rattle.tq_diagnostics.proofs.QuoteLemmas.{quote_next}
 use Rattle.tq_diagnostics.proofs.quotes.open_quote_line.Goals as goal
 

@@ -1,4 +1,4 @@
-use Rattle.std.proofs.Common.{◌≡◌, ◌∙◌, ◌+◌, ◌-◌, ◌==◌, List, ℕ, Some, None, Option, option_map, position, take, drop, length, length-drop, arith, ap, sym}
+use Rattle.std.proofs.Common.{◌≡◌, ◌∙◌, ◌+◌, ◌-◌, ◌==◌, List, ℕ, Some, None, option_map, position, take, drop, length, length-drop, arith, ap, sym}
 use Rattle.std.proofs.lemmas.List.{take_all}
 use Rattle.tq_plan.proofs.windows.dash_after.Goals as goal
 

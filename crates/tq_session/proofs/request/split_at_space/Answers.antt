@@ -1,6 +1,5 @@
-use Rattle.std.proofs.Common.{◌≡◌, ◌==◌, ◌-◌, ◌+◌, ℕ, List, take, drop, length, length-drop, position, None, Some, option_map, arith, sym, ap, ◌∙◌}
+use Rattle.std.proofs.Common.{◌≡◌, ◌==◌, ◌-◌, ◌+◌, take, drop, length, length-drop, position, Some, option_map, arith, sym, ap, ◌∙◌}
 use Rattle.std.proofs.lemmas.List.{take_all}
-use Rattle.tq_session.specs.Requests.{split_at_space}
 use Rattle.tq_session.proofs.request.split_at_space.Goals as goal
 
 pub returns-in_err-place : goal.returns-in_err-place

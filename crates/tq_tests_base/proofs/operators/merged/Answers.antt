@@ -1,4 +1,4 @@
-use Rattle.std.proofs.Common.{◌≡◌, ◌∙◌, subst, sym}
+use Rattle.std.proofs.Common.{◌∙◌, subst, sym}
 use Rattle.std.proofs.lemmas.List.Elements.{All-push}
 use Rattle.tq_table.specs.Merging.{AreInOrder, AreOfWidth}
 use Rattle.tq_tests_base.proofs.operators.merged.Goals.{then-width+in_ok-layers+in_ok-push, else-width}

@@ -1,6 +1,6 @@
 use Rattle.std.proofs.Common.{[], ◌++◌, map}
 use Rattle.tq_totals.specs.Text.{name_at}
-use Rattle.tq_totals.proofs.WritingLemmas.{no-fields}
+use Rattle.tq_table.proofs.WritingLemmas.{no-fields}
 use Rattle.tq_totals.proofs.text.write_header.Goals as goal
 
 pub returns : goal.returns

@@ -10,13 +10,14 @@ totals-preserved c text is =
     let totals = c.args.totals.now in
     let at = c.totals.total-index in
     let item = c.total-item.result in
-    let written = c.in_ok-write_total.ensures (text ++ flat_map total_line (take at totals)) (c.totals.invariant text is) in
-    let longer : (text ++ flat_map total_line (take at totals)) ++ total_line item ≡ text ++ flat_map total_line (take (at + 1) totals) =
-    flat_map_more total_line text (take at totals) item
-    ∙ ap (λ t. text ++ flat_map total_line (take at totals ++ t ∷ [])) c.total-item.is
-    ∙ ap (λ l. text ++ flat_map total_line l) (sym (take_more totals at item c.totals-test.true)) in
+    let line = total_line c.args.by.now c.args.summed.now c.args.places.now in
+    let written = c.in_ok-write_total.ensures (text ++ flat_map line (take at totals)) (c.totals.invariant text is) in
+    let longer : (text ++ flat_map line (take at totals)) ++ line item ≡ text ++ flat_map line (take (at + 1) totals) =
+    flat_map_more line text (take at totals) item
+    ∙ ap (λ t. text ++ flat_map line (take at totals ++ t ∷ [])) c.total-item.is
+    ∙ ap (λ l. text ++ flat_map line l) (sym (take_more totals at item c.totals-test.true)) in
     subst (HasWritten c.write_total.new.writer) longer written
 
 pub returns : goal.returns
 returns c text is =
-    subst (λ l. HasWritten c.totals.writer (text ++ flat_map total_line l)) (take_all c.totals.total-index c.args.totals.now (omega (arith, c.totals-test.false))) (c.totals.invariant text is)
+    subst (λ l. HasWritten c.totals.writer (text ++ flat_map (total_line c.args.by.now c.args.summed.now c.args.places.now) l)) (take_all c.totals.total-index c.args.totals.now (omega (arith, c.totals-test.false))) (c.totals.invariant text is)

@@ -6,4 +6,4 @@ use Rattle.tq_totals.specs.Text.{total_line}
 use Rattle.tq_totals.proofs.text.write_totals.Given as goal
 
 abbrev pub invariant-totals : goal.invariant-totals
-invariant-totals l = (text : List ℕ) → HasWritten l.initial.writer text → HasWritten l.writer (text ++ flat_map total_line (take l.total-index l.totals))
+invariant-totals l = (text : List ℕ) → HasWritten l.initial.writer text → HasWritten l.writer (text ++ flat_map (total_line l.by l.summed l.places) (take l.total-index l.totals))

@@ -1,6 +1,5 @@
 use Rattle.std.proofs.Common.{◌++◌, ◌+◌, ◌%◌, ◌∙◌, ◌<◌, ap, subst, sym}
 use Rattle.std.specs.Prelude.{filter}
-use Rattle.std.specs.Ordering.{eq_by_cmp, nat_cmp}
 use Rattle.std.proofs.lemmas.Option.{slice_get_within}
 use Rattle.tq_event.specs.Versions.{row_lives}
 use Rattle.tq_snapshot.proofs.FirstLemmas.{IsLeft, all_left, between, left_least, left_member, left_next, left_under, none_left}

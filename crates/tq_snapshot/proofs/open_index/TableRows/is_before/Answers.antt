@@ -1,4 +1,4 @@
-use Rattle.std.proofs.Common.{◌≡◌, ◌++◌, ◌∙◌, sym, ap, subst}
+use Rattle.std.proofs.Common.{◌++◌, ◌∙◌, sym, ap, subst}
 use Rattle.tq_event.specs.History.{time_of}
 use Rattle.tq_store.proofs.SortKeyLemmas.{from_is_less, is_less}
 use Rattle.tq_snapshot.proofs.OpenIndexLemmas.{is_open_there, open_life}

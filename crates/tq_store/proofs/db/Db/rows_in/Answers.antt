@@ -1,9 +1,7 @@
 use Rattle.std.proofs.Common.{arith}
 use Rattle.std.proofs.lemmas.Result.{IfOk-weaker}
-use Rattle.std.proofs.Common.{◌∙◌, sym, subst}
-use Rattle.tq_base.specs.declared.fragment.Fragment.{Fragment}
+use Rattle.std.proofs.Common.{◌∙◌, subst}
 use Rattle.tq_scan.specs.declared.window.Part.{Part}
-use Rattle.tq_store.specs.Rows.{whole_window}
 use Rattle.tq_store.specs.Valid.{ArePart}
 use Rattle.tq_store.proofs.ValidLemmas.{keys_in, valid_in, whole_within}
 use Rattle.tq_store.proofs.db.Db.rows_in.Goals as goal

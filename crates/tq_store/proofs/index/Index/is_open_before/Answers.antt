@@ -1,4 +1,4 @@
-use Rattle.std.proofs.Common.{◌≡◌, ◌<◌, ◌∙◌, ◌↔◌, IsTrue, true, false, not, length, subst, refl, sym, ap, Some, ℕ}
+use Rattle.std.proofs.Common.{◌≡◌, ◌<◌, ◌∙◌, true, false, not, length, subst, refl, sym, ap, Some, ℕ}
 use Rattle.std.specs.Prelude.{List, slice_get, slice_index_or, is_some}
 use Rattle.std.proofs.lemmas.Option.{slice_get_read}
 use Rattle.tq_event.specs.declared.event.Event.{Event}

@@ -1,6 +1,6 @@
 use Rattle.std.proofs.Common.{◌<◌, ◌^◌, arith}
 use Rattle.std.proofs.Math.Nat.{one-le-pow}
-use Rattle.tq_report.proofs.amounts.split.Goals as goal
+use Rattle.tq_table.proofs.amounts.split.Goals as goal
 
 pub nonzero_div-result : goal.nonzero_div-result
 nonzero_div-result c =

@@ -2,14 +2,13 @@
 
 ghost use Rattle.std.specs.Prelude.{◌≤◌, length};
 
-use crate::division::{Division, DivisionFault};
-use crate::{divide, part_number};
 use std::alloc::Global;
 use std::fmt::Write as Format;
 use std::io::{self, ErrorKind, Write};
 use std::test::Fail;
 use tq_base::{Form, Value};
 use tq_event::LoadFaultKind;
+use tq_split::{Division, DivisionFault, divide, part_number};
 use tq_table::Sink;
 
 const EMP: &[u8] = b"emp:int,dept:text,from,to

@@ -1,9 +1,9 @@
 // Answers that are merged.
 
-use crate::{AnswerLayout, Combine, merge_answers};
 use std::alloc::{AllocError, Global};
 use std::test::Fail;
 use tq_base::{Column, Form, Kind, fold_name};
+use tq_split::{AnswerLayout, Combine, merge_answers};
 use tq_table::Sink;
 
 const FIRST: &[u8] = b"name,n,from,to\nann,1,0,5\nann,1,2,3\nbob,2,0,forever\n";

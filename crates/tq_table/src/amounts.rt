@@ -1,13 +1,13 @@
-// Numbers, and amounts that are whole numbers of their smallest unit.
+// Numbers as text, and amounts: whole numbers of their smallest unit, with digits after a point.
 
 ghost use Rattle.std.specs.Prelude.{◌≡◌, ◌++◌, ◌/◌, ◌%◌, ◌^◌, OnOk, replicate};
-ghost use Rattle.tq_report.specs.Texts.{number_text, size_text, with_zeros};
+ghost use Rattle.tq_table.specs.Amounts.{number_text, places_at, size_text, with_zeros};
 
 use itoa::Buffer;
 use std::alloc::AllocError;
 
 /// Appends a byte this many times.
-pub(crate) fn push_times(text: &mut Vec<u8>, byte: u8, times: usize) -> Result<(), AllocError>
+pub fn push_times(text: &mut Vec<u8>, byte: u8, times: usize) -> Result<(), AllocError>
     ensures { OnOk result (text.new.items ≡ text.old.items ++ replicate times byte) }
 {
     'times: for _time in 0..times {
@@ -48,7 +48,7 @@ fn push_size(text: &mut Vec<u8>, size: u128, places: u32) -> Result<(), AllocErr
 }
 
 /// Appends a number of units of 10^-places.
-pub(crate) fn push_number(text: &mut Vec<u8>, number: i128, places: u32) -> Result<(), AllocError>
+pub fn push_number(text: &mut Vec<u8>, number: i128, places: u32) -> Result<(), AllocError>
     ensures { OnOk result (text.new.items ≡ text.old.items ++ number_text places number) }
 {
     if places == 0 {
@@ -58,4 +58,14 @@ pub(crate) fn push_number(text: &mut Vec<u8>, number: i128, places: u32) -> Resu
         text.push(b'-')?;
     }
     push_size(text, number.unsigned_abs(), places)
+}
+
+// The number of digits after the point in a column.
+pub fn places_at(places: &[u32], column: usize) -> u32
+    ensures { result ≡ places_at places.now column }
+{
+    match places.get(column) {
+        Some(places) => *places,
+        None => 0,
+    }
 }

@@ -1,9 +1,9 @@
 use Rattle.std.specs.Prelude.{◌≢◌}
 use Rattle.csv.specs.declared.writer.QuoteStyle.TheVariants as style
 use Rattle.tq_table.specs.Text.{answer_format}
-use Rattle.tq_totals.proofs.WritingLemmas.{more-fields}
-use Rattle.tq_totals.proofs.text.write_field.Goals as goal
-use Rattle.tq_totals.proofs.text.write_field.Goals.{in-Ok, in-Err}
+use Rattle.tq_table.proofs.WritingLemmas.{more-fields}
+use Rattle.tq_table.proofs.writing.write_field.Goals as goal
+use Rattle.tq_table.proofs.writing.write_field.Goals.{in-Ok, in-Err}
 
 pub returns : goal.returns
 returns c text fields is =
