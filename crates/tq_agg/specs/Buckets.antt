@@ -36,7 +36,7 @@ AreRanked column ranks buckets =
 abbrev pub IsInside : Period → Bucket → Type 0
 IsInside window b = AreInside window b.endpoints.starts.items × AreInside window b.endpoints.ends.items
 
--- those of all buckets are
+-- the bounds of all buckets are of the window
 abbrev pub AreCut : Period → List Bucket → Type 0
 AreCut window buckets = All (IsInside window) buckets
 
@@ -44,7 +44,7 @@ AreCut window buckets = All (IsInside window) buckets
 abbrev pub bucket_count : List Value → ℕ → List Value → Bucket → ℤ
 bucket_count column t key b = cond (same_row (value_of column b ∷ []) key) (count_upto b.endpoints.starts.items b.endpoints.ends.items t) (pos 0)
 
--- the same of all buckets
+-- the same, added over all buckets
 abbrev pub counted : List Value → ℕ → List Value → List Bucket → ℤ
 counted column t key buckets = added (bucket_count column t key) buckets
 

@@ -56,7 +56,7 @@ totals_changed starts ends t = changed_upto one starts ends t ∷ changed_upto o
 abbrev pub ChangeInside : Period → List Change → Type 0
 ChangeInside window changes = AreInside window (bounds_of changes) × HaveSmallWeights changes
 
--- those of all buckets do
+-- the same for the changes of all buckets
 abbrev pub AreChangesCut : Period → List Bucket → Type 0
 AreChangesCut window buckets = All (λ (b : Bucket). ChangeInside window b.changes.starts.items × ChangeInside window b.changes.ends.items) buckets
 
@@ -65,7 +65,7 @@ abbrev pub bucket_change : (ℤ → ℤ) → List Value → ℕ → List Value �
 bucket_change f column t key b =
     cond (same_row (value_of column b ∷ []) key) (changed_upto f b.changes.starts.items b.changes.ends.items t) (pos 0)
 
--- the same of all buckets
+-- the same, added over all buckets
 abbrev pub weighed : (ℤ → ℤ) → List Value → ℕ → List Value → List Bucket → ℤ
 weighed f column t key buckets = added (bucket_change f column t key) buckets
 

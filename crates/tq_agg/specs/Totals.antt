@@ -37,7 +37,7 @@ key_weight sort_input s k = weight_of s (key_row sort_input k).values
 abbrev pub AreWeights : List Fragment → Summand → List ℤ → Type 0
 AreWeights rows s weights = (row : ℕ) → row < length weights → slice_index_or weights row (pos 0) ≡ weight_of s (values_at_number rows row)
 
--- so are those of each list, of the summand at its place
+-- the same for each list, for the summand at its place
 abbrev pub HaveWeights : List Fragment → List Summand → List (List ℤ) → Type 0
 HaveWeights rows summands lists = (place : ℕ) (d : Summand) → place < length summands → AreWeights rows (slice_index_or summands place d) (slice_index_or lists place [])
 

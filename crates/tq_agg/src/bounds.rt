@@ -20,7 +20,8 @@ pub(crate) struct End {
     pub(crate) side: Side,
 }
 
-// The bound of this number, or the nearer end of the window. It has no branch that the processor could predict wrongly.
+// The bound with this number or, if it is outside the window, the nearer end of the window. It has no branch that the
+// processor could predict wrongly.
 fn moved(number: u64, window: &Period) -> Bound
     ensures { result ≡ moved window.now number }
 {
@@ -31,7 +32,7 @@ fn moved(number: u64, window: &Period) -> Bound
     }
 }
 
-// The start of the row of the key, in the window.
+// The start of the key's row, cut to the window.
 pub(crate) fn start_in(key: &SortKey, window: &Period) -> Bound
     ensures { result ≡ start_in window.now key.now }
 {
@@ -50,7 +51,7 @@ fn end_of(sort_input: &SortInput<'_>, lefts: &[Period], key: &SortKey) -> Bound
     }
 }
 
-// Replaces the list by the ends of the rows of the keys, in the window and in order of time.
+// Replaces the list by the ends of the keys' rows, cut to the window and in order of time.
 pub(crate) fn fill_ends(
     sort_input: &SortInput<'_>,
     keys: &[SortKey],

@@ -18,8 +18,8 @@ use crate::sweeping::{GroupKey, Scratch, sweep};
 use std::alloc::{AllocError, Global};
 use tq_base::{ColumnView, Period, Relation, Rows};
 
-// Puts the row and its number into the bucket of its value, if its period overlaps the window. `false` if there is no bucket for
-// it.
+// Puts the row, with its number in the summed column, into the bucket of its value, if its period overlaps the window.
+// Returns `false` if its value cannot have a bucket.
 fn put_change(
     alloc: Global,
     column: &ColumnView<'_>,

@@ -93,7 +93,8 @@ pub(crate) fn bucket_at(
     Ok(Some(place))
 }
 
-// Puts the row into the bucket of its value, if its period overlaps the window. `false` if there is no bucket for it.
+// Puts the row into the bucket of its value, if its period overlaps the window. Returns `false` if its value cannot
+// have a bucket.
 fn put_row(
     alloc: Global,
     column: &ColumnView<'_>,

@@ -16,7 +16,7 @@ use crate::endpoints::Endpoints;
 use std::alloc::{AllocError, Global};
 use tq_base::{Period, Relation, Rows};
 
-// Adds the rows of the value with this prefix, if there are any, to the other bucket, which becomes a bucket of this value.
+// Adds the rows of the value with this prefix, if `buckets` has any, to `bucket`, which becomes a bucket of this value.
 fn add_rank(buckets: &Tally, prefix: u128, bucket: &mut Bucket) -> Result<(), AllocError>
     requires { length buckets.now.ranks.items ≡ length buckets.now.list.items }
     ensures inside { (window : Period) → AreCut window buckets.now.list.items → IsInside window bucket.old → OnOk result (IsInside window bucket.new) }
@@ -51,8 +51,8 @@ fn rows_of_rank(alloc: Global, tallies: &[Tally], prefix: u128) -> Result<Bucket
     Ok(bucket)
 }
 
-/// The counts of the rows of one partition: those whose value has the prefix with this number, while any is valid. `AllocError` if an
-/// allocation failed.
+/// Counts the rows of one partition: those whose value has the prefix `ranks[number]`. There is a row with the value
+/// and the count for each period in which the count is not 0. `AllocError` if an allocation failed.
 pub fn count_share(
     alloc: Global,
     rows: &Relation<'_>,

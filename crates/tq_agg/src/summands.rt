@@ -36,8 +36,8 @@ pub(crate) fn weight(summand: Summand, row: &Row<'_>) -> i128
     number_of(row.value(column as usize))
 }
 
-// What each row adds for a column, in the order of rows, up to the first number of more than 64 signed bits. A sweep needs each
-// number twice, in the order of time. Read here in one loop, they are in cache lines of 8 numbers.
+// What each row adds for a column, in the order of rows, up to the first number of more than 64 signed bits. A sweep
+// needs each number twice, in the order of time. One loop here puts them into cache lines of 8 numbers.
 fn weights_in(alloc: Global, rows: &Relation<'_>, column: u32) -> Result<Vec<i64>, AllocError>
     ensures { IfOk result (λ weights. AreWeights rows.now.items (Column column) weights.items) }
 {
@@ -53,7 +53,7 @@ fn weights_in(alloc: Global, rows: &Relation<'_>, column: u32) -> Result<Vec<i64
     Ok(weights)
 }
 
-// What the rows add for the summand. For a count the list is empty.
+// What each row adds for the summand. The list is empty for a count, to which each row adds 1.
 fn weights_to(alloc: Global, rows: &Relation<'_>, summand: Summand) -> Result<Vec<i64>, AllocError>
     ensures { IfOk result (λ weights. AreWeights rows.now.items summand weights.items) }
 {
@@ -63,7 +63,7 @@ fn weights_to(alloc: Global, rows: &Relation<'_>, summand: Summand) -> Result<Ve
     }
 }
 
-// The list of each summand.
+// For each summand, what each row adds, as far as it is listed.
 pub(crate) fn weights_of(
     alloc: Global,
     rows: &Relation<'_>,

@@ -109,7 +109,7 @@ fn earlier(start: Option<Bound>, end: Option<Bound>) -> Option<Bound>
     }
 }
 
-// The number of starts from the place on that come by the bound.
+// The number of starts, from place `begun` on, that are at or before the bound.
 fn starts_by<T: Timeline>(timeline: &T, begun: usize, at: Bound) -> usize
     requires within { begun ≤ length (T.starts timeline.now) }
     requires short { length (T.starts timeline.now) < 2 ^ 63 }
@@ -125,7 +125,7 @@ fn starts_by<T: Timeline>(timeline: &T, begun: usize, at: Bound) -> usize
     len
 }
 
-// The number of ends from the place on that come by the bound.
+// The number of ends, from place `ended` on, that are at or before the bound.
 fn ends_by<T: Timeline>(timeline: &T, ended: usize, at: Bound) -> usize
     requires within { ended ≤ length (T.ends timeline.now) }
     requires short { length (T.ends timeline.now) < 2 ^ 63 }

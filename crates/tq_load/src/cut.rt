@@ -12,10 +12,10 @@ use std::alloc::{AllocError, Global};
 use tq_event::steps::begins_with_bom;
 use tq_event::{FileBytes, TableFile};
 
-// The number of parts for each worker, about.
+// There are about this many parts for each worker.
 const PARTS_PER_WORKER: usize = 16;
 
-// A worker's share of a file from which the first part is made that long.
+// If a worker's share of a file has at least this many bytes, the first part is that long.
 const LONG: usize = 65_536;
 
 // The most cuts of one file.
@@ -26,7 +26,7 @@ const MARK_LEN: usize = 3;
 // The most lines that are searched for a place to cut.
 const MAX_LINES: usize = 64;
 
-/// The length of a part for these workers, about, and at least `least`.
+/// The approximate length of a part for these workers, at least `least`.
 pub fn part_len(files: &[TableFile], workers: u32, least: usize) -> usize
     requires { 1 ≤ workers }
 {
@@ -118,8 +118,8 @@ fn cut_within(bytes: &[u8], len: usize) -> Option<usize>
     None
 }
 
-/// A place in the bytes of a file at which a record seems to begin: after a line feed, where the line looks like a
-/// record. `None` if there is no such place near the start.
+/// A place in the bytes of a file at which a record seems to begin: after a line feed, if the line after it looks like
+/// a record. `None` if there is none near the start.
 pub fn first_cut(bytes: &[u8]) -> Option<usize>
     ensures within { IfSome result (λ place. place ≤ length bytes.now) }
     ensures feed { IfSome result (λ place. ends_in_feed (take place bytes.now) ≡ true) }
@@ -178,7 +178,7 @@ fn add_parts(
 }
 
 /// The parts of the files, file by file, each of about length `len`; the first part of a long file is longer. A file is
-/// cut after line feeds where a record seems to begin, and where its bytes continue in another list.
+/// cut after line feeds at which a record seems to begin, and at the ends of the lists that have its bytes.
 pub fn cut(
     alloc: Global,
     files: &[TableFile],

@@ -13,7 +13,7 @@ use tq_base::{Column, List, Schema};
 use tq_event::steps::{has_two_boms, next_record, read_header, read_name, record_reader};
 use tq_event::{FileBytes, LoadFaultKind, TableFile};
 
-// The least bytes of a header in bytes that are in several lists: those of two byte order marks.
+// If a file is in several lists, its header line must have at least this many bytes: those of two byte order marks.
 const MIN_HEADER_LENGTH: usize = 6;
 
 // The columns in the header of the bytes.

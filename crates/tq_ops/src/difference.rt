@@ -97,7 +97,8 @@ fn is_left(side: Side) -> bool
     }
 }
 
-// The periods. At each instant, the number of valid ones is the rises up to it minus the falls, or 0 if falls prevail.
+// The periods that remain. At each instant, the number of valid ones is the rises up to it minus the falls, or 0 if
+// falls prevail.
 fn swept(alloc: Global, changes: &[Change]) -> Result<Vec<Period>, AllocError>
     requires sorted { IsSortedByKey (λ (c : Change). c.at) nat_cmp changes.now }
     requires even { IsEven changes.now }

@@ -198,7 +198,7 @@ impl Db {
     }
 
     // The tree keys of the rows of the part of the window, in any order: `find` without the work of ordering them, for
-    // rows that are asked at the instants of the period alone.
+    // callers that need the rows only at the instants of the period.
     fn find_unsorted(
         &self,
         alloc: Global,

@@ -111,8 +111,8 @@ impl Index {
         Ok(())
     }
 
-    // Ends the row, of which `known` is what is stored, by the event with this number and time. After `AllocError`
-    // nothing has changed.
+    // Ends the row, whose stored events are `known`, by the event with this number and time. After `AllocError` nothing
+    // has changed.
     fn end(
         &mut self,
         number: u32,

@@ -9,7 +9,8 @@ use crate::lines::ResultRows;
 use std::cmp::Ordering;
 use tq_base::Row;
 
-/// Whether the row's values are below the other's, as shown by the first place at which they differ.
+/// Whether the row's values are below the other's at the first place at which they differ. `false` if they differ at
+/// none.
 pub fn is_below(row: &Row<'_>, other: &Row<'_>) -> bool
     ensures { IsTrue result → Below row.now other.now }
 {
