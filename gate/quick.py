@@ -162,7 +162,7 @@ def placed(case, folder):
         name, _, path = ("", "", word) if is_file else word.removeprefix(front).partition("=")
         if (front or before == "--table" or is_file) and path not in ("", "-") and not path.startswith(("/", "examples/")):
             word = f"{folder}/{path}" if is_file else f"{front}{name}={folder}/{path}"
-            line = rb"^(tq: cannot read |tq: cannot write |tq: import |  )(?=" + re.escape(path.encode()) + rb"[,:\n])"
+            line = rb"^(tq: cannot read |tq: cannot write |tq: import |  (?:\d+ invalid records? in )?)(?=" + re.escape(path.encode()) + rb"[,:\n])"
             err = re.sub(line, lambda found: found[1] + f"{folder}/".encode(), err, flags=re.MULTILINE)
         words.append(word)
     return words, err
