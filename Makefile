@@ -22,7 +22,7 @@ first: tools
 build: tools
 	@python3 gate/build.py
 
-# The tests without proofs, in a few minutes.
+# The tests without proofs, in about ten minutes.
 quick: tools
 	@gate/quick.py
 

@@ -4,7 +4,7 @@
     --rows N ..       the sizes of the tables (1000000 100000000)
     --parts N         how many parts (64)
     --processes N     how many parts are asked at once (4)
-    --folder DIR      a folder for tables and parts, about 130 bytes for each row of a table (a folder for temporary files)
+    --folder DIR      a folder for tables and parts, about 170 bytes for each row of a table (a temporary one)
 
 bench/scale.c writes the tables, as 16 files each. They are divided, the parts are asked by one worker each, and the answers
 are merged. bench/scale.c also finds by itself what the answers must be, and reads the merged answer: another sum ends the

@@ -190,7 +190,8 @@ def prove(crate):
     # With RT_JOBS, each proof has one processor.
     environment = {name: value for name, value in os.environ.items() if name != "RT_JOBS"}
     with open(f"{ROOT}/bin/prove.log", "w", encoding="utf-8") as log:
-        # All others wait for the lowest crate. Alone in a run it has all processors; beside crates that are ready too it has one.
+        # All others wait for the lowest crate. Alone in a run it has as many processors as memory allows; with other crates that
+        # can be proved at once it has one.
         for chosen in (crates[:1], crates):
             with tempfile.TemporaryDirectory(prefix="tq-prove-") as room:
                 copy_crates(chosen, room)

@@ -44,6 +44,8 @@ LIMITS = ["--steps", "1", "--seconds", "600"]
 MOST = 1_000_000
 # At most this many lines are shown of a crate that failed.
 SHOWN = 60
+# The runs of `rt try`, which have sessions of their own, so that an interrupt at a terminal does not reach them.
+RUNNING = set()
 # One case of tq in this many is put, without --all.
 STRIDE = 3
 PAGES = ["README.md", "examples/payroll.md", "examples/dates.md", "examples/session.md"]
@@ -83,8 +85,10 @@ def try_crate(crate, words, taken=b""):
     """Runs `rt try` in the crate's folder: its status, standard output and standard error."""
     how = {"stdin": subprocess.PIPE, "stdout": subprocess.PIPE, "stderr": subprocess.PIPE, "start_new_session": True}
     with subprocess.Popen(["rt", "try", *words], cwd=ROOT / "crates" / crate, **how) as running:
+        RUNNING.add(running)
         threading.Thread(target=put_last, args=(running,), daemon=True).start()
         out, err = running.communicate(taken)
+        RUNNING.discard(running)
     return running.returncode, out, err
 
 
@@ -267,7 +271,9 @@ def main():
                 total.passed += outcome.passed
                 total.failed += outcome.failed
         except KeyboardInterrupt:
-            pool.shutdown(cancel_futures=True)
+            pool.shutdown(wait=False, cancel_futures=True)
+            for run in list(RUNNING):
+                run.terminate()
             sys.exit("stopped")
     print(f"quick: {total.passed} passed, {total.failed} failed; nothing was proved")
     return 1 if total.failed or not total.passed else 0
