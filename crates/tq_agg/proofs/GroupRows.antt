@@ -13,7 +13,7 @@ use Rattle.tq_base.specs.Contents.{Int}
 use Rattle.tq_base.specs.ValueOrder.{values_cmp, same_from_eq, eq_from_same}
 use Rattle.tq_base.specs.Fragments.{occurrences}
 use Rattle.tq_base.specs.RowValues.{number_of, value_at}
-use Rattle.tq_ops.specs.Ordinary.{projection}
+use Rattle.tq_condition.specs.Ordinary.{projection}
 use Rattle.tq_agg.specs.declared.summands.Summand.TheVariants.{Column, One}
 use Rattle.tq_agg.specs.Grouping.{each_once, first_row, group_row, grouped_rows, same_row, sum_at}
 use Rattle.tq_agg.specs.Totals.{added, shown_copies, weight_of}

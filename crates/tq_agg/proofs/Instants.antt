@@ -9,7 +9,7 @@ use Rattle.tq_base.specs.declared.fragment.Fragment.{Fragment}
 use Rattle.tq_base.specs.ValueOrder.{values_cmp, eq_from_same}
 use Rattle.tq_base.specs.Periods.{holds}
 use Rattle.tq_base.specs.Fragments.{at, copies, occurrences}
-use Rattle.tq_ops.specs.Ordinary.{HasInside, IsEmptyOutside}
+use Rattle.tq_condition.specs.Ordinary.{HasInside, IsEmptyOutside}
 
 -- 1 if the test holds, otherwise 0
 abbrev pub one_if : Bool → ℕ

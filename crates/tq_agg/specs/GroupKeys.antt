@@ -2,7 +2,7 @@
 use Rattle.std.specs.Prelude.{◌≡◌, ℕ, List, All}
 use Rattle.tq_base.specs.declared.value.Value.{Value}
 use Rattle.tq_base.specs.declared.fragment.Fragment.{Fragment}
-use Rattle.tq_ops.specs.Ordinary.{projection}
+use Rattle.tq_condition.specs.Ordinary.{projection}
 
 abbrev pub key_of : List ℕ → Fragment → List Value
 key_of keys row = projection keys row.values

@@ -6,7 +6,7 @@ ghost use Rattle.tq_base.specs.Fragments.{at, copies, occurrences};
 ghost use Rattle.tq_base.specs.RowValues.{value_at};
 ghost use Rattle.tq_base.specs.Periods.{holds};
 ghost use Rattle.tq_base.specs.Relations.{column_of};
-ghost use Rattle.tq_ops.specs.Ordinary.{HasInside, IsEmptyOutside};
+ghost use Rattle.tq_condition.specs.Ordinary.{HasInside, IsEmptyOutside};
 ghost use Rattle.tq_agg.specs.Buckets.{value_of, AreRanked};
 ghost use Rattle.tq_agg.specs.Changes.{totals_changed, weighed, AreChangesCut, AreWeighed, ChangeInside};
 ghost use Rattle.tq_agg.specs.Grouping.{grouped_rows, same_row};

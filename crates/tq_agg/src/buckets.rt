@@ -9,7 +9,7 @@ ghost use Rattle.tq_base.specs.Fragments.{at, copies, occurrences};
 ghost use Rattle.tq_base.specs.RowValues.{value_at};
 ghost use Rattle.tq_base.specs.Periods.{holds};
 ghost use Rattle.tq_base.specs.Relations.{column_of};
-ghost use Rattle.tq_ops.specs.Ordinary.{HasInside, IsEmptyOutside};
+ghost use Rattle.tq_condition.specs.Ordinary.{HasInside, IsEmptyOutside};
 ghost use Rattle.tq_agg.specs.declared.buckets.Bucket.{Bucket};
 ghost use Rattle.tq_agg.specs.Buckets.{counted, value_of, AreCut, AreRanked, IsTally};
 ghost use Rattle.tq_agg.specs.Changes.{weighed, AreChangesCut};

@@ -9,7 +9,7 @@ ghost use Rattle.tq_base.specs.declared.sort_input.SortKey.{SortKey};
 ghost use Rattle.tq_base.specs.Keys.{key_row, IsSortKey};
 ghost use Rattle.tq_base.specs.SortInputs.{state_of};
 ghost use Rattle.tq_base.specs.Periods.{holds};
-ghost use Rattle.tq_ops.specs.Ordinary.{HasInside, IsEmptyOutside};
+ghost use Rattle.tq_condition.specs.Ordinary.{HasInside, IsEmptyOutside};
 ghost use Rattle.tq_agg.specs.Grouping.{AreSummable, count_rows, grouped_rows};
 ghost use Rattle.tq_agg.specs.GroupKeys.{AreOfKey};
 ghost use Rattle.tq_agg.specs.Totals.{shown_copies, totals_held, HaveSmall, HaveWeights};

@@ -5,7 +5,7 @@ ghost use Rattle.tq_base.specs.declared.fragment.Fragment.{Fragment};
 ghost use Rattle.tq_base.specs.declared.value.Value.{Value};
 ghost use Rattle.tq_base.specs.Fragments.{at, occurrences};
 ghost use Rattle.tq_base.specs.RowValues.{value_at};
-ghost use Rattle.tq_ops.specs.Ordinary.{HasInside, IsEmptyOutside};
+ghost use Rattle.tq_condition.specs.Ordinary.{HasInside, IsEmptyOutside};
 ghost use Rattle.tq_agg.specs.declared.buckets.Tally.{Tally as AnyTally};
 ghost use Rattle.tq_agg.specs.Buckets.{bucket_count, counted_at, counted_in, rank_share, AreCut, AreRanked, AreRanksOf, AreTallies, IsAmong, IsFound, IsInside};
 ghost use Rattle.tq_agg.specs.Grouping.{grouped_rows};

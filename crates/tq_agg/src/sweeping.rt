@@ -7,7 +7,7 @@ ghost use Rattle.tq_base.specs.Contents.{Int};
 ghost use Rattle.tq_base.specs.Fragments.{copies};
 ghost use Rattle.tq_base.specs.Periods.{holds};
 ghost use Rattle.tq_base.specs.Sweep.{upto};
-ghost use Rattle.tq_ops.specs.Ordinary.{projection};
+ghost use Rattle.tq_condition.specs.Ordinary.{projection};
 ghost use Rattle.tq_agg.specs.Endpoints.{earlier, AreInOrder, AreUpTo};
 ghost use Rattle.tq_agg.specs.Totals.{has_rows, result_copies, row_copies};
 

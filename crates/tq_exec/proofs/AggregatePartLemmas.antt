@@ -12,9 +12,9 @@ use Rattle.tq_base.specs.Contents.{Int}
 use Rattle.tq_base.specs.Fragments.{at, occurrences}
 use Rattle.tq_base.specs.Periods.{holds}
 use Rattle.tq_base.specs.Relations.{projected}
-use Rattle.tq_ops.specs.declared.condition.Test.{Test}
+use Rattle.tq_condition.specs.declared.condition.Test.{Test}
 use Rattle.tq_base.specs.RowValues.{number_of, value_at}
-use Rattle.tq_ops.specs.Ordinary.{HasInside, product_of, projection, selection}
+use Rattle.tq_condition.specs.Ordinary.{HasInside, product_of, projection, selection}
 use Rattle.tq_agg.specs.Grouping.{Row, each_once, first_row, group_row, grouped_rows, same_row, sum_at}
 use Rattle.tq_plan.specs.declared.plans.Output.{Output}
 use Rattle.tq_plan.specs.declared.plans.Output.TheVariants.{Column, Count, Sum}

@@ -7,7 +7,7 @@ use Rattle.tq_base.specs.declared.period.Period.{Period}
 use Rattle.tq_base.specs.Fragments.{at, occurrences}
 use Rattle.tq_event.specs.Tables.{rows_in}
 use Rattle.tq_base.specs.RowValues.{value_at}
-use Rattle.tq_ops.specs.Ordinary.{HasInside}
+use Rattle.tq_condition.specs.Ordinary.{HasInside}
 use Rattle.tq_agg.specs.declared.buckets.Tally.{Tally}
 use Rattle.tq_agg.specs.Buckets.{rank_share, AreTallies, IsTally}
 use Rattle.tq_agg.specs.Grouping.{grouped_rows}

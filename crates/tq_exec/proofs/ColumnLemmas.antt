@@ -6,13 +6,13 @@ use Rattle.std.specs.declared.cmp.Ordering.TheVariants.{Less, Equal, Greater}
 use Rattle.tq_base.specs.RowValues.{value_at}
 use Rattle.tq_base.specs.ValueOrder.{value_cmp, value_same}
 use Rattle.tq_agg.specs.Grouping.{Row}
-use Rattle.tq_ops.specs.declared.condition.Operand.{Operand}
-use Rattle.tq_ops.specs.declared.condition.Compare.{Compare}
-use Rattle.tq_ops.specs.declared.condition.Compare.TheVariants.{Eq}
-use Rattle.tq_ops.specs.declared.condition.Test.{Test}
-use Rattle.tq_ops.specs.declared.condition.Test.TheVariants.{And, Is}
-use Rattle.tq_ops.specs.Conditions.{accepts, operand_value, passes}
-use Rattle.tq_ops.proofs.Conditions.{passes-And, passes-Is}
+use Rattle.tq_condition.specs.declared.condition.Operand.{Operand}
+use Rattle.tq_condition.specs.declared.condition.Compare.{Compare}
+use Rattle.tq_condition.specs.declared.condition.Compare.TheVariants.{Eq}
+use Rattle.tq_condition.specs.declared.condition.Test.{Test}
+use Rattle.tq_condition.specs.declared.condition.Test.TheVariants.{And, Is}
+use Rattle.tq_condition.specs.Conditions.{accepts, operand_value, passes}
+use Rattle.tq_condition.proofs.Conditions.{passes-And, passes-Is}
 use Rattle.tq_plan.specs.declared.plans.QuerySource.{QuerySource}
 use Rattle.tq_exec.specs.Scan.{part_of}
 

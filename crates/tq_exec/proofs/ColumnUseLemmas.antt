@@ -2,12 +2,12 @@
 use Rattle.std.proofs.Common.{◌≡◌, ℕ, zero, suc, ◌&&◌, ◌||◌, ◌⊎◌, inl, inr, not, Bool, List, [], ◌∷◌, ◌++◌, length, refl, sym, ap, ◌∙◌}
 use Rattle.tq_base.specs.ValueOrder.{value_cmp}
 use Rattle.tq_event.specs.Projection.{is_wanted, wanted_of}
-use Rattle.tq_ops.specs.declared.condition.Compare.{Compare}
-use Rattle.tq_ops.specs.declared.condition.Operand.{Operand}
-use Rattle.tq_ops.specs.declared.condition.Test.{Test}
-use Rattle.tq_ops.specs.declared.condition.Test.TheVariants.{And, Is, Not, Or}
-use Rattle.tq_ops.specs.Conditions.{accepts, operand_value, passes}
-use Rattle.tq_ops.proofs.Conditions.{passes-And, passes-Is, passes-Not, passes-Or}
+use Rattle.tq_condition.specs.declared.condition.Compare.{Compare}
+use Rattle.tq_condition.specs.declared.condition.Operand.{Operand}
+use Rattle.tq_condition.specs.declared.condition.Test.{Test}
+use Rattle.tq_condition.specs.declared.condition.Test.TheVariants.{And, Is, Not, Or}
+use Rattle.tq_condition.specs.Conditions.{accepts, operand_value, passes}
+use Rattle.tq_condition.proofs.Conditions.{passes-And, passes-Is, passes-Not, passes-Or}
 use Rattle.tq_agg.specs.Grouping.{Row}
 use Rattle.tq_plan.specs.declared.plans.Output.{Output}
 use Rattle.tq_plan.specs.declared.plans.Output.TheVariants.{Column, Count, Sum}

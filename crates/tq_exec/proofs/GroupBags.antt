@@ -7,7 +7,7 @@ use Rattle.tq_base.specs.Contents.{Int}
 use Rattle.tq_base.specs.Fragments.{occurrences}
 use Rattle.tq_base.specs.ValueOrder.{eq_from_same, same_from_eq}
 use Rattle.tq_base.specs.RowValues.{number_of, value_at}
-use Rattle.tq_ops.specs.Ordinary.{projection}
+use Rattle.tq_condition.specs.Ordinary.{projection}
 use Rattle.tq_agg.specs.Grouping.{Row, each_once, first_row, group_row, grouped_rows, same_row, sum_at}
 use Rattle.tq_exec.specs.Scan.{SameCounts}
 use Rattle.tq_exec.proofs.BagLemmas.{is_it, one_if, same_filtered, same_lengths, same_mapped, split}

@@ -11,7 +11,7 @@ use Rattle.tq_base.specs.Periods.{holds}
 use Rattle.tq_base.specs.NormalizedKeys.{normalized_key}
 use Rattle.tq_base.specs.RowLists.{RowList}
 use Rattle.tq_base.specs.RowValues.{value_at}
-use Rattle.tq_ops.specs.Ordinary.{HasInside, IsEmptyOutside}
+use Rattle.tq_condition.specs.Ordinary.{HasInside, IsEmptyOutside}
 use Rattle.tq_agg.specs.Grouping.{Row, first_row}
 use Rattle.tq_plan.specs.declared.plans.QueryPlan.{QueryPlan}
 use Rattle.tq_plan.specs.Plans.{tables_of}

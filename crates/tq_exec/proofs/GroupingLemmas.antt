@@ -12,7 +12,7 @@ use Rattle.tq_base.specs.declared.period.Period.{Period}
 use Rattle.tq_base.specs.Fragments.{at, occurrences}
 use Rattle.tq_base.specs.Periods.{holds}
 use Rattle.tq_base.specs.RowValues.{value_at}
-use Rattle.tq_ops.specs.Ordinary.{HasInside, product_of, projection, selection}
+use Rattle.tq_condition.specs.Ordinary.{HasInside, product_of, projection, selection}
 use Rattle.tq_agg.specs.Grouping.{Row, count_rows, first_row, group_row, grouped_by, grouped_rows, sum_at}
 use Rattle.tq_plan.specs.declared.plans.Output.{Output}
 use Rattle.tq_plan.specs.declared.plans.Output.TheVariants.{Column, Count, Sum}

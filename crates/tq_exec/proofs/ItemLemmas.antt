@@ -6,7 +6,7 @@ use Rattle.tq_base.specs.declared.period.Period.{Period}
 use Rattle.tq_base.specs.Fragments.{at, occurrences}
 use Rattle.tq_base.specs.Periods.{holds}
 use Rattle.tq_base.specs.Relations.{projected}
-use Rattle.tq_ops.specs.Ordinary.{HasInside, IsEmptyOutside, projection}
+use Rattle.tq_condition.specs.Ordinary.{HasInside, IsEmptyOutside, projection}
 use Rattle.tq_agg.specs.Grouping.{Row}
 use Rattle.tq_plan.specs.declared.plans.Output.{Output}
 use Rattle.tq_plan.specs.declared.plans.Output.TheVariants.{Column, Count, Sum}

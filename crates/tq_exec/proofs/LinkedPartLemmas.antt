@@ -6,7 +6,7 @@ use Rattle.std.proofs.lemmas.List.Sums.{sum_by-cons}
 use Rattle.tq_base.specs.Fragments.{occurrences}
 use Rattle.tq_base.specs.Periods.{holds}
 use Rattle.tq_base.specs.RowValues.{value_at}
-use Rattle.tq_ops.specs.Ordinary.{product_of, projection, selection}
+use Rattle.tq_condition.specs.Ordinary.{product_of, projection, selection}
 use Rattle.tq_agg.specs.Grouping.{Row}
 use Rattle.tq_plan.specs.declared.plans.Plan.{Plan}
 use Rattle.tq_plan.specs.Plans.{tables_of}

@@ -21,9 +21,9 @@ use Rattle.tq_base.specs.Fragments.{at, occurrences}
 use Rattle.tq_base.specs.Periods.{holds}
 use Rattle.tq_base.specs.ValueOrder.{eq_from_same}
 use Rattle.tq_event.specs.Recorded.{HasTable}
-use Rattle.tq_ops.specs.declared.condition.Test.{Test}
+use Rattle.tq_condition.specs.declared.condition.Test.{Test}
 use Rattle.tq_base.specs.RowValues.{number_of, value_at}
-use Rattle.tq_ops.specs.Ordinary.{HasInside, IsEmptyOutside, admits, product, product_of, selection}
+use Rattle.tq_condition.specs.Ordinary.{HasInside, IsEmptyOutside, admits, product, product_of, selection}
 use Rattle.tq_agg.specs.Grouping.{AreSummable, Row}
 use Rattle.tq_exec.specs.OutputPlaces.{AreNumbers}
 use Rattle.tq_exec.specs.Fitting.{AreFitting}

@@ -13,10 +13,10 @@ use Rattle.tq_base.proofs.list.List.TheSendSync.{the_sync as items_sync}
 use Rattle.tq_base.proofs.name.Name.TheSendSync.{the_sync as name_sync}
 use Rattle.tq_base.proofs.period.Period.TheSendSync.{the_sync as period_sync, the_field_sync as period_field_sync}
 use Rattle.tq_base.proofs.relation.Relation.TheSendSync.{the_sync as relation_sync}
-use Rattle.tq_ops.specs.contracts.condition.Test.{the_field as test_field, the_row as test_row}
-use Rattle.tq_ops.proofs.condition.Compare.TheSendSync.{the_field_sync as compare_field_sync}
-use Rattle.tq_ops.proofs.condition.Operand.TheSendSync.{the_field_sync as operand_field_sync}
-use Rattle.tq_ops.proofs.condition.Test.TheLaws.TheKnot.{sync-Test}
+use Rattle.tq_condition.specs.contracts.condition.Test.{the_field as test_field, the_row as test_row}
+use Rattle.tq_condition.proofs.condition.Compare.TheSendSync.{the_field_sync as compare_field_sync}
+use Rattle.tq_condition.proofs.condition.Operand.TheSendSync.{the_field_sync as operand_field_sync}
+use Rattle.tq_condition.proofs.condition.Test.TheLaws.TheKnot.{sync-Test}
 use Rattle.tq_agg.proofs.buckets.Tally.TheSendSync.{the_sync as tally_sync, the_field_sync as tally_field_sync}
 use Rattle.tq_plan.specs.contracts.plans.Output.{the_row as output_row}
 use Rattle.tq_plan.specs.contracts.plans.Plan.{the_row as plan_row, the_field as plan_field}

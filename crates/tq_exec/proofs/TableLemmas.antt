@@ -9,7 +9,7 @@ use Rattle.std.proofs.lemmas.List.Sums.{sum_by-append, sum_by-cons}
 use Rattle.tq_base.specs.Contents.{Int}
 use Rattle.tq_base.specs.Fragments.{occurrences}
 use Rattle.tq_base.specs.Periods.{holds}
-use Rattle.tq_ops.specs.Ordinary.{admits, product, product_of, projection, selection}
+use Rattle.tq_condition.specs.Ordinary.{admits, product, product_of, projection, selection}
 use Rattle.tq_plan.specs.Plans.{tables_of}
 use Rattle.tq_agg.specs.Grouping.{Row, grouped_rows}
 use Rattle.tq_plan.specs.declared.plans.Plan.{Plan}

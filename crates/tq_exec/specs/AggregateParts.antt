@@ -3,7 +3,7 @@ use Rattle.std.specs.Prelude.{◌≡◌, ◌+◌, ◌==◌, ℕ, Bool, false, tr
 use Rattle.std.specs.List.{range_with_len}
 use Rattle.tq_base.specs.declared.value.Value.{Value}
 use Rattle.tq_base.specs.RowValues.{value_at}
-use Rattle.tq_ops.specs.Ordinary.{product_of, projection, selection}
+use Rattle.tq_condition.specs.Ordinary.{product_of, projection, selection}
 use Rattle.tq_agg.specs.Grouping.{Row, first_row, group_row, grouped_by}
 use Rattle.tq_plan.specs.declared.plans.Output.{Output}
 use Rattle.tq_plan.specs.declared.plans.Output.TheVariants.{Column, Count, Sum}

@@ -2,9 +2,9 @@
 use Rattle.tq_event.specs.Projection.{is_wanted}
 use Rattle.std.specs.Prelude.{◌≡◌, ℕ, ◌+◌, ◌==◌, ◌&&◌, ◌||◌, Bool, true, false, List, Option, Some, None}
 use Rattle.std.specs.List.{list_any}
-use Rattle.tq_ops.specs.Conditions.{operand_value, passes}
-use Rattle.tq_ops.specs.declared.condition.Operand.{Operand}
-use Rattle.tq_ops.specs.declared.condition.Test.{Test}
+use Rattle.tq_condition.specs.Conditions.{operand_value, passes}
+use Rattle.tq_condition.specs.declared.condition.Operand.{Operand}
+use Rattle.tq_condition.specs.declared.condition.Test.{Test}
 use Rattle.tq_agg.specs.Grouping.{Row}
 use Rattle.tq_plan.specs.declared.plans.Plan.{Plan}
 use Rattle.tq_plan.specs.declared.plans.QueryPlan.{QueryPlan}

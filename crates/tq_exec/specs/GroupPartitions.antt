@@ -7,7 +7,7 @@ use Rattle.tq_base.specs.declared.period.Period.{Period}
 use Rattle.tq_base.specs.Fragments.{at, occurrences}
 use Rattle.tq_base.specs.RowLists.{RowList}
 use Rattle.tq_base.specs.RowValues.{value_at}
-use Rattle.tq_ops.specs.Ordinary.{HasInside, IsEmptyOutside}
+use Rattle.tq_condition.specs.Ordinary.{HasInside, IsEmptyOutside}
 use Rattle.tq_plan.specs.declared.plans.QueryPlan.{QueryPlan}
 use Rattle.tq_plan.specs.ValidPlans.{are_valid_items, no_group}
 use Rattle.tq_table.specs.Merging.{all_rows, AreOfWidth}

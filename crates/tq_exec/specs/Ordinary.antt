@@ -4,7 +4,7 @@ use Rattle.std.specs.List.{list_any}
 use Rattle.tq_base.specs.declared.value.Value.{Value}
 use Rattle.tq_base.specs.Contents.{Int}
 use Rattle.tq_base.specs.RowValues.{value_at}
-use Rattle.tq_ops.specs.Ordinary.{product_of, selection}
+use Rattle.tq_condition.specs.Ordinary.{product_of, selection}
 use Rattle.tq_agg.specs.Grouping.{Row, first_row, grouped_by, sum_at}
 use Rattle.tq_plan.specs.declared.plans.Output.{Output}
 use Rattle.tq_plan.specs.declared.plans.Output.TheVariants.{Column, Count, Sum}

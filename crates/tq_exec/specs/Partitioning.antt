@@ -5,8 +5,8 @@ use Rattle.tq_base.specs.declared.catalogue.Catalogue.{Catalogue}
 use Rattle.tq_base.specs.declared.value.Value.{Value}
 use Rattle.tq_base.specs.RowValues.{value_at}
 use Rattle.tq_base.specs.Fragments.{occurrences}
-use Rattle.tq_ops.specs.Ordinary.{admits, product_of, selection}
-use Rattle.tq_ops.specs.declared.condition.Test.{Test}
+use Rattle.tq_condition.specs.Ordinary.{admits, product_of, selection}
+use Rattle.tq_condition.specs.declared.condition.Test.{Test}
 use Rattle.tq_agg.specs.Grouping.{Row}
 use Rattle.tq_plan.specs.declared.plans.Output.{Output}
 use Rattle.tq_plan.specs.declared.plans.Output.TheVariants.{Column}

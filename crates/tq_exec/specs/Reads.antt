@@ -15,7 +15,7 @@ use Rattle.tq_event.specs.Recorded.{HasTable}
 use Rattle.tq_plan.specs.declared.plans.Plan.{Plan}
 use Rattle.tq_plan.specs.declared.plans.QueryPlan.{QueryPlan}
 use Rattle.tq_plan.specs.declared.plans.QuerySource.{QuerySource}
-use Rattle.tq_ops.specs.Ordinary.{admits}
+use Rattle.tq_condition.specs.Ordinary.{admits}
 use Rattle.tq_plan.specs.KeyRanges.{HasKey, key_at}
 use Rattle.tq_agg.specs.Grouping.{Row}
 use Rattle.tq_store.specs.Laws.{TileWindow}

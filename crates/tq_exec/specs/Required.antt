@@ -5,7 +5,7 @@ use Rattle.tq_base.specs.declared.fragment.Fragment.{Fragment}
 use Rattle.tq_event.specs.Projection.{is_wanted, projected_row, projected_values, wanted_of}
 use Rattle.tq_event.specs.Tables.{rows_in}
 use Rattle.tq_base.specs.RowValues.{value_at}
-use Rattle.tq_ops.specs.Ordinary.{admits}
+use Rattle.tq_condition.specs.Ordinary.{admits}
 use Rattle.tq_agg.specs.Grouping.{Row}
 use Rattle.tq_plan.specs.declared.plans.Output.{Output}
 use Rattle.tq_plan.specs.declared.plans.Output.TheVariants.{Column, Count, Sum}

@@ -4,7 +4,7 @@ ghost use Rattle.std.specs.Prelude.{◌≡◌, ◌-◌, ◌≤◌, ◌∷◌, �
 ghost use Rattle.std.specs.List.{list_any, range_with_len};
 ghost use Rattle.tq_base.specs.declared.fragment.Fragment.{Fragment};
 ghost use Rattle.tq_base.specs.Fragments.{at, occurrences};
-ghost use Rattle.tq_ops.specs.Ordinary.{HasInside, IsEmptyOutside};
+ghost use Rattle.tq_condition.specs.Ordinary.{HasInside, IsEmptyOutside};
 ghost use Rattle.tq_agg.specs.Grouping.{grouped_rows};
 ghost use Rattle.tq_table.specs.Merging.{AreOfWidth};
 ghost use Rattle.tq_plan.specs.Plans.{tables_of};

@@ -4,7 +4,7 @@ ghost use Rattle.std.specs.Prelude.{◌≡◌, IfOk, ℕ, length, map};
 ghost use Rattle.std.specs.List.{list_any};
 ghost use Rattle.tq_base.specs.Fragments.{copies};
 ghost use Rattle.tq_event.specs.Tables.{lists_of};
-ghost use Rattle.tq_ops.specs.Ordinary.{HasInside, IsEmptyOutside};
+ghost use Rattle.tq_condition.specs.Ordinary.{HasInside, IsEmptyOutside};
 ghost use Rattle.tq_agg.specs.Grouping.{Row};
 ghost use Rattle.tq_exec.specs.Answers.{times_in, times_within, IsAnswerOver, IsTablesAnswer};
 ghost use Rattle.tq_plan.specs.ValidPlans.{is_aggregate, no_group, AreQueriesOver, IsPlanOver, IsQueryOver};

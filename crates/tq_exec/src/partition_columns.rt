@@ -4,9 +4,9 @@ ghost use Rattle.std.specs.Prelude.{◌≡◌, ◌∷◌, All, IfOk, IfSome, IsT
 ghost use Rattle.std.specs.List.{list_any};
 ghost use Rattle.tq_base.specs.RowValues.{value_at};
 ghost use Rattle.tq_agg.specs.Grouping.{Row};
-ghost use Rattle.tq_ops.specs.declared.condition.Compare.TheVariants.{Eq};
-ghost use Rattle.tq_ops.specs.Conditions.{operand_value, passes};
-ghost use Rattle.tq_ops.specs.Ordinary.{admits};
+ghost use Rattle.tq_condition.specs.declared.condition.Compare.TheVariants.{Eq};
+ghost use Rattle.tq_condition.specs.Conditions.{operand_value, passes};
+ghost use Rattle.tq_condition.specs.Ordinary.{admits};
 ghost use Rattle.tq_plan.specs.declared.plans.Output.{Output as Item};
 ghost use Rattle.tq_plan.specs.declared.plans.Output.TheVariants.{Column};
 ghost use Rattle.tq_plan.specs.declared.plans.QuerySource.{QuerySource as AnySource};
@@ -15,7 +15,7 @@ ghost use Rattle.tq_exec.specs.Scan.{part_of};
 ghost use Rattle.tq_exec.specs.Partitions.{columns_in};
 
 use std::alloc::{AllocError, Global};
-use tq_ops::{Compare, Operand, Test};
+use tq_condition::{Compare, Operand, Test};
 use tq_plan::{Output, Plan, QueryPlan, QuerySource};
 
 // The source's column at the place of the joined row.

@@ -8,8 +8,8 @@ ghost use Rattle.tq_exec.specs.ColumnUse.{AreMore, AreNamed, LookAt, OperandLook
 
 use std::alloc::{AllocError, Global};
 use tq_base::Catalogue;
+use tq_condition::{Operand, Test};
 use tq_event::steps::MAX_COLUMNS;
-use tq_ops::{Operand, Test};
 use tq_plan::{Output, Plan, QueryPlan, QuerySource};
 
 // Marks the place as used. Places after the end of the list count as used.

@@ -8,7 +8,7 @@ use Rattle.tq_base.specs.declared.fragment.Fragment.{Fragment}
 use Rattle.tq_base.specs.Periods.{holds, Overlap, IsOverlap}
 use Rattle.tq_base.specs.Fragments.{at, copies}
 use Rattle.tq_base.specs.Keys.{is_overlap}
-use Rattle.tq_ops.specs.Ordinary.{HasInside, IsEmptyOutside}
+use Rattle.tq_condition.specs.Ordinary.{HasInside, IsEmptyOutside}
 use Rattle.tq_ops.proofs.Counting.{none_there}
 
 holds_both : (a b c d t : ℕ) → (nat_le (max a c) t && nat_lt t (min b d)) ≡ ((nat_le a t && nat_lt t b) && (nat_le c t && nat_lt t d))

@@ -1,4 +1,3 @@
-pub mod Conditions
 pub mod Counting
 pub mod Cutting
 pub mod Selecting
@@ -14,13 +13,9 @@ pub mod Meeting
 pub mod Pairing
 pub mod Products
 pub mod Implying
-pub mod Knowing
 pub mod Turns
 pub mod Widths
-pub mod Ranging
-pub mod Sufficing
 pub mod Opening
 pub mod Orders
-pub mod Rebuilding
 pub mod Dividing
 pub mod Inequalities

@@ -11,8 +11,8 @@ use Rattle.tq_base.specs.ValueOrder.{values_cmp}
 use Rattle.tq_base.specs.Periods.{holds, IsOverlap, Overlap}
 use Rattle.tq_base.specs.Fragments.{at, copies, occurrences}
 use Rattle.tq_base.specs.Copies.{copies-sum_by, tally}
-use Rattle.tq_ops.specs.declared.condition.Test.{Test}
-use Rattle.tq_ops.specs.Ordinary.{admits, selection}
+use Rattle.tq_condition.specs.declared.condition.Test.{Test}
+use Rattle.tq_condition.specs.Ordinary.{admits, selection}
 use Rattle.tq_ops.proofs.Counting.{one_if, sum_by-cond, sum_by-filter, sum_by-at}
 use Rattle.tq_ops.proofs.Cutting.{holds-overlap, holds_apart}
 

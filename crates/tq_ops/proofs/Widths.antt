@@ -17,7 +17,7 @@ use Rattle.tq_base.specs.ValueOrder.{values_cmp, same_from_eq}
 use Rattle.tq_base.specs.Periods.{holds}
 use Rattle.tq_base.specs.Copies.{tally, copies-sum_by}
 use Rattle.tq_base.specs.Fragments.{copies}
-use Rattle.tq_ops.specs.Ordinary.{selection}
+use Rattle.tq_condition.specs.Ordinary.{selection}
 use Rattle.tq_ops.proofs.Counting.{one_if}
 
 -- values of another width are in no row

@@ -1,14 +1,9 @@
-pub mod Conditions
 pub mod Differences
 pub mod JoinChains
 pub mod Joins
-pub mod KeyRanges
-pub mod Known
 pub mod EquiJoin
 pub mod Implied
 pub mod JoinBranches
-pub mod Ordinary
-pub mod Steps
 pub mod JoinOrders
 pub mod InequalityJoins
 pub mod DividedJoins

@@ -14,7 +14,7 @@ ghost use Rattle.tq_base.specs.Periods.{holds};
 ghost use Rattle.tq_base.specs.Relations.{row_period_of};
 ghost use Rattle.tq_ops.specs.declared.difference.Change.{Change};
 ghost use Rattle.tq_ops.specs.Differences.{falls_upto, rows_at_periods, rises_upto, side_held, periods_on, AddsDifference, AreKeysOfBoth, AreRowPeriods, AreOfValues, IsEven};
-ghost use Rattle.tq_ops.specs.Ordinary.{HasInside, IsEmptyOutside};
+ghost use Rattle.tq_condition.specs.Ordinary.{HasInside, IsEmptyOutside};
 
 use crate::overlapping::overlapping_keys;
 use crate::selection::select;

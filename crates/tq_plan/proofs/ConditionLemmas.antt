@@ -1,7 +1,7 @@
 -- Conditions, part by part.
 use Rattle.std.proofs.Common.{◌≡◌, ◌≢◌, IfErr, IfOk, subst, ℕ, ◌+◌, ◌++◌, List, [], ◌∷◌, Result, Ok, Err, refl, sym, ap, ◌∙◌}
-use Rattle.tq_ops.specs.declared.condition.Test.{Test}
-use Rattle.tq_ops.specs.declared.condition.Test.TheVariants as test
+use Rattle.tq_condition.specs.declared.condition.Test.{Test}
+use Rattle.tq_condition.specs.declared.condition.Test.TheVariants as test
 use Rattle.tq_sql.specs.declared.statement.Term.{Term}
 use Rattle.tq_sql.specs.declared.statement.Sign.{Sign}
 use Rattle.tq_sql.specs.declared.statement.Cond.{Cond, fold-Cond}

@@ -5,12 +5,12 @@ use Rattle.tq_base.specs.declared.catalogue.Kind.{Kind}
 use Rattle.tq_base.specs.declared.catalogue.Kind.TheVariants as kind
 use Rattle.tq_base.specs.Contents as value
 use Rattle.tq_base.specs.Results.{and_then}
-use Rattle.tq_ops.specs.declared.condition.Operand.{Operand}
-use Rattle.tq_ops.specs.declared.condition.Operand.TheVariants as operand
-use Rattle.tq_ops.specs.declared.condition.Compare.{Compare}
-use Rattle.tq_ops.specs.declared.condition.Compare.TheVariants as compare
-use Rattle.tq_ops.specs.declared.condition.Test.{Test}
-use Rattle.tq_ops.specs.declared.condition.Test.TheVariants as test
+use Rattle.tq_condition.specs.declared.condition.Operand.{Operand}
+use Rattle.tq_condition.specs.declared.condition.Operand.TheVariants as operand
+use Rattle.tq_condition.specs.declared.condition.Compare.{Compare}
+use Rattle.tq_condition.specs.declared.condition.Compare.TheVariants as compare
+use Rattle.tq_condition.specs.declared.condition.Test.{Test}
+use Rattle.tq_condition.specs.declared.condition.Test.TheVariants as test
 use Rattle.tq_sql.specs.declared.statement.Term.{Term}
 use Rattle.tq_sql.specs.declared.statement.Term.TheVariants as term
 use Rattle.tq_sql.specs.declared.statement.Sign.{Sign}

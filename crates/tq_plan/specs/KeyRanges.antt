@@ -6,7 +6,7 @@ use Rattle.tq_base.specs.declared.value.Value.{Value}
 use Rattle.tq_base.specs.Contents.{Int}
 use Rattle.tq_base.specs.KeyRanges.{IsInSomeRange}
 use Rattle.tq_base.specs.RowValues.{number_of, value_at}
-use Rattle.tq_ops.specs.Ordinary.{admits}
+use Rattle.tq_condition.specs.Ordinary.{admits}
 use Rattle.tq_plan.specs.declared.plans.Plan.{Plan}
 use Rattle.tq_plan.specs.declared.plans.QueryPlan.{QueryPlan}
 use Rattle.tq_plan.specs.declared.plans.QuerySource.{QuerySource}

@@ -1,7 +1,7 @@
 -- Steps down a condition, and the way back to the planned whole.
 use Rattle.std.specs.Prelude.{List, [], ◌∷◌, Result}
-use Rattle.tq_ops.specs.declared.condition.Test.{Test}
-use Rattle.tq_ops.specs.declared.condition.Test.TheVariants as test
+use Rattle.tq_condition.specs.declared.condition.Test.{Test}
+use Rattle.tq_condition.specs.declared.condition.Test.TheVariants as test
 use Rattle.tq_plan.specs.declared.fault.PlanFault.{PlanFault}
 use Rattle.tq_plan.specs.declared.conditions.Step.{Step}
 use Rattle.tq_plan.specs.declared.conditions.Step.TheVariants as step

@@ -10,7 +10,7 @@ use crate::scope::{Field, push, resolve};
 use sqlite_items::Boxed;
 use std::alloc::{AllocError, Global};
 use tq_base::{Kind, Value};
-use tq_ops::{Compare, Operand, Test};
+use tq_condition::{Compare, Operand, Test};
 use tq_sql::{Cond, Sign, Term};
 
 fn plan_operand(fields: &[Field<'_>], term: &Term) -> Result<(Operand, Kind), PlanFault>

@@ -10,7 +10,7 @@ use Rattle.tq_event.specs.declared.event.Event.{Event}
 use Rattle.tq_event.specs.declared.event.Event.TheVariants.{Start, End}
 use Rattle.tq_event.specs.History.{Row as AnyRow, end_of, rows_from, rows_of, valid_at}
 use Rattle.tq_base.specs.RowValues.{number_of, value_at}
-use Rattle.tq_ops.specs.Ordinary.{product, product_of, projection}
+use Rattle.tq_condition.specs.Ordinary.{product, product_of, projection}
 use Rattle.tq_agg.specs.Grouping.{Row, each_once, same_row}
 use Rattle.tq_exec.specs.Answers.{as_of, lists_at}
 use Rattle.tq_exec.specs.Ordinary.{alone_or_together, groups}

@@ -23,7 +23,7 @@ use Rattle.tq_base.specs.Periods.{holds}
 use Rattle.tq_base.specs.RowValues.{value_at}
 use Rattle.tq_base.proofs.Unique.{held_from}
 use Rattle.tq_base.specs.ValueOrder.{eq_from_same, same_from_eq, value_cmp, values_cmp}
-use Rattle.tq_ops.specs.Ordinary.{HasInside, IsEmptyOutside, projection}
+use Rattle.tq_condition.specs.Ordinary.{HasInside, IsEmptyOutside, projection}
 use Rattle.tq_agg.specs.Grouping.{Row, first_row, group_row, grouped_by, grouped_rows, same_row, sum_at}
 use Rattle.tq_exec.specs.Scan.{SameCounts}
 use Rattle.tq_exec.proofs.BagLemmas.{is_it, one_if, same_filtered, same_lengths}

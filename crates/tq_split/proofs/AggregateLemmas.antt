@@ -14,7 +14,7 @@ use Rattle.tq_base.specs.Fragments.{occurrences}
 use Rattle.tq_base.specs.Periods.{holds}
 use Rattle.tq_base.specs.RowValues.{value_at}
 use Rattle.tq_base.specs.ValueOrder.{eq_from_same, same_from_eq}
-use Rattle.tq_ops.specs.Ordinary.{product_of, projection, selection}
+use Rattle.tq_condition.specs.Ordinary.{product_of, projection, selection}
 use Rattle.tq_agg.specs.Grouping.{Row, each_once, first_row, grouped_by, same_row, sum_at}
 use Rattle.tq_plan.specs.declared.plans.Output.{Output}
 use Rattle.tq_plan.specs.declared.plans.Output.TheVariants.{Column, Count, Sum}

@@ -19,7 +19,7 @@ use Rattle.tq_base.specs.Ranges.{AreBelow, layers_follow, one_after_other}
 use Rattle.tq_base.specs.Sweep.{pairs_head}
 use Rattle.tq_base.specs.ValueOrder.{same_from_eq, values_cmp}
 use Rattle.tq_base.proofs.Unique.{copies-cons, sorted_tail, tally_is, tally_one}
-use Rattle.tq_ops.specs.Ordinary.{projection}
+use Rattle.tq_condition.specs.Ordinary.{projection}
 use Rattle.tq_split.specs.declared.combine.Combine.{Combine}
 use Rattle.tq_split.specs.declared.combine.Combine.TheVariants.{Add, Merge}
 use Rattle.tq_split.specs.Adding.{combined, run_values}

@@ -6,7 +6,7 @@ use Rattle.tq_base.specs.declared.fragment.Fragment.{Fragment}
 use Rattle.tq_base.specs.declared.value.Value.{Value}
 use Rattle.tq_base.specs.Contents.{Int}
 use Rattle.tq_base.specs.Fragments.{at, copies, occurrences}
-use Rattle.tq_ops.specs.Ordinary.{projection}
+use Rattle.tq_condition.specs.Ordinary.{projection}
 use Rattle.tq_agg.specs.Grouping.{Row, first_row, grouped_by, sum_at}
 use Rattle.tq_split.specs.declared.combine.Combine.{Combine}
 use Rattle.tq_split.specs.declared.combine.Combine.TheVariants.{Add, Merge}

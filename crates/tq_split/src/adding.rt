@@ -10,7 +10,7 @@ ghost use Rattle.tq_base.specs.Fragments.{at, occurrences};
 ghost use Rattle.tq_base.specs.Layers.{IsLayers};
 ghost use Rattle.tq_base.specs.Relations.{values_at_number};
 ghost use Rattle.tq_base.specs.RowValues.{number_of, value_at};
-ghost use Rattle.tq_ops.specs.Ordinary.{HasInside, IsEmptyOutside};
+ghost use Rattle.tq_condition.specs.Ordinary.{HasInside, IsEmptyOutside};
 ghost use Rattle.tq_agg.specs.Grouping.{AreSummable};
 ghost use Rattle.tq_split.specs.declared.combine.Combine.TheVariants.{Add};
 ghost use Rattle.tq_split.specs.Adding.{added_rows, combined};

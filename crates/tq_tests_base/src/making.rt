@@ -7,7 +7,7 @@ use crate::tests::tests_of;
 use crate::words::period_of;
 use std::alloc::{AllocError, Global};
 use tq_base::{Period, Rows};
-use tq_ops::Test;
+use tq_condition::Test;
 
 // The words before and after the word `if`.
 fn divided<'a, 'b>(words: &'a [&'b str]) -> (&'a [&'b str], &'a [&'b str]) {

@@ -6,7 +6,7 @@ use sqlite_items::Boxed;
 use std::alloc::{AllocError, Global};
 use std::fmt::Write;
 use tq_base::{Relation, Rows, Value, Values};
-use tq_ops::{Compare, Operand, Test};
+use tq_condition::{Compare, Operand, Test};
 use tq_tests_script::print_nothing;
 
 // The result of the words so far: complete tests, and operands of the next one.

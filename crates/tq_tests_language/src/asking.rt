@@ -4,8 +4,8 @@ use crate::plans::{print_fault, print_names, print_plan, print_range, print_wind
 use std::alloc::{AllocError, Global};
 use std::fmt::Write;
 use tq_base::{Catalogue, Form};
+use tq_condition::Test;
 use tq_diagnostics::{explain_plan, explain_statement};
-use tq_ops::Test;
 use tq_plan::{Plan, PlanFault, plan};
 use tq_sql::read;
 use tq_tests_script::{print_nothing, push_lines, unescape_text};

@@ -8,7 +8,7 @@ use Rattle.tq_base.specs.SortInputs.{state_of}
 use Rattle.tq_base.specs.Keys.{key_row, no_row}
 use Rattle.tq_base.specs.Periods.{holds}
 use Rattle.tq_base.specs.Fragments.{copies}
-use Rattle.tq_ops.specs.Ordinary.{projection}
+use Rattle.tq_condition.specs.Ordinary.{projection}
 use Rattle.tq_agg.specs.declared.bounds.End.{End}
 use Rattle.tq_agg.specs.Bounds.{end_in, start_in}
 use Rattle.tq_agg.specs.Endpoints.{AreInOrder}

@@ -13,7 +13,7 @@ use Rattle.tq_base.specs.Fragments.{at, copies, occurrences}
 use Rattle.tq_base.specs.SortKeyLaws.{run_starts_rest}
 use Rattle.tq_base.specs.RowLists.{RowList}
 use Rattle.tq_base.specs.Keys.{key_row, key_values, overlapping, HaveRunStarts, IsSortKey}
-use Rattle.tq_ops.specs.Ordinary.{HasInside}
+use Rattle.tq_condition.specs.Ordinary.{HasInside}
 use Rattle.tq_agg.specs.declared.summands.Summand.{Summand}
 use Rattle.tq_agg.specs.declared.summands.Summand.TheVariants.{Column, One}
 use Rattle.tq_agg.specs.Grouping.{grouped_rows, AreSummable}

@@ -2,7 +2,7 @@ use Rattle.std.proofs.Common.{◌≡◌, ◌+◌, ◌&&◌, Bool, true, false, n
 use Rattle.std.specs.Cmp.Rules.{signed_items}
 use Rattle.std.proofs.lemmas.Result.{on_ok_weaker}
 use Rattle.tq_base.specs.Fragments.{copies}
-use Rattle.tq_ops.specs.Ordinary.{projection}
+use Rattle.tq_condition.specs.Ordinary.{projection}
 use Rattle.tq_agg.specs.Totals.{result_copies}
 use Rattle.tq_agg.proofs.Passing.{at_front, none_left}
 use Rattle.tq_agg.proofs.Starts.{begins, ends_with, fewer, passes, totals_shown, turns}

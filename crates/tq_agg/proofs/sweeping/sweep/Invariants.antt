@@ -1,6 +1,6 @@
 -- Between two bounds; no values are in the scratch memory.
 use Rattle.std.proofs.Common.{◌≡◌, ◌-◌, ◌+◌, [], length}
-use Rattle.tq_ops.specs.Ordinary.{projection}
+use Rattle.tq_condition.specs.Ordinary.{projection}
 use Rattle.tq_agg.proofs.Starts.{totals_shown, Counting}
 use Rattle.tq_agg.proofs.sweeping.sweep.Given as goal
 

@@ -1,6 +1,6 @@
 use Rattle.std.proofs.lemmas.Result.{IfOk-weaker}
 use Rattle.tq_base.specs.Fragments.{at}
-use Rattle.tq_ops.specs.Ordinary.{product_of, selection}
+use Rattle.tq_condition.specs.Ordinary.{product_of, selection}
 use Rattle.tq_plan.specs.Plans.{tables_of}
 use Rattle.tq_exec.specs.Answers.{lists_at}
 use Rattle.tq_exec.proofs.BagLemmas.{same_lengths}

@@ -2,7 +2,7 @@ use Rattle.std.proofs.Common.{◌∙◌, ap, map}
 use Rattle.std.proofs.lemmas.Result.{IfOk-weaker}
 use Rattle.tq_base.specs.Relations.{projected}
 use Rattle.tq_base.specs.RowLists.{RowList}
-use Rattle.tq_ops.specs.Ordinary.{product_of, selection}
+use Rattle.tq_condition.specs.Ordinary.{product_of, selection}
 use Rattle.tq_plan.specs.Plans.{tables_of}
 use Rattle.tq_exec.specs.Answers.{lists_at}
 use Rattle.tq_exec.specs.AggregateParts.{group_columns}

@@ -1,7 +1,7 @@
 use Rattle.std.proofs.Common.{◌-◌, ◌∙◌, refl}
 use Rattle.std.proofs.lemmas.Result.{IfOk-weaker}
 use Rattle.tq_base.specs.Fragments.{copies}
-use Rattle.tq_ops.specs.Ordinary.{HasInside, IsEmptyOutside}
+use Rattle.tq_condition.specs.Ordinary.{HasInside, IsEmptyOutside}
 use Rattle.tq_exec.proofs.PlaceLemmas.{if_ok_both, left_alone, left_less_right}
 use Rattle.tq_exec.proofs.execution.execute.Goals as goal
 

@@ -1,7 +1,7 @@
 use Rattle.std.proofs.Common.{◌≡◌, ◌∙◌, ap, sym, map}
 use Rattle.std.specs.List.{list_any}
 use Rattle.std.proofs.lemmas.Result.{IfOk-weaker}
-use Rattle.tq_ops.specs.Ordinary.{product_of, selection}
+use Rattle.tq_condition.specs.Ordinary.{product_of, selection}
 use Rattle.tq_plan.specs.ValidPlans.{is_aggregate, no_group}
 use Rattle.tq_plan.specs.Plans.{tables_of}
 use Rattle.tq_exec.specs.Answers.{lists_at}

@@ -1,7 +1,7 @@
 use Rattle.std.proofs.Common.{ap, arith, subst, sym}
 use Rattle.std.specs.Prelude.{IsTrue}
-use Rattle.tq_ops.specs.Conditions.{passes}
-use Rattle.tq_ops.proofs.Conditions.{weight, weight-And}
+use Rattle.tq_condition.specs.Conditions.{passes}
+use Rattle.tq_condition.proofs.Conditions.{weight, weight-And}
 use Rattle.tq_exec.proofs.ColumnLemmas.{both_pass}
 use Rattle.tq_exec.proofs.partition_columns.+linked_column.Goals as goal
 

@@ -2,8 +2,8 @@
 use Rattle.std.proofs.Common.{◌≤◌}
 use Rattle.std.specs.Prelude.{IsTrue}
 use Rattle.tq_agg.specs.Grouping.{Row}
-use Rattle.tq_ops.specs.Conditions.{passes}
-use Rattle.tq_ops.proofs.Conditions.{weight}
+use Rattle.tq_condition.specs.Conditions.{passes}
+use Rattle.tq_condition.proofs.Conditions.{weight}
 use Rattle.tq_exec.proofs.partition_columns.+linked_column.Given as goal
 
 abbrev pub decreases-linked_column : goal.decreases-linked_column

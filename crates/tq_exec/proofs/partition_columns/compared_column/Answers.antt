@@ -1,6 +1,6 @@
 use Rattle.std.proofs.Common.{◌≡◌}
 use Rattle.std.specs.Prelude.{IsTrue}
-use Rattle.tq_ops.specs.Conditions.{operand_value, passes}
+use Rattle.tq_condition.specs.Conditions.{operand_value, passes}
 use Rattle.tq_exec.proofs.ColumnLemmas.{equal_operands, of_whole}
 use Rattle.tq_exec.proofs.partition_columns.compared_column.Goals as goal
 

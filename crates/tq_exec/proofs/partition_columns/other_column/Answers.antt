@@ -1,7 +1,7 @@
 use Rattle.std.proofs.Common.{◌≡◌, ◌∙◌, sym, ap}
 use Rattle.tq_base.specs.RowValues.{value_at}
-use Rattle.tq_ops.specs.declared.condition.Operand.{Operand}
-use Rattle.tq_ops.specs.Conditions.{operand_value}
+use Rattle.tq_condition.specs.declared.condition.Operand.{Operand}
+use Rattle.tq_condition.specs.Conditions.{operand_value}
 use Rattle.tq_exec.proofs.ColumnLemmas.{in_equal}
 use Rattle.tq_exec.proofs.partition_columns.other_column.Goals as goal
 

@@ -1,8 +1,8 @@
 use Rattle.tq_event.specs.Projection.{is_wanted}
 use Rattle.std.proofs.Common.{◌≡◌, ◌+◌, ◌⊎◌, inl, inr, ap, ◌∙◌, subst, arith}
-use Rattle.tq_ops.specs.declared.condition.Test.{Test}
-use Rattle.tq_ops.specs.declared.condition.Test.TheVariants.{And, Or}
-use Rattle.tq_ops.proofs.Conditions.{weight, weight-And, weight-Or, weight-Not}
+use Rattle.tq_condition.specs.declared.condition.Test.{Test}
+use Rattle.tq_condition.specs.declared.condition.Test.TheVariants.{And, Or}
+use Rattle.tq_condition.proofs.Conditions.{weight, weight-And, weight-Or, weight-Not}
 use Rattle.tq_exec.specs.ColumnUse.{TestLooksAt}
 use Rattle.tq_exec.proofs.ColumnUseLemmas.{look_Is, look_Not, look_pair, operand_more, test_more}
 use Rattle.tq_exec.proofs.required.+look_at_test.Goals as goal

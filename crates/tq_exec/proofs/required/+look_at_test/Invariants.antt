@@ -1,7 +1,7 @@
 -- The part weighs no more, and what looks where it does, at more places than so far, looks where the whole does.
 use Rattle.tq_event.specs.Projection.{is_wanted}
 use Rattle.std.proofs.Common.{◌≤◌, Bool, List}
-use Rattle.tq_ops.proofs.Conditions.{weight}
+use Rattle.tq_condition.proofs.Conditions.{weight}
 use Rattle.tq_exec.specs.ColumnUse.{AreMore, TestLooksAt}
 use Rattle.tq_exec.proofs.required.+look_at_test.Given as goal
 

@@ -2,7 +2,7 @@ use Rattle.std.proofs.Common.{◌≡◌, ◌≢◌, ◌-◌, None, map, sym, ap,
 use Rattle.std.proofs.lemmas.Result.{IfOk-weaker}
 use Rattle.tq_base.specs.Fragments.{at, copies, occurrences}
 use Rattle.tq_base.specs.Relations.{row_period_of}
-use Rattle.tq_ops.specs.Ordinary.{HasInside, selection}
+use Rattle.tq_condition.specs.Ordinary.{HasInside, selection}
 use Rattle.tq_ops.proofs.Widths.{all_pass, nothing_taken}
 use Rattle.tq_ops.proofs.difference.except_all.Goals as goal
 

@@ -7,7 +7,7 @@ use Rattle.tq_base.specs.declared.value.Value.{Value}
 use Rattle.tq_base.specs.Periods.{holds}
 use Rattle.tq_base.specs.Fragments.{at, copies, occurrences}
 use Rattle.tq_base.specs.Relations.{row_period_of}
-use Rattle.tq_ops.specs.Ordinary.{HasInside, selection}
+use Rattle.tq_condition.specs.Ordinary.{HasInside, selection}
 use Rattle.tq_ops.proofs.Cutting.{inside_from_counts, outside_from_counts}
 use Rattle.tq_ops.proofs.Selecting.{counts_whole}
 use Rattle.tq_ops.proofs.selection.select.Goals as goal

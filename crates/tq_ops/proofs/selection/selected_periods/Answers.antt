@@ -10,7 +10,7 @@ use Rattle.tq_base.specs.Relations.{row_period_of}
 use Rattle.tq_base.specs.Keys.{no_row}
 use Rattle.tq_base.specs.Periods.{IsOverlap, Overlap}
 use Rattle.tq_base.specs.Fragments.{at, copies, occurrences}
-use Rattle.tq_ops.specs.Ordinary.{admits, selection}
+use Rattle.tq_condition.specs.Ordinary.{admits, selection}
 use Rattle.tq_ops.proofs.Counting.{copies-push}
 use Rattle.tq_ops.proofs.Cutting.{inside_from_counts, outside_from_counts}
 use Rattle.tq_ops.proofs.Selecting.{selected, selected-sum_by, selects, fails, lies_apart}

@@ -7,7 +7,7 @@ use Rattle.tq_base.specs.Contents.{Int}
 use Rattle.tq_base.specs.KeyRanges.{is_number_in}
 use Rattle.tq_base.specs.Relations.{column_of}
 use Rattle.tq_base.specs.RowValues.{value_at}
-use Rattle.tq_ops.proofs.Sufficing.{number_there}
+use Rattle.tq_condition.proofs.Sufficing.{number_there}
 use Rattle.tq_ops.proofs.selection.trivially_pass.Goals as goal
 
 pub returns : goal.returns

@@ -1,6 +1,6 @@
 use Rattle.std.proofs.Common.{Ok, map, sym, ap, ◌∙◌, arith}
 use Rattle.std.proofs.lemmas.Result.{err_from_is_err_and}
-use Rattle.tq_ops.specs.declared.condition.Test.TheVariants as test
+use Rattle.tq_condition.specs.declared.condition.Test.TheVariants as test
 use Rattle.tq_plan.specs.declared.conditions.Step.TheVariants as step
 use Rattle.tq_plan.specs.Conditions.{both, negated, test_of}
 use Rattle.tq_plan.specs.Views.{field_view}

@@ -1,7 +1,7 @@
 -- The groups of the keys so far.
 use Rattle.std.proofs.Common.{◌≡◌, map, take}
 use Rattle.std.specs.Prelude.{filter}
-use Rattle.tq_ops.specs.Ordinary.{projection}
+use Rattle.tq_condition.specs.Ordinary.{projection}
 use Rattle.tq_agg.specs.Grouping.{same_row}
 use Rattle.tq_reference.proofs.groups.grouped_by.Given as goal
 

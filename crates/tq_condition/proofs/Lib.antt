@@ -1,0 +1,5 @@
+pub mod Conditions
+pub mod Knowing
+pub mod Ranging
+pub mod Sufficing
+pub mod Rebuilding

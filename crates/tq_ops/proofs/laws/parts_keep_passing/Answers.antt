@@ -1,5 +1,0 @@
-use Rattle.tq_ops.proofs.Knowing.{part_loses_none}
-use Rattle.tq_ops.proofs.laws.parts_keep_passing.Goals as goal
-
-pub returns : goal.returns
-returns c = part_loses_none
