@@ -1,11 +1,11 @@
 #!/usr/bin/env python3
-"""Times what a claim and the start of a worker cost, beside a step of a plain loop.
+"""Times a claim and the start of a worker, compared with a step of a plain loop.
 
-Usage: bench/claims.py [STEPS [RUNS]]   (20,000,000 steps and 2,000 runs where they are left out)
+Usage: bench/claims.py [STEPS [RUNS]]   (default: 20,000,000 steps and 2,000 runs)
 
-It builds crates/bench_claims and runs it from outside. Each figure is the best of five runs, less the time of the
-program with nothing to do, and is printed as a ratio to one step of the plain loop, whose results are kept in a
-list too. Standard library only.
+The script builds crates/bench_claims and times it from outside. Each figure is the minimum of five runs, less the time
+of the program without steps. It is printed as a ratio to one step of the plain loop, which also stores its results in a
+list. The script needs only the standard library.
 """
 
 import os
@@ -20,7 +20,7 @@ PROGRAM = os.path.join(os.path.dirname(os.path.dirname(os.path.abspath(__file__)
 
 
 def processor():
-    """The processor's name, as far as the system tells it."""
+    """The processor's name, or its architecture if the system does not report the name."""
     try:
         with open("/proc/cpuinfo", encoding="utf-8") as lines:
             for line in lines:
@@ -37,7 +37,7 @@ def output(words):
 
 
 def seconds(*words):
-    """The best time of five runs."""
+    """The minimum time of five runs."""
     words = [str(word) for word in words]
     best = None
     for _ in range(5):
@@ -55,7 +55,7 @@ def main():
 
     digests = {output([way, str(steps)]).split(":", 1)[1] for way in ("loop", "here", "with")}
     if len(digests) != 1:
-        sys.exit("the ways of running the steps differ in their results")
+        sys.exit("the results of `loop`, `here` and `with` differ")
 
     print(f"{processor()}, {os.cpu_count()} cores; {steps:,} steps, {runs:,} runs")
     nothing = seconds("loop", 0)
@@ -69,7 +69,7 @@ def main():
     for workers in (1, 2, 4, 7, 16):
         print(f"  as a piece claimed by {workers:2} worker(s)     {ratio('with', steps, workers) / steps:8.1f}")
     alone = ratio("start", runs, 1) / runs
-    print("a run of as many pieces as workers, in steps of the loop:")
+    print("a run with one piece for each worker, in steps of the loop:")
     print(f"  on the calling thread alone            {alone:8.0f}")
     for workers in (2, 4, 7, 16):
         cost = ratio("start", runs, workers) / runs

@@ -1,11 +1,10 @@
-"""Measures `tq ask` over rows that are all valid at once, where a sweep that looks at all open rows at each
-instant would be slow: python3 bench/crowds.py
+"""Measures `tq ask` over rows that are all valid together: python3 bench/crowds.py
 
     --tq PROGRAM   the program to measure (bin/tq)
     --rows N ..    the sizes of the tables (100000 1000000)
 
-Each row i of a table holds from i for 2n instants, so that all are valid from n to 2n. The times are printed, and
-asserted nowhere.
+A sweep that reads all open rows at each instant would be slow over these tables. Row i of n is valid from i to i + 2n,
+so all rows are valid from n to 2n. The script prints the times and sets no limit.
 """
 
 import functools
@@ -14,7 +13,7 @@ import tempfile
 
 from measuring import TRIES, each_size, read_options, run
 
-# The statement, and in how many groups the n rows of the table fall.
+# The statement, and the number of different values of g in a table of n rows.
 QUESTIONS = {
     "join on a unique key": ("VALIDTIME SELECT a.k FROM t a, t b WHERE a.k = b.k", lambda n: n),
     "count of all": ("VALIDTIME SELECT COUNT(*) FROM t", lambda n: n),
@@ -24,7 +23,7 @@ QUESTIONS = {
 
 
 def write_table(path, groups, rows):
-    """Writes the rows, the last one first."""
+    """Writes the table. The last row comes first."""
     with open(path, "w", encoding="utf-8") as file:
         file.write("k:int,g:int,from,to\n")
         for i in reversed(range(rows)):
@@ -32,7 +31,7 @@ def write_table(path, groups, rows):
 
 
 def measure(tq, name, rows):
-    """Prints a line for the question over so many rows, and gives the seconds."""
+    """Prints a line for the query over a table with this number of rows, and returns the seconds."""
     statement, groups = QUESTIONS[name]
     with tempfile.TemporaryDirectory() as folder:
         table = os.path.join(folder, "t.csv")
@@ -45,8 +44,8 @@ def measure(tq, name, rows):
 
 def main():
     options = read_options([100_000, 1_000_000])
-    print("tq ask over rows that are all valid at once")
-    print(f"{'question':<24} {'rows':>9} {'tq':>10} {'tq rows/s':>12}")
+    print("tq ask over rows that are all valid together")
+    print(f"{'query':<24} {'rows':>9} {'tq':>10} {'tq rows/s':>12}")
     for name in QUESTIONS:
         each_size(options.rows, functools.partial(measure, options.tq, name))
 

@@ -1,11 +1,11 @@
 """Measures the formats of answers against CSV: python3 bench/formats.py
 
     --tq PROGRAM      the program to measure (bin/tq)
-    --rows N ..       the rows of the tables (10000 1000000)
+    --rows N ..       the sizes of the tables (10000 1000000)
 
-The rows of a payroll are asked for in each format, once with few columns and once with the join on the key. The least seconds
-and the greatest peak memory of five runs count, the formats in turn. The rows of JSON are counted and compared with those of
-CSV.
+The script runs two queries over a payroll in each format: one column of a table, and the join on the key. The figures are
+the minimum seconds and the maximum peak memory of five runs, with the formats in turn. The script compares the number of
+rows of the answers as JSON Lines and as CSV.
 """
 
 import json
@@ -20,7 +20,7 @@ ASKED = ["name", "join"]
 
 
 def measure(program, tables, folder, question):
-    """The least seconds and the greatest peak of each format."""
+    """The minimum seconds and the maximum peak memory of each format."""
     options = [f"--table={name}={path}" for name, path in files_read(tables, QUESTIONS[question]).items()]
     runs = {name: [] for name in FORMATS}
     answers = {name: os.path.join(folder, f"answer.{name}") for name in FORMATS}
@@ -35,7 +35,7 @@ def measure(program, tables, folder, question):
 
 def main():
     options = read_options([10_000, 1_000_000])
-    print(f"{'question':<10}{'rows':>10}  {'format':<10}{'seconds':>9}{'of csv':>8}{'MiB':>7}")
+    print(f"{'query':<10}{'rows':>10}  {'format':<10}{'seconds':>9}{'of csv':>8}{'MiB':>7}")
     for rows in options.rows:
         with tempfile.TemporaryDirectory(prefix="tq-") as folder:
             tables = write_payroll(folder, rows)

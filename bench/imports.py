@@ -1,12 +1,17 @@
-"""Measures what an import costs compared with loading what it wrote: python3 bench/imports.py
+"""Measures what an import costs compared with loading the file that it wrote: python3 bench/imports.py
 
     --tq PROGRAM      the program to measure (bin/tq)
     --rows N ..       the sizes of the export (10000 1000000)
 
-A payroll is written as a personnel system exports it: semicolons, `dd.mm.yyyy`, included ends, amounts with separators of
-thousands and two places. It is imported into a file, whose bytes have to be those that this script writes itself. Then the
-rows of the file are counted, in which each row is loaded, and all its columns are asked for. The least seconds and the
-greatest peak memory of five runs count, each command in turn.
+The script writes a payroll as a personnel system exports it: semicolons, `dd.mm.yyyy`, included ends, amounts with
+separators of thousands and two decimals. It imports the payroll into a table file, which must equal the one that the script
+writes itself. Then it runs three queries over that file:
+
+- `count` counts the rows and stores no values;
+- `load` selects all columns with a condition that no row meets, so it loads them and prints no row;
+- `columns` selects all columns.
+
+The figures are the minimum seconds of five runs, with the commands in turn, and the maximum peak memory of the import.
 """
 
 import csv
@@ -28,7 +33,7 @@ COLUMNS = ["--from", "Valid from", "--to", "Valid to", "--key", "Employee ID"]
 
 
 def write_export(drawn, export, wanted):
-    """Writes the rows of a table of numbers as an export, and as the table file that its import has to be."""
+    """Writes the rows of the payroll `drawn` as an export, and as the table file that its import must write."""
     random.seed(1)
     with (
         open(drawn, newline="", encoding="utf-8") as read,
@@ -50,7 +55,7 @@ def write_export(drawn, export, wanted):
 
 
 def measure(program, folder, rows):
-    """The seconds and the peak of the import, and the seconds of both questions."""
+    """The minimum seconds of each command, by name, and the maximum peak memory of the import."""
     drawn, export, wanted, imported, answer = (os.path.join(folder, f"{name}.csv") for name in ("drawn", "export", "wanted", "imported", "answer"))
     with open(drawn, "w", newline="", encoding="utf-8") as file:
         write_table(file, rows)
@@ -59,6 +64,7 @@ def measure(program, folder, rows):
     commands = {
         "import": [program, "import", *OPTIONS, *COLUMNS, "--output", imported, export],
         "count": [program, "ask", *table, "VALIDTIME SELECT COUNT(*) FROM emp"],
+        "load": [program, "ask", *table, "VALIDTIME SELECT employee_id, last_name, department, salary FROM emp WHERE last_name = ''"],
         "columns": [program, "ask", *table, "VALIDTIME SELECT employee_id, last_name, department, salary FROM emp"],
     }
     runs = {name: [] for name in commands}
@@ -66,7 +72,7 @@ def measure(program, folder, rows):
         for name, command in commands.items():
             runs[name].append(run(command, answer))
     if not filecmp.cmp(imported, wanted, shallow=False):
-        sys.exit("the imported table is not that of the export")
+        sys.exit("the imported table differs from the expected one")
     seconds = {name: min(taken for taken, _ in its) for name, its in runs.items()}
     return seconds, max(peak for _, peak in runs["import"])
 
@@ -78,7 +84,7 @@ def main():
         with tempfile.TemporaryDirectory(prefix="tq-") as folder:
             seconds, peak = measure(options.tq, folder, rows)
         taken[rows] = seconds["import"]
-        ratios = ", ".join(f"{name} {seconds[name]:.3f} s ({seconds['import'] / seconds[name]:.2f} of it)" for name in ("count", "columns"))
+        ratios = ", ".join(f"{name} {seconds[name]:.3f} s (import: {seconds['import'] / seconds[name]:.2f} times as long)" for name in ("count", "load", "columns"))
         print(f"{rows:>9,} rows: import {seconds['import']:.3f} s, {peak / 2**20:.0f} MiB; {ratios}", flush=True)
     print(f"import: {growth(taken)}")
 

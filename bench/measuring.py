@@ -1,4 +1,4 @@
-"""Runs commands for the measurements: their time, their peak memory, and whether their bytes are equal."""
+"""Runs commands for the measurements, measures their time and peak memory, and compares what they print."""
 
 import argparse
 import csv
@@ -14,7 +14,7 @@ from dataclasses import asdict, dataclass, fields
 HERE = os.path.dirname(os.path.abspath(__file__))
 TRIES = 3
 
-# What is asked of the two tables of a payroll.
+# Queries over the two tables of a payroll.
 QUESTIONS = {
     "name": "VALIDTIME SELECT name FROM emp",
     "counts": "VALIDTIME SELECT dept, COUNT(*) FROM emp GROUP BY dept",
@@ -26,21 +26,21 @@ QUESTIONS = {
 
 @dataclass
 class Measurement:
-    """A line of the CSV files of measurements. What is not known is None."""
+    """A row of the CSV files of measurements. An unknown value is None."""
 
     tables: str
     question: str
     rows: int  # of each table
     program: str
     workers: int
-    seconds: float  # the least, from start to end, reading and writing included
-    processor_seconds: float | None  # the least
-    peak_bytes: int | None  # the greatest
-    file_bytes: int  # of the tables that the question reads
+    seconds: float  # the minimum, from start to end, with reading and writing
+    processor_seconds: float | None  # the minimum of user and system seconds
+    peak_bytes: int | None  # the maximum
+    file_bytes: int  # of the tables that the query reads
     table_count: int
 
     def bytes_a_row(self):
-        """The peak memory beyond the files for each row of the tables."""
+        """The peak memory for each row of the tables, without the size of the files; None if it is unknown."""
         if self.peak_bytes is None:
             return None
         return (self.peak_bytes - self.file_bytes) / (self.rows * self.table_count)
@@ -62,7 +62,7 @@ def read_measurements(path):
 
 
 def value_of(text):
-    """The number of a text or, if it is none, the text; None for an empty one."""
+    """The text as a number if it is one, else the text; None if it is empty."""
     for kind in (int, float):
         try:
             return kind(text)
@@ -72,7 +72,7 @@ def value_of(text):
 
 
 def read_options(sizes):
-    """The program to measure, and the sizes of the tables, these unless others are asked for."""
+    """The options of most scripts: the program to measure, and the sizes of the tables, by default `sizes`."""
     parser = argparse.ArgumentParser()
     parser.add_argument("--tq", default=os.path.join(HERE, "..", "bin", "tq"))
     parser.add_argument("--rows", type=int, nargs="+", default=sizes)
@@ -80,7 +80,10 @@ def read_options(sizes):
 
 
 def run_watched(command, output):
-    """Runs a command into a file: its seconds, its user and system seconds, and its peak memory in bytes."""
+    """Runs a command and writes its output to a file. Ends the script if the command fails.
+
+    Returns its seconds, its user and system seconds, and its peak memory in bytes.
+    """
     with open(output, "wb") as sink:
         begin = time.perf_counter()
         child = subprocess.Popen(command, stdout=sink)
@@ -93,14 +96,17 @@ def run_watched(command, output):
 
 
 def run(command, output):
-    """The same without the user and system seconds."""
+    """Runs a command as `run_watched` does. Returns its seconds and its peak memory in bytes."""
     seconds, _, peak = run_watched(command, output)
     return seconds, peak
 
 
 def run_in_turn(commands, folder, tries):
-    """Runs commands in turn, each as often, and compares their bytes: of each the least seconds, the least user and system
-    seconds, and the greatest peak memory. The commands go by their names."""
+    """Runs commands in turn, each `tries` times. Ends the script if they print different bytes.
+
+    `commands` maps names to commands. Returns by name the minimum seconds, the minimum user and system seconds, and the
+    maximum peak memory.
+    """
     outputs = {name: os.path.join(folder, f"answer-{number}.csv") for number, name in enumerate(commands)}
     runs = {name: [] for name in commands}
     for _ in range(tries):
@@ -109,7 +115,7 @@ def run_in_turn(commands, folder, tries):
     first, *others = commands
     for name in others:
         if not filecmp.cmp(outputs[first], outputs[name], shallow=False):
-            sys.exit(f"{name} gives other bytes than {first}: {' '.join(commands[first])}")
+            sys.exit(f"the answer of {name} differs from that of {first}: {' '.join(commands[first])}")
     found = {}
     for name, its in runs.items():
         seconds, processor, peaks = zip(*its)
@@ -118,19 +124,19 @@ def run_in_turn(commands, folder, tries):
 
 
 def files_read(tables, statement):
-    """Of the files of tables, by their names, those that the statement reads."""
+    """The files of the tables that the statement reads, by the names of the tables."""
     sources = statement.split(" FROM ", 1)[1].replace(",", " ").split()
     return {name: path for name, path in tables.items() if name in sources}
 
 
 def ask_words(program, tables, statement, workers=1):
-    """The command with which a program of tq answers a statement over the files of tables."""
+    """The command that runs a statement over the files of tables with a build of tq."""
     words = [f"--table={name}={path}" for name, path in files_read(tables, statement).items()]
     return [program, "ask", *words, f"--workers={workers}", statement]
 
 
 def write_payroll(folder, rows):
-    """The files of a payroll of so many rows each, by the names of the tables."""
+    """Writes a payroll whose tables have this number of rows. Returns the paths by the names of the tables."""
     tables = {}
     for name, words in {"emp": ["1"], "sal": ["2", "pay"]}.items():
         tables[name] = os.path.join(folder, f"{name}.csv")
@@ -139,47 +145,50 @@ def write_payroll(folder, rows):
 
 
 def ask(tq, name, table, columns, output):
-    """Asks for the columns of a table: the least seconds and the greatest peak of some tries."""
+    """Selects columns of a table. Returns the minimum seconds and the maximum peak memory of TRIES runs."""
     statement = f"VALIDTIME SELECT {', '.join(columns)} FROM {name}"
     tries = [run([tq, "ask", "--table", f"{name}={table}", statement], output) for _ in range(TRIES)]
     return min(seconds for seconds, _ in tries), max(peak for _, peak in tries)
 
 
 def sweep(table, columns, answer, output):
-    """The seconds of the plain Python script for the same answer, whose bytes have to be equal."""
+    """The seconds of the plain Python script. Ends the script if it prints another answer than `answer`."""
     script = os.path.join(HERE, "questions_python.py")
     seconds, _ = run([sys.executable, script, table, "", ",".join(columns)], output)
     if not filecmp.cmp(answer, output, shallow=False):
-        sys.exit(f"questions_python.py gives other bytes for {', '.join(columns)} of {table}")
+        sys.exit(f"questions_python.py prints another answer for {', '.join(columns)} of {table}")
     return seconds
 
 
 def build(crate):
-    """Builds a program of crates/, and gives its path."""
+    """Builds a program of crates/, and returns its path."""
     top = os.path.dirname(HERE)
     subprocess.run([sys.executable, os.path.join(top, "gate", "build.py"), crate], check=True, stdout=subprocess.DEVNULL)
     return os.path.join(top, "bin", crate)
 
 
 def held_in_one(rows):
-    """The peak memory in bytes of a process that holds so many rows in one `Db`."""
+    """The peak memory in bytes of a process that stores this number of rows in one `Db`."""
     _, peak = run([build("bench_snapshot"), "db", str(rows)], os.devnull)
     return peak
 
 
 def known_peak(peak):
-    """The peak memory of a child, or None: a child begins with this script's own peak, below which nothing is known of it."""
+    """The peak memory of a child process, or None if it is unknown.
+
+    A child begins with the peak of this script, so a lower peak is not visible.
+    """
     own = resource.getrusage(resource.RUSAGE_SELF).ru_maxrss * 1024
     return peak if peak > 1.5 * own else None
 
 
 def bytes_per_row(peak, table, rows):
-    """The peak memory a row beyond the file, as text."""
+    """The peak memory for each row, without the size of the file, as text; `-` if it is unknown."""
     return "-" if known_peak(peak) is None else f"{(peak - os.path.getsize(table)) / rows:.0f}"
 
 
 def growth(seconds):
-    """How the time grew from each size to the next, beside n log n, as text. The seconds go by size."""
+    """How the time grows from each size to the next, compared with n log n, as text. `seconds` maps sizes to seconds."""
     sizes = sorted(seconds)
     steps = []
     for small, large in zip(sizes, sizes[1:]):
@@ -189,5 +198,5 @@ def growth(seconds):
 
 
 def each_size(sizes, measure):
-    """Measures each size by the function, which prints a line and gives the seconds, and prints how they grow."""
+    """Measures each size with a function that prints a line and returns the seconds. Prints how the seconds grow."""
     print(f"{'':<20} {growth({rows: measure(rows) for rows in sizes})}", flush=True)

@@ -3,9 +3,9 @@
     --tq PROGRAM      the program to measure (bin/tq)
     --rows N ..       the sizes of the tables (10000 1000000)
 
-A payroll is divided into 8 and into 64 parts. Each part is asked by one worker, one part after another, and the answers are
-merged. The merged bytes have to be those of one query over whole tables, which is measured next to it. The least seconds of
-five runs count, each command in turn. Peak memory is the greatest of all processes of a kind.
+The script divides a payroll into 8 and into 64 parts. It runs the query over one part after another, with one worker, and
+merges the answers. The merged answer must equal that of one query over whole tables, which is measured too. The figures are
+the minimum seconds of five runs, with the commands in turn, and the maximum peak memory of all processes of a kind.
 """
 
 import filecmp
@@ -26,7 +26,7 @@ STATEMENTS = {
 
 
 def ask_parts(program, folder):
-    """The seconds of all parts together, and the greatest peak."""
+    """Runs the query over each part. Returns the sum of the seconds, and the maximum peak memory."""
     seconds, peaks = 0.0, []
     for part in os.listdir(folder):
         words_path = os.path.join(folder, part, "args")
@@ -40,7 +40,7 @@ def ask_parts(program, folder):
 
 
 def measure(program, folder, tables, statement, parts):
-    """The least seconds and the greatest peak of each step, by its name."""
+    """The minimum seconds and the maximum peak memory of each step, by its name, and the number of rows of the answer."""
     divided, whole, merged = (os.path.join(folder, name) for name in ("parts", "whole.csv", "merged.csv"))
     words = [f"--table={name}={path}" for name, path in files_read(tables, statement).items()]
     runs = {"split": [], "parts": [], "merge": [], "whole": []}
@@ -51,7 +51,7 @@ def measure(program, folder, tables, statement, parts):
         runs["merge"].append(run([program, "merge", divided], merged))
         runs["whole"].append(run(ask_words(program, tables, statement), whole))
         if not filecmp.cmp(merged, whole, shallow=False):
-            sys.exit(f"{parts} parts give other bytes: {statement}")
+            sys.exit(f"the merged answer of {parts} parts differs from that over whole tables: {statement}")
     with open(whole, "rb") as file:
         answer_rows = sum(1 for _ in file) - 1
     return {name: (min(taken for taken, _ in its), max(peak for _, peak in its)) for name, its in runs.items()}, answer_rows
@@ -59,7 +59,7 @@ def measure(program, folder, tables, statement, parts):
 
 def main():
     options = read_options([10_000, 1_000_000])
-    print("microseconds a row of the tables (merge: a row of the answer), and MiB of the largest process")
+    print("microseconds for each row of the tables (merge: of the answer), and MiB of the largest process")
     for rows in options.rows:
         with tempfile.TemporaryDirectory(prefix="tq-") as folder:
             tables = write_payroll(folder, rows)
@@ -71,7 +71,7 @@ def main():
                         f"{step} {seconds / (answer_rows if step == 'merge' else read) * 1e6:.2f} ({peak / 2**20:.0f})"
                         for step, (seconds, peak) in steps.items()
                     )
-                    print(f"{rows:>9,} rows, {name}, {parts} parts, {answer_rows:,} rows of answer: {', '.join(texts)}", flush=True)
+                    print(f"{rows:>9,} rows, {name}, {parts} parts, answer of {answer_rows:,} rows: {', '.join(texts)}", flush=True)
 
 
 if __name__ == "__main__":

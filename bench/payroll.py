@@ -1,10 +1,10 @@
-"""Writes a payroll-like table of any number of rows: python3 bench/payroll.py ROWS [SEED [pay]] > emp.csv
+"""Writes a payroll-like table with any number of rows: python3 bench/payroll.py ROWS [SEED [pay]] > emp.csv
 
-With `pay` the rows say what a person earns, in place of name and department.
+With `pay` a row has the amount that a person earns, instead of name and department.
 
-A person works for one department after another. Most periods meet the one before (a raise), some
-leave a gap, some overlap it (a second post), some rows stand twice, and the last period of many
-persons is open (`forever`). The same ROWS and SEED give the same bytes.
+A person works for one department after another. Most periods meet the one before (a raise). Some leave a gap, some
+overlap it (a second post), and some rows occur twice. The last period of many persons is open (`forever`). The same
+arguments produce the same bytes.
 """
 
 import csv
@@ -42,13 +42,13 @@ def person_rows(number, persons, random_source):
 
 
 def with_pay(row, random_source):
-    """The row with an amount in place of name and department."""
+    """The row with an amount instead of name and department."""
     number, _, _, start, end = row
     return [number, 2_000 + 100 * random_source.randrange(40), start, end]
 
 
 def write_table(output, rows, seed=1, pay=False):
-    """Writes a header and just so many rows, in an order that tells nothing."""
+    """Writes a header and exactly this number of rows, in random order within batches of about 10,000."""
     random_source = random.Random(seed)
     writer = csv.writer(output, lineterminator="\n")
     writer.writerow(["emp:int", "amount:int", "from", "to"] if pay else ["emp:int", "name:text", "dept:text", "from", "to"])

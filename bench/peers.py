@@ -1,6 +1,6 @@
-"""Programs that a user could take for the same questions, as far as they are installed.
+"""Other programs that a user could choose for the same queries, if they are installed.
 
-Each reads the files and writes the answer's bytes. PostgreSQL runs as a private cluster in a folder of its own, which is
+Each reads the files and writes the same bytes. PostgreSQL runs as a private cluster in a folder of its own, which is
 removed at the end.
 """
 
@@ -37,22 +37,22 @@ jit = off
 
 
 class Missing(Exception):
-    """A program is not installed."""
+    """A program is not installed, or does not start."""
 
 
 @dataclass
 class Peer:
-    """A program: its name, and the words of a run with the paths of both tables and a question."""
+    """A program: its name, and a function from the paths of both tables and a query's name to a command."""
 
     name: str
     words: Callable
     workers: int = 1
-    is_one_process: bool = True  # whether its processor time and its memory are those of the process that is started
+    is_one_process: bool = True  # whether the started process does all the work, so that its processor time and memory count
 
 
 @contextmanager
 def floor():
-    """A plain C program."""
+    """A plain C program of one thread."""
     compiler = shutil.which("cc")
     if compiler is None:
         raise Missing("no C compiler `cc`")
@@ -88,7 +88,7 @@ def python():
 
 @contextmanager
 def postgresql():
-    """A cluster that only its own user reaches, by a socket in its folder. The start of the server is not measured."""
+    """A cluster that only its own user can reach, by a socket in its folder. The start of the server is not measured."""
     programs = find_postgresql()
     folder = tempfile.mkdtemp(prefix="tq-")
     try:
@@ -107,7 +107,7 @@ def postgresql():
 
 
 def find_postgresql():
-    """The paths of the programs of PostgreSQL. Debian keeps those of the server apart, by version."""
+    """The paths of the programs of PostgreSQL. Debian installs those of the server in a folder for each version."""
     folders = sorted(glob("/usr/lib/postgresql/*/bin"), key=lambda path: int(path.split("/")[4]))
     path = os.pathsep.join([*reversed(folders), os.environ.get("PATH", "")])
     programs = {name: shutil.which(name, path=path) for name in ("initdb", "pg_ctl", "psql")}
@@ -118,7 +118,7 @@ def find_postgresql():
 
 
 def run_as_user(folder, command):
-    """Runs a command of the server, which refuses to run as root: then as `nobody`, who gets the folder."""
+    """Runs a command of the server. It refuses to run as root, so root runs it as `nobody`, who gets the folder."""
     who = {}
     if os.geteuid() == 0:
         nobody = pwd.getpwnam("nobody")
@@ -133,11 +133,11 @@ PEERS = {"floor": floor, "data.table": data_table, "PostgreSQL": postgresql, "sq
 
 
 def started(names, stack):
-    """The peers of these names that are installed, until the stack ends. For each of the others a line is printed."""
+    """Starts the peers of these names that are installed, until the stack ends. Prints a line for each of the others."""
     found = []
     for name in names:
         try:
             found.append(stack.enter_context(PEERS[name]()))
         except Missing as missing:
-            print(f"{name} is left out: {missing}", flush=True)
+            print(f"{name} is skipped: {missing}", flush=True)
     return found

@@ -4,10 +4,10 @@
     --workers FILE   what `bench/workers.py --csv` wrote (docs/plots/workers.csv)
     --out FOLDER     where the files are written (docs/plots)
 
-rows.svg has a panel for each question: seconds against rows, both axes logarithmic. memory.svg shows the memory a row, and
-workers.svg the speed-up by several workers, each at one number of rows. A file whose measurements are missing is not
-drawn. A program has the same colour, dashes and marker everywhere. Each file has a background of its own, which is dark
-if the reader's system is.
+rows.svg has a panel for each query: seconds against rows, both axes logarithmic. memory.svg shows the memory for each row,
+and workers.svg the speed-up by several workers, each at one number of rows. A file whose measurements are missing is not
+drawn. A program has the same colour, dashes and marker in rows.svg and memory.svg. Each file has a background of its own,
+which is dark if the reader's system is.
 """
 
 import argparse
@@ -20,7 +20,7 @@ from measuring import HERE, read_measurements
 
 FOLDER = os.path.join(HERE, "..", "docs", "plots")
 
-# The colours of Okabe and Ito, which colour-blind readers can tell apart, on a light ground and on a dark one.
+# The colours of Okabe and Ito, which colour-blind readers can distinguish, on a light and on a dark background.
 COLOURS = {
     "blue": ("#0072b2", "#4fa3e0"),
     "sky": ("#3a9bd9", "#8cc9f5"),
@@ -42,7 +42,7 @@ text { font-family: sans-serif; font-size: 12px }
 DASHES = ["", "6 3", "2 3", "9 3 2 3", "1 3", "4 2", "12 4"]
 MARKERS = ["circle", "square", "cross", "diamond", "triangle", "plus", "ring"]
 
-# The questions that are drawn, and what they are called.
+# The queries that are drawn, and their titles.
 PANELS = {
     "join": "Join of two tables on the key",
     "difference": "Difference (EXCEPT ALL)",
@@ -55,7 +55,7 @@ PANELS = {
 
 @dataclass
 class Axis:
-    """A scale from values to places, with the values at which it has a line and their labels."""
+    """A scale from values to coordinates, with its ticks and their labels."""
 
     low: float
     high: float
@@ -71,7 +71,7 @@ class Axis:
 
 
 def powers(low, high):
-    """The powers of ten from the last one that is not above `low` to the first one that is not below `high`."""
+    """The powers of ten from the last one not above `low` to the first one not below `high`."""
     return [10**power for power in range(math.floor(math.log10(low) + 1e-9), math.ceil(math.log10(high) - 1e-9) + 1)]
 
 
@@ -83,7 +83,7 @@ def log_axis(values, begin, end, label_of):
 
 
 def short(number):
-    """A number as an axis says it: 0.01, 10, 10k, 1M."""
+    """A number as the label of a tick: 0.01, 10, 10k, 1M."""
     for unit, letter in ((1_000_000, "M"), (1_000, "k")):
         if number >= unit:
             return f"{number / unit:g}{letter}"
@@ -91,7 +91,7 @@ def short(number):
 
 
 def colours(at):
-    """The rules of the colours, those on a light ground (0) or on a dark one (1)."""
+    """The CSS rules of the colours on a light background (0) or on a dark one (1)."""
     rules = [f".{name} {{ color: {both[at]} }}" for name, both in COLOURS.items()]
     rules += [f".ground {{ fill: {GROUND[at]} }}", f"text {{ fill: {INK[at]} }}"]
     rules += [f".grid {{ stroke: {FAINT[at]} }}", f".axis {{ stroke: {COLOURS['grey'][at]} }}"]
@@ -121,7 +121,7 @@ def marker(shape, x, y):
 
 
 def drawn(look, places):
-    """A line through places, and a marker on each, in the colour, dashes and marker of a look."""
+    """A line through points with a marker on each, in the colour, dashes and marker of a look."""
     colour, dashes, shape = list(COLOURS)[look], DASHES[look], MARKERS[look]
     path = "L".join(f"{x:.1f} {y:.1f}" for x, y in places)
     dashed = f' stroke-dasharray="{dashes}"' if dashes else ""
@@ -130,7 +130,7 @@ def drawn(look, places):
 
 
 def frame(x_axis, y_axis, x_label, y_label):
-    """The lines and the labels of both axes."""
+    """The grid, the axes and their labels."""
     for tick in x_axis.ticks:
         x = x_axis.place(tick)
         yield line(x, y_axis.begin, x, y_axis.end, "grid")
@@ -149,7 +149,7 @@ def frame(x_axis, y_axis, x_label, y_label):
 
 
 def legend(looks, y):
-    """The names of series with their lines and markers, in one row."""
+    """The names of the series with their lines and markers, in one row."""
     x = 24
     for name, look in looks.items():
         yield drawn(look, [(x, y - 4), (x + 36, y - 4)])
@@ -158,7 +158,7 @@ def legend(looks, y):
 
 
 def apart(places, gap):
-    """Places near these, in their order, that are at least so far apart."""
+    """Moves the places, in their order, until neighbours are at least `gap` apart, in at most 100 rounds."""
     order = sorted(range(len(places)), key=lambda at: places[at])
     moved = list(places)
     for _ in range(100):
@@ -171,7 +171,7 @@ def apart(places, gap):
 
 
 def svg(width, height, title, parts):
-    """The text of a file."""
+    """The text of an SVG file."""
     ground = '<rect class="ground" width="100%" height="100%" rx="6"/>'
     style = f"{STYLE}{colours(0)}\n@media (prefers-color-scheme: dark) {{\n{colours(1)}\n}}\n"
     head = f'<svg xmlns="http://www.w3.org/2000/svg" viewBox="0 0 {width} {height}" width="{width}" height="{height}" role="img">'
@@ -184,13 +184,13 @@ def name_of(it):
 
 
 def looks_of(measurements):
-    """The look of each program, in the order in which they were measured."""
+    """The look of each program. Looks are numbered in the order of the measurements."""
     names = dict.fromkeys(map(name_of, measurements))
     return {name: at % len(COLOURS) for at, name in enumerate(names)}
 
 
 def rows_plot(measurements):
-    """Seconds against rows: a panel for each question, all with the same axes."""
+    """Seconds against rows: a panel for each query, all with the same axes."""
     looks = looks_of(measurements)
     asked = [question for question in PANELS if question in {it.question for it in measurements}]
     columns, wide, high = 3, 285, 215
@@ -212,7 +212,7 @@ def rows_plot(measurements):
 
 
 def memory_plot(measurements):
-    """Bytes a row beyond the files, at the size at which most is known of it."""
+    """Bytes for each row without the files, at the number of rows with the most known values."""
     known = [it for it in measurements if it.question in PANELS and (it.bytes_a_row() or 0) > 0]
     rows = max({it.rows for it in known}, key=lambda size: (sum(it.rows == size for it in known), size))
     known = [it for it in known if it.rows == rows]
@@ -234,7 +234,7 @@ def memory_plot(measurements):
 
 
 def workers_plot(measurements):
-    """How many times as fast several workers are as one, at the most rows, with the ideal."""
+    """The speed-up of several workers over one, at the largest number of rows, with the ideal line."""
     rows = max(it.rows for it in measurements)
     its = [it for it in measurements if it.rows == rows and it.tables == "payroll"]
     most = max(it.workers for it in its)
@@ -256,7 +256,7 @@ def workers_plot(measurements):
 
 
 def plots(peers, workers):
-    """The files that these measurements make: their names and texts."""
+    """The names and texts of the files that these measurements produce."""
     for name, path, plot in (("rows.svg", peers, rows_plot), ("memory.svg", peers, memory_plot), ("workers.svg", workers, workers_plot)):
         if os.path.exists(path):
             yield name, plot(read_measurements(path))

@@ -1,11 +1,12 @@
-# Questions swept by hand with R's data.table, by all its threads:
+# Coalesced queries with R's data.table, by all its threads:
 #
 #     Rscript bench/questions_data_table.R EMP SAL QUESTION
 #
-# QUESTION is join, difference, counts, sums, or the columns to select from EMP, divided by commas.
+# QUESTION is join, difference, counts, sums, or the columns to select from EMP, separated by commas.
 #
-# Each row changes the copies and the total of its group where it begins and where it ends. The running sums of these
-# changes are cut where a total changes, or copies are laid out in layers, each of which begins and ends in turn.
+# Each row changes the copies and the total of its group at its start and at its end. The script takes running sums of
+# these changes. For counts and sums, a period ends when the total changes. For other queries, the copies are arranged in
+# layers, whose starts and ends alternate.
 
 suppressPackageStartupMessages(library(data.table))
 setDTthreads(0)
@@ -13,7 +14,7 @@ words <- commandArgs(trailingOnly = TRUE)
 question <- words[3]
 forever <- 1e12
 
-# A file's rows, with start and stop as numbers. (fread leaves quotes doubled that stand within quotes.)
+# A file's rows, with start and stop as numbers. fread leaves doubled quotes in quoted fields.
 load_rows <- function(path, names, kinds) {
   rows <- fread(path, skip = 1, header = FALSE, col.names = c(names, "start", "stop"), encoding = "UTF-8",
                 colClasses = c(kinds, "numeric", "numeric"), na.strings = "forever")
@@ -34,7 +35,7 @@ join_rows <- function() {
   rows[, .(emp, name, dept, amount, start = pmax(start, i.start), stop = pmin(stop, i.stop))]
 }
 
-# The sums of the changes of each group at each instant, in their order.
+# The sums of the changes of each group at each instant, ordered by group and instant.
 changes_of <- function(rows, by) {
   starts <- rows[, c(by, "start", "copies", "total"), with = FALSE]
   stops <- rows[, c(by, "stop", "copies", "total"), with = FALSE]
@@ -45,7 +46,7 @@ changes_of <- function(rows, by) {
   rbind(starts, stops)[, .(copies = sum(copies), total = sum(total)), keyby = c(by, "at")]
 }
 
-# A change of n copies begins or ends n layers. In a layer starts and ends alternate.
+# The rows of the layers. A change of n copies starts or ends a row in n layers. In a layer starts and ends alternate.
 layers <- function(changes, by) {
   changes <- changes[copies != 0]
   changes[, below := cumsum(copies)]

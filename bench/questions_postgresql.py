@@ -1,6 +1,6 @@
-"""Questions by SQL over PostgreSQL, coalesced: the words with which psql loads the tables and writes the answer.
+"""Coalesced queries in SQL for PostgreSQL: the arguments with which psql loads the tables and writes the answer.
 
-The tables are unlogged, so that parallel workers may read them, and are analysed. An end `forever` is NULL in them.
+The tables are unlogged, so that parallel workers can read them, and are analysed. An end `forever` is NULL in them.
 """
 
 FOREVER = 1_000_000_000_000
@@ -10,7 +10,7 @@ TABLES = {
     "sal": ("emp bigint, amount bigint", "FORCE_NOT_NULL (amount)"),
 }
 
-# The rows that a join gives, and those of the tables, with `forever` as a number.
+# The rows of the tables and of their join, with `forever` as a number.
 ROWS = {
     "emp": f"SELECT emp, name, dept, start, coalesce(stop, {FOREVER}) AS stop FROM emp",
     "sal": f"SELECT emp, amount, start, coalesce(stop, {FOREVER}) AS stop FROM sal",
@@ -20,13 +20,13 @@ ROWS = {
 }
 ROWS["joined"] = ROWS["joined"].format(**ROWS)
 
-# How the copies of each row of values change.
+# The changes of the number of copies of each row of values.
 CHANGES = """
     SELECT {columns}, instant, sum(change)::int AS change
     FROM ({rows}) r, LATERAL (VALUES (start, 1), (stop, -1)) c (instant, change)
     GROUP BY {columns}, instant HAVING sum(change) <> 0"""
 
-# The copies of a key on the left less those on the right, and how what is above 0 of it changes.
+# For each key the copies in emp minus those in sal, or 0 if this is negative: the changes of that number.
 DIFFERENCE = """
     SELECT emp, instant, greatest(copies, 0) - greatest(copies - change, 0) AS change
     FROM (SELECT emp, instant, change, sum(change) OVER (PARTITION BY emp ORDER BY instant) AS copies
@@ -37,7 +37,7 @@ DIFFERENCE = """
                 GROUP BY emp, instant) c) c
     WHERE greatest(copies, 0) <> greatest(copies - change, 0)"""
 
-# Each change begins or ends a run at each level between the copies before it and those after it.
+# Each change begins or ends a period at each level between the copies before it and those after it.
 RUNS = """
     SELECT {columns}, instant AS "from", nullif(next, {forever}) AS "to"
     FROM (SELECT {columns}, instant, begins, lead(instant) OVER (PARTITION BY {columns}, level ORDER BY instant) AS next
@@ -47,7 +47,7 @@ RUNS = """
                       FROM ({changes}) c) c) c) c
     WHERE begins ORDER BY {columns}, instant, next"""
 
-# The runs of equal totals of each group while it has rows.
+# For each group the maximal periods with the same total and at least one row.
 GROUPS = """
     SELECT dept, total AS {name}, instant AS "from", nullif(next, {forever}) AS "to"
     FROM (SELECT *, lead(instant) OVER (PARTITION BY dept ORDER BY instant) AS next
@@ -64,7 +64,7 @@ GROUPS = """
 
 
 def query(question):
-    """The SQL of a question."""
+    """The SQL of the query with this name."""
     if question == "counts":
         return GROUPS.format(name="count", weight="1", rows=ROWS["emp"], forever=FOREVER)
     if question == "sums":
@@ -77,7 +77,7 @@ def query(question):
 
 
 def words(emp, sal, question):
-    """The words of psql: commands one after another in one session."""
+    """The arguments of psql: commands that run one after another in one session."""
     paths = {"emp": emp, "sal": sal} if question in ("join", "difference", "sums") else {"emp": emp}
     commands = ["SET client_min_messages = warning"]
     for name, path in paths.items():

@@ -1,7 +1,7 @@
-"""Questions by SQL over sqlite3, coalesced: python3 bench/questions_sql.py EMP SAL QUESTION
+"""Coalesced queries in SQL for sqlite3: python3 bench/questions_sql.py EMP SAL QUESTION
 
-QUESTION is join, difference, counts, sums, or the columns to select from EMP, divided by commas. The tables that it names
-are loaded into memory. For a join SAL is indexed by the key.
+QUESTION is join, difference, counts, sums, or the columns to select from EMP, separated by commas. The script loads the
+tables that the query reads into memory. For join and sums it indexes SAL by the key.
 """
 
 import csv
@@ -10,7 +10,7 @@ import sys
 
 FOREVER = 1_000_000_000_000
 
-# How the number of copies of each row of values changes.
+# The changes of the number of copies of each row of values.
 COUNTS = """
 CREATE TABLE counts AS
 SELECT *, SUM(change) OVER (PARTITION BY {columns} ORDER BY instant) AS copies
@@ -26,7 +26,7 @@ WITH RECURSIVE numbers(level) AS (
 INSERT INTO levels SELECT level FROM numbers
 """
 
-# Each change begins or ends a run at each level between the copies before it and those after it.
+# Each change begins or ends a period at each level between the copies before it and those after it.
 RUNS = """
 SELECT {columns}, instant, next
 FROM (SELECT {columns}, instant, change > 0 AS begins,
@@ -42,7 +42,7 @@ SELECT e.emp, name, dept, amount, MAX(e.start, s.start) AS start, MIN(e.stop, s.
 FROM emp e JOIN sal s ON e.emp = s.emp AND e.start < s.stop AND s.start < e.stop
 """
 
-# The copies of a key on the left less those on the right, and how what is above 0 of it changes.
+# For each key the copies in emp minus those in sal, or 0 if this is negative: the changes of that number.
 DIFFERENCE = """
 CREATE TABLE counts AS
 SELECT emp, instant, MAX(copies, 0) - MAX(before, 0) AS change, MAX(copies, 0) AS copies
@@ -55,8 +55,8 @@ FROM (SELECT emp, instant, copies, copies - change AS before
 WHERE MAX(copies, 0) <> MAX(before, 0)
 """
 
-# The runs of equal totals of each group while it has rows. Where neither the total nor whether there are
-# rows changes, no run begins.
+# For each group the maximal periods with the same total and at least one row. A period begins only if the total changes, or if
+# the group gets its first row.
 GROUPS = """
 SELECT dept, total, instant, next
 FROM (SELECT *, LEAD(instant) OVER (PARTITION BY dept ORDER BY instant) AS next
@@ -74,7 +74,7 @@ WHERE copies > 0 ORDER BY dept, total, instant
 
 
 def load(path, database, table):
-    """Makes a table with the file's columns, `start` and `stop`."""
+    """Creates a table with the columns of the file, `start` and `stop`, and fills it."""
     with open(path, newline="", encoding="utf-8") as file:
         records = csv.reader(file)
         header = next(records)[:-2]
@@ -105,12 +105,12 @@ def write_runs(database, columns):
 
 
 def write_groups(database, rows, weight, name):
-    """Writes the runs of each department's total."""
+    """Writes the periods of each department's total."""
     write_rows(["dept", name], database.execute(GROUPS.format(rows=rows, weight=weight)))
 
 
 def write_columns(database, rows, columns):
-    """Writes the coalesced rows of a table, of which these columns are selected."""
+    """Writes the coalesced rows of these columns of a table."""
     database.execute(COUNTS.format(columns=", ".join(columns), rows=rows))
     write_runs(database, columns)
 

@@ -1,16 +1,18 @@
-"""Answers statements over large tables by parts: python3 bench/scale.py
+"""Runs queries over parts of large tables: python3 bench/scale.py
 
     --tq PROGRAM      the program to measure (bin/tq)
     --rows N ..       the sizes of the tables (1000000 100000000)
-    --parts N         how many parts (64)
-    --processes N     how many parts are asked at once (4)
+    --parts N         the number of parts (64)
+    --processes N     how many parts are queried concurrently (4)
     --folder DIR      a folder for tables and parts, about 170 bytes for each row of a table (a temporary one)
 
-bench/scale.c writes the tables, as 16 files each. They are divided, the parts are asked by one worker each, and the answers
-are merged. bench/scale.c also finds by itself what the answers must be, and reads the merged answer: another sum ends the
-script. Each size is measured once. For each step the seconds are printed, the microseconds for each row of the tables, and
-the peak memory of its largest process; then the throughput for each row as a share of that of the first size; then how long
-the parts would take with 1, 10, 100 and 1,000 workers, by the seconds of each part.
+bench/scale.c writes the tables, as 16 files each. The script divides them, runs the query over each part with one worker,
+and merges the answers. bench/scale.c also computes the sums of the expected answer by itself, and those of the merged
+answer. If they differ, the script ends. Each size is measured once. The script prints:
+
+- for each step the seconds, the microseconds for each row of the tables, and the peak memory of the largest process;
+- the throughput in rows, as a fraction of that of the first size;
+- how long the parts would take with 1, 10, 100 and 1,000 workers, computed from the seconds of each part.
 """
 
 import argparse
@@ -46,14 +48,14 @@ def read_options():
 
 
 def built(folder):
-    """The program of bench/scale.c."""
+    """Compiles bench/scale.c, and returns the path of the program."""
     program = os.path.join(folder, "scale")
     subprocess.run(["cc", "-O2", "-o", program, os.path.join(HERE, "scale.c")], check=True)
     return program
 
 
 def write_tables(scale, folder, rows, processes):
-    """The files of each table, by its name."""
+    """Writes the files of each table. Returns their paths by the name of the table."""
     persons = rows // ROWS_OF_A_PERSON // FILES
     tables = {name: [os.path.join(folder, f"{name}-{number:02}.csv") for number in range(FILES)] for name in ("emp", "sal")}
 
@@ -66,13 +68,13 @@ def write_tables(scale, folder, rows, processes):
 
 
 def expected(scale, question, tables):
-    """The sums of the right answer."""
+    """The sums of the expected answer."""
     pairs = [path for pair in zip(tables["emp"], tables["sal"]) for path in pair]
     return subprocess.run([scale, "expect", question, *pairs], stdout=subprocess.PIPE, text=True, check=True).stdout
 
 
 def ask_parts(program, folder, parts, processes):
-    """The seconds of all parts together, those of each part, and the greatest peak."""
+    """Runs the query over all parts. Returns the elapsed seconds, those of each part, and the maximum peak memory."""
 
     def ask(part):
         with open(os.path.join(folder, str(part), "args"), encoding="utf-8") as file:
@@ -86,7 +88,7 @@ def ask_parts(program, folder, parts, processes):
 
 
 def merge(program, scale, question, folder):
-    """The sums of the merged answer, and the seconds and the peak of the merge."""
+    """Merges the answers. Returns the sums of the merged answer, the seconds, and the peak memory."""
     begin = time.perf_counter()
     merging = subprocess.Popen([program, "merge", folder], stdout=subprocess.PIPE)
     checking = subprocess.Popen([scale, "check", question], stdin=merging.stdout, stdout=subprocess.PIPE, text=True)
@@ -96,7 +98,7 @@ def merge(program, scale, question, folder):
     merging.returncode = os.waitstatus_to_exitcode(status)
     found = checking.communicate()[0]
     if merging.returncode != 0 or checking.returncode != 0:
-        sys.exit(f"{question}: tq merge ended with status {merging.returncode}, its reader with {checking.returncode}")
+        sys.exit(f"{question}: tq merge ended with status {merging.returncode}, and scale check with {checking.returncode}")
     return found, seconds, usage.ru_maxrss * 1024
 
 
@@ -109,7 +111,7 @@ def makespan(seconds, workers):
 
 
 def measure(options, scale, folder, rows, question, tables):
-    """Prints a line. The result is the microseconds of all steps for each row, and the seconds of each part."""
+    """Measures a query and prints a line. Returns the microseconds of all steps for each row, and the seconds of each part."""
     statement, names = STATEMENTS[question]
     right = expected(scale, question, tables)
     divided = os.path.join(folder, "parts")
@@ -123,7 +125,7 @@ def measure(options, scale, folder, rows, question, tables):
     steps = {"split": split, "parts": (asked, peak), "merge": (merged, merge_peak)}
     read = rows * len(names)
     texts = (f"{name} {seconds:.1f} s, {seconds / read * 1e6:.2f} us, {peak / 2**20:.0f} MiB" for name, (seconds, peak) in steps.items())
-    print(f"{rows:>11,} rows, {question}, right: {'; '.join(texts)}", flush=True)
+    print(f"{rows:>11,} rows, {question}, correct: {'; '.join(texts)}", flush=True)
     return sum(seconds for seconds, _ in steps.values()) / read * 1e6, parts
 
 
@@ -138,7 +140,7 @@ def main():
                 whole, parts = measure(options, scale, folder, rows, question, tables)
                 share = first.setdefault(question, whole) / whole
                 times = ", ".join(f"{workers:,}: {makespan(parts, workers):.1f} s" for workers in WORKERS)
-                print(f"{'':11} {whole:.2f} us a row, throughput {share:.2f} of the first size; parts by workers: {times}", flush=True)
+                print(f"{'':11} {whole:.2f} us for each row, throughput {share:.2f} of that of the first size; parts by workers: {times}", flush=True)
 
 
 if __name__ == "__main__":

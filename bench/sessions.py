@@ -1,16 +1,18 @@
 """Measures a session: python3 bench/sessions.py
 
-    --tq PATH         the program
+    --tq PATH         the program (bin/tq)
     --rows N          how many rows are loaded (1000000)
-    --events E        how many rows are then started and ended, a publish after each thousand lines (100000)
-    --questions Q     how many questions are asked behind the publishings, each of one instant and 250 neighbouring keys,
-                      as of a random count of the events published by then (10000)
+    --events E        how many starts and ends follow, with a publish after each thousand lines (100000)
+    --questions Q     how many queries follow the publishes, each of one instant and 250 neighbouring keys, as of a random
+                      count of the events published by then (10000)
 
-The loaded rows have not ended, and each has a key of its own. Three sessions run, each the longer by what is measured:
-one that only loads, one that also starts and ends rows, one that also asks. What is printed has to be as the lines
-say. By user and system seconds, of which the least of three runs counts, lines a second and milliseconds a question are
-printed, each beside what is wanted, and the peak memory beside that of one `Db` that holds the loaded rows, and in the
-end beside that of one that holds those that were started too (crates/bench_snapshot).
+The loaded rows have not ended, and each has a key of its own. Three sessions run: one only loads, one also starts and ends
+rows, and one also runs the queries. The difference between two sessions is the time of the lines that one has more. The
+script checks the replies of the last two.
+
+Times are user and system seconds, the minimum of three runs. The script prints starts and ends a second and milliseconds for
+each query, each with its target. It also prints the peak memory compared with that of one `Db` (crates/bench_snapshot). After
+loading the `Db` has the loaded rows, and at the end also the started ones.
 """
 
 import argparse
@@ -22,7 +24,7 @@ import tempfile
 
 from measuring import HERE, TRIES, held_in_one
 
-AT_ONCE = 1000
+BATCH = 1000
 NEIGHBOURS = 250
 TIME = 20_000_000
 
@@ -36,19 +38,19 @@ def read_options():
     return parser.parse_args()
 
 
-def events_of(rows, first, behind):
-    """Lines that start rows and end them again, and a publish behind them, and what each prints."""
-    lines, said = [], []
-    for number in range(first, behind):
+def events_of(rows, first, end):
+    """Lines that start rows and end them again, with a publish after them, and the replies."""
+    lines, replies = [], []
+    for number in range(first, end):
         row = rows + number // 2
         kind = "start" if number % 2 == 0 else "end"
         lines.append(f"{kind} t {TIME + number} {row},v{row % 1000}")
-        said.append(f"row {row}")
-    return lines + ["publish"], said + [f"published {rows + behind}"]
+        replies.append(f"row {row}")
+    return lines + ["publish"], replies + [f"published {rows + end}"]
 
 
 def questions_of(draw, rows, published, count):
-    """Questions for the keys of loaded rows, as of random counts, and how many rows each answer has."""
+    """Queries for keys of loaded rows, as of random counts of events, and how many rows each answer has."""
     lines, found = [], []
     for _ in range(count):
         low = draw.randrange(max(rows - NEIGHBOURS, 1))
@@ -60,25 +62,25 @@ def questions_of(draw, rows, published, count):
 
 
 def lines_of(options):
-    """The lines that start and end rows and what they print; those lines with questions behind each publishing, and
-    how many rows the answers have."""
+    """The lines that start and end rows, and their replies; the same lines with queries after each publish, and how many
+    rows the answers have."""
     draw = random.Random(1)
-    plain, said, woven, found = [], [], [], []
-    for first in range(0, options.events, AT_ONCE):
-        behind = min(first + AT_ONCE, options.events)
-        lines, printed = events_of(options.rows, first, behind)
-        count = options.questions * behind // options.events - options.questions * first // options.events
-        asks, rows = questions_of(draw, options.rows, options.rows + behind, count)
-        plain, said, woven, found = plain + lines, said + printed, woven + lines + asks, found + rows
-    return plain, said, woven, found
+    plain, expected, woven, found = [], [], [], []
+    for first in range(0, options.events, BATCH):
+        end = min(first + BATCH, options.events)
+        lines, replies = events_of(options.rows, first, end)
+        count = options.questions * end // options.events - options.questions * first // options.events
+        asks, rows = questions_of(draw, options.rows, options.rows + end, count)
+        plain, expected, woven, found = plain + lines, expected + replies, woven + lines + asks, found + rows
+    return plain, expected, woven, found
 
 
 def run_once(options, table, lines):
-    """What a session prints for the lines, its user and system seconds, and its peak memory in bytes."""
-    with tempfile.TemporaryFile() as taken, tempfile.TemporaryFile() as out:
-        taken.write("".join(line + "\n" for line in lines).encode())
-        taken.seek(0)
-        child = subprocess.Popen([options.tq, "session", "--table", f"t={table}"], stdin=taken, stdout=out)
+    """Runs a session over the lines. Returns its replies, its user and system seconds, and its peak memory in bytes."""
+    with tempfile.TemporaryFile() as stdin, tempfile.TemporaryFile() as out:
+        stdin.write("".join(line + "\n" for line in lines).encode())
+        stdin.seek(0)
+        child = subprocess.Popen([options.tq, "session", "--table", f"t={table}"], stdin=stdin, stdout=out)
         _, status, usage = os.wait4(child.pid, 0)
         if os.waitstatus_to_exitcode(status) != 0:
             sys.exit(f"a session ended with status {os.waitstatus_to_exitcode(status)}")
@@ -87,7 +89,7 @@ def run_once(options, table, lines):
 
 
 def run(options, table, lines):
-    """The same of some runs: what the last one prints, the least seconds, and the greatest peak."""
+    """Runs a session TRIES times. Returns the replies of the last run, the minimum seconds, and the maximum peak memory."""
     runs = [run_once(options, table, lines) for _ in range(TRIES)]
     return runs[-1][0], min(seconds for _, seconds, _ in runs), max(peak for _, _, peak in runs)
 
@@ -95,28 +97,28 @@ def run(options, table, lines):
 def main():
     options = read_options()
     one = held_in_one(options.rows)
-    one_in_the_end = held_in_one(options.rows + options.events // 2)
-    lines, said, woven, found = lines_of(options)
+    one_at_the_end = held_in_one(options.rows + options.events // 2)
+    lines, expected, woven, found = lines_of(options)
     with tempfile.TemporaryDirectory(prefix="tq-") as room:
         table = os.path.join(room, "t.csv")
         with open(table, "w", encoding="ascii") as file:
             file.write("k:int,v:text,from,to\n")
             file.writelines(f"{row},v{row % 1000},{row},forever\n" for row in range(options.rows))
         _, loading, loaded = run(options, table, [])
-        told, appending, _ = run(options, table, lines)
-        if told != said:
-            sys.exit("a session prints other lines than it should")
-        told, asking, peak = run(options, table, woven)
-    if [line for line in told if line.startswith(("row ", "published ", "refused "))] != said:
-        sys.exit("a session that is asked prints other lines than it should")
-    if [int(line[7:]) for line in told if line.startswith("answer ")] != found:
-        sys.exit("a session finds other rows than it should")
+        replies, appending, _ = run(options, table, lines)
+        if replies != expected:
+            sys.exit("a session without queries prints unexpected lines")
+        replies, asking, peak = run(options, table, woven)
+    if [line for line in replies if line.startswith(("row ", "published ", "refused "))] != expected:
+        sys.exit("a session with queries prints unexpected lines")
+    if [int(line[7:]) for line in replies if line.startswith("answer ")] != found:
+        sys.exit("a query of a session finds an unexpected number of rows")
     print(f"{options.rows} rows loaded in {loading:.2f} s")
     rate = options.events / max(appending - loading, 1e-9)
-    print(f"{rate:.0f} starts and ends a second, published by the thousand: {rate / 50_000:.1f} times the 50,000 wanted")
+    print(f"{rate:.0f} starts and ends a second, published by the thousand: {rate / 50_000:.1f} times the target of 50,000")
     cost = 1000 * (asking - appending) / max(options.questions, 1)
-    print(f"{cost:.3f} ms a question of {NEIGHBOURS} rows: {cost:.2f} of the 1 ms wanted")
-    print(f"peak memory over that of one Db: loaded {loaded / one:.2f}, in the end {peak / one_in_the_end:.2f} (wanted: at most 2.3)")
+    print(f"{cost:.3f} ms for a query of {NEIGHBOURS} rows: {cost:.2f} of the target of 1 ms")
+    print(f"peak memory compared with one Db: after loading {loaded / one:.2f}, at the end {peak / one_at_the_end:.2f} (target: at most 2.3)")
 
 
 if __name__ == "__main__":

@@ -4,10 +4,10 @@
     --rows N ..    the sizes of the tables of one source (100000 1000000)
     --joined N ..  the sizes of the tables that are joined (1000 2000 4000)
 
-Answers over one source have to be the bytes of the plain Python script. Of a join only the number of rows at one instant is
-asked for, and compared with the number that the shape gives. How the time grows is printed and asserted nowhere. So are
-user and system seconds for texts that begin alike, for a join of three tables, and for a join of which all rows have one
-key.
+Answers over one source must equal those of the plain Python script. A join only counts its rows at one instant, and the
+script compares the count with that of the shape. The script prints how the time grows and sets no limit. It also prints user
+and system seconds for three other queries. They read texts with a common beginning, join three tables, or join rows that all
+have one key.
 """
 
 import argparse
@@ -27,8 +27,8 @@ SHAPES = {
     "no two of one value": lambda i, n: (f"v{i}", i, "forever"),
 }
 
-# FROM and WHERE of a join over `s`, and how many rows pass of n. Row i of n has k = i, v = n + i, g = i // (n // 4) and c = 0, and
-# is valid from 0 to 10. `none` has no row.
+# FROM and WHERE of a join over `s`, and the number of rows that pass if `s` has n rows. Row i of `s` has k = i, v = n + i,
+# g = i // (n // 4) and c = 0, and is valid from 0 to 10. `none` has no rows.
 JOINS = {
     "star through the last": ("s a, s b, s c, s d", "a.k = d.k AND b.k = d.k AND c.k = d.k", lambda n: n),
     "through the third": ("s a, s b, s c", "a.k = c.k AND b.k = c.k", lambda n: n),
@@ -42,16 +42,16 @@ JOINS = {
     "unique keys, all less": ("s a, s b", "a.k = b.k AND a.k < b.v", lambda n: n),
 }
 
-# What the texts of a column begin with, so that no key prefix of a few bytes divides them.
+# The common beginning of the texts of a column. It is longer than what a normalized key prefix has of a text.
 BEGINNING = "b" * 60
 
-# How many rows of one key a side has of which all pairs are summed.
+# The rows of each side of a join on one key, whose pairs are all summed.
 ONE_KEY = 4_000
 
-# How many rows each table has of which two and three are joined.
+# The most rows of each table in the joins of two and of three tables.
 CHAIN_ROWS = 100_000
 
-# As often is a question asked whose user and system seconds are printed.
+# How often a query runs whose user and system seconds are printed, unless a call says otherwise.
 PROCESSOR_TRIES = 5
 
 
@@ -64,7 +64,7 @@ def read_options():
 
 
 def write_joined(path, rows):
-    """Writes the rows that are joined."""
+    """Writes a table for joins with this number of rows."""
     with open(path, "w", encoding="utf-8") as file:
         file.write("k:int,v:int,g:int,c:int,from,to\n")
         for i in range(rows):
@@ -72,7 +72,7 @@ def write_joined(path, rows):
 
 
 def write_table(path, shape, rows):
-    """Writes the rows of a shape, the last one first."""
+    """Writes the rows of a shape. The last row comes first."""
     with open(path, "w", encoding="utf-8") as file:
         file.write("k:int,v:text,from,to\n")
         for i in reversed(range(rows)):
@@ -81,7 +81,7 @@ def write_table(path, shape, rows):
 
 
 def measure_join(options, folder, name, rows):
-    """Measures a join of tables of so many rows: the least seconds of some tries."""
+    """Measures a join of tables with this number of rows. Returns the minimum seconds of TRIES runs."""
     sources, test, passing = JOINS[name]
     table, none, answer = (os.path.join(folder, it) for it in ["s.csv", "none.csv", "answer.csv"])
     write_joined(table, rows)
@@ -105,17 +105,17 @@ def measure_joins(options):
 
 
 def ask_watched(tq, tables, statement, folder, tries=PROCESSOR_TRIES):
-    """Asks some times: the least user and system seconds, and the peak memory beyond the files."""
+    """Runs a query `tries` times. Returns the minimum user and system seconds, and the peak memory without the files."""
     _, seconds, peak = run_in_turn({"tq": ask_words(tq, tables, statement)}, folder, tries)["tq"]
     return seconds, peak - sum(map(os.path.getsize, files_read(tables, statement).values()))
 
 
 def show_watched(label, rows, tables, seconds, memory):
-    print(f"{label:<24} {rows:>9,} {seconds:>8.2f} s of the processor {memory / rows / tables:>6,.0f} bytes a row", flush=True)
+    print(f"{label:<24} {rows:>9,} {seconds:>8.2f} s user and system {memory / rows / tables:>6,.0f} bytes for each row", flush=True)
 
 
 def write_texts(path, rows, beginning):
-    """One text of six digits or more a row, after the beginning, in no order."""
+    """Writes rows with one text each: the beginning, then six digits or more, in no order."""
     with open(path, "w", encoding="utf-8") as file:
         file.write("k:int,v:text,from,to\n")
         for i in range(rows):
@@ -123,7 +123,7 @@ def write_texts(path, rows, beginning):
 
 
 def long_beginnings(tq, rows, folder):
-    """Prints how many times as long texts take of which the first 60 bytes are alike."""
+    """Prints how many times as long a query takes if the first 60 bytes of all texts are equal."""
     statement = "VALIDTIME SELECT v FROM t"
     times = []
     for label, beginning in {"six digits": "", "after 60 equal bytes": BEGINNING}.items():
@@ -136,7 +136,7 @@ def long_beginnings(tq, rows, folder):
 
 
 def pairs_of_one_key(tq, folder):
-    """Prints the memory a pair where all rows of two tables have one key and all pairs are summed."""
+    """Prints the memory for each pair, if all rows of two tables have one key and all pairs are summed."""
     tables = {}
     for name in ["a", "b"]:
         tables[name] = os.path.join(folder, f"{name}.csv")
@@ -147,11 +147,11 @@ def pairs_of_one_key(tq, folder):
     statement = "VALIDTIME SELECT a.k, SUM(b.n) FROM a, b WHERE a.k = b.k GROUP BY a.k"
     seconds, memory = ask_watched(tq, tables, statement, folder, tries=1)
     pairs = ONE_KEY * ONE_KEY
-    print(f"{'pairs of one key':<24} {pairs:>9,} {seconds:>8.2f} s of the processor {memory / pairs:>6,.0f} bytes a pair", flush=True)
+    print(f"{'pairs of one key':<24} {pairs:>9,} {seconds:>8.2f} s user and system {memory / pairs:>6,.0f} bytes for each pair", flush=True)
 
 
 def chains_of_sources(tq, rows, folder):
-    """Prints how many times as long a join of three tables takes as one of two: unique keys, all rows valid at once."""
+    """Prints how many times as long a join of three tables takes as one of two. Keys are unique, all rows valid together."""
     tables = {}
     for name in ["a", "b", "c"]:
         tables[name] = os.path.join(folder, f"{name}.csv")
@@ -188,7 +188,7 @@ def main():
         for name, shape in SHAPES.items():
             each_size(options.rows, functools.partial(measure, name, shape))
     measure_joins(options)
-    print("\ntq ask where texts begin alike, rows have one key, or three tables are joined")
+    print("\ntq ask over texts with a common beginning, over rows with one key, and over three tables")
     with tempfile.TemporaryDirectory() as folder:
         long_beginnings(options.tq, max(options.rows), folder)
         pairs_of_one_key(options.tq, folder)

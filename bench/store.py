@@ -1,14 +1,16 @@
-"""Measures the tables as of any count of events: python3 bench/store.py
+"""Measures queries as of any count of events: python3 bench/store.py
 
-    --rows N          how many rows the history has, with as many starts and as many ends (1000000)
-    --questions Q     how many questions are asked: the rows of 250 neighbouring keys at one instant, as of a
-                      random count of events (10000)
+    --rows N          how many rows the history has, each with a start and an end (1000000)
+    --questions Q     how many queries run: the rows of 250 neighbouring keys at one instant, as of a random count of
+                      events (10000)
 
-crates/bench_store fills a history with the rows, and answers the questions, each a statement that is read, planned and
-answered; and it reads the rows of the questions alone, counting nodes. Beside it a SQLite database in memory has the same
-rows, each with the numbers of the events that start and end it, and answers the same questions with an index by keys
-that covers them, and with an R*Tree where there is one. What is found has to be equal. The least of three runs counts;
-the time to fill is taken off that of the questions. All is printed, and only what is found is asserted.
+crates/bench_store fills a history with the rows and runs the queries, each a statement that is parsed, planned and executed.
+In another run it only reads the rows of the queries, and counts the nodes that it reads. For comparison, a SQLite database in
+memory has the same rows, each with the numbers of the events that start and end it. It runs the same queries with a covering
+index by keys, and with an R*Tree if SQLite has one.
+
+Both must find the same rows. Times are the minimum of three runs. Those of queries do not include the filling. The script
+sets no limit.
 """
 
 import argparse
@@ -38,8 +40,10 @@ def read_options():
 
 
 def rows_of(count):
-    """The rows that bench_store fills in: number, key, the events that start and end each, and their times. The
-    event with the number n, counted from 0, happens at the instant n + 1."""
+    """The rows that bench_store inserts: number, key, the numbers of the events that start and end it, and their instants.
+
+    The event with the number n, counted from 0, happens at the instant n + 1.
+    """
     keys = count // ROWS_OF_A_KEY
     current = list(range(keys))
     born = list(range(keys))
@@ -61,7 +65,7 @@ def rows_of(count):
 
 
 class Draws:
-    """The generator of bench_store."""
+    """The random generator of bench_store."""
 
     def __init__(self, state):
         self.state = state
@@ -72,7 +76,7 @@ class Draws:
 
 
 def questions_of(events, count):
-    """The questions that bench_store asks: a count of events, an instant, the least and the greatest key."""
+    """The queries of bench_store: a count of events, an instant, the least and the greatest key."""
     draws = Draws(12345)
     for _ in range(count):
         known = draws.next(events)
@@ -82,7 +86,7 @@ def questions_of(events, count):
 
 
 def ask(connection, statement, questions):
-    """The seconds of the questions, how many rows they find, and the sum of their numbers."""
+    """Runs the queries. Returns the seconds, how many rows they find, and the sum of the numbers of these rows."""
     found = numbers = 0
     begin = time.perf_counter()
     for known, at, low, high in questions:
@@ -102,7 +106,7 @@ def has_boxes(connection):
 
 
 def measure_sqlite(rows, questions):
-    """The seconds to fill a database with each index, and those of a question by the best one; what is found."""
+    """Fills a database with each index and runs the queries. Returns the seconds with the faster index, and what is found."""
     connection = sqlite3.connect(":memory:")
     connection.execute('CREATE TABLE rows(row, key, born, died, "from", "to")')
     begin = time.perf_counter()
@@ -121,7 +125,7 @@ def measure_sqlite(rows, questions):
     for name, statement in statements.items():
         tries = [ask(connection, statement, questions) for _ in range(TRIES)]
         seconds = min(seconds for seconds, _, _ in tries)
-        print(f"SQLite, {name}: {seconds / len(questions) * 1e6:.1f} microseconds a question", flush=True)
+        print(f"SQLite, {name}: {seconds / len(questions) * 1e6:.1f} microseconds for a query", flush=True)
         found = tries[0][1:]
         if least is not None and found != least[1]:
             sys.exit(f"SQLite, {name}: finds other rows")
@@ -131,7 +135,7 @@ def measure_sqlite(rows, questions):
 
 
 def measure_store(program, words, output):
-    """The least seconds and the greatest peak of the runs of bench_store, and the numbers that it prints."""
+    """Runs bench_store TRIES times. Returns the minimum seconds, the maximum peak memory, and the numbers that it prints."""
     command = [program, *map(str, words)]
     tries = [run(command, output) for _ in range(TRIES)]
     with open(output, encoding="utf-8") as lines:
@@ -148,16 +152,16 @@ def main():
         asked, _, answers = measure_store(program, ["ask", options.rows, options.questions], output)
         read, _, found = measure_store(program, ["read", options.rows, options.questions], output)
     seconds = asked - fill
-    filled = f"{options.rows:,} rows filled in {fill:.2f} s, {peak / options.rows:.0f} bytes a row"
+    filled = f"{options.rows:,} rows filled in {fill:.2f} s, {peak / options.rows:.0f} bytes for each row"
     print(f"tq_store: {filled}, {numbers['levels']} levels in the middle of the history")
-    print(f"tq_store: {seconds / options.questions * 1e6:.1f} microseconds a statement, of {answers['rows found'] / options.questions:.1f} rows")
-    print(f"tq_store: {(read - fill) / options.questions * 1e6:.1f} microseconds and {found['nodes read'] / options.questions:.1f} reads for its rows alone", flush=True)
+    print(f"tq_store: {seconds / options.questions * 1e6:.1f} microseconds for a statement, with {answers['rows found'] / options.questions:.1f} rows")
+    print(f"tq_store: {(read - fill) / options.questions * 1e6:.1f} microseconds and {found['nodes read'] / options.questions:.1f} reads for only its rows", flush=True)
     questions = list(questions_of(numbers["events"], options.questions))
-    beside, rows = measure_sqlite(rows_of(options.rows), questions)
+    sqlite_seconds, rows = measure_sqlite(rows_of(options.rows), questions)
     for what in [answers, found]:
         if rows != (what["rows found"], what["numbers found"]):
             sys.exit(f"SQLite finds {rows}, and tq_store {what}")
-    print(f"a statement: tq_store over SQLite {seconds / beside:.2f}")
+    print(f"a statement: {seconds / sqlite_seconds:.2f} times as long as in SQLite")
 
 
 if __name__ == "__main__":

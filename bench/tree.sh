@@ -1,7 +1,7 @@
 #!/usr/bin/env bash
-# Times the multiversion tree beside a BTreeMap of the standard library, from outside the program:
-# N keys, then N / 2 deletes. The time to make the keys is taken off both; the best of five runs counts.
-# A delete in the tree asks first whether the key lives. Figures are ratios; name the machine beside them.
+# Times the multiversion tree compared with a BTreeMap of the standard library, from outside the program:
+# N inserts, then N / 2 deletes. Figures are the minimum of five runs, less the time to make the keys.
+# A delete in the tree first checks whether the key is alive. Name the machine when you quote the ratios.
 set -euo pipefail
 count="${1:-1000000}"
 cd "$(dirname "$0")/.."
@@ -23,12 +23,12 @@ keys, _ = best("keys")
 tree, counts = best("tree")
 plain, _ = best("map")
 print(counts, end="")
-print(f"time of the tree over that of the map: {(tree - keys) / (plain - keys):.2f}")
-print(f"microseconds an update: tree {(tree - keys) / (int(count) * 1.5) * 1e6:.2f}, map {(plain - keys) / (int(count) * 1.5) * 1e6:.2f}")
+print(f"time of the tree compared with the map: {(tree - keys) / (plain - keys):.2f}")
+print(f"microseconds for an update: tree {(tree - keys) / (int(count) * 1.5) * 1e6:.2f}, map {(plain - keys) / (int(count) * 1.5) * 1e6:.2f}")
 PY
 
-# Questions of the same keys: 250 neighbouring keys at the version of the last insert, which the deletes came after,
-# and all keys at that version, beside ranges of 250 keys in a map without versions. The time to fill is taken off.
+# Queries over the same keys: 250 neighbouring keys at the version of the last insert, before the deletes, and all keys at
+# that version. They are compared with ranges of 250 keys in a map without versions. Times are less the time to fill.
 python3 - "$count" <<'PY'
 import subprocess, sys, time
 
@@ -52,7 +52,7 @@ for mode, questions, what in (("scan", 100000, "250 neighbouring keys"), ("all",
     micros, found = question(mode, questions)
     keys, leaves, reads = (found[word] / questions for word in ("keys found", "leaves met", "nodes read"))
     bound = leaves + (found["levels"] - 1) * leaves
-    print(f"{what}: {micros:.1f} microseconds a question, {reads:.1f} reads for {leaves:.1f} leaves (bound {bound:.1f}), {keys:.0f} keys (bound on leaves {round(keys) // 5 + 2})")
+    print(f"{what}: {micros:.1f} microseconds for a query, {reads:.1f} reads for {leaves:.1f} leaves (bound {bound:.1f}), {keys:.0f} keys (bound on leaves {round(keys) // 5 + 2})")
     if mode == "scan":
-        print(f"the map's range of 250 keys: {plain:.1f} microseconds; the tree over the map: {micros / plain:.1f}")
+        print(f"the map's range of 250 keys: {plain:.1f} microseconds; the tree compared with the map: {micros / plain:.1f}")
 PY

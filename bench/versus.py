@@ -1,19 +1,21 @@
-"""Measures `tq ask` and, in turn, programs that a user could take for the same questions: python3 bench/versus.py
+"""Measures `tq ask` in turn with other programs that a user could choose for the same queries: python3 bench/versus.py
 
     --tq PROGRAM       the program to measure (bin/tq)
-    --beside PROGRAM   another build of tq (or the variable BESIDE; none: it is left out)
+    --beside PROGRAM   another build of tq to measure too (the environment variable BESIDE, or none)
     --workers W ..     the numbers of tq's workers (1 4)
-    --peers NAME ..    those to run of floor, data.table, PostgreSQL, sqlite3 and Python (all that are installed)
-    --questions Q ..   those to ask of name, counts, join, sums, difference, dept and name,dept (all)
+    --peers NAME ..    the other programs: floor, data.table, PostgreSQL, sqlite3, Python (all that are installed)
+    --questions Q ..   the queries: name, counts, join, sums, difference, dept, name,dept (all)
     --rows N ..        the sizes of each table (10000 100000 1000000)
-    --tries N          how often each is run (3)
-    --most SECONDS     a program that took longer for a question is not asked it of more rows (15)
-    --csv FILE         where the measurements are written too, for bench/plots.py
+    --tries N          how often each program runs each query (3)
+    --most SECONDS     a program that took longer for a query does not run it over more rows (15)
+    --csv FILE         a file for the measurements, which bench/plots.py draws
 
-All read the same files of a payroll and write the same bytes, or the script stops. The floor is a plain C program of one
-thread, the others are in peers.py. The least of all tries counts: seconds from start to end, reading and writing included,
-and how many times as long as tq by one worker that is; user and system seconds; and the peak memory a row beyond the files.
-The last two are not known of a server. All is printed and asserted nowhere.
+All programs read the same files of a payroll and write the same bytes, or the script stops. The floor is a plain C program of
+one thread. peers.py starts it and the others. The script prints the minimum of all runs for times, and the maximum for memory:
+
+- the seconds from start to end, with reading and writing, and their ratio to the first program, by default tq with one worker;
+- the user and system seconds, which are unknown for a server;
+- the peak memory for each row without the files, which is unknown for a server too.
 """
 
 import argparse
@@ -44,7 +46,7 @@ ASKED = {
     "name,dept": "VALIDTIME SELECT name, dept FROM emp",
 }
 
-# The most rows of all tables that tq takes, if each has ended.
+# The most rows of all tables that tq accepts, if each row has an end.
 MOST_ROWS = 8_388_608
 
 
@@ -63,7 +65,7 @@ def read_options():
 
 
 def build_of_tq(name, program, workers):
-    """A build of tq as one of the programs that are compared."""
+    """A build of tq as one of the compared programs."""
 
     def words(emp, sal, question):
         return ask_words(program, {"emp": emp, "sal": sal}, ASKED[question], workers)
@@ -79,7 +81,7 @@ def builds_of_tq(options):
 
 
 def measure(programs, tables, rows, question, options, folder):
-    """The measurements of a question by each program, in turn."""
+    """Runs a query with each program, in turn. Yields the measurements."""
     commands = {program.name: program.words(tables["emp"], tables["sal"], question) for program in programs}
     measured = run_in_turn(commands, folder, options.tries)
     paths = files_read(tables, ASKED[question]).values()
@@ -92,7 +94,7 @@ def measure(programs, tables, rows, question, options, folder):
 
 
 def show(programs, measured):
-    """Prints a line for each program: its figures, and how many times as long as the first it takes."""
+    """Prints a line for each program: its figures, and the ratio of its seconds to those of the first one."""
     first = measured[0]
     for program, it in zip(programs, measured):
         processor = "-" if it.processor_seconds is None else f"{it.processor_seconds:.2f} s"
@@ -102,14 +104,14 @@ def show(programs, measured):
 
 
 def compare(programs, options):
-    """Asks all programs all questions of payrolls of each size."""
+    """Runs all queries over payrolls of each size with all programs. Returns the measurements."""
     found, slow = [], set()
     for rows in options.rows:
         with tempfile.TemporaryDirectory(prefix="tq-") as folder:
             tables = write_payroll(folder, rows)
             for question in options.questions:
                 if rows * len(files_read(tables, ASKED[question])) > MOST_ROWS:
-                    print(f"{rows:>9,}  {question:<11} is left out: tq takes {MOST_ROWS:,} rows of all tables", flush=True)
+                    print(f"{rows:>9,}  {question:<11} is skipped: tq accepts {MOST_ROWS:,} rows in all tables", flush=True)
                     continue
                 asked = [program for program in programs if (program.name, question) not in slow]
                 measured = list(measure(asked, tables, rows, question, options, folder))
@@ -120,7 +122,7 @@ def compare(programs, options):
 
 
 def show_growth(found):
-    """Prints how the time of tq by one worker grows, by question."""
+    """Prints how the time of tq with one worker grows, by query."""
     for question in dict.fromkeys(it.question for it in found):
         its = {it.rows: it.seconds for it in found if (it.question, it.program, it.workers) == (question, "tq", 1)}
         if len(its) > 1:
@@ -129,10 +131,10 @@ def show_growth(found):
 
 def main():
     options = read_options()
-    signal.signal(signal.SIGTERM, lambda *_: sys.exit("stopped"))  # so that the server is stopped and removed
+    signal.signal(signal.SIGTERM, lambda *_: sys.exit("stopped"))  # so that the stack stops and removes the server
     with ExitStack() as stack:
         programs = [*builds_of_tq(options), *started(options.peers, stack)]
-        print("seconds, how many times as long as tq, user and system seconds, bytes of peak memory a row beyond the files")
+        print("seconds, how many times as long as tq, user and system seconds, bytes of peak memory for each row without the files")
         found = compare(programs, options)
     show_growth(found)
     if options.csv:

@@ -1,18 +1,18 @@
-"""Measures answers by several workers: python3 bench/workers.py
+"""Measures queries with several workers: python3 bench/workers.py
 
     --tq PROGRAM      the program to measure (bin/tq)
     --rows N ..       the sizes of each table (10000 1000000)
-    --workers W ..    the numbers of workers beside one (2 4)
-    --tries N         how often each is asked (15)
-    --csv FILE        where the measurements are written too, for bench/plots.py
+    --workers W ..    the numbers of workers in addition to one (2 4)
+    --tries N         how often each query runs (15)
+    --csv FILE        a file for the measurements, which bench/plots.py draws
 
-The questions of measuring.py are asked of a payroll, and of tables whose rows have all not ended, by one worker and by more
-in turn. The bytes have to be equal. The least of all tries counts: seconds from start to end, loading and output
-included, as ratios to those of one worker, and the greatest peak memory, as a ratio too.
+The queries of measuring.py run over a payroll, with one worker and with more in turn. Some of them also run over tables whose
+rows have no end. All must write the same bytes. The figures are the minimum seconds from start to end, with loading and
+output, and the maximum peak memory. Those of several workers are ratios to those of one.
 
-What the machine itself can do at the time is told beside it: as many processes of one worker each at once as there are
-workers, and how many times as long the last of them takes as one alone. On a quiet machine with a core for each that is
-little more than 1; where it is more, the cores have other work, and the ratios of workers stand above what they would be.
+The script also shows what the machine can do at the time. For each number of workers it starts that number of processes of
+one worker, concurrently. It prints how many times as long the last of them takes as one alone. On a quiet machine with a core
+for each process, that is little more than 1. If it is more, the cores have other work, and the ratios of workers are too high.
 """
 
 import argparse
@@ -34,12 +34,13 @@ from measuring import (
     write_payroll,
 )
 
-# The question that processes at once are asked.
+# The query of the concurrent processes.
 ALONE = "counts"
 
-# On a host that has other work a core is quiet for a moment only, and several at once are more seldom.
+# On a host with other work a core is quiet only for moments, and several cores are rarely quiet together.
 TRIES = 15
 
+# The queries over tables whose rows have no end.
 OPEN = ["name", "counts", "sums"]
 
 
@@ -54,7 +55,7 @@ def read_options():
 
 
 def write_open(folder, rows):
-    """The files of two tables of so many rows each, none of which has ended; their keys are the same."""
+    """Writes two tables with this number of rows and the same keys. No row has an end. Returns the paths."""
     tables = {name: os.path.join(folder, f"open-{name}.csv") for name in ("emp", "sal")}
     with open(tables["emp"], "w", encoding="ascii") as file:
         file.write("emp:int,name:text,dept:text,from,to\n")
@@ -65,8 +66,8 @@ def write_open(folder, rows):
     return tables
 
 
-def seconds_at_once(program, tables, count):
-    """The seconds of so many processes of one worker at once, from the start of the first to the end of the last."""
+def concurrent_seconds(program, tables, count):
+    """The seconds of `count` concurrent processes of one worker, from the start of the first to the end of the last."""
     begin = time.perf_counter()
     words = ask_words(program, tables, QUESTIONS[ALONE])
     running = [subprocess.Popen(words, stdout=subprocess.DEVNULL) for _ in range(count)]
@@ -75,17 +76,17 @@ def seconds_at_once(program, tables, count):
     return time.perf_counter() - begin
 
 
-def tell_machine(options, tables, rows):
-    """Prints what the machine can do: the least of all tries of processes of one worker, alone and at once."""
+def show_machine(options, tables, rows):
+    """Prints what the machine can do: the minimum seconds of processes of one worker, alone and concurrent."""
     counts = [1, *options.workers]
-    tries = [{count: seconds_at_once(options.tq, tables, count) for count in counts} for _ in range(options.tries)]
+    tries = [{count: concurrent_seconds(options.tq, tables, count) for count in counts} for _ in range(options.tries)]
     seconds = {count: min(one[count] for one in tries) for count in counts}
-    said = ", ".join(f"{count} at once {seconds[count] / seconds[1]:.2f} times as long as one" for count in options.workers)
-    print(f"{rows} rows, processes of one worker, {ALONE}: {said}", flush=True)
+    ratios = ", ".join(f"{count} concurrent {seconds[count] / seconds[1]:.2f} times as long as one" for count in options.workers)
+    print(f"{rows} rows, processes of one worker, {ALONE}: {ratios}", flush=True)
 
 
 def measure(options, kind, tables, rows, question, folder):
-    """The measurements of a question by each number of workers, in turn."""
+    """Runs a query with each number of workers, in turn. Returns the measurements."""
     statement = QUESTIONS[question]
     commands = {number: ask_words(options.tq, tables, statement, number) for number in (1, *options.workers)}
     paths = files_read(tables, statement).values()
@@ -98,9 +99,9 @@ def measure(options, kind, tables, rows, question, folder):
 
 
 def show(one, others):
-    """Prints a line: the seconds of one worker, and what part of its time and memory more of them take."""
-    said = [f"{it.workers} workers {it.seconds / one.seconds:.2f} of the time{memory_of(it, one)}" for it in others]
-    print(f"{one.rows} rows, {one.tables}, {one.question}: one worker {one.seconds:.3f} s; {', '.join(said)}", flush=True)
+    """Prints a line: the seconds of one worker, and the time and memory of more workers as ratios to it."""
+    ratios = [f"{it.workers} workers {it.seconds / one.seconds:.2f} of the time{memory_of(it, one)}" for it in others]
+    print(f"{one.rows} rows, {one.tables}, {one.question}: one worker {one.seconds:.3f} s; {', '.join(ratios)}", flush=True)
 
 
 def memory_of(it, one):
@@ -115,7 +116,7 @@ def main():
     for rows in options.rows:
         with tempfile.TemporaryDirectory(prefix="tq-") as folder:
             payroll = write_payroll(folder, rows)
-            tell_machine(options, payroll, rows)
+            show_machine(options, payroll, rows)
             for kind, tables, questions in (("payroll", payroll, QUESTIONS), ("open", write_open(folder, rows), OPEN)):
                 for question in questions:
                     one, *others = measure(options, kind, tables, rows, question, folder)
