@@ -1,6 +1,6 @@
 #!/usr/bin/env python3
-"""Writes contracts.csv, an export as a personnel system makes it: semicolons, a byte order mark, dates as dd.mm.yyyy, a
-last day that is included, nothing for an open end, and separators of thousands. It is the same on each run."""
+"""Writes contracts.csv, an export as a personnel system makes it. It has semicolons, a byte order mark, dates as dd.mm.yyyy,
+included last days, empty open ends, and separators of thousands. Each run writes the same bytes."""
 
 from datetime import date, timedelta
 from pathlib import Path

@@ -1,8 +1,8 @@
 #!/usr/bin/env python3
-"""Writes the files of the folder personnel: two exports of the same contracts, of 30 June 2024 and of 31 December 2024, and
-a table of pay rates. A personnel system writes such files: semicolons, a byte order mark, dates as dd.mm.yyyy, a last day
-that is included, nothing or 31.12.9999 for an open end, separators of thousands. The seed is fixed, so each run writes the
-same bytes."""
+"""Writes the files of the folder personnel. Two are exports of the same contracts, of 30 June 2024 and of 31 December 2024.
+One is a table of pay rates. A personnel system writes such files, with semicolons, a byte order mark, dates as dd.mm.yyyy, and
+separators of thousands. Last days are included, and an open end is empty or 31.12.9999. The seed is fixed, so each run writes
+the same bytes."""
 
 import random
 from datetime import date, timedelta
@@ -22,7 +22,7 @@ draw = random.Random(20240630)
 
 
 def written(day):
-    """A first day, or a last day, of which an open one is written in two ways."""
+    """A first or last day as text. An open end is empty or 31.12.9999."""
     if day == OPEN:
         return draw.choice(["", "", "31.12.9999"])
     return day.strftime("%d.%m.%Y")
@@ -37,7 +37,7 @@ def amount(cents):
 
 
 class Contract:
-    """A contract: what it says, and its first and last day."""
+    """A contract: its fields, and its first and last day."""
 
     def __init__(self, employee, names, department, grade, manager, first, last):
         self.employee, self.names, self.department, self.grade, self.manager = employee, names, department, grade, manager
@@ -55,8 +55,8 @@ def names():
 
 
 def heads():
-    """The contracts of the director, who is her own manager, and of a head of each department. Two heads left, and a new
-    one came only some weeks later: then the contracts name a manager who has none."""
+    """The contracts of the director, who is her own manager, and of the head of each department. Two heads have no contract for
+    some weeks. In these weeks the contracts of their staff name a manager without a contract."""
     director = 10_001
     yield Contract(director, ("Lindqvist", "Sofia"), "Human resources", "G6", director, FIRST_DAY, OPEN)
     for place, department in enumerate(DEPARTMENTS):
@@ -70,8 +70,7 @@ def heads():
 
 
 def staff(employee, most):
-    """The contracts of an employee, at most `most` of them: one after another, a few with a gap before them, a few with a second
-    contract at the same time."""
+    """The contracts of an employee, at most `most`: one after another, a few after a gap, a few that overlap the one before."""
     called, place = names(), draw.randrange(len(DEPARTMENTS))
     grade = draw.randrange(4)
     first = FIRST_DAY + timedelta(days=draw.randrange(2_800))
@@ -104,7 +103,7 @@ def contracts():
 
 
 def change(made):
-    """What changed up to the second export: some left, some got another grade from a day on, and some came."""
+    """The contracts of the second export. Until then some employees left, some got another grade, and some came."""
     changed = []
     for contract in made:
         changed.append(contract)
@@ -124,7 +123,7 @@ def change(made):
 
 
 def rates():
-    """The monthly pay of each grade, from the first of a year on."""
+    """The monthly pay of each grade, for each year. The last year has an open end."""
     for place, grade in enumerate(GRADES):
         cents = 190_000 + 55_000 * place
         for year in range(2015, 2025):

@@ -1,24 +1,26 @@
 #!/usr/bin/env python3
-"""Compares the Python client with the command line over random questions and sessions.
+"""Compares the Python client with the command line, over random queries and sessions.
 
     gate/clients.py TQ [--questions N] [--sessions N] [--seed S] [--lanes L]
 
-Each question is asked by `tq.ask` and by `tq ask`, over files, over `tq.Table`s and, where pandas is installed, over data
-frames: rows and refusals must be the same. Texts have quotes, commas and line breaks. Each session runs by `tq.Session`, and
-once more by `tq session` with all of its lines at once: the replies must be the same bytes. The last line is 'N passed,
-M failed'.
+Each query runs by `tq.ask` and by `tq ask`. Rows and refusals must be the same. The tables of `tq.ask` are files, `tq.Table`s
+and, if a Python has pandas, data frames. Texts have quotes, commas and line breaks. Each session runs by `tq.Session`, and
+again by `tq session` with all lines as one input. The replies must be the same bytes. A session over an invalid file and one
+whose program is killed must raise a refusal. The last line is 'N passed, M failed'.
 """
 
 import argparse
 import concurrent.futures
 import csv
 import io
+import os
 import pathlib
 import random
 import sys
 import tempfile
 
 from compare import WORDS, Schema, ran, statement, value
+from interpreters import python_with
 
 ROOT = pathlib.Path(__file__).resolve().parent.parent
 sys.path.insert(0, str(ROOT / "clients" / "python"))
@@ -45,7 +47,7 @@ def read_options():
 
 
 def rows_of(draw, schema):
-    """Random rows of a table: values, start, end or None."""
+    """Random rows of a table: values, start, and end or None."""
     rows = []
     for _ in range(draw.randint(0, ROWS)):
         values = [draw.choice(TEXTS) if kind == "text" else value(draw, kind, 20) for _, kind in schema.columns]
@@ -54,21 +56,22 @@ def rows_of(draw, schema):
     return rows
 
 
-def frame_of(table):
-    """The table as a data frame, whose open ends are missing."""
+def frame_of(draw, table):
+    """The table as a data frame. Open ends are missing values: NA, NaN or None."""
     frame = pandas.DataFrame(table.rows, columns=[*table.columns, "from", "to"])
-    return frame.astype({name: "int64" for name, kind in table.columns.items() if kind == "int"} | {"to": "Int64"})
+    kinds = {name: draw.choice(["int64", "Int64"]) for name, kind in table.columns.items() if kind == "int"}
+    return frame.astype(kinds | {"to": draw.choice(["Int64", "float64", "object"])})
 
 
 def forms_of(draw, tables, room):
-    """The tables as paths, as they are, or as data frames."""
+    """The tables, each at random as a path, as it is, or as a data frame."""
     made = {}
     for name, table in tables.items():
         form = draw.choice(["file", "table", "frame" if pandas else "table"])
         if form == "file":
             made[name] = pathlib.Path(room) / f"{name}.csv"
         else:
-            made[name] = frame_of(table) if form == "frame" and table.rows else table
+            made[name] = frame_of(draw, table) if form == "frame" and table.rows else table
     return made
 
 
@@ -76,8 +79,8 @@ def shown(cell):
     return "forever" if cell is None else str(cell)
 
 
-def try_question(options, number):
-    """What is wrong with the question of this number, or None."""
+def check_question(options, number):
+    """The fault of the query with this number, or None."""
     draw = random.Random(options.seed * 1_000_003 + number)
     schemas = [Schema(draw, f"t{place}") for place in range(draw.randint(1, 3))]
     tables = {schema.name: tq.Table(schema.columns, rows_of(draw, schema)) for schema in schemas}
@@ -92,17 +95,17 @@ def try_question(options, number):
             answer = tq.ask(forms_of(draw, tables, room), asked, workers=draw.choice([1, 3]), program=options.tq)
         except tq.Refused as refused:
             wanted = errors.decode().splitlines()[0] if status else "an answer"
-            return None if wanted == f"tq: {refused.line}" else f"refused {refused.line}, not {wanted}: {asked}"
+            return None if wanted == f"tq: {refused.line}" else f"the client raises {refused.line}, not {wanted}: {asked}"
     if status != 0:
-        return f"answered, though refused with {errors!r}: {asked}"
+        return f"the client answers, but the program prints {errors!r}: {asked}"
     header, *rows = csv.reader(io.StringIO(out.decode(), newline=""))
     if [[shown(cell) for cell in row] for row in answer.rows] != rows or len(answer.columns) != len(header):
-        return f"other rows: {asked}"
+        return f"the client returns other rows: {asked}"
     return None
 
 
 class Logged(tq.Session):
-    """A session that notes its lines, and the bytes of its replies."""
+    """A session that records its lines and its replies."""
 
     def __init__(self, *tables, **how):
         self.lines, self.replies = [], []
@@ -119,7 +122,7 @@ class Logged(tq.Session):
 
 
 def act(draw, session, schema, schemas, now):
-    """Sends one random line of a session; a refusal is a reply too."""
+    """Sends one random line of a session. A refusal is a valid reply."""
     values = [draw.choice(WORDS) if kind == "text" else value(draw, kind, 3) for _, kind in schema.columns]
     try:
         match draw.choice(["start", "start", "end", "publish", "ask", "ask"]):
@@ -136,8 +139,8 @@ def act(draw, session, schema, schemas, now):
         pass
 
 
-def try_session(options, number):
-    """What is wrong with the session of this number, or None."""
+def check_session(options, number):
+    """The fault of the session with this number, or None."""
     draw = random.Random(options.seed * 7_000_003 + number)
     schemas = [Schema(draw, f"t{place}") for place in range(draw.randint(1, 2))]
     tables = {schema.name: tq.Table(schema.columns, rows_of(draw, schema)) for schema in schemas}
@@ -154,18 +157,18 @@ def try_session(options, number):
         lines = "".join(line + "\n" for line in session.lines).encode()
         out, errors, status = ran([options.tq, "session", *words], lines)
     if status != 0 or out != "".join(session.replies).encode():
-        return f"other replies; status {status}, {errors!r}"
+        return f"`tq session` prints other replies: status {status}, {errors!r}"
     return None
 
 
-def try_ends(options):
-    """What is wrong with a session over an invalid file, and with one whose program is killed, or None."""
+def check_ends(options):
+    """The fault of a session over an invalid file or of one whose program is killed, or None."""
     try:
         tq.Session({"emp": ROOT / "examples" / "broken.csv"}, program=options.tq)
         return "a session opened an invalid file"
     except tq.Refused as refused:
         if (refused.kind, refused.name, refused.record) != ("load", "BadPeriod", 3):
-            return f"an invalid file is refused with {refused.line}"
+            return f"a session over an invalid file raises {refused.line}"
     with tq.Session({"emp": ROOT / "examples" / "emp.csv"}, program=options.tq) as session:
         session._running.kill()
         session._running.wait()
@@ -173,23 +176,25 @@ def try_ends(options):
             session.publish()
             return "a killed session replied"
         except tq.Refused as refused:
-            return None if "ended with status" in refused.line else f"a killed session says {refused.line!r}"
+            return None if "ended with status" in refused.line else f"a killed session raises {refused.line!r}"
 
 
 def main():
     options = read_options()
     options.tq = options.tq.resolve()
     with concurrent.futures.ThreadPoolExecutor(options.lanes) as pool:
-        tried = [(f"question {number}", error) for number, error in enumerate(pool.map(lambda it: try_question(options, it), range(options.questions)))]
-        tried += [(f"session {number}", error) for number, error in enumerate(pool.map(lambda it: try_session(options, it), range(options.sessions)))]
-    tried.append(("ends of sessions", try_ends(options)))
-    wrong = [(name, error) for name, error in tried if error]
+        checked = [(f"query {number}", error) for number, error in enumerate(pool.map(lambda it: check_question(options, it), range(options.questions)))]
+        checked += [(f"session {number}", error) for number, error in enumerate(pool.map(lambda it: check_session(options, it), range(options.sessions)))]
+    checked.append(("ends of sessions", check_ends(options)))
+    wrong = [(name, error) for name, error in checked if error]
     for name, error in wrong[:20]:
         print(f"{name}: {error}")
     print(f"{'with' if pandas else 'without'} pandas")
-    print(f"{len(tried) - len(wrong)} passed, {len(wrong)} failed")
+    print(f"{len(checked) - len(wrong)} passed, {len(wrong)} failed")
     return 1 if wrong else 0
 
 
 if __name__ == "__main__":
+    if pandas is None and (other := python_with("pandas")):
+        os.execv(other, [other, *sys.argv])
     sys.exit(main())

@@ -3,9 +3,9 @@
 
     gate/compare.py OLD NEW [--statements N] [--sessions N] [--seed S] [--lanes L]
 
-Each statement is asked of both builds, of the new one also with 2 to 16 workers. Standard output, standard error and
-exit status must be the same bytes. Each session sends the same lines to both builds. The last line is 'N compared,
-M differ'; the status is 1 if any differ, and each that does is printed with the files that show it.
+Both builds run each statement. The new one also runs it with 2 to 16 workers. Standard output, standard error and exit
+status must be the same. Each session sends the same lines to both builds. The script prints the first 20 statements and
+sessions that differ, with their numbers. The last line is 'N compared, M differ', and the exit status is 1 if any differ.
 """
 
 import argparse
@@ -17,7 +17,8 @@ import sys
 import tempfile
 
 SECONDS = 120
-# Most statements are asked of small tables, some of larger ones; these join fewer sources.
+# Each statement whose number is a multiple of EACH runs over larger tables, and has one source per query. All others run over
+# small tables.
 FEW_ROWS, MANY_ROWS, EACH = 25, 2000, 20
 WORDS = ["", "a", "b", "ann", "bob", "o'k", 'say "x"', "x,y", "ä", "longer than fourteen", "abcdefghijklmnopqrstuvwxyz", " "]
 SIGNS = ["=", "=", "=", "<>", "<", "<=", ">", ">="]
@@ -46,7 +47,7 @@ def literal(text):
 
 
 class Schema:
-    """A table: its name and its columns, each with its kind; the first one is a number."""
+    """A table: its name and its columns, each with its kind. The first column is a number."""
 
     def __init__(self, draw, name):
         self.name = name
@@ -69,7 +70,7 @@ def record(draw, schema, spread):
 
 
 def table(draw, schema, rows):
-    """The bytes of a table file of so many rows."""
+    """The text of a table file with this number of rows."""
     spread, last = draw.choice([2, 20, 2000]), draw.choice([6, 50, 5000])
     lines = [schema.header()]
     for _ in range(rows):
@@ -80,7 +81,7 @@ def table(draw, schema, rows):
 
 
 class Query:
-    """A random query over at most so many sources of these tables, with items of these kinds as far as it can."""
+    """A random query over at most `most` sources of these tables, with items of these kinds if possible."""
 
     def __init__(self, draw, schemas, kinds, most):
         self.draw = draw
@@ -111,7 +112,7 @@ class Query:
         return "(" + joined.join(self.test(depth - 1) for _ in range(self.draw.randint(2, 3))) + ")"
 
     def links(self):
-        """Equalities that link each source to one before it, most of the time."""
+        """Equalities that link most sources to an earlier one, and sometimes a condition."""
         parts = []
         for place in range(1, len(self.sources)):
             if self.draw.random() < 0.9:
@@ -121,7 +122,7 @@ class Query:
         return parts
 
     def item(self, kind, grouped):
-        """An item of this kind: a column, or a number counted or summed if the query is grouped or counts."""
+        """An item of this kind if possible: a column or, in a query that groups or counts, a count or a sum."""
         if grouped is None:
             return self.column(kind) or self.column("int")
         shown = [name for name, its in grouped if its == kind]
@@ -157,7 +158,7 @@ def statement(draw, schemas, most):
 
 
 def ran(command, lines=None):
-    """Standard output, standard error and status of the command; no status if it takes too long."""
+    """Standard output, standard error and exit status of the command. The status is None if it takes too long."""
     try:
         done = subprocess.run(command, input=lines, stdout=subprocess.PIPE, stderr=subprocess.PIPE, timeout=SECONDS)
     except subprocess.TimeoutExpired:
@@ -176,7 +177,7 @@ def tables_in(room, draw, rows):
 
 
 def compare_statement(options, number):
-    """Whether both builds answer the statement of this number alike, and what it was."""
+    """The statement with this number if the builds differ on it, or None."""
     draw = random.Random(options.seed * 1_000_003 + number)
     with tempfile.TemporaryDirectory(prefix="tq-") as folder:
         is_large = number % EACH == 0
@@ -191,7 +192,7 @@ def compare_statement(options, number):
 
 
 def session_lines(draw, schemas):
-    """Random lines of a session: starts, ends, publishes and questions as of random counts."""
+    """Random lines of a session: starts, ends, publishes, queries as of random counts, and invalid lines."""
     lines, at, known, published = [], 5000, [], 0
     for _ in range(draw.randint(1, 60)):
         schema = draw.choice(schemas)
@@ -213,7 +214,7 @@ def session_lines(draw, schemas):
 
 
 def compare_session(options, number):
-    """Whether both builds print the same for the session of this number, and which it was."""
+    """The number of the session if the builds print different replies, or None."""
     draw = random.Random(options.seed * 1_000_003 + 500_000_000 + number)
     with tempfile.TemporaryDirectory(prefix="tq-") as folder:
         schemas, tables = tables_in(pathlib.Path(folder), draw, lambda: draw.randint(0, 12))
@@ -226,12 +227,12 @@ def compare_session(options, number):
 def main():
     options = read_options()
     with concurrent.futures.ThreadPoolExecutor(options.lanes) as pool:
-        tried = list(pool.map(lambda number: compare_statement(options, number), range(options.statements)))
-        tried += list(pool.map(lambda number: compare_session(options, number), range(options.sessions)))
-    different = [one for one in tried if one]
+        compared = list(pool.map(lambda number: compare_statement(options, number), range(options.statements)))
+        compared += list(pool.map(lambda number: compare_session(options, number), range(options.sessions)))
+    different = [one for one in compared if one]
     for one in different[:20]:
         print(one)
-    print(f"{len(tried)} compared, {len(different)} differ")
+    print(f"{len(compared)} compared, {len(different)} differ")
     return 1 if different else 0
 
 

@@ -1,11 +1,11 @@
 #!/usr/bin/env python3
-"""Prints what a reader of a promise has to read: the definitions of specs/ that its contract uses, directly or through others.
+"""Prints the definitions of specs/ that a function's contract uses, directly or through others: what its reader must read.
 
     gate/definitions.py [FUNCTION CRATE]
 
-The function is `ask_with_progress` of tq unless one is named. Each file has a line: how many lines of definitions are read,
-and their names. The last line has the sums. Comments, blank lines and imports do not count, nor do the definitions of types,
-which are those of the sources, and what std and the library crates define.
+The default is `ask_with_progress` of tq_commands. A line for each file has the number of lines of these definitions, and their
+names. The last line has the sums. Comments, blank lines and imports do not count. Neither do types, which the sources define,
+and definitions of std and of the library crates.
 """
 
 import re
@@ -26,7 +26,7 @@ WORD = re.compile(r"(?:(\w+)\.)?(\w+)")
 
 @dataclass
 class Definition:
-    """A definition: its lines without comments, and the names of its cases if it is a type."""
+    """A definition: its lines without comments and, of a type, the names of its cases."""
 
     lines: list
     cases: list
@@ -34,7 +34,7 @@ class Definition:
 
 @cache
 def definitions_in(file):
-    """The definitions of a file by name. Each begins in the first column, and its equations begin with its name."""
+    """The definitions of a file by name. Each begins in the first column and ends before the next one."""
     found, name = {}, None
     for line in text_of(file).split("\n"):
         line = line.split("--")[0].rstrip()
@@ -52,7 +52,7 @@ def definitions_in(file):
 
 @cache
 def names_in(file):
-    """What the names of a file mean: each with the file of its definition, and the name there; and its names of modules."""
+    """The names that a file can use, each with the file of its definition and the name there; and its names of modules."""
     names, modules = {}, {}
     for line in text_of(file).split("\n"):
         if not (use := USE.match(line)):
@@ -72,7 +72,7 @@ def names_in(file):
 
 
 def used_by(file, definition):
-    """The definitions that one uses: each with its file."""
+    """The definitions that a definition uses, each with its file."""
     names, modules = names_in(file)
     text = "\n".join(definition.lines)
     yield from (at for name, at in names.items() if "◌" in name and all(part in text for part in name.split("◌")))
@@ -86,7 +86,7 @@ def used_by(file, definition):
 
 
 def closure(begun):
-    """All definitions that these use, and they themselves: by file, in the order in which they were found."""
+    """These definitions and all that they use, by file, in the order in which they were found."""
     found, waiting = {}, list(begun)
     while waiting:
         file, name = waiting.pop(0)
@@ -99,7 +99,7 @@ def closure(begun):
 
 
 def definitions_read(function=FUNCTION, crate=CRATE):
-    """The definitions of a function's contract, by file."""
+    """The definitions that a function's contract uses, by file."""
     contract = definitions_of(traceability.function_at(crate, function))
     return closure((file, name) for file, names in contract.items() for name in names)
 
@@ -109,7 +109,7 @@ def lines_in(file, names):
 
 
 def counts(found):
-    """How many definitions, files and lines there are."""
+    """The numbers of definitions, files and lines."""
     lines = sum(lines_in(file, names) for file, names in found.items())
     return sum(map(len, found.values())), len(found), lines
 

@@ -3,9 +3,9 @@
 
     gate/distributed.py TQ
 
-GNU parallel and Dask are tried where they are installed; what is not installed is said and counts nothing. With Dask, one
-worker process is also killed while parts are asked: then the answer must be right, or there must be an error and no answer.
-The last line is 'N passed, M failed'.
+The script checks the drivers for GNU parallel and Dask if these are installed. For one that is missing it prints a line, and
+counts no case. With Dask it also kills a worker process while the parts are answered. Then the driver must fail, or the merged
+answer must be correct. The last line is 'N passed, M failed'.
 """
 
 import os
@@ -16,6 +16,8 @@ import sys
 import tempfile
 from pathlib import Path
 
+from interpreters import python_with
+
 ROOT = Path(__file__).resolve().parent.parent
 STATEMENTS = [
     "VALIDTIME SELECT name, amount FROM emp, sal WHERE emp.emp = sal.emp",
@@ -24,7 +26,8 @@ STATEMENTS = [
 ]
 SECONDS = 300
 
-# Asks all parts while one of the worker processes is killed. Ends with status 1 if a part has no answer.
+# A script that answers all parts and kills one of the worker processes meanwhile. It ends with status 1 if a part has no
+# answer.
 KILLING = """
 import os, signal, sys, threading, time
 sys.path.insert(0, sys.argv[1])
@@ -53,14 +56,9 @@ def run(words, path):
     return subprocess.run(words, stdout=subprocess.PIPE, stderr=subprocess.PIPE, timeout=SECONDS, env={**os.environ, "PATH": path})
 
 
-def python_with_dask():
-    for program in (sys.executable, "/usr/bin/python3"):
-        if shutil.which(program) and subprocess.run([program, "-c", "import dask.distributed"], stderr=subprocess.DEVNULL).returncode == 0:
-            return program
-    return None
+class Checks:
+    """The program in a folder of its own, tables, and the numbers of passed and failed cases."""
 
-
-class Tried:
     def __init__(self, program, room):
         self.room, self.passed, self.failed = room, 0, 0
         (room / "bin").mkdir()
@@ -83,18 +81,18 @@ class Tried:
             print(f"FAILED: {name}: {why}")
 
     def driver(self, name, words):
-        """Compares the answers of a driver, which takes the folder of the parts as its last word."""
+        """Compares the answers of a driver with those of `tq ask`. The last argument of a driver is the folder of the parts."""
         for number, statement in enumerate(STATEMENTS):
             wanted = run([self.tq, "ask", *self.tables, statement], self.path).stdout
             done = run([*words, self.divided(f"{name}-{number}", statement)], self.path)
             self.check(f"{name}, {statement}", done.returncode == 0 and done.stdout == wanted, done.stderr.decode(errors="replace")[-500:])
 
     def broken(self, name, words):
-        """A part whose answer is refused makes the driver fail, without an answer."""
+        """Checks that a driver fails and prints no answer if `tq ask` refuses one part."""
         folder = self.divided(f"{name}-broken", STATEMENTS[0])
         (folder / "3" / "emp.csv").write_text("emp:int,name:text,dept:text,from,to\n1,a,b,5,5\n")
         done = run([*words, folder], self.path)
-        self.check(f"{name}, a part that is refused", done.returncode != 0 and done.stdout == b"", "there is an answer")
+        self.check(f"{name}, a refused part", done.returncode != 0 and done.stdout == b"", "there is an answer")
 
     def killed(self, python):
         script = self.room / "killing.py"
@@ -105,28 +103,28 @@ class Tried:
             asked = run([python, script, ROOT / "distributed", self.tq, folder], self.path)
             merged = run([self.tq, "merge", folder], self.path)
             right = merged.stdout == wanted if asked.returncode == 0 else True
-            self.check(f"dask, a worker killed, turn {turn}", right, "another answer")
+            self.check(f"dask, a killed worker, turn {turn}", right, "the merged answer differs")
 
 
 def main():
     with tempfile.TemporaryDirectory(prefix="tq-") as room:
-        tried = Tried(Path(sys.argv[1]).resolve(), Path(room))
+        checks = Checks(Path(sys.argv[1]).resolve(), Path(room))
         if shutil.which("parallel"):
             words = [ROOT / "distributed" / "parallel.sh"]
-            tried.driver("parallel", words)
-            tried.broken("parallel", words)
+            checks.driver("parallel", words)
+            checks.broken("parallel", words)
         else:
-            print("GNU parallel is not installed: its driver was not tried")
-        python = python_with_dask()
+            print("GNU parallel is not installed: its driver was not checked")
+        python = python_with("dask.distributed")
         if python:
             words = [python, ROOT / "distributed" / "dask_parts.py"]
-            tried.driver("dask", words)
-            tried.broken("dask", words)
-            tried.killed(python)
+            checks.driver("dask", words)
+            checks.broken("dask", words)
+            checks.killed(python)
         else:
-            print("Dask is not installed: its driver was not tried")
-    print(f"{tried.passed} passed, {tried.failed} failed")
-    return 1 if tried.failed else 0
+            print("Dask is not installed: its driver was not checked")
+    print(f"{checks.passed} passed, {checks.failed} failed")
+    return 1 if checks.failed else 0
 
 
 if __name__ == "__main__":

@@ -7,12 +7,13 @@
 - Names: each code name in backticks exists in the tracked files (see `Names`).
 - Length: a sentence has at most 30 words, a paragraph, a list item or a table cell at most 100.
 - Words: no document has an old word of WORDS.
-- Quotes, in the documents of QUOTING: each line of a code block is a line of a .rt or .antt file.
+- Quotes: in the documents of QUOTING, each line of a code block is a line of a .rt or .antt file.
 - docs/traceability.md is what gate/traceability.py prints.
 - The plots in docs/plots/ are what bench/plots.py draws of the measurements there.
 - docs/proved.md names the files that gate/definitions.py prints, and how many definitions, files and lines there are.
+- docs/promises.md names exactly the crates of the toolchain that the program uses according to crates.txt.
 
-Each fault has one line, 'FAILED: FILE:LINE: what'. The last line is 'N passed, M failed': N documents without a fault, and
+Each fault has one line, 'FAILED: FILE:LINE: what'. The last line is 'N passed, M failed', for N documents without a fault and
 M faults. The exit status is 1 if there is a fault.
 """
 
@@ -26,6 +27,7 @@ from itertools import zip_longest
 from pathlib import Path
 from posixpath import dirname, join, normpath
 
+import build
 import definitions
 import traceability
 
@@ -34,7 +36,7 @@ sys.path.append(str(ROOT / "bench"))
 import plots  # noqa: E402
 DOCUMENT = re.compile(r"[A-Z]+\.md|docs/.*\.md|crates/[^/]+/README\.md|examples/[^/]+\.md")
 
-# Folders with files that commands make.
+# Folders with generated files.
 MADE = {"bin", "out", "__pycache__"}
 
 MOST_IN_SENTENCE, MOST_IN_PARAGRAPH = 30, 100
@@ -50,11 +52,10 @@ out/                                     docs/gate.md         made by `rt check`
 AVG|CASE|DELETE|INTERSECT|OFFSET|UPDATE  *                    SQL that is not supported
 tr                                       docs/recipes.md      a command of the shell
 k[0-9]*                                  docs/design/tree.md  keys in its pictures
-tq_tests_*                               docs/gate.md         crates of an earlier gate, in its table of times
 """
 
-# Old words as a regular expression, and what to write instead, divided by at least two spaces. Not here are old words that
-# are right in another meaning: made, at once, behind, lines, layers.
+# Old words as a regular expression, at least two spaces, and what to write instead. The table omits old words that are
+# correct in another meaning: made, at once, behind, lines, layers.
 WORDS = """
 told|tells            reports, prints, shows, is known
 stands(?! for)        is, is stored, holds
@@ -80,7 +81,7 @@ SENTENCE_END = re.compile(r"[.!?][)\"'*]*\s+(?=[\"'(*]*[A-Z])")
 
 
 class Document:
-    """The lines of a document with their numbers, those of code blocks apart, and the anchors of its headings."""
+    """The numbered lines of a document, separately those of its code blocks, and the anchors of its headings."""
 
     def __init__(self, path):
         self.path = path
@@ -99,7 +100,7 @@ class Document:
             self.lines.append((number, line))
 
     def paragraphs(self):
-        """Paragraphs, list items and cells of tables: the number of the first line, and the text."""
+        """Paragraphs, list items and table cells, each with the number of its first line."""
         begun, text = 0, ""
         for number, line in [*self.lines, (0, "")]:
             starts = re.match(r" *(?:[-*]|\d+\.) +|> *", line)
@@ -120,7 +121,7 @@ def document(path):
 
 
 def anchor_of(heading):
-    """GitHub's anchor of a heading: small letters, digits, `_`, `-`, and a `-` for each space."""
+    """GitHub's anchor of a heading: lower-case letters, digits, `_`, `-`, and a `-` for each space."""
     text = LINK.sub(r"\1", heading).replace("`", "")
     return re.sub(r"[^\w\- ]", "", text.lower()).replace(" ", "-")
 
@@ -150,15 +151,15 @@ class Links:
 class Names:
     """Code names in backticks.
 
-    A path has a `/` or one of the endings of tracked files. It is, or ends, the path of a tracked file or folder. Words in
-    capitals in it stand for any name.
+    A path has a `/` or one of the suffixes of tracked files. It must be the path of a tracked file or folder, or the end of
+    one. A word in capitals in it matches any name.
 
-    A name is a word, or words divided by `::` or `.`, with or without `()` after them. Each word is in a tracked file that
-    is not a document, or in the path of one. Words divided by `::` are all in one .rt file, or declared in the crate that
-    comes first.
+    A name is a word, or words separated by `::` or `.`, with or without `()` after them. Each word must be in a tracked file
+    that is not a document, or in the path of a tracked file. Words separated by `::` must all be in one .rt file or, if the
+    first one is a crate, be declared there.
 
-    In "`NAME`, `NAME` in `PLACE`", where PLACE is a crate or a path in one, each name is declared there: after a keyword
-    such as `fn` in .rt files, as the first word of a line in .antt files, anywhere in others."""
+    In "`NAME`, `NAME` in `PLACE`", PLACE is a crate or a path in one. Each name must be declared there. A name in a .rt
+    file comes after a keyword such as `fn`. In a .antt file it is the first word of a line, and in others it is anywhere."""
 
     NAME = re.compile(r"\w+(?:(?:::|\.)\w+)*(?:\(\))?")
     PLACE = re.compile(r"(?:crates/)?(tq(?:_\w+)?(?:/[\w./-]*)?)")
@@ -217,7 +218,7 @@ class Names:
 
 
 class Length:
-    """Sentences and paragraphs."""
+    """The length of sentences and paragraphs."""
 
     def faults(self, of):
         if of.path in WAITING:
@@ -251,7 +252,7 @@ class Words:
 
 
 class Quotes:
-    """Code that is quoted."""
+    """Quoted code."""
 
     def __init__(self, files):
         self.quotable = {line for file in files if file.endswith((".rt", ".antt")) for line in text_of(file).split("\n")}
@@ -292,10 +293,10 @@ class Plots:
 
 
 class Reading:
-    """What docs/proved.md says that a reader has to read."""
+    """The definitions that docs/proved.md lists, and their numbers."""
 
     PAGE = "docs/proved.md"
-    SAID = re.compile(r"(\d+) definitions in (\d+) files .*?([\d,]+) lines")
+    COUNTS = re.compile(r"(\d+) definitions in (\d+) files .*?([\d,]+) lines")
     FILES = re.compile(r"\| (`[\w/]+/specs/.*?) \|")
 
     def faults(self, of):
@@ -303,20 +304,36 @@ class Reading:
             return
         found = definitions.definitions_read()
         counted = "{} definitions in {} files, {:,} lines".format(*definitions.counts(found))
-        said = [(number, "{} definitions in {} files, {} lines".format(*it)) for number, line in of.lines for it in self.SAID.findall(line)]
-        yield from ((number, f"gate/definitions.py counts {counted}") for number, it in said if it != counted)
-        if not said:
+        stated = [(number, "{} definitions in {} files, {} lines".format(*it)) for number, line in of.lines for it in self.COUNTS.findall(line)]
+        yield from ((number, f"gate/definitions.py counts {counted}") for number, it in stated if it != counted)
+        if not stated:
             yield 1, f"the page does not say '{counted}'"
         files = {f"crates/{file}": number for number, line in of.lines for file in self.files_in(line)}
         yield from ((1, f"{file} is not in the table of definitions") for file in found if file not in files)
         yield from ((number, f"{file} has no definition to read") for file, number in files.items() if file not in found)
 
     def files_in(self, line):
-        """The files of a row of the table. One without a folder is in that of the file before."""
+        """The files of a row of the table. A file without a folder is in the folder of the file before it."""
         folder = ""
         for name in SPAN.findall(cells[1]) if (cells := self.FILES.match(line)) else []:
             folder = dirname(name) or folder
             yield join(folder, name.split("/")[-1])
+
+
+class Trusted:
+    """The trusted crates of the toolchain that docs/promises.md lists."""
+
+    PAGE, LIST = "docs/promises.md", re.compile(r"- the contracts of its crates for \w+: (.*);")
+
+    def faults(self, of):
+        if of.path != self.PAGE:
+            return
+        named = build.libraries()
+        used = {library for crate in build.lowest_first(named, build.PROGRAM, []) for library in named[crate]} - set(named)
+        lists = [found[1] for _, line in of.lines if (found := self.LIST.match(line))]
+        names = {name for text in lists for name in SPAN.findall(text)}
+        yield from ((1, f"the program uses `{name}`, which is not among the trusted crates") for name in sorted(used - names))
+        yield from ((1, f"the program does not use the trusted crate `{name}`") for name in sorted(names - used))
 
 
 def folders_of(path):
@@ -325,7 +342,7 @@ def folders_of(path):
 
 
 def starts_of(path):
-    """The places of a path at which a name begins."""
+    """The places in a path where a name begins."""
     return [0, *(at + 1 for at, letter in enumerate(path) if letter == "/")]
 
 
@@ -335,7 +352,7 @@ def text_of(file):
 
 
 def tracked_files():
-    """The files that git tracks; without git, all but those that commands make."""
+    """The files that git tracks. Without git, all files except generated ones."""
     ran = subprocess.run(["git", "ls-files", "-z"], cwd=ROOT, stdout=subprocess.PIPE, stderr=subprocess.DEVNULL, text=True)
     if ran.returncode == 0:
         return ran.stdout.split("\0")[:-1]
@@ -345,7 +362,7 @@ def tracked_files():
 
 def main():
     files = tracked_files()
-    checks = [Links(files), Names(files), Length(), Words(), Quotes(files), Generated(), Plots(), Reading()]
+    checks = [Links(files), Names(files), Length(), Words(), Quotes(files), Generated(), Plots(), Reading(), Trusted()]
     passed = failed = 0
     for path in filter(DOCUMENT.fullmatch, files):
         faults = sorted(set(fault for check in checks for fault in check.faults(document(path))))

@@ -1,13 +1,16 @@
 #!/usr/bin/env python3
-"""Puts questions and a session to the program in ever more memory, and on a small stack.
+"""Runs queries and a session in a growing address space, and on a small stack.
 
     gate/limits.py PROGRAM
 
-The address space of a run is limited, from the least in which the program always starts with words as long upwards in steps,
-until it answers in several steps one after another; the stack of all of them has 256 KiB. Each run ends with its answer or with the line
-that tells of no memory, and no signal ends it. On that stack it also sorts rows that take all ranks that a sort takes to be
-told apart. A session takes no more of its stack than it took at its start, since that may be refused where no memory is
-left. Each failed run has one line; the last line is 'N passed, M failed'.
+The stack of each run has 256 KiB. The address space grows in steps until the program answers in three runs in a row. It begins
+with the least in which the program always starts with the same words. Each run must end with its answer, or with the line
+that there is no memory. It must not end by a signal.
+
+On that stack the program also sorts rows that differ only after all key prefixes that a sort reads. A session must not use
+more stack than at its start, because more of it may be refused if no memory is left.
+
+Each failed run has one line. The last line is 'N passed, M failed'.
 """
 
 import re
@@ -23,20 +26,20 @@ from refusals import has_no_memory, report
 SECONDS = 120
 STACK = 256 * 1024
 STEP = 64 * 1024
-# The most memory that a run is given, and how many runs in a row have to answer.
+# The largest address space of a run, and how many runs in a row must answer.
 MOST = 512 * 1024 * 1024
 IN_A_ROW = 3
-# The program has to start so many times in what it is given at first.
+# How often the program must start in the first address space.
 STARTS = 64
-# Rows that part late: so many columns of texts, in each of which so many rows part one after another, each behind as many
-# bytes more as a rank tells.
+# Rows that differ late. They have COLUMNS columns of texts. In each column STEPS rows differ one after another, each after HEAD
+# more equal bytes. A normalized key prefix has HEAD bytes of a text.
 COLUMNS = 15
 STEPS = 71
 HEAD = 14
 
 
-def run(program, words, taken, memory, room):
-    """Status, standard output and standard error where there is so much memory (None: any)."""
+def run(program, words, stdin, memory, room):
+    """Runs the program in this address space (None: no limit). Returns its status, standard output and standard error."""
 
     def prepare():
         resource.setrlimit(resource.RLIMIT_STACK, (STACK, STACK))
@@ -46,7 +49,7 @@ def run(program, words, taken, memory, room):
     ran = subprocess.run(
         [program, *words],
         cwd=room,
-        input=taken,
+        input=stdin,
         stdout=subprocess.PIPE,
         stderr=subprocess.PIPE,
         preexec_fn=prepare,
@@ -56,7 +59,7 @@ def run(program, words, taken, memory, room):
 
 
 def starts(program, words, memory, room):
-    """Whether the program starts in so much memory with these words, which lie in that memory too."""
+    """Whether the program starts in this address space with these words, which take memory too."""
     try:
         status, _, err = run(program, ["nothing", *words], b"", memory, room)
     except (OSError, subprocess.SubprocessError):
@@ -65,7 +68,7 @@ def starts(program, words, memory, room):
 
 
 def least(program, words, room):
-    """The least memory in which the program starts each time: chance decides where its stack begins, and so what it takes."""
+    """The least address space in which the program starts each time. It varies, since the place of the stack is random."""
     for memory in range(STEP, MOST, STEP):
         if all(starts(program, words, memory, room) for _ in range(STARTS)):
             return memory
@@ -73,20 +76,20 @@ def least(program, words, room):
 
 
 def staff(count):
-    """A table of so many rows, each as long as all before it and one more."""
+    """A table with this number of rows. Row i is valid from i to i + count, so all rows overlap."""
     return b"emp:int,name:text,dept:text,from,to\n" + b"".join(
         b"%d,a name of many letters %d,dept %d,%d,%d\n" % (row, row, row % 7, row, row + count) for row in range(count)
     )
 
 
 def late_row(row):
-    """A row that has the first columns in common with those after it, and parts from them in a column behind."""
+    """A row that equals the rows after it in the first columns, and differs from them in a later column."""
     steps = (min(max(row - STEPS * column, 0), STEPS) for column in range(COLUMNS))
     return ",".join(["1", *("a" * (HEAD * step) + "b" for step in steps), "0", "1"]) + "\n"
 
 
 def late_rows():
-    """A table of rows that part late, a question that shows all its columns, and the answer."""
+    """A table of rows that differ late, a query of all its columns, and the answer."""
     names = [f"text_{number}" for number in range(COLUMNS)]
     rows = [late_row(row) for row in range(COLUMNS * STEPS)]
     table = ",".join(["emp:int", *(f"{name}:text" for name in names), "from,to"]) + "\n" + "".join(rows)
@@ -95,7 +98,7 @@ def late_rows():
 
 
 def questions():
-    """Name, table, words after it, input."""
+    """The queries and the session: name, table, command with its options, statement, standard input."""
     small, large = "emp=emp.csv", "emp=large.csv"
     ask = "VALIDTIME SELECT name FROM emp"
     deep = f"{ask} WHERE {31 * '('}NOT name = 'a'{31 * ')'}"
@@ -113,25 +116,25 @@ def questions():
     yield "a session", small, ["session"], [], "".join(line + "\n" for line in lines).encode()
 
 
-def is_right(said, whole, is_session):
-    """Whether a run answered, or said that there is no memory; a session may refuse lines for that, and answer others."""
-    status, out, err = said
+def is_right(result, whole, is_session):
+    """Whether a run answered or reported that there is no memory. A session may refuse some lines for lack of memory."""
+    status, out, err = result
     if (status, err) == (0, b""):
         return out == whole or (is_session and b"refused OutOfMemory\n" in out)
-    return has_no_memory(said)
+    return has_no_memory(result)
 
 
-def faults_of(program, name, words, more, taken, room):
-    """What is wrong with the runs of a question, in ever more memory."""
+def faults_of(program, name, words, more, stdin, room):
+    """The faults of a query's runs in a growing address space."""
     words = [*words, *more]
     first = least(program, words[1:], room)
-    status, whole, err = run(program, words, taken, None, room)
+    status, whole, err = run(program, words, stdin, None, room)
     if status != 0:
-        yield f"{name}: status {status} with all memory, {err[:80]!r}"
+        yield f"{name}: status {status} without a limit, {err[:80]!r}"
         return
     answered, runs, memory = 0, 0, first
     while answered < IN_A_ROW and memory < MOST:
-        status, out, err = run(program, words, taken, memory, room)
+        status, out, err = run(program, words, stdin, memory, room)
         runs += 1
         answered = answered + 1 if status == 0 and out == whole else 0
         if not is_right((status, out, err), whole, words[0] == "session"):
@@ -143,28 +146,28 @@ def faults_of(program, name, words, more, taken, room):
 
 
 def faults_of_late_rows(program, workers, room):
-    """What is wrong with an answer over rows that part late, on the small stack."""
+    """The fault of an answer over rows that differ late, on the small stack."""
     table, question, answer = late_rows()
     (Path(room) / "late.csv").write_bytes(table)
     status, out, err = run(program, ["ask", "--workers", workers, "--table", "late=late.csv", question], b"", None, room)
     if (status, out, err) != (0, answer, b""):
-        yield f"rows that part late, by {workers} workers: status {status}, {out[:80]!r}, {err[:80]!r}"
+        yield f"rows that differ late, by {workers} workers: status {status}, {out[:80]!r}, {err[:80]!r}"
 
 
 def stack_of(process):
-    """How much of its stack a process has so far, in KiB."""
+    """The size of a process's stack, in KiB."""
     status = Path(f"/proc/{process.pid}/status").read_text()
     return int(re.search(r"^VmStk:\s*(\d+) kB$", status, re.MULTILINE)[1])
 
 
 def faults_of_stack(program, room):
-    """What is wrong with a session that takes more of the stack later than it did before it read its first line."""
-    name, table, words, _, taken = list(questions())[-1]
+    """The fault of a session whose stack grows after its first reply."""
+    name, table, words, _, stdin = list(questions())[-1]
     pipe = subprocess.PIPE
     process = subprocess.Popen([program, *words, "--table", table], cwd=room, stdin=pipe, stdout=pipe)
     with process:
         stacks = []
-        for lines in (b"publish\n", taken + b"publish\n"):
+        for lines in (b"publish\n", stdin + b"publish\n"):
             process.stdin.write(lines)
             process.stdin.flush()
             published = lines.count(b"publish\n")
@@ -177,7 +180,7 @@ def faults_of_stack(program, room):
             stacks.append(stack_of(process))
         process.stdin.close()
     if stacks[0] != stacks[1]:
-        yield f"{name}: a stack of {stacks[0]} KiB at first, and of {stacks[1]} KiB after its questions"
+        yield f"{name}: a stack of {stacks[0]} KiB at first, and of {stacks[1]} KiB after its queries"
 
 
 def main():
@@ -186,8 +189,8 @@ def main():
         (Path(room) / "emp.csv").write_bytes(EMP)
         (Path(room) / "large.csv").write_bytes(staff(2000))
         parts = [
-            faults_of(program, name, [words[0], "--table", table, *words[1:]], more, taken, room)
-            for name, table, words, more, taken in questions()
+            faults_of(program, name, [words[0], "--table", table, *words[1:]], more, stdin, room)
+            for name, table, words, more, stdin in questions()
         ]
         parts.append(faults_of_stack(program, room))
         return report([*parts, *(faults_of_late_rows(program, workers, room) for workers in ("1", "4"))])

@@ -1,5 +1,5 @@
 #!/usr/bin/env python3
-"""Imports mutated exports, and compares the result with what this script reads in the same bytes by itself.
+"""Imports mutated exports, and compares the result with what this script reads from the same bytes by itself.
 
     gate/mutated_exports.py PROGRAM [NUMBER] [--seed SEED]
 
@@ -7,10 +7,10 @@ The script takes some records of the exports in examples/personnel, or random by
 ends, quotes, fields. NUMBER is how many files it makes, 300 by default. The same SEED makes the same files. PROGRAM is any
 build of tq.
 
-Each file is imported three times: plainly, with --all and with --skip-invalid. The expected output is the table file of the
-definition in docs/reference/files.md, or the fault of the first invalid record with its line, or all of them; and the CSV
-file of the invalid records. The program must end with status 0 or 1 and write exactly this. Some files are imported with
---encoding latin1.
+The program imports each file three times: plainly, with --all and with --skip-invalid. The expected output is the table file
+that docs/reference/files.md defines, the fault of the first invalid record with its line, or all of these faults. With
+--skip-invalid it is also the CSV file of the invalid records. The program must end with status 0 or 1 and write exactly this.
+Some files are imported with --encoding latin1.
 
 Each import is a case. Each failed case has one line, and its file is kept. The last line is 'N passed, M failed'."""
 
@@ -73,18 +73,18 @@ def records_of(data, delimiter):
 
 
 def row_text(fields, delimiter):
-    """A record as CSV; a field is quoted only if it has to be."""
+    """A record as CSV. A field is quoted only if necessary."""
     special = {delimiter, QUOTE, CR, LF}
     texts = [b'"' + field.replace(b'"', b'""') + b'"' if special & set(field) else field for field in fields]
     return (bytes([delimiter]).join(texts) or b'""') + b"\n"
 
 
-# ---- what is imported
+# ---- the expected table file
 
 
 @dataclass
 class Options:
-    """How a file is imported. `kinds` has the numbers of places of columns of numbers, and None for texts."""
+    """How a file is imported. `kinds` maps a column of numbers to its number of decimals, and one of texts to None."""
 
     key: bytes | None
     kinds: dict
@@ -107,13 +107,13 @@ class Options:
 
 @dataclass
 class Fault(Exception):
-    """What is wrong, as the program says it."""
+    """A fault, in the words of the program."""
 
     text: bytes
 
 
 def units_of(field, places):
-    """The number of units of 10^-places, or None."""
+    """The number in units of 10^-places, or None if the field is not such a number."""
     number = field.removeprefix(b"-")
     whole, _, fraction = number.partition(b".")
     if not whole or number == whole + b"." or len(fraction) > places:
@@ -131,7 +131,7 @@ def units_of(field, places):
 
 
 def kinds_of(header, records):
-    """The places of each column, if all its values are numbers, else None."""
+    """For each column the most decimals of its values if all are numbers, else None."""
     kinds = [0] * len(header)
     for _, fields in records:
         for place, field in enumerate(fields[: len(header)]):
@@ -149,7 +149,7 @@ def name_of(field):
 
 
 def plan_of(header, found, options):
-    """The columns: the place, the name and the places of each."""
+    """The columns of the table file: place in the record, name, and number of decimals."""
     given = sorted(options.kinds, key=lambda name: options.kinds[name] is None)
     for name in [*given, options.begin, options.end, *([options.key] if options.key else [])]:
         if name not in header:
@@ -185,7 +185,7 @@ def day_of(field):
 
 
 def text_of(value):
-    """A text, or what is wrong with it."""
+    """The text. An invalid one raises a `Fault`."""
     try:
         value.decode()
     except UnicodeDecodeError:
@@ -196,7 +196,7 @@ def text_of(value):
 
 
 def number_of(value, places):
-    """A number of units as text, or what is wrong with it."""
+    """The number in units, as text. An invalid one raises a `Fault`."""
     units = units_of(value, places)
     if units is not None:
         return str(units).encode()
@@ -206,7 +206,7 @@ def number_of(value, places):
 
 
 def period_of(start_text, end_text, options):
-    """The start and the end as texts, or the place of the fault, 0 or 1, and what is wrong."""
+    """The start and the end as texts, or the place of the fault, 0 or 1, and its text."""
     start = day_of(start_text)
     if start is None:
         return 0, b" is not a date in the format dd.mm.yyyy"
@@ -220,7 +220,7 @@ def period_of(start_text, end_text, options):
 
 
 def row_of(header, columns, number, fields, options):
-    """The fields of the table file for a record."""
+    """The fields of the table file for a record. An invalid record raises a `Fault`."""
     if len(fields) != len(header):
         raise Fault(f"the header has {len(header)} fields, but this record has {len(fields)}".encode())
     row = [] if options.key else [str(number).encode()]
@@ -237,7 +237,7 @@ def row_of(header, columns, number, fields, options):
     return [*row, first, second]
 
 
-# ---- what is expected
+# ---- the expected output
 
 
 def hidden_len(data):
@@ -266,8 +266,8 @@ def line_text(text):
 
 @dataclass
 class Expected:
-    """What is written: the table file of the valid records, the lines about the others, and these others as CSV; or the fault
-    of the file."""
+    """The expected output: the table file of the valid records, the lines about the invalid ones, and these as CSV; or the
+    fault of the file."""
 
     table: bytes = b""
     lines: tuple = ()
@@ -308,7 +308,7 @@ def run(program, words, folder):
 
 
 def difference(done, files, wanted, mode):
-    """What is wrong with an import; nothing, if it is as expected."""
+    """How an import differs from the expected one, or None."""
     if wanted.fault is not None:
         status, table, rejected, err = 1, None, None, wanted.fault
     elif mode == "skip" or not wanted.lines:
@@ -381,7 +381,7 @@ def mutated(data, chance):
 
 
 def export_of(exports, chance):
-    """A mutated export, and how it is imported."""
+    """A mutated export, and the options of its import."""
     name = chance.choice(sorted(exports))
     header, *lines = exports[name]
     rows = chance.sample(lines, min(len(lines), chance.choice([0, 1, 3, 10, 40])))
@@ -402,7 +402,7 @@ def export_of(exports, chance):
 
 
 def check(program, exports, seed, number):
-    """Imports the file with this number: the mode and the difference of each failed import."""
+    """Imports the file with this number. Returns the mode and the difference of each failed import, the file, and its options."""
     chance = random.Random(f"{seed} {number}")
     data, options = export_of(exports, chance)
     wanted = expected_of(data, options)
@@ -414,7 +414,7 @@ def check(program, exports, seed, number):
             try:
                 fault = difference(*run(program, [*options.words(), *words], folder), wanted, mode)
             except subprocess.TimeoutExpired:
-                fault = f"no end after {SECONDS} seconds"
+                fault = f"it did not end within {SECONDS} seconds"
             if fault:
                 faults.append((mode, fault))
     return faults, data, options

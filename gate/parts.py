@@ -1,12 +1,12 @@
 #!/usr/bin/env python3
-"""Divides random tables into parts, asks random statements over each part, merges the answers, and compares with `tq ask`.
+"""Divides random tables into parts, runs random statements over each part, merges the answers, and compares with `tq ask`.
 
     gate/parts.py TQ [--statements N] [--seed S] [--lanes L]
 
-Each statement is asked of random tables, whole and in 1, 2, 7 and 64 parts: the bytes of `tq merge` must be those of `tq ask`.
-A statement whose tables cannot be divided must be refused with a reason, and one that `tq ask` refuses must be refused by
-`tq split` too. The last line is 'N passed, M failed'; before it stands how many answers were merged, how many were added, and how many
-statements were not divided.
+Each statement runs over random tables, whole and in 1, 2, 7 and 64 parts. `tq merge` must print the same bytes as `tq ask`. If
+tables cannot be divided, `tq split` must refuse the statement with a reason. `tq split` must also refuse each statement that
+`tq ask` refuses. The last line is 'N passed, M failed'. The line before it has the numbers of statements with merged answers,
+with added answers, and without a division.
 """
 
 import argparse
@@ -22,7 +22,7 @@ from compare import Query, ran, statement, tables_in
 
 PARTS = [1, 2, 7, 64]
 FEW_ROWS, MANY_ROWS, EACH = 25, 600, 10
-# How many of the statements count and sum, with their groups in front.
+# The fraction of the statements that count or sum, with their groups in front.
 SUMMED = 0.4
 
 
@@ -36,7 +36,7 @@ def read_options():
 
 
 def added_statement(draw, schemas, most):
-    """A statement whose counts and sums have to be added, if its sources are linked: its groups come first, if it has some."""
+    """A statement whose counts and sums must be added if its sources are linked. Its groups come first, if it has any."""
     query = Query(draw, schemas, [], most)
     groups = list(dict.fromkeys(name for name, _ in (draw.choice(query.columns) for _ in range(draw.randint(0, 2)))))
     numbers = [name for name, kind in query.columns if kind == "int"]
@@ -50,7 +50,7 @@ def added_statement(draw, schemas, most):
 
 
 def ask_part(program, folder):
-    """Answers the statement over the part in the folder. The result is an error, or None."""
+    """Answers the statement over the part in the folder. Returns an error or None."""
     words = (folder / "args").read_bytes().split(b"\0")
     answer, errors, status = ran([program, "ask", *words])
     (folder / "answer.csv").write_bytes(answer)
@@ -58,7 +58,7 @@ def ask_part(program, folder):
 
 
 def merged(program, folder, parts):
-    """The answer that is merged from those over all parts, and an error or None."""
+    """Answers the statement over all parts. Returns the merged answer, and an error or None."""
     for number in range(parts):
         error = ask_part(program, folder / str(number))
         if error:
@@ -67,8 +67,8 @@ def merged(program, folder, parts):
     return answer, None if status == 0 else f"not merged: {errors.decode(errors='replace').strip()}"
 
 
-def try_statement(options, number):
-    """What is wrong with the statement of this number, or None, and how the answers over its parts were combined."""
+def check_statement(options, number):
+    """The fault of the statement with this number, or None, and how the answers over its parts were combined."""
     draw = random.Random(options.seed * 1_000_003 + number)
     with tempfile.TemporaryDirectory(prefix="tq-") as room:
         room = pathlib.Path(room)
@@ -97,13 +97,13 @@ def try_statement(options, number):
 def main():
     options = read_options()
     with concurrent.futures.ThreadPoolExecutor(options.lanes) as pool:
-        tried = list(pool.map(lambda number: try_statement(options, number), range(options.statements)))
-    wrong = [number for number, (error, _) in enumerate(tried) if error]
+        checked = list(pool.map(lambda number: check_statement(options, number), range(options.statements)))
+    wrong = [number for number, (error, _) in enumerate(checked) if error]
     for number in wrong[:20]:
-        print(f"statement {number}: {tried[number][0]}")
-    count = collections.Counter(way for _, way in tried)
+        print(f"statement {number}: {checked[number][0]}")
+    count = collections.Counter(way for _, way in checked)
     print(f"{count['merged']} answers merged, {count['added']} added, {count['refused']} statements not divided")
-    print(f"{len(tried) - len(wrong)} passed, {len(wrong)} failed")
+    print(f"{len(checked) - len(wrong)} passed, {len(wrong)} failed")
     return 1 if wrong else 0
 
 

@@ -1,11 +1,11 @@
 #!/usr/bin/env python3
-"""Puts the cases of gate/cases/ and gate/generated.py, and each command that README.md, examples/ and the documents for
-users print, to the program. Those of examples/terminal.md run in a terminal.
+"""Runs the program on the cases of gate/cases/ and gate/generated.py, and on each command that README.md, examples/ and the
+documents for users print. The commands of examples/terminal.md run in a terminal.
 
     gate/program.py PROGRAM
 
-A case is right where standard output, standard error and the status are as it says. Each failed case
-has one line; the last line is 'N passed, M failed'.
+A case passes if standard output, standard error and the exit status are as expected. Each failed case has one line. The last
+line is 'N passed, M failed'.
 """
 
 import fcntl
@@ -42,12 +42,12 @@ SHELL_PAGES = [
     "docs/tasks.md",
     "examples/dates.md",
 ]
-# The page whose commands are run in a terminal, and that terminal's columns.
+# The page whose commands run in a terminal, and the columns of that terminal.
 TERMINAL_PAGE = "examples/terminal.md"
 COLUMNS = 100
 PROMPT = b"tq> "
 FORM = re.compile(r"    bin/tq (.*) STATEMENT")
-# The seconds that a run took, which no case names.
+# The seconds of a step. No case contains them.
 TOOK = re.compile(rb"(?<= )\d+\.\d{3} s$", re.MULTILINE)
 
 
@@ -63,44 +63,44 @@ def blocks_of(text):
 
 
 def commands_of(block, command):
-    """The commands of a block, each with the lines printed below it."""
+    """The commands of a block, each with the lines below it."""
     starts = [at for at, line in enumerate(block) if command.match(line)]
     for start, end in zip(starts, [*starts[1:], len(block)]):
         yield command.match(block[start])[1], block[start + 1 : end]
 
 
 def text_of(lines):
-    """What a command prints, by the lines of a page."""
+    """The output of a command, from the lines of a page."""
     return "".join(line.removeprefix("    ") + "\n" for line in lines)
 
 
-def status_of(said):
-    """The status of a command that prints this text: that of a refusal, if a line is one."""
-    if "tq: BadCommandLine\n" in said:
+def status_of(output):
+    """The exit status of a command that prints this text: 0, or that of a refusal if a line is one."""
+    if "tq: BadCommandLine\n" in output:
         return 2
-    return 1 if re.search("^tq: ", said, re.MULTILINE) else 0
+    return 1 if re.search("^tq: ", output, re.MULTILINE) else 0
 
 
 def printed(name, words, lines):
-    """The case of a command that a page prints with these lines: a refusal, or an answer. A file may be its input."""
-    said = text_of(lines).encode()
-    taken = b""
+    """The case of a command and its output on a page: an answer, or a refusal. Its input may be a file."""
+    output = text_of(lines).encode()
+    stdin = b""
     if len(words) > 2 and words[-2] == "<":
-        taken = (ROOT / words[-1]).read_bytes()
+        stdin = (ROOT / words[-1]).read_bytes()
         words = words[:-2]
-    if said.startswith(b"tq: "):
-        return Case(name, words, err=said, status=status_of(said.decode()), taken=taken)
-    return Case(name, words, out=said, taken=taken)
+    if output.startswith(b"tq: "):
+        return Case(name, words, err=output, status=status_of(output.decode()), stdin=stdin)
+    return Case(name, words, out=output, stdin=stdin)
 
 
 def form_of(text):
-    """The words before each STATEMENT of a page, if it names them."""
+    """The words before each STATEMENT of a page, or None if the page does not give them."""
     return next((shlex.split(found[1]) for found in map(FORM.match, text.split("\n")) if found), None)
 
 
 def cases_of_page(path, by_shell=False):
-    """The commands that a page prints: '$ bin/tq ..' before its lines, but where the shell runs them, or a statement before its
-    answer."""
+    """The cases of a page: a statement before its answer and, unless the shell runs them, a command '$ bin/tq ..' before its
+    output."""
     text = path.read_text()
     form = form_of(text)
     blocks = list(blocks_of(text))
@@ -114,7 +114,7 @@ def cases_of_page(path, by_shell=False):
 
 
 def make_files(case, room):
-    """Makes the files of a case."""
+    """Writes the files of a case."""
     for name, content in case.files.items():
         path = room / name
         path.parent.mkdir(parents=True, exist_ok=True)
@@ -126,7 +126,7 @@ def make_files(case, room):
 
 
 def standard_output(case):
-    """Where the program writes: a pipe, a device that is full, or a pipe that nobody reads."""
+    """The standard output of the program: a pipe, a full device, or a pipe without a reader."""
     if case.to == script.FULL:
         return os.open("/dev/full", os.O_WRONLY)
     if case.to == script.UNREAD:
@@ -137,19 +137,19 @@ def standard_output(case):
 
 
 def read_terminal(terminal):
-    """What was written to a terminal, whose other end is closed."""
-    said = b""
+    """All bytes that were written to a terminal whose other end is closed."""
+    output = b""
     try:
         while part := os.read(terminal, 65_536):
-            said += part
-    except OSError:  # what a terminal gives at its end
+            output += part
+    except OSError:  # the end of a terminal
         pass
     os.close(terminal)
-    return said.replace(b"\r\n", b"\n")
+    return output.replace(b"\r\n", b"\n")
 
 
 def prepare(case):
-    """What is done in the new process before the program begins."""
+    """Runs in the new process before the program starts."""
     if case.memory:
         resource.setrlimit(resource.RLIMIT_AS, (case.memory, case.memory))
     if case.to == script.CLOSED:
@@ -157,8 +157,7 @@ def prepare(case):
 
 
 def run(program, case, room):
-    """What the program does with a case in this folder, which also gets examples/: its status, standard output and standard
-    error."""
+    """Runs a case in this folder, which also gets examples/. Returns the exit status, standard output and standard error."""
     (Path(room) / "examples").symlink_to(ROOT / "examples")
     make_files(case, Path(room))
     out = standard_output(case)
@@ -166,7 +165,7 @@ def run(program, case, room):
     ran = subprocess.run(
         [program, *case.words],
         cwd=room,
-        input=case.taken,
+        input=case.stdin,
         stdout=out,
         stderr=errors,
         preexec_fn=lambda: prepare(case),
@@ -175,17 +174,17 @@ def run(program, case, room):
     for end in (out, errors):
         if end != subprocess.PIPE:
             os.close(end)
-    said = read_terminal(terminal) if case.terminal else ran.stderr
-    return ran.returncode, ran.stdout or b"", said
+    err = read_terminal(terminal) if case.terminal else ran.stderr
+    return ran.returncode, ran.stdout or b"", err
 
 
 def faults_of(program, case):
-    """What is wrong with what the program does with a case."""
+    """Runs a case. Returns its faults."""
     with tempfile.TemporaryDirectory(prefix="tq-") as room:
         try:
             status, out, err = run(program, case, room)
         except subprocess.TimeoutExpired:
-            return [f"it had not ended after {SECONDS} seconds"]
+            return [f"it did not end within {SECONDS} seconds"]
     faults = [f"{held!r} is missing in the output" for held in case.holds if held not in out]
     if status != case.status:
         faults.append(f"status {status}, not {case.status}")
@@ -199,7 +198,7 @@ def faults_of(program, case):
 
 
 def cases_of_help(program):
-    """The statements that the help shows, over the tables of the payroll, and the files that it shows."""
+    """The cases of the statements and of the table files that the help shows."""
     text = subprocess.run([program, "--help"], stdout=subprocess.PIPE, timeout=SECONDS).stdout.decode()
     shown = [block.split("\n") for block in text.split("\n\n")]
     parts = {block[0].partition(" (")[0].rstrip(":"): [line.strip() for line in block[1:]] for block in shown}
@@ -209,15 +208,15 @@ def cases_of_help(program):
     content = "".join(line + "\n" for line in parts["Table file"]).encode()
     yield ask("help: the file", [("emp", content)], ALL_NAMES, out=b"name,from,to\nann,10,20\nbob,15,forever\n")
     tables = [("emp", "".join(line + "\n" for line in parts["Table file, with --dates"]).encode())]
-    said = b"name,from,to\nann,2024-02-29,2024-07-01\nbob,2024-03-01,forever\n"
-    yield ask("help: the file of dates", tables, ALL_NAMES, ["--dates"], out=said)
+    output = b"name,from,to\nann,2024-02-29,2024-07-01\nbob,2024-03-01,forever\n"
+    yield ask("help: the file of dates", tables, ALL_NAMES, ["--dates"], out=output)
     for statement in parts["Statement, with --dates"]:
         yield ask(f"help: {statement}", tables, statement, ["--dates"], out=b"name,from,to\nann,2024-02-29,2024-03-01\n")
 
 
 def commands_by_shell(program, page):
-    """Each command of a page, run by the shell in one folder in their order, with what is wrong with it. The page shows
-    standard output and standard error together."""
+    """Runs the commands of a page by the shell, in one folder and in order. Yields each with its faults. The page shows standard
+    output and standard error together."""
     text = (ROOT / page).read_text()
     with tempfile.TemporaryDirectory(prefix="tq-") as room:
         (Path(room) / "bin").mkdir()
@@ -235,7 +234,7 @@ def commands_by_shell(program, page):
 
 
 def commands_with_blank_lines(text):
-    """The commands of a page with the lines below each, some of which may be empty, up to the next command or paragraph."""
+    """The commands of a page, each with the lines up to the next command or paragraph. Some of these may be empty."""
     command, lines = None, []
     for line in [*text.split("\n"), "the end"]:
         found = COMMAND.match(line)
@@ -248,11 +247,11 @@ def commands_with_blank_lines(text):
 
 
 def run_in_terminal(words, lines):
-    """Runs a command whose input and outputs are one terminal, and types a line at each prompt and then the end: its status
-    and what the terminal shows."""
+    """Runs a command in a terminal. Types a line at each prompt, and then the end. Returns the exit status and what the terminal
+    shows."""
     terminal, end = pty.openpty()
     fcntl.ioctl(end, termios.TIOCSWINSZ, struct.pack("HHHH", 24, COLUMNS, 0, 0))
-    typed, said = [*(line.encode() + b"\n" for line in lines), b"\x04"], b""
+    typed, output = [*(line.encode() + b"\n" for line in lines), b"\x04"], b""
     with subprocess.Popen(words, cwd=ROOT, stdin=end, stdout=end, stderr=end) as running:
         os.close(end)
         while True:
@@ -260,29 +259,29 @@ def run_in_terminal(words, lines):
                 running.kill()
                 break
             try:
-                said += os.read(terminal, 65_536)
-            except OSError:  # what a terminal gives at its end
+                output += os.read(terminal, 65_536)
+            except OSError:  # the end of a terminal
                 break
-            if said.endswith(PROMPT) and typed:
+            if output.endswith(PROMPT) and typed:
                 os.write(terminal, typed.pop(0))
     os.close(terminal)
-    return running.returncode, said.replace(b"\r\n", b"\n")
+    return running.returncode, output.replace(b"\r\n", b"\n")
 
 
 def commands_in_terminal(program):
-    """Each command of the page for terminals, with what is wrong with it. What follows a prompt is typed. The seconds that
-    steps took are not compared."""
+    """Runs the commands of the page for terminals. Yields each with its faults. The text after a prompt is typed. The seconds of
+    steps are not compared."""
     for command, wanted in commands_with_blank_lines((ROOT / TERMINAL_PAGE).read_text()):
         lines = [line.removeprefix("tq> ") for line in wanted.split("\n") if line.startswith("tq> ")]
-        status, said = run_in_terminal([program, *shlex.split(command)], lines)
-        shown = TOOK.sub(b"SECONDS", said).decode().rstrip()
+        status, output = run_in_terminal([program, *shlex.split(command)], lines)
+        shown = TOOK.sub(b"SECONDS", output).decode().rstrip()
         faults = [] if status == status_of(wanted) else [f"status {status}, not {status_of(wanted)}"]
         if shown != TOOK.sub(b"SECONDS", wanted.encode()).decode():
             faults.append(f"the terminal shows {shown!r}, not {wanted!r}")
         yield f"{TERMINAL_PAGE}: {command}", faults
 
 
-# Words of a command line, of which the last is completed in bash, and what it becomes.
+# Words of a command line, and the completions of the last word in bash.
 COMPLETED = [
     (["dr"], ["draw"]),
     (["help", "sp"], ["split"]),
@@ -297,7 +296,7 @@ COMPLETED = [
 
 
 def completed_in_bash(page):
-    """Each word that bash completes by this page, with what is wrong with it."""
+    """Completes the words of COMPLETED in bash with this page. Yields each with its faults."""
     for words, wanted in COMPLETED:
         script = f'source "$1"; shift; COMP_WORDS=(tq "$@"); COMP_CWORD=$#; _tq; printf "%s\\n" "${{COMPREPLY[@]}}"'
         ran = subprocess.run(["bash", "-c", script, "bash", page, *words], cwd=ROOT, stdout=subprocess.PIPE, timeout=SECONDS)
@@ -306,11 +305,11 @@ def completed_in_bash(page):
 
 
 def made_pages(program):
-    """Each page that is made of the program's helps, with what is wrong with it: each option stands in it."""
+    """Generates the pages of packaging/pages.py. Yields each with its faults: it must contain each option."""
     options = {"--help"}
     for command in ("ask", "draw", "total", "calendar", "check", "session", "import", "split", "merge"):
-        said = subprocess.run([program, command, "--help"], stdout=subprocess.PIPE, timeout=SECONDS).stdout.decode()
-        options |= set(re.findall(r"^ +(?:-\w, )?(--[\w-]+)", said, re.MULTILINE))
+        output = subprocess.run([program, command, "--help"], stdout=subprocess.PIPE, timeout=SECONDS).stdout.decode()
+        options |= set(re.findall(r"^ +(?:-\w, )?(--[\w-]+)", output, re.MULTILINE))
     with tempfile.TemporaryDirectory(prefix="tq-") as room:
         made = subprocess.run([ROOT / "packaging" / "pages.py", program, room], timeout=SECONDS).returncode
         for page in ("tq.1", "tq.bash", "_tq", "tq.fish"):
@@ -322,7 +321,7 @@ def made_pages(program):
 
 
 def session_at_a_terminal(program):
-    """A session whose input and outputs are one terminal, with what is wrong with it: a prompt stands before each line."""
+    """Runs a session in a terminal. Yields its faults: a prompt must precede each line."""
     terminal, end = pty.openpty()
     attributes = termios.tcgetattr(end)
     attributes[3] &= ~termios.ECHO
@@ -331,13 +330,13 @@ def session_at_a_terminal(program):
     words = [program, "session", "--table", "emp=examples/emp.csv"]
     status = subprocess.run(words, cwd=ROOT, stdin=end, stdout=end, stderr=end, timeout=SECONDS).returncode
     os.close(end)
-    said, wanted = read_terminal(terminal), b"tq> published 7\ntq> "
-    yield "a session at a terminal", [] if (status, said) == (0, wanted) else [f"status {status}, {said!r}, not {wanted!r}"]
+    output, wanted = read_terminal(terminal), b"tq> published 7\ntq> "
+    yield "a session at a terminal", [] if (status, output) == (0, wanted) else [f"status {status}, {output!r}, not {wanted!r}"]
 
 
 def question_that_takes_long(program):
-    """A question whose file comes through a pipe, in two parts with more than a second between, with what is wrong with it:
-    a terminal shows how far it is and has nothing left of that, and what is no terminal gets nothing."""
+    """Runs a query whose file comes through a pipe, in two parts with a pause of more than a second. Yields its faults: a
+    terminal must show the progress and erase it, and other outputs must get nothing."""
     text = (ROOT / "examples/emp.csv").read_bytes()
     words = [program, "ask", "--table", "emp=examples/emp.csv", ALL_NAMES]
     answer = subprocess.run(words, cwd=ROOT, stdin=subprocess.DEVNULL, stdout=subprocess.PIPE, timeout=SECONDS).stdout
@@ -352,20 +351,20 @@ def question_that_takes_long(program):
                 into.write(text[:40])
                 time.sleep(2.5)
                 into.write(text[40:])
-            out, said = ran.communicate(timeout=SECONDS)
+            out, err = ran.communicate(timeout=SECONDS)
             if on_terminal:
                 os.close(errors)
-                said = read_terminal(terminal)
+                err = read_terminal(terminal)
         line = b"\r\x1b[Ktq: reading, 0 MB"
-        is_well = said.startswith(line) and said.replace(line, b"") == b"\r\x1b[K" if on_terminal else said == b""
-        faults = [] if is_well else [f"standard error {said!r}"]
+        is_well = err.startswith(line) and err.replace(line, b"") == b"\r\x1b[K" if on_terminal else err == b""
+        faults = [] if is_well else [f"standard error {err!r}"]
         if (ran.returncode, out) != (0, answer):
             faults.append(f"status {ran.returncode}, {out!r}")
-        yield f"how far a question is, on {name}", faults
+        yield f"the progress of a query, on {name}", faults
 
 
 def image_of_the_front_page():
-    """The image that README.md shows is the one that the program draws."""
+    """The case of the image in README.md: the program must draw the same one."""
     words = ["draw", "--svg", "--table", "emp=examples/emp.csv", ALL_NAMES]
     return Case("examples/emp.svg", words, out=(ROOT / "examples/emp.svg").read_bytes())
 
@@ -378,18 +377,18 @@ def main():
     shown["examples/emp.svg"] = [image_of_the_front_page()]
     shown["gate/cases"] = script.table()
     table = [*(case for part in shown.values() for case in part), *generated.table()]
-    tried = [(case.name, faults_of(program, case)) for case in table]
+    checked = [(case.name, faults_of(program, case)) for case in table]
     by_shell = {page: list(commands_by_shell(program, page)) for page in SHELL_PAGES}
     by_shell[TERMINAL_PAGE] = list(commands_in_terminal(program))
     shown |= by_shell
-    tried += [command for page in by_shell.values() for command in page]
-    tried += [*made_pages(program), *session_at_a_terminal(program), *question_that_takes_long(program)]
+    checked += [command for page in by_shell.values() for command in page]
+    checked += [*made_pages(program), *session_at_a_terminal(program), *question_that_takes_long(program)]
     passed = failed = 0
     for place, part in shown.items():
         if not part:
             failed += 1
-            print(f"FAILED: {place} shows no command that is found")
-    for name, faults in tried:
+            print(f"FAILED: no command was found in {place}")
+    for name, faults in checked:
         passed += not faults
         if faults:
             failed += 1

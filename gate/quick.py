@@ -1,19 +1,19 @@
 #!/usr/bin/env python3
-"""The quick check: builds tq and the test programs without proofs, and puts their cases to them.
+"""The quick check: builds tq and the test programs without proofs, and runs their cases.
 
     gate/quick.py [--jobs N] [--all] [CRATE ..]
 
 `rt try` builds each crate with all libraries below it and runs it. It proves nothing. Its build stops at an overflow,
 an index out of bounds, a failed unwrap and a bad access. The crates are found by their files:
 
-- a program with the files `stdin` and `stdout`: a test script, which must print what `stdout` holds;
+- a program with the files `stdin` and `stdout`: a test script, which must print the content of `stdout`;
 - a crate with #[test] functions: `rt try --test` runs them;
-- tq: the cases of gate/cases/ and gate/generated.py and the commands of the pages that need no terminal, no shell and no
-  special standard output (see `is_possible`). `rt try` takes more than a second for each, so only every third one is put,
-  and all with --all.
+- tq: the cases of gate/cases/ and gate/generated.py, and the commands of the pages. Only those run that need no terminal, no
+  shell and no special standard output (see `is_possible`). `rt try` takes more than a second for each, so only every third
+  one runs. With --all, all of them run.
 
-N builds are made concurrently, by default one for each processor. With names, only these crates are checked. Each failed
-case is printed. The last line is 'quick: N passed, M failed; nothing was proved'. The exit status is 1 if a case failed.
+N builds run concurrently, by default one for each processor. With names, the script checks only these crates. It prints each
+failed case. The last line is 'quick: N passed, M failed; nothing was proved'. The exit status is 1 if a case failed.
 """
 
 import argparse
@@ -40,13 +40,13 @@ from script import Case
 # `rt try` also runs an interpreter, which finds nothing here that the build does not: it gets one step. The build is not
 # optimised, so a run may take 600 seconds.
 LIMITS = ["--steps", "1", "--seconds", "600"]
-# The most bytes of a case's files, and of its output: `rt try` gives no answer past 1 MiB, and its build is slow.
+# The most bytes of a case's files, and of its output: `rt try` returns no output beyond 1 MiB, and its build is slow.
 MOST = 1_000_000
-# At most this many lines are shown of a crate that failed.
+# The most lines that are printed for a failed crate.
 SHOWN = 60
-# The runs of `rt try`, which have sessions of their own, so that an interrupt at a terminal does not reach them.
+# The running `rt try` processes. Each has a session of its own, so an interrupt at a terminal does not reach it.
 RUNNING = set()
-# One case of tq in this many is put, without --all.
+# Without --all, one case of tq in this many runs.
 STRIDE = 3
 PAGES = ["README.md", "examples/payroll.md", "examples/dates.md", "examples/session.md"]
 
@@ -58,7 +58,7 @@ CASE_END = re.compile(rb"^case=(\S+) run=(\S+)(?: status=(\d+))?.*\n", re.MULTIL
 
 @dataclass
 class Outcome:
-    """How many cases passed and failed, and the lines that say what is wrong."""
+    """How many cases passed and failed, and lines about the faults."""
 
     passed: int = 0
     failed: int = 0
@@ -66,8 +66,8 @@ class Outcome:
 
 
 def put_last(running):
-    """Gives the lowest priority to the process in which `rt try` looks for reserved names while it builds: among the
-    processes of its session, and to its session among others. The build has a session of its own."""
+    """Gives the lowest priority to the process in which `rt try` searches for reserved names while it builds, and to its
+    session. The build has another session."""
     with contextlib.suppress(OSError):
         Path(f"/proc/{running.pid}/autogroup").write_text("19")
     for _ in range(60):
@@ -81,13 +81,13 @@ def put_last(running):
             return
 
 
-def try_crate(crate, words, taken=b""):
-    """Runs `rt try` in the crate's folder: its status, standard output and standard error."""
+def try_crate(crate, words, stdin=b""):
+    """Runs `rt try` in the crate's folder. Returns its exit status, standard output and standard error."""
     how = {"stdin": subprocess.PIPE, "stdout": subprocess.PIPE, "stderr": subprocess.PIPE, "start_new_session": True}
     with subprocess.Popen(["rt", "try", *words], cwd=ROOT / "crates" / crate, **how) as running:
         RUNNING.add(running)
         threading.Thread(target=put_last, args=(running,), daemon=True).start()
-        out, err = running.communicate(taken)
+        out, err = running.communicate(stdin)
         RUNNING.discard(running)
     return running.returncode, out, err
 
@@ -97,7 +97,7 @@ def lines_in(output):
 
 
 def options_of(folder):
-    """The options and words with which a program is run: its files data/ and args."""
+    """The options and arguments of a program, from its files data/ and args."""
     words = [*LIMITS]
     data = folder / "data"
     for path in sorted(data.rglob("*")) if data.is_dir() else []:
@@ -108,7 +108,7 @@ def options_of(folder):
 
 
 def check_script(crate):
-    """Runs a test script. Its output is compared with the file `stdout`."""
+    """Runs a test script, and compares its output with the file `stdout`."""
     folder = ROOT / "crates" / crate
     wanted = (folder / "stdout").read_bytes()
     number = (folder / "status").read_text().strip() if (folder / "status").is_file() else "0"
@@ -119,7 +119,7 @@ def check_script(crate):
         return Outcome(max(passed, 1), failed)
     if failed or not end:
         return Outcome(passed, max(failed, 1), [*lines_in(out)[:SHOWN], *lines_in(err)[-SHOWN:]])
-    return Outcome(passed, 1, [f"status {status}, and the last line is {lines_in(out)[-1]!r}: the file stdout has something else"])
+    return Outcome(passed, 1, [f"status {status}, and the last line is {lines_in(out)[-1]!r}: the output differs from the file stdout"])
 
 
 def check_tests(crate):
@@ -129,13 +129,13 @@ def check_tests(crate):
     passed, failed = (int(end[1]), int(end[2])) if end else (0, 0)
     if status == 0 and passed and not failed:
         return Outcome(passed)
-    said = [line for line in [*lines_in(out), *lines_in(err)] if not line.endswith(" ... ok")]
-    return Outcome(passed, max(failed, 1), said[-SHOWN:])
+    printed = [line for line in [*lines_in(out), *lines_in(err)] if not line.endswith(" ... ok")]
+    return Outcome(passed, max(failed, 1), printed[-SHOWN:])
 
 
 def is_possible(case):
-    """Whether `rt try --cases` can put the case: it has no terminal, no memory limit, no special standard output, no word with
-    a line end or without a meaning in UTF-8, and neither large files nor a large output."""
+    """Whether `rt try --cases` can run the case. It must have no terminal, no memory limit, no special standard output, no
+    large files and no large output. No word may be `{}`, contain a line end or be invalid UTF-8."""
     is_plain = case.to is None and case.memory is None and not case.terminal
     is_text = not any(isinstance(word, bytes) or "\n" in word or "\r" in word or word == "{}" for word in case.words)
     sizes = [content if isinstance(content, int) else len(content) for content in case.files.values()]
@@ -143,7 +143,7 @@ def is_possible(case):
 
 
 def cases_of_program():
-    """The cases of tq, and how many others are left out."""
+    """The cases of tq that are possible, and the number of the others."""
     table = [case for page in PAGES for case in program.cases_of_page(ROOT / page, page in program.SHELL_PAGES)]
     table += [program.image_of_the_front_page(), *script.table(), *generated.table()]
     folder = ROOT / "crates" / PROGRAM
@@ -155,13 +155,13 @@ def cases_of_program():
 
 
 def placed(case, folder):
-    """The words and the standard error of a case whose files are in this folder. `rt try` runs all cases in one other folder,
-    so the paths of tables and of imports become absolute, except those in examples/."""
+    """The words and the expected standard error of a case whose files are in this folder. `rt try` runs all cases in one other
+    folder, so the paths of files become absolute, except those in examples/."""
     words, err = [], case.err
     is_import = case.words[:1] == ["import"]
     for place, (before, word) in enumerate(zip([None, *case.words], case.words), 1):
         front = "--table=" if word.startswith("--table=") else ""
-        is_path = before in ("-o", "--output", "--skip-invalid", "--statement-file") or (is_import and place == len(case.words))
+        is_path = before in ("-o", "--output", "--out", "--skip-invalid", "--statement-file") or (is_import and place == len(case.words))
         is_file = is_path and not word.startswith("-")
         name, _, path = ("", "", word) if is_file else word.removeprefix(front).partition("=")
         if (front or before == "--table" or is_file) and path not in ("", "-") and not path.startswith(("/", "examples/")):
@@ -173,40 +173,40 @@ def placed(case, folder):
 
 
 def write_case(case, name, room):
-    """Writes a case for `rt try --cases`: its input and its words. The result is the standard error that is expected."""
+    """Writes the input and the words of a case for `rt try --cases`. Returns the expected standard error."""
     files = room / "files" / name
     files.mkdir(parents=True)
     program.make_files(case, files)
     words, err = placed(case, files)
-    (room / "cases" / name).write_bytes(case.taken)
+    (room / "cases" / name).write_bytes(case.stdin)
     (room / "cases" / f"{name}.args").write_text("".join(word + "\n" for word in words))
     return err
 
 
 def outputs_of(out):
-    """The outputs that `rt try` prints, by the case's name. It ends a last line that has no end."""
+    """The outputs that `rt try` prints, by the name of the case. It adds a line end to a last line without one."""
     parts = re.split(rb"^== (case-\d+)\n", out, flags=re.MULTILINE)
     return dict(zip((name.decode() for name in parts[1::2]), parts[2::2]))
 
 
-def faults_of(case, wanted, found, said, out):
-    """What is wrong with a run of a case: `found` is its line, `said` is its standard error."""
+def faults_of(case, wanted, found, err, out):
+    """The faults of a run: `found` is the line of `rt try` about it, `err` its standard error."""
     if found[2] != b"ended":
-        return [f"run={found[2].decode()}", *lines_in(said)[-10:]]
+        return [f"run={found[2].decode()}", *lines_in(err)[-10:]]
     faults = [f"{held!r} is missing in the output" for held in case.holds if held not in out]
     if int(found[3]) != case.status:
         faults.append(f"status {int(found[3])}, not {case.status}")
     if case.out is not None and out not in (case.out, case.out + b"\n"):
         faults.append(f"output {out[:200]!r}, not {case.out[:200]!r}")
     if case.is_timed:
-        said = program.TOOK.sub(b"SECONDS", said)
-    if said != wanted:
-        faults.append(f"standard error {said[:200]!r}, not {wanted[:200]!r}")
+        err = program.TOOK.sub(b"SECONDS", err)
+    if err != wanted:
+        faults.append(f"standard error {err[:200]!r}, not {wanted[:200]!r}")
     return faults
 
 
 def check_program(crate, stride):
-    """Puts one in `stride` of the cases of gate/ to tq."""
+    """Runs tq on one in `stride` of the cases of gate/."""
     table, left_out = cases_of_program()
     left_out += len(table) - len(table[::stride])
     table = table[::stride]
@@ -221,8 +221,8 @@ def check_program(crate, stride):
         status, out, err = try_crate(crate, words)
     outputs, ends = outputs_of(out), list(CASE_END.finditer(err))
     if [end[1].decode() for end in ends] != names:
-        return Outcome(0, 1, [f"{len(ends)} of {len(names)} cases were run, status {status}", *lines_in(err)[-SHOWN:]])
-    outcome, start = Outcome(lines=[f"{left_out} other cases are left to gate/program.py"]), 0
+        return Outcome(0, 1, [f"{len(ends)} of {len(names)} cases ran, status {status}", *lines_in(err)[-SHOWN:]])
+    outcome, start = Outcome(lines=[f"only gate/program.py runs {left_out} other cases"]), 0
     for case, name, its_error, end in zip(table, names, wanted, ends):
         faults = faults_of(case, its_error, end, err[start : end.start()], outputs.get(name, b""))
         start = end.end()
@@ -234,7 +234,7 @@ def check_program(crate, stride):
 
 
 def checks(stride):
-    """Each crate with cases, with a title and a call that checks it."""
+    """Each crate that has cases, with a title and a function that checks it."""
     for crate in libraries():
         folder = ROOT / "crates" / crate
         if crate == PROGRAM:
@@ -248,7 +248,7 @@ def checks(stride):
 def main():
     parser = argparse.ArgumentParser(description="builds tq and the test programs without proofs and runs their cases")
     parser.add_argument("--jobs", type=int, default=len(os.sched_getaffinity(0)), help="crates built concurrently")
-    parser.add_argument("--all", action="store_true", help="put each case of tq that can be put")
+    parser.add_argument("--all", action="store_true", help="run all cases of tq that `rt try` can run")
     parser.add_argument("crates", nargs="*", metavar="CRATE")
     options = parser.parse_args()
     named = libraries()

@@ -1,17 +1,20 @@
 #!/usr/bin/env python3
-"""Refuses growths of memory to the programs that were built, and sees that none gives another answer for it.
+"""Makes allocations fail in the built programs, and checks that no program then prints another answer.
 
     gate/refusals.py PROGRAM TESTS.. [--all]
 
-gate/refusing.c, a malloc, is built with the toolchain's own compiler and loaded before the C library's. TESTS, the
-programs tq_tests_faults and tq_tests_concurrency, tell it which growths it is to refuse: each in turn, in each call
-that their scripts try so. PROGRAM, tq, knows nothing of it: of one run after another a growth of the whole run is
-refused, once alone and once with all that follow it. A command is answered as its page says, or says that there is no
-memory, with nothing written before. A session says so before its first line, or refuses lines for it: all others are
-replied to as if these had not been there, and such a line is replied to where it comes again. Of the growths of a run
-at most 200 are refused, spread over all of them; with --all each is.
+gate/refusing.c is a malloc. The script builds it with the toolchain's own compiler, and loads it before that of the C library.
 
-Each failed run has one line; the last line is 'N passed, M failed'.
+- TESTS are the programs tq_tests_faults and tq_tests_concurrency. They control the malloc themselves: in each call that
+  their scripts choose, each allocation fails in turn.
+- PROGRAM is tq, which knows nothing of this malloc. In each run one allocation fails, alone or with all later ones. The script
+  chooses at most 200 allocations of a command, spread over all of them. With --all it chooses each.
+
+A command must print the answer of its page, or report that there is no memory and print nothing else. A session must report
+this before its first reply, or refuse lines for it. The replies to all other lines must be those of a session without the
+refused lines. A refused line that comes again must get its reply.
+
+Each failed run has one line. The last line is 'N passed, M failed'.
 """
 
 import os
@@ -24,10 +27,10 @@ from pathlib import Path
 import script
 from program import ROOT, SECONDS, cases_of_page
 
-# At most so many growths of a run are refused, spread over all of them.
+# The most allocations of a command that fail in turn, spread over all of them.
 CHOICE = 200
-# Of each program of tests where the part of its script begins in which growths are refused, and how many are, and how
-# many calls answer that there is no memory, at least.
+# For each test program the text at which its script begins to make allocations fail. At least this many must fail, and at least
+# this many calls must report that there is no memory.
 TESTS = {"tq_tests_faults": (b"", 1_000), "tq_tests_concurrency": (b"# Pieces of work", 500)}
 # Cases of gate/cases/: the script and the command.
 SCRIPT_CASES = (
@@ -36,9 +39,9 @@ SCRIPT_CASES = (
     ("check.test", "tq check --table emp=examples/emp.csv"),
     ("check.test", "tq check --table emp=examples/broken.csv"),
 )
-# Of each part at most so many faults are shown.
+# The most faults that are printed for each part.
 SHOWN = 10
-# The reply to a line of a session that finds no memory, and what a program says that ends for want of it.
+# The reply of a session to a line for which there is no memory. The line of a program that ends for lack of memory.
 REFUSED = b"refused OutOfMemory\n"
 NO_MEMORY = re.compile(rb"tq: (load OutOfMemory table 0 record 0|statement OutOfMemory at 0|(plan )?OutOfMemory)\n")
 
@@ -52,66 +55,70 @@ def build(room):
     return built
 
 
-def run(malloc, words, taken, refused=None):
-    """What a program does where this growth is refused: its status, standard output and standard error."""
+def run(malloc, words, stdin, refused=None):
+    """Runs a program. Returns its exit status, standard output and standard error.
+
+    The allocation with the number `refused` fails; with -n the nth one and all later ones; with 0 none. With None the
+    program controls the malloc itself.
+    """
     environment = {**os.environ, "LD_PRELOAD": str(malloc)}
     if refused is not None:
         environment["TQ_REFUSED"] = str(refused)
-    how = {"cwd": ROOT, "input": taken, "env": environment, "timeout": SECONDS}
+    how = {"cwd": ROOT, "input": stdin, "env": environment, "timeout": SECONDS}
     ran = subprocess.run(words, stdout=subprocess.PIPE, stderr=subprocess.PIPE, **how)
     return ran.returncode, ran.stdout, ran.stderr
 
 
-def counted(malloc, words, taken, refused):
-    """The same, with how many growths the whole run had."""
-    status, out, err = run(malloc, words, taken, refused)
-    said, _, count = err.rpartition(b"growths: ")
+def counted(malloc, words, stdin, refused):
+    """Runs a program as `run` does. Returns its result, and the number of allocations of the run."""
+    status, out, err = run(malloc, words, stdin, refused)
+    rest, _, count = err.rpartition(b"allocations: ")
     if not count.strip().isdigit():
         raise SystemExit(f"FAILED: {words[0]} does not run with gate/refusing.c: status {status}, {err[:200]!r}")
-    return (status, out, said), int(count)
+    return (status, out, rest), int(count)
 
 
 def faults_of_tests(malloc, tests):
-    """What is wrong with the tests, which have each growth of each of their calls refused by themselves."""
+    """The faults of a test program, which makes each allocation of its calls fail in turn."""
     name = Path(tests).name
     begin, least = TESTS[name]
     script = (ROOT / "crates" / name / "stdin").read_bytes()
-    taken = script[script.index(begin) :]
-    status, out, err = run(malloc, [tests], taken)
-    told = re.search(rb"(\d+) refusals, (\d+) answers out of memory", err)
-    print(f"{name}: {told[0].decode() if told else 'nothing is told of refusals'}", flush=True)
+    stdin = script[script.index(begin) :]
+    status, out, err = run(malloc, [tests], stdin)
+    counts = re.search(rb"(\d+) refusals, (\d+) answers out of memory", err)
+    print(f"{name}: {counts[0].decode() if counts else 'it prints no number of refusals'}", flush=True)
     if status != 0:
         yield f"{tests} ended with status {status}"
     if not out.endswith(b" passed, 0 failed\n"):
         differ = [line for line in out.split(b"\n") if line.startswith((b"line ", b"+ not so", b"+ with growth"))]
         yield f"{tests} prints something else: {differ[:5]!r}"
-    if not told or min(int(told[1]), int(told[2])) < least:
-        yield f"{tests} was refused too little"
+    if not counts or min(int(counts[1]), int(counts[2])) < least:
+        yield f"{tests}: too few allocations failed"
 
 
-def has_no_memory(said):
-    """Whether a run wrote nothing, and says that it had no memory."""
-    status, out, err = said
+def has_no_memory(result):
+    """Whether a run printed only that there is no memory."""
+    status, out, err = result
     return status == 1 and out == b"" and NO_MEMORY.fullmatch(err) is not None
 
 
 class Command:
-    """A command that answers, or says why not, at once."""
+    """A command that prints one answer or one refusal."""
 
     def __init__(self, malloc, words, case):
         self.malloc, self.words, self.case = malloc, words, case
         self.name = f"{case.name} {' '.join(words[1:4])}"
         self.wanted = (case.status, case.out, case.err)
 
-    def tries(self, refused):
-        """What the run does where this growth is refused, whether it ran out of memory, and what is wrong."""
-        said, _ = counted(self.malloc, self.words, self.case.taken, refused)
-        ran_out = has_no_memory(said)
-        yield said, ran_out, None if ran_out or said == self.wanted else "it answers something else"
+    def runs(self, refused):
+        """Runs the command with this failed allocation. Yields its result, whether it ran out of memory, and the fault."""
+        result, _ = counted(self.malloc, self.words, self.case.stdin, refused)
+        ran_out = has_no_memory(result)
+        yield result, ran_out, None if ran_out or result == self.wanted else "it prints another answer"
 
 
 def replies_of(out):
-    """The replies that a session printed: an answer and its lines, or one line."""
+    """The replies that a session printed. A reply is an answer with its lines, or one line."""
     lines = out.splitlines(keepends=True)
     replies = []
     while lines:
@@ -123,47 +130,47 @@ def replies_of(out):
 
 
 class Session(Command):
-    """Lines, each of which is replied to."""
+    """A session, which replies to each of its lines."""
 
     def __init__(self, malloc, words, case):
         super().__init__(malloc, words, case)
-        self.lines = tuple(case.taken.splitlines(keepends=True))
+        self.lines = tuple(case.stdin.splitlines(keepends=True))
         self.known = {self.lines: replies_of(case.out)}
 
     def replies(self, lines):
-        """The replies to lines where there is memory."""
+        """The replies to these lines if there is memory."""
         if lines not in self.known:
-            said, _ = counted(self.malloc, self.words, b"".join(lines), 0)
-            self.known[lines] = replies_of(said[1])
+            result, _ = counted(self.malloc, self.words, b"".join(lines), 0)
+            self.known[lines] = replies_of(result[1])
         return self.known[lines]
 
-    def converse(self, lines, refused):
-        """What the session does, which of the lines it refuses for want of memory, and what is wrong."""
-        said, _ = counted(self.malloc, self.words, b"".join(lines), refused)
-        status, out, err = said
-        if has_no_memory(said):
-            return said, [], None
+    def run_lines(self, lines, refused):
+        """Runs the session with this failed allocation. Returns its result, the lines that it refuses, and the fault."""
+        result, _ = counted(self.malloc, self.words, b"".join(lines), refused)
+        status, out, err = result
+        if has_no_memory(result):
+            return result, [], None
         replies = replies_of(out)
         if (status, len(replies), err) != (0, len(lines), b""):
-            return said, [], "it does not reply to each line"
+            return result, [], "it does not reply to each line"
         gone = [place for place, reply in enumerate(replies) if reply == REFUSED]
         left = tuple(line for place, line in enumerate(lines) if place not in gone)
         if [reply for reply in replies if reply != REFUSED] != self.replies(left):
-            return said, gone, "other lines are replied to differently"
-        return said, gone, "two lines are refused for one growth" if refused > 0 and len(gone) > 1 else None
+            return result, gone, "the replies to other lines differ"
+        return result, gone, "two lines are refused for one failed allocation" if refused > 0 and len(gone) > 1 else None
 
-    def tries(self, refused):
-        """The same of a session, and of one in which the line that was refused comes twice."""
-        said, gone, fault = self.converse(self.lines, refused)
-        yield said, has_no_memory(said) or gone != [], fault
+    def runs(self, refused):
+        """Runs the session, and again with the refused line twice. Yields what the method of a command does."""
+        result, gone, fault = self.run_lines(self.lines, refused)
+        yield result, has_no_memory(result) or gone != [], fault
         if refused > 0 and gone:
             twice = self.lines[: gone[0] + 1] + self.lines[gone[0] :]
-            said, gone, fault = self.converse(twice, refused)
-            yield said, gone != [], fault
+            result, gone, fault = self.run_lines(twice, refused)
+            yield result, gone != [], fault
 
 
 def chosen(count, every):
-    """Which growths of so many are refused, each alone and, below zero, with all later ones."""
+    """Which of `count` allocations fail: each alone and, with a minus sign, with all later ones."""
     numbers = range(1, count + 1)
     if not every and count > CHOICE:
         numbers = sorted({1 + place * (count - 1) // (CHOICE - 1) for place in range(CHOICE)})
@@ -171,24 +178,24 @@ def chosen(count, every):
 
 
 def faults_of_runs(command, every):
-    """What is wrong with the runs of a command, for each growth that is refused."""
-    whole, count = counted(command.malloc, command.words, command.case.taken, 0)
+    """The faults of the runs of a command, for each allocation that fails."""
+    whole, count = counted(command.malloc, command.words, command.case.stdin, 0)
     if whole != command.wanted:
-        yield f"{command.name}: where there is memory it answers something else: {str(whole)[:200]}"
+        yield f"{command.name}: without a failed allocation it prints another answer: {str(whole)[:200]}"
         return
-    tried = ran_out = 0
+    runs = ran_out = 0
     for refused in chosen(count, every):
         try:
-            for said, has_run_out, fault in command.tries(refused):
-                tried += 1
+            for result, has_run_out, fault in command.runs(refused):
+                runs += 1
                 ran_out += has_run_out
                 if fault:
-                    yield f"{command.name}, with TQ_REFUSED={refused}: {fault}: {str(said)[:200]}"
+                    yield f"{command.name}, with TQ_REFUSED={refused}: {fault}: {str(result)[:200]}"
         except subprocess.TimeoutExpired:
-            yield f"{command.name}, with TQ_REFUSED={refused}: it had not ended after {SECONDS} seconds"
-    print(f"{command.name}: {count} growths, {tried} runs, {ran_out} out of memory", flush=True)
+            yield f"{command.name}, with TQ_REFUSED={refused}: it did not end within {SECONDS} seconds"
+    print(f"{command.name}: {count} allocations, {runs} runs, {ran_out} out of memory", flush=True)
     if ran_out == 0:
-        yield f"{command.name}: no run had too little memory"
+        yield f"{command.name}: no run ran out of memory"
 
 
 def table_paths(words):
@@ -196,17 +203,17 @@ def table_paths(words):
 
 
 def over_several_files(page):
-    """The questions of a page over several files of examples/, but for those whose answers go through other programs."""
+    """The queries of a page over several files of examples/, except those whose answers go through other programs."""
     asked = [case for case in cases_of_page(page) if case.words[0] == "ask" and "|" not in case.words]
     found = [case for case in asked if len(table_paths(case.words)) > 1 and all(path.startswith("examples/") for path in table_paths(case.words))]
     if not found:
-        raise SystemExit(f"FAILED: {page.name} asks no question over several files")
+        raise SystemExit(f"FAILED: {page.name} has no query over several files")
     return found
 
 
 def commands(malloc, program):
-    """The commands of README.md, the sessions of their own page, a picture and a check; questions by several workers too, and
-    those over several files; and a check of a file at fault."""
+    """The commands of SCRIPT_CASES, of README.md and of examples/session.md. Queries of these pages run with several workers
+    too. Those over several files of docs/recipes.md run with several workers."""
     for name, command in SCRIPT_CASES:
         case = script.find(name, command)
         yield Command(malloc, [program, *case.words], case)
@@ -223,7 +230,7 @@ def commands(malloc, program):
 
 
 def report(parts):
-    """Shows the faults of parts, a list each, and how many parts have none and how many faults there are; the status."""
+    """Prints the faults of the parts, and how many parts have none and how many faults there are. Returns the exit status."""
     passed = failed = 0
     for faults in parts:
         found = list(faults)

@@ -1,10 +1,12 @@
-// A malloc that refuses growths, loaded before the C library's by gate/refusals.py (LD_PRELOAD). It is no part of the
-// program: crates/tq_tests_script/src/refusal.rt has the other side.
+// A malloc that makes allocations fail. gate/refusals.py loads it before that of the C library (LD_PRELOAD). It is not part
+// of the program. crates/tq_tests_script/src/refusal.rt controls it from a test program.
 //
-// Which growth is refused is said by the sizes of blocks that are asked for. A block of MARK + 2 n bytes, n > 0, says
-// that of the growths to come the nth is refused; of MARK + 2 n + 1 bytes, that each from the nth on is. A block of
-// MARK bytes ends this, and is itself refused where a growth was. In TQ_REFUSED a number n has the nth growth of the
-// whole run refused, and -n each from the nth on; how many growths there were is told on descriptor 2 at the end.
+// The sizes of requested blocks are commands. A block of MARK + 2 n bytes, n > 0, makes the nth of the following allocations
+// fail. A block of MARK + 2 n + 1 bytes makes the nth and all later ones fail. Both commands return no block. A block of MARK
+// bytes ends this, and is returned only if no allocation failed. Commands do not count as allocations.
+//
+// If the environment variable TQ_REFUSED is n, the nth allocation of the whole run fails. If it is -n, the nth and all later
+// ones fail. Then sizes are no commands, and the number of allocations is printed on descriptor 2 at the end.
 
 enum { MARK = 5921370, MOST = 65536, NO_MEMORY = 12 }; // ENOMEM
 
@@ -16,11 +18,11 @@ extern int *__errno_location(void);
 extern int dprintf(int descriptor, const char *form, ...);
 extern void _Exit(int status) __attribute__((noreturn));
 
-static long left;       // so many growths more, up to the one that is refused; 0: none is
-static int lasts;       // whether each later one is refused too
-static long refused;    // how many were
-static long growths;    // how many growths there were at all
-static int is_counting; // whether they are told at the end
+static long left;        // the number of the allocation that fails, counted from the next one; 0: none fails
+static int lasts;        // whether all later ones fail too
+static long refused;     // how many failed
+static long allocations; // how many there were
+static int is_counting;  // whether TQ_REFUSED is set
 
 __attribute__((constructor)) static void begin(void) {
     const char *text = getenv("TQ_REFUSED");
@@ -29,23 +31,23 @@ __attribute__((constructor)) static void begin(void) {
     text += lasts;
     long number = 0;
     while ('0' <= *text && *text <= '9') number = 10 * number + (*text++ - '0');
-    growths = 0;
+    allocations = 0;
     is_counting = 1;
     left = number;
 }
 
 __attribute__((destructor)) static void end(void) {
-    if (is_counting) dprintf(2, "growths: %ld\n", __atomic_load_n(&growths, __ATOMIC_SEQ_CST));
+    if (is_counting) dprintf(2, "allocations: %ld\n", __atomic_load_n(&allocations, __ATOMIC_SEQ_CST));
 }
 
-// A program that ends at once has no destructors run.
+// A program that calls `_exit` runs no destructors.
 void _exit(int status) {
     end();
     _Exit(status);
 }
 
 static int is_refused(void) {
-    __atomic_add_fetch(&growths, 1, __ATOMIC_SEQ_CST);
+    __atomic_add_fetch(&allocations, 1, __ATOMIC_SEQ_CST);
     long now = __atomic_load_n(&left, __ATOMIC_SEQ_CST);
     while (now > 0) {
         long next = now == 1 ? (lasts ? 1 : 0) : now - 1;
@@ -60,8 +62,8 @@ static int is_refused(void) {
     return 0;
 }
 
-// Whether the size is a word to this malloc, whose answer is then in `given`.
-static int is_word(unsigned long size, int *given) {
+// Whether the size is a command. If so, `given` is set to whether the block is allocated.
+static int is_command(unsigned long size, int *given) {
     if (is_counting || size < MARK || size >= MARK + MOST) return 0;
     long number = (long)(size - MARK) / 2;
     __atomic_store_n(&left, 0, __ATOMIC_SEQ_CST);
@@ -78,7 +80,7 @@ static int is_word(unsigned long size, int *given) {
 
 void *malloc(unsigned long size) {
     int given;
-    if (is_word(size, &given)) return given ? __libc_malloc(size) : 0;
+    if (is_command(size, &given)) return given ? __libc_malloc(size) : 0;
     return is_refused() ? 0 : __libc_malloc(size);
 }
 

@@ -1,11 +1,11 @@
 #!/usr/bin/env python3
-"""Compares what each command shows in a real terminal, of 80 and of 160 columns, with the screens that are kept.
+"""Compares what each command shows in a real terminal, of 80 and of 160 columns, with stored screens.
 
     gate/screens.py PROGRAM [--write]
 
-tmux is the terminal. The screens are in examples/screens/80.txt and 160.txt: a line with the command after `$`, what the
-terminal shows, and the exit status if it is not 0. A line `> TEXT` is typed into a session. With --write the screens are
-taken anew. The last line is 'N passed, M failed'. Without tmux nothing is compared, and that is said.
+tmux is the terminal. The screens are in examples/screens/80.txt and 160.txt. Each has a line with the command after `$`, what
+the terminal shows, and the exit status if it is not 0. A line `> TEXT` is typed into a session. With --write the script replaces
+the stored screens. The last line is 'N passed, M failed'. Without tmux it compares nothing, and prints that.
 """
 
 import itertools
@@ -23,7 +23,7 @@ SCREENS = ROOT / "examples" / "screens"
 WIDTHS = (80, 160)
 ROWS = 60
 SECONDS = 60
-# Each terminal has a server of its own, since one that is ending takes no other.
+# Each terminal has a tmux server of its own, because a server that is ending accepts no other terminal.
 NUMBERS = itertools.count()
 
 EMP = "--table emp=examples/emp.csv"
@@ -63,7 +63,7 @@ def screen(server):
 
 
 def wait_for(server, is_shown):
-    """Waits until the terminal shows what is wanted, and returns its lines."""
+    """Waits until the lines of the terminal pass a test, and returns them."""
     for _ in range(SECONDS * 20):
         lines = screen(server)
         if is_shown(lines):
@@ -103,7 +103,7 @@ def block(command, typed, lines):
 
 
 def compare(folder, is_written):
-    """The numbers of screens that are as kept, and of those that are not."""
+    """The number of screens that equal the stored ones, and of those that do not."""
     passed, failed = 0, 0
     for width in WIDTHS:
         path = SCREENS / f"{width}.txt"

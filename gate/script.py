@@ -10,7 +10,7 @@ from pathlib import Path
 
 SCRIPTS = Path(__file__).resolve().parent / "cases"
 
-# Standard outputs that take nothing: a full device, a pipe that nobody reads, none at all.
+# Standard outputs that accept no bytes: a full device, a pipe without a reader, a closed descriptor.
 FULL, UNREAD, CLOSED = "full", "unread", "closed"
 
 DIVIDER = re.compile(r"----( contains| stderr| terminal| status \d+)?")
@@ -30,14 +30,14 @@ class Case:
     status: int = 0
     files: dict = field(default_factory=dict)
     to: str | None = None  # standard output: FULL, UNREAD or CLOSED
-    memory: int | None = None  # the most address space, in bytes
-    taken: bytes = b""  # standard input
+    memory: int | None = None  # the limit of the address space, in bytes
+    stdin: bytes = b""  # standard input
     terminal: bool = False  # whether standard error is a terminal
     holds: list = field(default_factory=list)
 
     @property
     def is_timed(self):
-        """Whether standard error shows how many seconds steps took. Each number is written SECONDS in `err`."""
+        """Whether standard error has the seconds of steps. In `err` SECONDS stands for each of these numbers."""
         return b"SECONDS" in self.err
 
 
@@ -72,7 +72,7 @@ class Files:
         self.contents, self.tables, self.last = {}, [], None
 
     def begin(self, name, lines):
-        """Begins a file. It replaces one of the same name."""
+        """Begins a file, and replaces one of the same name."""
         self.last = name
         self.contents[name] = bytes_of(lines)
 
@@ -116,12 +116,12 @@ class Files:
             return word
 
     def command(self, text):
-        """The words of a command, the standard input that `<` gives, and the standard output after `>`."""
-        words, taken, to = [], None, None
+        """The words of a command, the standard input after `<`, and the standard output after `>`."""
+        words, stdin, to = [], None, None
         parts = iter(shlex.split(text))
         for part in parts:
             if part == "<":
-                taken = self.content(next(parts))
+                stdin = self.content(next(parts))
             elif part == ">":
                 to = next(parts)
             elif part == "TABLES":
@@ -130,7 +130,7 @@ class Files:
                 words.append(self.word(part))
         if words[:1] != ["tq"] or to not in (None, FULL, UNREAD, CLOSED):
             raise ValueError("a command is tq, its words, < FILE, and > full, > unread or > closed")
-        return words[1:], taken, to
+        return words[1:], stdin, to
 
 
 def sections_of(lines):
@@ -151,7 +151,7 @@ def case_of(name, command, sections, files):
     """The case of a block that runs the program."""
     if {"---- stderr", "---- terminal"} <= sections.keys() or sum("status" in divider for divider in sections) > 1:
         raise ValueError("standard error or the status is expected twice")
-    words, taken, to = files.command(command)
+    words, stdin, to = files.command(command)
     lines = {divider: [expected(line) for line in section] for divider, section in sections.items() if divider}
     texts = {divider: b"".join(line + b"\n" for line in section) for divider, section in lines.items()}
     only_holds = "---- contains" in lines and "----" not in lines
@@ -163,14 +163,14 @@ def case_of(name, command, sections, files):
         status=next((int(divider.split()[-1]) for divider in lines if "status" in divider), 0),
         files=dict(files.contents),
         to=to,
-        taken=bytes_of(sections[""]) if taken is None else taken,
+        stdin=bytes_of(sections[""]) if stdin is None else stdin,
         terminal="---- terminal" in lines,
         holds=lines.get("---- contains", []),
     )
 
 
 def blocks_of(path):
-    """The blocks of a script, each with the number of its first line. Comments before a block are no part of it."""
+    """The blocks of a script, each with the number of its first line, without the comments before it."""
     block, start = [], 0
     for number, line in enumerate([*path.read_bytes().decode().split("\n"), ""], 1):
         if line and (block or not line.startswith("#")):

@@ -3,12 +3,12 @@
 
     COMMAND | gate/stamp.py PROCESS BEGIN
 
-BEGIN is the start, in seconds since 1970. PROCESS is the process whose descendants are watched. At the end a line for each crate
-shows the processor minutes that `rattle` took for it:
+BEGIN is the start, in seconds since 1970. The script watches the descendants of PROCESS. At the end it prints for each crate
+the processor minutes that `rattle` took:
 
     [  47.0] processor: tq_base 6.1 proof, 5.0 tests, 3.2 edits
 
-The processes are read from /proc once a second. gate/times.py makes a table of the output.
+It reads the processes from /proc once a second. gate/times.py makes a table of the output.
 """
 
 import os
@@ -24,7 +24,7 @@ KINDS = ("proof", "tests", "edits")
 
 
 def read(path):
-    """The bytes of a file of a process, which may have ended."""
+    """The bytes of a file of a process; none if the process has ended."""
     try:
         return Path(path).read_bytes()
     except OSError:
@@ -32,7 +32,7 @@ def read(path):
 
 
 def processes():
-    """Each process with its parent, when it started, and the ticks that it and those that it waited for took."""
+    """Each process with its parent, its start time, and the ticks that it and the children that it waited for took."""
     found = {}
     for name in filter(str.isdigit, os.listdir("/proc")):
         fields = read(f"/proc/{name}/stat").rpartition(b")")[2].split()
@@ -42,7 +42,7 @@ def processes():
 
 
 def check_of(number):
-    """The crate that a process of `rattle` works for, and what it does for it; None if it is no such process."""
+    """The crate that a process of `rattle` checks, and the kind of check; None for other processes."""
     words = read(f"/proc/{number}/cmdline").split(b"\0")
     if b"--crate-name" not in words[:-1] or not words[0].endswith(b"/rattle"):
         return None
@@ -55,7 +55,7 @@ def check_of(number):
 
 
 class Watch:
-    """The processor time that the descendants of a process took, for each check of a crate."""
+    """The processor time of the descendants of a process, for each check of a crate."""
 
     def __init__(self, top):
         self.top, self.ticks, self.known = top, {}, {}
@@ -77,7 +77,7 @@ class Watch:
             number, check = left.pop()
             _, start, ticks = found[number]
             if check is None:
-                # A process may still become `rattle`: only what is known to be one is kept.
+                # A process may become `rattle` later, so it is examined until it is one.
                 key = number, start
                 self.known[key] = what = self.known.get(key) or check_of(number)
                 check = what and (*key, *what)

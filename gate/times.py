@@ -3,9 +3,9 @@
 
     gate/times.py LOG [--write FILE]
 
-LOG is the output of gate/run.sh. The table has, for each crate, the minute at which it was proved (with its tests, if it has
-#[test] functions) and the processor minutes of both. With --write the table replaces what FILE has between the lines
-'<!-- times -->' and '<!-- end of times -->'. A log in which a crate was kept from an earlier run gives no table.
+LOG is the output of gate/run.sh. For each crate the table has the minute at which it was proved, and the processor minutes that
+this took. Both include its tests, if it has #[test] functions. With --write the table replaces the lines of FILE between
+'<!-- times -->' and '<!-- end of times -->'. The script refuses a log in which a crate was kept from an earlier run.
 """
 
 import argparse
@@ -23,7 +23,7 @@ BEGIN, END = "<!-- times -->\n", "<!-- end of times -->\n"
 
 
 def table_of(log):
-    """The lines of the table, with a sentence that says of which run it is."""
+    """The lines of the table, after two lines about the run."""
     if kept := KEPT.findall(log):
         sys.exit(f"{len(kept)} crates were kept from an earlier run ({kept[0]} ..): only a run from nothing has all times")
     proved = {}
@@ -32,7 +32,7 @@ def table_of(log):
     took = {crate: [float(minutes) for minutes in kinds] for crate, *kinds in PROCESSOR.findall(log)}
     head, sums = HEAD.search(log), SUM.findall(log)
     if not proved or not took or not head or not sums:
-        sys.exit("this is no log of gate/run.sh: it has no crate that was proved, no processor minutes, or no last line")
+        sys.exit("this is not a log of gate/run.sh: it has no proved crate, no processor minutes, no first line, or no last line")
     rows = [(crate, minute, sum(took.get(crate, [0.0])[:2])) for crate, minute in sorted(proved.items(), key=lambda it: (it[1], it[0]))]
     half = (len(rows) + 1) // 2
     cells = [f"| `{crate}` | {minute:.1f} | {minutes:.1f} |" for crate, minute, minutes in rows]

@@ -1,18 +1,18 @@
 #!/usr/bin/env python3
-"""Prints docs/traceability.md: for each promise its functions, their clauses, the definitions in these, and the mutants.
+"""Prints docs/traceability.md: for each promise its functions, their clauses, the definitions in them, and the mutants.
 
     gate/traceability.py [--write]
 
 The promises are the headings of docs/promises.md. The line 'Kept by: `NAME`, `NAME` in `CRATE`; ..' below a heading names its
-public functions; a method is written `TYPE::NAME`. All else comes from the sources:
+public functions. A method is written `TYPE::NAME`. All else comes from the sources:
 
 - clauses: the names of the function's `ensures`, or `ensures` for one that has no name;
 - definitions: the names in these clauses that the file imports from specs/;
 - mutants: the edits of must-fail/ and wrong-bodies/ whose first `old:` text is in the function or constant.
 
-With --write the page is written. Each fault has one line, 'FAILED: what', and the exit status is then 1: a promise without a
-function, a function without a clause, a definition that its file does not have, an edit whose `old:` text does not occur
-exactly once.
+With --write the script writes the page. Each fault has one line, 'FAILED: what', and makes the exit status 1. A promise needs a
+function, and a function needs an `ensures`. A definition must be in its file. The `old:` text of an edit must occur exactly
+once in its file, in a function or a constant.
 """
 
 import re
@@ -62,7 +62,7 @@ class Function:
 
 
 class Faults:
-    """What is not as it must be, each once."""
+    """The faults, each once."""
 
     def __init__(self):
         self.found = []
@@ -86,7 +86,7 @@ def exists(file):
 
 @cache
 def functions_in(file):
-    """The functions and constants of a .rt file, in `rt fmt`'s layout: a body ends with a brace below the `fn`."""
+    """The functions and constants of a .rt file. In the layout of `rt fmt` a body ends with a brace in the column of its head."""
     lines = text_of(file).split("\n")
     found, owner = [], ""
     for at, line in enumerate(lines):
@@ -106,7 +106,7 @@ def functions_in(file):
 
 
 def end_of(lines, first, indent):
-    """The line behind a function: that of its closing brace, or of the `;` of a function without a body."""
+    """The line after a function, which ends with its closing brace or, without a body, with a `;`."""
     for at in range(first, len(lines)):
         if lines[at] == f"{indent}}}" or lines[at].endswith((";", "{}")) and is_head(lines[first : at + 1]):
             return at + 1
@@ -153,7 +153,7 @@ def ensures_of(function):
 
 @cache
 def imports_of(file):
-    """The definitions that a file imports by name, and its short names of modules: each with its file of specs/."""
+    """The definitions that a file imports by name, and its short names of modules, each with its file of specs/."""
     text = " ".join(text_of(file).split())
     names, modules = {}, {}
     for crate, module, listed in IMPORT.findall(text):
@@ -182,7 +182,7 @@ def definitions_of(function):
 
 
 def mutants():
-    """Each mutant: its file, and the function that it edits."""
+    """The mutants: the file of each, and the function that it edits."""
     for folder in ("crates/*/must-fail", "wrong-bodies/*"):
         for path in sorted(ROOT.glob(f"{folder}/*.edit")):
             edit = str(path.relative_to(ROOT))
@@ -230,7 +230,7 @@ def anchor_of(heading):
 
 
 def promises():
-    """Each promise: its heading, and its functions as pairs of crate and path."""
+    """The promises: the heading of each, and its functions as pairs of crate and path."""
     heading = None
     for line in text_of(PROMISES).split("\n"):
         if line.startswith("#"):

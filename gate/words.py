@@ -1,9 +1,9 @@
 #!/usr/bin/env python3
-"""Finds old names: words of this project's own for which the field has one.
+"""Finds old names: words of this project for which the field has a word of its own.
 
     gate/words.py
 
-It reads the tracked files with `git grep`: identifiers in code (.rt, .antt, .edit, crates.txt), and names in backticks in
+It searches tracked files with `git grep`: identifiers in code (.rt, .antt, .edit, crates.txt), and names in backticks in
 comments and in .md files. Each hit has one line, 'FILE:LINE: OLD -> NEW'. The last line is 'N old names'. The exit status is
 1 if there is a hit.
 """
@@ -19,11 +19,11 @@ from pathlib import Path
 
 ROOT = Path(__file__).resolve().parent.parent
 
-# Old name, new name, kind. After `but` come the crates in which the name may be used: it means something else there, or is
-# defined there and waits for its replacement. After `in` come the only crates in which it may not be used.
+# Old name, new name, kind. After `but` come the crates in which the name is allowed: it means something else there, or is
+# defined there and waits for its replacement. After `in` come the only crates in which it is not allowed.
 #
-# A type or a definition is the whole word, and so is a crate. A function is its definition, a call or a path to it; a method
-# is the same without a plain call. A module is its declaration, a path through it or its file.
+# A type, a definition or a crate matches as a whole word. A function matches in its definition, in a call and in a path, a method
+# in its definition, after a `.` and in a path. A module matches in its declaration, in a path through it and as a file.
 NAMES = """
 tq_explain       tq_diagnostics         crate
 tq_loading       tq_load                crate
@@ -50,7 +50,7 @@ detached         to_owned               method
 columns          sources                module      in tq_sql
 
 links_of         equi_join_keys         definition  but tq_mvbt
-decided          pushable               function    in tq_ops tq_plan tq_exec tq_tests_*
+decided          pushable               function    in tq_condition tq_ops tq_plan tq_exec tq_tests_*
 folding          join_chain             module
 joining          merge_join             module
 
@@ -82,7 +82,7 @@ CRATE_OF = re.compile(r"(?:crates|wrong-bodies)/(\w+)/")
 
 @dataclass
 class Name:
-    """An old name, the new one, its kind, and the crates in which it is searched for."""
+    """An old name, the new one, its kind, and crates: if `is_listed` the only ones that forbid it, else those that allow it."""
 
     old: str
     new: str
@@ -91,7 +91,7 @@ class Name:
     crates: list
 
     def is_sought_in(self, crate):
-        """Whether the name may not be used in this crate, or in a file of no crate (None)."""
+        """Whether the name is not allowed in this crate, or in a file outside the crates (None)."""
         if crate is None:
             return not self.is_listed
         return self.is_listed == any(fnmatchcase(crate, pattern) for pattern in self.crates)
@@ -108,7 +108,7 @@ def names():
         yield Name(old, new, kind, scope[:1] == ["in"], scope[1:])
 
 def code_and_spans(suffix, line):
-    """The code of a line without comments and texts, and what its comment has in backticks."""
+    """The code of a line without comments and strings, and the names in backticks in its comment."""
     mark = COMMENTS[suffix]
     if not mark:
         return "", " ".join(SPAN.findall(line))
@@ -117,7 +117,7 @@ def code_and_spans(suffix, line):
     return code, " ".join(SPAN.findall(comment))
 
 def lines_with(words):
-    """The lines of tracked files that have one of the words: file, number, text."""
+    """The lines of tracked files that contain one of the words: file, number, text."""
     command = ["git", "grep", "-n", "-I", "-w", "-F", "--null", *(part for word in words for part in ("-e", word))]
     paths = ["*.rt", "*.antt", "*.edit", "*.md", "crates.txt"]
     ran = subprocess.run([*command, "--", *paths], cwd=ROOT, stdout=subprocess.PIPE, encoding="utf-8", errors="replace")
@@ -128,7 +128,7 @@ def lines_with(words):
         yield file, int(number), text
 
 def suffix_of(file, text, edited):
-    """The language of a line: that of its file or, in an edit, of the file that the edit changes."""
+    """The suffix of the file of a line or, for an edit, of the file that the edit changes."""
     suffix = Path(file).suffix
     if suffix != ".edit":
         return suffix
@@ -151,7 +151,7 @@ def hits_in_lines(sought):
                     break
 
 def hits_in_paths(sought):
-    """Files of modules and folders of crates that have an old name."""
+    """Files of modules and folders of crates with an old name."""
     listed = subprocess.run(["git", "ls-files", "crates", "wrong-bodies"], cwd=ROOT, stdout=subprocess.PIPE, text=True, check=True)
     modules = {name.old: name for name in sought if name.kind == "module"}
     crates = {name.old: name for name in sought if name.kind == "crate"}

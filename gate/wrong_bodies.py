@@ -1,9 +1,12 @@
 #!/usr/bin/env python3
-"""Tries the wrong bodies of wrong-bodies/CRATE/, of all crates or of those that are named: the checker must refuse each.
+"""Applies the mutants of wrong-bodies/CRATE/, of all crates or of the named ones. The checker must refuse each.
 
-They are too many for the gate, which tries those of crates/CRATE/must-fail/ alone. Run this for a crate whose definitions or
-contracts changed. The crates are copied, so that nothing of this checkout is touched, with the libraries that were built in
-it, so that what is below is not proved again. The last line says how many were refused, and how many were not.
+    gate/wrong_bodies.py [CRATE ..]
+
+They are too many for the full check, which applies only those of crates/CRATE/must-fail/. Run this script for a crate whose
+definitions or contracts changed. It copies the crates, so it changes nothing in this checkout. It also copies the libraries
+that were built here, so the crates below are not proved again. The last line is 'N passed, M failed', for N refused mutants
+and M others.
 """
 import os
 import re
@@ -15,12 +18,12 @@ import tempfile
 ROOT = os.path.dirname(os.path.dirname(os.path.abspath(__file__)))
 WRONG = f"{ROOT}/wrong-bodies"
 
-# Of what `rt` keeps of a crate its library is enough.
+# A copy gets other mutants, and of what `rt` keeps of a crate its library is enough.
 NOT_COPIED = shutil.ignore_patterns("must-fail", "incremental")
 
 
-def try_each(names, room):
-    """Has `rt` try the wrong bodies of the crates, shows what it says, and counts those that were refused and were not."""
+def apply_each(names, room):
+    """Runs `rt must-fail` for the crates, and shows its output. Returns the numbers of refused mutants and of others."""
     run = subprocess.Popen(["rt", "must-fail", *names], cwd=room, stdout=subprocess.PIPE, text=True, errors="replace")
     refused = others = 0
     for line in run.stdout:
@@ -35,7 +38,7 @@ def main(names):
     there = sorted(os.listdir(WRONG))
     lacking = [name for name in names if name not in there]
     if lacking:
-        print(f"{lacking[0]} has no wrong bodies: there are those of {', '.join(there)}", file=sys.stderr)
+        print(f"{lacking[0]} has no mutants in wrong-bodies/, which has those of {', '.join(there)}", file=sys.stderr)
         return 2
     names = names or there
     with tempfile.TemporaryDirectory(prefix="tq-wrong-bodies-") as room:
@@ -44,7 +47,7 @@ def main(names):
             shutil.copy(f"{ROOT}/{file}", room)
         for name in names:
             shutil.copytree(f"{WRONG}/{name}", f"{room}/crates/{name}/must-fail")
-        refused, others = try_each(names, room)
+        refused, others = apply_each(names, room)
     print(f"{refused} passed, {others} failed")
     return 1 if others else 0
 

@@ -1,10 +1,10 @@
 #!/usr/bin/env python3
-"""Makes the man page and the completions of bash, zsh and fish from what the program says of itself.
+"""Makes the man page and the completions for bash, zsh and fish from the help of the program.
 
     packaging/pages.py PROGRAM FOLDER
 
-The words of the program's helps are the only source: a command or an option that it gets stands in the pages, too. The date
-of the man page is that of the last commit, or else of the program.
+The help of the program is the only source, so a new command or option is in the pages too. The date of the man page is that of
+the last commit or, without git, of the program.
 """
 
 import datetime
@@ -16,16 +16,16 @@ from pathlib import Path
 
 OPTION = re.compile(r"  (?:(-\w), |    )(--[\w-]+)(?: <([^>]+)>)? {2,}(.+)")
 ENTRY = re.compile(r"  (\S+) {2,}(.+)")
-# The end of what an option does, if its values are listed.
+# A description of an option that ends with a list of its values.
 CHOICES = re.compile(r".*: ((?:\w+, )*\w+,? or \w+)\b")
-# What the values of options and arguments are called that are paths.
+# The names of option values that are paths.
 PATHS = {"PATH", "FILE", "DIR"}
 TABLE = "NAME=PATH"
 
 
 @dataclass
 class Option:
-    """An option: `-h` or nothing, `--help`, what its value is called or nothing, and what it does."""
+    """An option: `-h` or None, `--help`, the name of its value or None, and its description."""
 
     short: str | None
     long: str
@@ -38,14 +38,14 @@ class Option:
 
     @property
     def choices(self):
-        """The values of the option, if they are listed."""
+        """The values of the option, if its description lists them."""
         found = CHOICES.match(self.about) if self.value else None
         return re.split(r",? or |, ", found[1]) if found else []
 
 
 @dataclass
 class Command:
-    """A command: what it does, how it is called, its options, and the texts that its help ends with, by their titles."""
+    """A command: its name, description, usage and options, and the texts after the options in its help, by their titles."""
 
     name: str
     about: str
@@ -55,24 +55,24 @@ class Command:
 
 
 def help_of(program, *words):
-    """The paragraphs of a help, each a list of lines."""
+    """The paragraphs of a help text, each a list of lines."""
     text = subprocess.run([program, *words, "--help"], check=True, stdout=subprocess.PIPE).stdout.decode()
     return [paragraph.split("\n") for paragraph in text.strip("\n").split("\n\n")]
 
 
 def entries(paragraphs, title, form):
-    """What the lines of the paragraph with this title say."""
+    """The groups of `form` in the lines of the paragraph with this title."""
     lines = next((paragraph[1:] for paragraph in paragraphs if paragraph[0] == title), [])
     return [found.groups() for found in map(form.fullmatch, lines) if found]
 
 
 def command_of(program, *words):
-    """A command, by its help."""
+    """The command that a help text describes."""
     paragraphs = help_of(program, *words)
     usage = next(paragraph[0] for paragraph in paragraphs if paragraph[0].startswith("Usage: "))
     options = [Option(*groups) for groups in entries(paragraphs, "Options:", OPTION)]
-    behind = next(place for place, paragraph in enumerate(paragraphs) if paragraph[0] == "Options:") + 1
-    notes = {paragraph[0].rstrip(":"): paragraph[1:] for paragraph in paragraphs[behind:]}
+    first = next(place for place, paragraph in enumerate(paragraphs) if paragraph[0] == "Options:") + 1
+    notes = {paragraph[0].rstrip(":"): paragraph[1:] for paragraph in paragraphs[first:]}
     return Command(words[-1] if words else "tq", paragraphs[0][0], usage.removeprefix("Usage: "), options, notes)
 
 
@@ -93,7 +93,7 @@ def text_block(lines):
 
 
 def man_page(whole, commands, version, date):
-    """The manual's page in section 1."""
+    """The page for section 1 of the manual."""
     lines = [f'.TH TQ 1 "{date}" "{version}" "User Commands"', ".SH NAME", f"tq \\- {roff(whole.about[0].lower() + whole.about[1:].rstrip('.'))}", ".SH SYNOPSIS"]
     for command in commands:
         lines += [".PP", roff(command.usage)]
@@ -109,8 +109,8 @@ def man_page(whole, commands, version, date):
     for title, text in examples.items():
         about = re.sub(r"^Example \(?|\)$", "", title)
         lines += [".PP", roff(about[:1].upper() + about[1:] + ":"), ".PP", *text_block(text)]
-    lines += [".SH EXIT STATUS", "0 for an answer, 1 where there is none, 2 for a command line that is refused."]
-    lines += [".SH SEE ALSO", r"\fBtq help\fR \fICOMMAND\fR, \fBrlwrap\fR(1) to edit the lines of a session, \fBparallel\fR(1) to ask parts of tables"]
+    lines += [".SH EXIT STATUS", "0 if there is an answer, 1 if there is none, 2 if the command line is invalid."]
+    lines += [".SH SEE ALSO", r"\fBtq help\fR \fICOMMAND\fR, \fBrlwrap\fR(1) to edit the lines of a session, \fBparallel\fR(1) to query parts of tables"]
     return "\n".join(lines) + "\n"
 
 
@@ -125,7 +125,7 @@ def choices_in(commands):
 
 
 def bash_page(whole, commands):
-    """Completes commands, options, their values, and the paths of options and of `--table NAME=`."""
+    """A script that completes commands, options, their values, and the paths of options and of `--table NAME=`."""
     options = {command.name: " ".join(option.long for option in command.options) for command in commands}
     arms = "\n".join(f"        {name}) words='{words}' ;;" for name, words in options.items())
     names = " ".join(command.name for command in commands)
@@ -171,7 +171,7 @@ def quoted(text):
 
 
 def zsh_value(option):
-    """What completes the value of an option."""
+    """The part of an argument of `_arguments` that completes the value of an option."""
     if not option.value:
         return ""
     listed = f"({' '.join(option.choices)})" if option.choices else ""
@@ -180,7 +180,7 @@ def zsh_value(option):
 
 
 def zsh_page(commands):
-    """Completes commands, options, their values, and the paths of options and of `--table NAME=`."""
+    """A script that completes commands, options, their values, and the paths of options and of `--table NAME=`."""
     entries = "\n".join(f"        {quoted(command.name + ':' + command.about)}" for command in commands)
     arms = []
     for command in commands:
@@ -219,7 +219,7 @@ _tq "$@"
 
 
 def fish_page(commands):
-    """Completes commands, options, their values, and files."""
+    """A script that completes commands, options, their values, and files."""
     names = " ".join(command.name for command in commands)
     lines = [f"complete -c tq -f -n '__fish_seen_subcommand_from help' -a '{names}'"]
     for command in commands:
@@ -233,7 +233,7 @@ def fish_page(commands):
 
 
 def date_of(program):
-    """The date of the last commit, or else of the program."""
+    """The date of the last commit or, without git, of the program."""
     how = {"cwd": Path(__file__).parent, "stdout": subprocess.PIPE, "stderr": subprocess.DEVNULL}
     found = subprocess.run(["git", "log", "-1", "--format=%cs"], **how).stdout.decode().strip()
     return found or str(datetime.date.fromtimestamp(Path(program).stat().st_mtime))
