@@ -7,12 +7,11 @@
     --workers N           the workers of that cluster (4)
     --tq PROGRAM          the program (tq)
 
-DIR is the folder that `tq split` made. A part that fails, or whose worker dies, is asked again, at most three times. If it
-still fails, the script ends with an error that names the part, and prints no answer.
+`tq split` made the folder DIR. A part that fails, or whose worker dies, runs again, at most three times. If it still fails,
+the script ends with an error that names the part, and prints no answer.
 """
 
 import argparse
-import os
 import subprocess
 import sys
 from pathlib import Path
@@ -30,14 +29,11 @@ def read_options():
 
 
 def ask_part(program, folder):
-    """Answers the statement over the part in the folder, into its answer.csv, which is there only if it is whole."""
+    """Answers the statement over the part in the folder. Its answer.csv exists only if the answer is complete."""
     words = (Path(folder) / "args").read_bytes().split(b"\0")
-    written = Path(folder) / "answer.part"
-    with open(written, "wb") as answer:
-        asked = subprocess.run([program, "ask", *words], stdout=answer, stderr=subprocess.PIPE)
+    asked = subprocess.run([program, "ask", "-o", Path(folder) / "answer.csv", *words], stderr=subprocess.PIPE)
     if asked.returncode != 0:
         raise RuntimeError(f"part {Path(folder).name}: {asked.stderr.decode(errors='replace').strip()}")
-    os.replace(written, Path(folder) / "answer.csv")
 
 
 def ask_parts(client, program, folder):

@@ -3,11 +3,11 @@
 #
 #     distributed/parallel.sh DIR [OPTIONS OF PARALLEL]
 #
-# DIR is the folder that `tq split` made. Options of parallel are, for example, `--jobs 4`, or `--sshloginfile HOSTS` if all
-# hosts see DIR under the same path and have `tq`. A part that fails is asked once more; if it fails again, so does the script.
+# `tq split` made the folder DIR. Options of parallel are, for example, `--jobs 4`, or `--sshloginfile HOSTS` if all hosts see
+# DIR under the same path and have `tq`. A part that fails runs once more. If it fails again, the script fails.
 set -eu
 folder=$1
 shift
 parallel --halt now,fail=1 --retries 2 "$@" \
-    'xargs -0 tq ask < {}/args > {}/answer.part && mv {}/answer.part {}/answer.csv' ::: "$folder"/[0-9]*
+    'xargs -0 tq ask -o {}/answer.csv < {}/args' ::: "$folder"/[0-9]*
 exec tq merge "$folder"

@@ -4,8 +4,8 @@ full check.
 
     spark-submit distributed/spark_parts.py DIR
 
-DIR is the folder that `tq split` made; all executors see it under the same path and have `tq`. A part that fails makes its
-task fail, so that Spark asks it again, and in the end the job fails.
+`tq split` made the folder DIR. All executors must see it under the same path and have `tq`. If a part fails, its task fails.
+Then Spark runs the task again, and if it keeps failing, the job fails.
 """
 
 import os
@@ -14,7 +14,7 @@ import sys
 
 from pyspark import SparkContext
 
-ASK = "while read -r part; do xargs -0 tq ask < \"$part/args\" > \"$part/answer.part\" && mv \"$part/answer.part\" \"$part/answer.csv\" || exit 1; done"
+ASK = "while read -r part; do xargs -0 tq ask -o \"$part/answer.csv\" < \"$part/args\" || exit 1; done"
 
 
 def main():

@@ -11,9 +11,9 @@
         session.publish()
         print(session.ask("VALIDTIME SELECT name FROM emp").rows)
 
-The package needs the standard library alone, and the program `tq` on the PATH or as the argument `program`. The tables are
-paths of table files, `Table`s, or data frames of pandas. An end that is `forever` is None. With `dates=True` starts and ends
-are `datetime.date`. A refusal is a `Refused`.
+The package needs only the standard library, and the program `tq` on the PATH or as the argument `program`. Tables are paths
+of table files, `Table`s, or data frames of pandas. An end `forever` is None. With `dates=True` starts and ends are
+`datetime.date`. A refusal raises `Refused`.
 """
 
 from tq.answers import Answer

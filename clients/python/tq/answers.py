@@ -6,7 +6,7 @@ import datetime
 class Answer:
     """The rows of an answer, in its order.
 
-    columns  the names of the values, then "from" and "to". The second column of a name has ".2" after it
+    columns  the names of the values, then "from" and "to". The second column with a name has ".2" after it
     rows     tuples: the values, the start, and the end or None
     """
 
@@ -27,21 +27,21 @@ class Answer:
         return [dict(zip(self.columns, row)) for row in self.rows]
 
     def to_pandas(self):
-        """The rows as a data frame. It needs pandas."""
+        """The rows as a data frame of pandas, which must be installed."""
         import pandas
 
         return pandas.DataFrame(self.rows, columns=list(self.columns))
 
 
 def instant_of(value, dates):
-    """A start or an end: None for one that is `forever`."""
+    """A start or an end from its text or number: None if it is `forever`."""
     if value is None or value == "forever":
         return None
     return datetime.date.fromisoformat(value) if dates else int(value)
 
 
 def keys_of(names):
-    """The names of columns, each once: the second of a name has `.2` after it, the third `.3`."""
+    """The names of columns, made unique: the second one with a name has `.2` after it, the third `.3`."""
     keys, seen = [], {}
     for name in names:
         seen[name] = seen.get(name, 0) + 1

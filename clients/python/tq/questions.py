@@ -1,4 +1,4 @@
-"""Questions over files."""
+"""Queries over tables."""
 
 import csv
 import io
@@ -12,7 +12,7 @@ from tq.tables import options_of
 
 
 def run(words):
-    """What the program prints; a refusal is raised."""
+    """Runs the program. Returns its standard output, or raises `Refused`."""
     asked = subprocess.run(words, stdin=subprocess.DEVNULL, stdout=subprocess.PIPE, stderr=subprocess.PIPE)
     if asked.returncode != 0:
         raise refusal_of(asked.stderr.decode(errors="replace"))
@@ -22,7 +22,7 @@ def run(words):
 def ask(tables, statement, *, dates=False, workers=1, program="tq"):
     """Answers a statement.
 
-    tables     from names to paths of table files, `Table`s or data frames of pandas
+    tables     maps names to paths of table files, `Table`s or data frames of pandas
     statement  the text of the statement
     dates      whether starts and ends are dates
     workers    threads that share the work, 1 to 16; they never change the answer

@@ -1,4 +1,4 @@
-"""Why there is no answer."""
+"""Refusals of the program."""
 
 import re
 
@@ -11,14 +11,14 @@ FORMS = [
 
 
 class Refused(Exception):
-    """A question or a line of a session that has no answer.
+    """A query or a line of a session that the program refuses.
 
-    line    what the program says, without `tq: ` or `refused `
-    detail  lines for people that say more; empty if there are none
+    line    the line that the program prints, without `tq: ` or `refused `
+    detail  the lines after it, which are for people; empty if there are none
     kind    "load", "statement", "plan", "read", "session", or "other"
     name    the name of the error, such as "UnknownColumn"; empty if it has none
-    place   the byte of the statement, if the error has one
-    table   the number of the table, from 0, of an error of loading
+    place   the byte of the statement, if the error has one; in a session, the number after the name, if there is one
+    table   the number of the table, from 0, if the error is one of loading
     record  the number of its record; the header is record 1
     """
 

@@ -1,4 +1,4 @@
-"""Sessions: changes are recorded, and questions ask as of any earlier state."""
+"""Sessions: they record changes, and run queries as of any earlier state."""
 
 import contextlib
 import csv
@@ -14,7 +14,7 @@ from tq.tables import options_of, text_of
 class Session:
     """A session of the program. Use it with `with`, or call `close`.
 
-    tables   from names to paths of table files, `Table`s or data frames of pandas
+    tables   maps names to paths of table files, `Table`s or data frames of pandas
     dates    whether starts and ends are dates
     program  the program `tq`
 
@@ -29,7 +29,7 @@ class Session:
             pipes = {"stdin": subprocess.PIPE, "stdout": subprocess.PIPE, "stderr": self._errors}
             self._running = subprocess.Popen(words, **pipes)
             try:
-                # The reply also says that all files are loaded, so that files that were written for it may go.
+                # After the reply all files are loaded, so the temporary ones can be removed.
                 self.count = self.publish()
             except BaseException:
                 self.close()
@@ -54,7 +54,7 @@ class Session:
         return self._number(f"start {table} {text_of(at)} {record_of(values)}", "row")
 
     def end(self, table, at, *values):
-        """Ends the first open row with these values that started before. Returns its number in the table."""
+        """Ends the first open row with these values that started earlier. Returns its number in the table."""
         return self._number(f"end {table} {text_of(at)} {record_of(values)}", "row")
 
     def publish(self):
@@ -65,7 +65,7 @@ class Session:
     def ask(self, statement, *, count=None, workers=1, ints=()):
         """Answers a statement as of the first `count` published events, or as of all.
 
-        Values are texts, since a reply has no kinds; those of the columns `ints` are made numbers.
+        Values are texts, because a reply has no kinds. Those of the columns `ints` become numbers.
         """
         reply = self._reply(f"ask {self.count if count is None else count} {workers} {statement}")
         columns = keys_of(self._record())
@@ -81,7 +81,7 @@ class Session:
         return int(self._reply(line).removeprefix(f"{word} "))
 
     def _reply(self, line):
-        """The first line of the reply to a line; a refusal is raised."""
+        """Sends a line. Returns the first line of the reply, or raises `Refused`."""
         if "\n" in line or "\r" in line:
             raise ValueError("a line of a session cannot hold a line break")
         try:
@@ -108,7 +108,7 @@ class Session:
         return next(csv.reader(io.StringIO(text, newline="")))
 
     def _ended(self):
-        """Why the session ended."""
+        """The refusal with which the session ended."""
         status = self._running.wait()
         self._errors.seek(0)
         errors = self._errors.read().decode(errors="replace")

@@ -1,4 +1,4 @@
-"""Tables as files of tq."""
+"""Tables, and the table files of tq."""
 
 import csv
 import datetime
@@ -40,12 +40,24 @@ def text_of(value):
 
 
 def is_missing(value):
-    """Whether pandas has no value here: None, NaN or NaT, none of which equals itself."""
-    return value is None or value != value
+    """Whether a value of a data frame is missing: None, NaN, NaT or NA."""
+    if value is None:
+        return True
+    try:
+        return bool(value != value)  # NaN and NaT do not equal themselves
+    except TypeError:
+        return True  # NA is neither true nor false
+
+
+def instant_in_frame(value):
+    """A start or an end of a data frame, or None if it is missing. If one is missing, pandas stores whole numbers as floats."""
+    if is_missing(value):
+        return None
+    return int(value) if isinstance(value, float) and value.is_integer() else value
 
 
 def table_of_frame(name, frame):
-    """The table of a data frame with the columns `from` and `to`; a missing end is None."""
+    """The table of a data frame, which must have the columns `from` and `to`. A missing end becomes None."""
     names = [str(column) for column in frame.columns]
     if not {"from", "to"} <= set(names):
         raise ValueError(f"the data frame of table {name} needs the columns from and to")
@@ -56,12 +68,12 @@ def table_of_frame(name, frame):
     for place, row in enumerate(zip(*columns)):
         if any(is_missing(value) for value in row[:-1]):
             raise ValueError(f"table {name}, row {place}: a value is missing; tq has no NULL")
-        rows.append((*row[:-1], None if is_missing(row[-1]) else row[-1]))
+        rows.append((*row[:-2], *map(instant_in_frame, row[-2:])))
     return Table(kinds, rows)
 
 
 def options_of(tables, room):
-    """The words for the tables; those that are no files yet are written into the folder."""
+    """The options `--table` for the tables. Tables that are not files are written to the folder `room`."""
     words = []
     for name, table in tables.items():
         if hasattr(table, "columns") and hasattr(table, "dtypes"):

@@ -198,6 +198,18 @@ fn cannot_write(alloc: Global, path: &str) -> Refusal {
     }
 }
 
+// Refuses a folder that has the parts of an earlier division: their answers could be merged instead of those of this one.
+// The manifest is written last, so a division that failed leaves none.
+fn check_folder<R: Files + AllocGlobal>(rt: &R, folder: &str) -> Result<(), Refusal> {
+    let path = format!(in rt.alloc(); "{folder}/manifest.json")?;
+    if fs::metadata(rt, path.as_str()).is_err() {
+        return Ok(());
+    }
+    let text =
+        b"cannot write the parts: the folder has those of an earlier division; remove it, or name another one";
+    Err(Refusal::Split(text.to_vec(rt.alloc())?))
+}
+
 // Makes the folder of each part.
 fn make_folders<R: Files + AllocGlobal>(rt: &R, parts: Parts<'_>) -> Result<(), Refusal> {
     for part in 0..parts.count {
@@ -558,6 +570,7 @@ fn write_parts<R: Files + AllocGlobal>(
     statement: &[u8],
     progress: &Progress,
 ) -> Result<Manifest, Refusal> {
+    check_folder(rt, parts.folder)?;
     make_folders(rt, parts)?;
     let paths = write_tables(rt, parts, &planned.tables, &planned.split, progress)?;
     write_arguments(rt, parts, &planned.tables, &paths, statement)?;

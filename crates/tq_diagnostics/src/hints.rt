@@ -31,22 +31,22 @@ const CONTEXT: [(&[u8], &[u8], &[u8]); 10] = [
     (
         b"left",
         b"join",
-        b"outer joins are not supported: write FROM a, b WHERE a.k = b.k for an inner join",
+        b"outer joins are not supported: write FROM a, b WHERE a.k = b.k for an inner join, and EXCEPT ALL for the rows without a partner",
     ),
     (
         b"right",
         b"join",
-        b"outer joins are not supported: write FROM a, b WHERE a.k = b.k for an inner join",
+        b"outer joins are not supported: write FROM a, b WHERE a.k = b.k for an inner join, and EXCEPT ALL for the rows without a partner",
     ),
     (
         b"full",
         b"join",
-        b"outer joins are not supported: write FROM a, b WHERE a.k = b.k for an inner join",
+        b"outer joins are not supported: write FROM a, b WHERE a.k = b.k for an inner join, and EXCEPT ALL for the rows without a partner",
     ),
     (
         b"outer",
         b"join",
-        b"outer joins are not supported: write FROM a, b WHERE a.k = b.k for an inner join",
+        b"outer joins are not supported: write FROM a, b WHERE a.k = b.k for an inner join, and EXCEPT ALL for the rows without a partner",
     ),
     (
         b"except",
@@ -93,19 +93,19 @@ const WORDS: [(&[u8], &[u8]); 38] = [
     ),
     (
         b"left",
-        b"outer joins are not supported: write FROM a, b WHERE a.k = b.k for an inner join",
+        b"outer joins are not supported: write FROM a, b WHERE a.k = b.k for an inner join, and EXCEPT ALL for the rows without a partner",
     ),
     (
         b"right",
-        b"outer joins are not supported: write FROM a, b WHERE a.k = b.k for an inner join",
+        b"outer joins are not supported: write FROM a, b WHERE a.k = b.k for an inner join, and EXCEPT ALL for the rows without a partner",
     ),
     (
         b"full",
-        b"outer joins are not supported: write FROM a, b WHERE a.k = b.k for an inner join",
+        b"outer joins are not supported: write FROM a, b WHERE a.k = b.k for an inner join, and EXCEPT ALL for the rows without a partner",
     ),
     (
         b"outer",
-        b"outer joins are not supported: write FROM a, b WHERE a.k = b.k for an inner join",
+        b"outer joins are not supported: write FROM a, b WHERE a.k = b.k for an inner join, and EXCEPT ALL for the rows without a partner",
     ),
     (b"cross", b"CROSS JOIN is not supported: write FROM a, b"),
     (
