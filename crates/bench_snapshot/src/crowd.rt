@@ -18,7 +18,7 @@ pub const READERS: u32 = 4;
 
 /// What the readers found and in how many microseconds, and the number of lines that were written meanwhile.
 #[derive(Clone, Copy)]
-pub struct Told {
+pub struct Outcome {
     pub asked: Asked,
     pub lines: u32,
     pub micros: u64,
@@ -117,7 +117,7 @@ pub fn run_session<J: StoreId + Send + Sync, R: Threads + Wait + Clock + Sync>(
     readers: Vec<Reader<J>>,
     questions: Questions,
     pace: Pace,
-) -> anyhow::Result<Told> {
+) -> anyhow::Result<Outcome> {
     let catalogue = writer.catalogue().try_copy(alloc)?;
     let catalogue = &catalogue;
     let done = AtomicBool::new(false);
@@ -136,7 +136,7 @@ pub fn run_session<J: StoreId + Send + Sync, R: Threads + Wait + Clock + Sync>(
     writer.close(rt);
     let lines = lines.ok_or(anyhow!("a line is refused"))?;
     let elapsed = elapsed.ok_or(anyhow!("the clock is refused"))?;
-    Ok(Told {
+    Ok(Outcome {
         asked,
         lines,
         micros: u64::try_from(elapsed.as_micros()).unwrap_or(u64::MAX),

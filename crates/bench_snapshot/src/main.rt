@@ -19,7 +19,7 @@ mod rows;
 mod writing;
 
 use asking::Questions;
-use crowd::{READERS, Told, run_session};
+use crowd::{Outcome, READERS, run_session};
 use rows::{fill_db, no_rows};
 use std::alloc::Global;
 use std::marker::Brand;
@@ -82,12 +82,12 @@ fn task_of(rt: &HostRuntime) -> anyhow::Result<Task> {
 }
 
 // Prints what readers and writer did, with times if `timed` is set.
-fn print_told(rt: &impl Print, told: &Told, timed: bool) -> io::Result<()> {
-    println!(rt; "answers {}", told.asked.answers)?;
-    println!(rt; "rows found {}", told.asked.rows)?;
+fn print_outcome(rt: &impl Print, outcome: &Outcome, timed: bool) -> io::Result<()> {
+    println!(rt; "answers {}", outcome.asked.answers)?;
+    println!(rt; "rows found {}", outcome.asked.rows)?;
     if timed {
-        println!(rt; "lines written {}", told.lines)?;
-        println!(rt; "microseconds {}", told.micros)?;
+        println!(rt; "lines written {}", outcome.lines)?;
+        println!(rt; "microseconds {}", outcome.micros)?;
     }
     Ok(())
 }
@@ -116,8 +116,8 @@ fn hold<J: StoreId + Send + Sync, R: Threads + Wait + Clock + Print + Sync>(
         } else {
             Pace::Rest
         };
-        let told = run_session(rt, alloc, writer, readers, task.questions, pace)?;
-        print_told(rt, &told, task.way.is_some())?;
+        let outcome = run_session(rt, alloc, writer, readers, task.questions, pace)?;
+        print_outcome(rt, &outcome, task.way.is_some())?;
     }
     Ok(())
 }

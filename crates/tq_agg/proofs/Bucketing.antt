@@ -21,7 +21,7 @@ use Rattle.tq_base.specs.Relations.{column_of, values_at_number}
 use Rattle.tq_base.specs.NormalizedKeys.{prefixes_are_exact, normalized_key, HasBytes}
 use Rattle.tq_base.specs.Sweep.{pairs_head, pairs_tail, upto, upto-push}
 use Rattle.tq_agg.specs.declared.buckets.Bucket.{Bucket}
-use Rattle.tq_agg.specs.Buckets.{bucket_count, counted, keyed_count, value_of, AreCut, AreRanked, IsInside, IsTold}
+use Rattle.tq_agg.specs.Buckets.{bucket_count, counted, keyed_count, value_of, AreCut, AreRanked, IsInside, HasExactKey}
 use Rattle.tq_agg.specs.Endpoints.{count_upto, AreInside}
 use Rattle.tq_agg.specs.Grouping.{same_row}
 use Rattle.tq_agg.specs.Totals.{added}
@@ -122,9 +122,9 @@ added-set w (y ∷ xs) (suc place) x lt d = omega (arith, ints, added-set w xs p
 -- ---- buckets
 
 -- a value that its prefix determines is the only one with this prefix
-pub told_alone : (v w : Value) → IsTold v → HasBytes w → normalized_key v ≡ normalized_key w → v ≡ w
-told_alone v w told bytes same =
-    prefixes_are_exact v w told.0 bytes (sym (is_exact_value v told.0) ∙ told.1) (sym (is_exact_value w bytes) ∙ ap is_exact (sym same) ∙ told.1) same
+pub exact_alone : (v w : Value) → HasExactKey v → HasBytes w → normalized_key v ≡ normalized_key w → v ≡ w
+exact_alone v w exact bytes same =
+    prefixes_are_exact v w exact.0 bytes (sym (is_exact_value v exact.0) ∙ exact.1) (sym (is_exact_value w bytes) ∙ ap is_exact (sym same) ∙ exact.1) same
 
 module _ (column : List Value) (ranks : List ℕ) (buckets : List Bucket) (are : AreRanked column ranks buckets) (place : ℕ) where
   pub as_many : length ranks ≡ length buckets
@@ -134,19 +134,19 @@ module _ (column : List Value) (ranks : List ℕ) (buckets : List Bucket) (are :
   pub value_there : place < length ranks → (prefix : ℕ) (w : Value) → prefix ≡ get_or ranks place prefix → prefix ≡ normalized_key w → HasBytes w → (d : Bucket) → value_of column (get_or buckets place d) ≡ w
   value_there lt prefix w is of bytes d =
       let inside : place < length buckets = omega (arith, lt, as_many) in
-      told_alone (value_of column (get_or buckets place d)) w (are.2 place d inside) bytes
+      exact_alone (value_of column (get_or buckets place d)) w (are.2 place d inside) bytes
       (sym (get_or-map (λ b. normalized_key (value_of column b)) buckets place d prefix inside) ∙ ap (λ l. get_or l place prefix) (sym are.0) ∙ sym is ∙ of)
 
   -- one more bucket, of a value that has none
-  pub one_more : (prefix : ℕ) (b : Bucket) → place ≡ below prefix ranks → prefix ≡ normalized_key (value_of column b) → IsTold (value_of column b)
+  pub one_more : (prefix : ℕ) (b : Bucket) → place ≡ below prefix ranks → prefix ≡ normalized_key (value_of column b) → HasExactKey (value_of column b)
       → (place < length ranks → get_or ranks place 0 ≢ prefix) → AreRanked column (insert ranks place prefix) (insert buckets place b)
-  one_more prefix b there of told differs =
+  one_more prefix b there of exact differs =
       let fronts = front_below prefix ranks are.1 in
       let before : All (λ r. r < prefix) (take place ranks) = subst (λ n. All (λ r. r < prefix) (take n ranks)) (sym there) fronts.0 in
       let after : All (λ r. prefix ≤ r) (drop place ranks) = subst (λ n. All (λ r. prefix ≤ r) (drop n ranks)) (sym there) fronts.1 in (
         ap (λ l. insert l place prefix) are.0 ∙ ap (insert (map (λ b. normalized_key (value_of column b)) buckets) place) of ∙ sym (map-insert (λ b. normalized_key (value_of column b)) buckets place b),
         rising_insert place ranks prefix are.1 before (all_above prefix place ranks are.1 after differs),
-        All-insert (λ b. IsTold (value_of column b)) buckets place b are.2 told,
+        All-insert (λ b. HasExactKey (value_of column b)) buckets place b are.2 exact,
       )
 
   -- other bounds in a bucket
@@ -157,7 +157,7 @@ module _ (column : List Value) (ranks : List ℕ) (buckets : List Bucket) (are :
             ∙ ap (set (map (λ b. normalized_key (value_of column b)) buckets) place) (get_or-map (λ b. normalized_key (value_of column b)) buckets place b 0 lt ∙ ap normalized_key (sym alike))
             ∙ sym (map-set (λ b. normalized_key (value_of column b)) buckets place new),
         are.1,
-        All-set (λ b. IsTold (value_of column b)) buckets place new (subst IsTold (sym alike) (are.2 place b lt)) are.2,
+        All-set (λ b. HasExactKey (value_of column b)) buckets place new (subst HasExactKey (sym alike) (are.2 place b lt)) are.2,
       )
 
 -- an empty bucket has no bounds outside the window

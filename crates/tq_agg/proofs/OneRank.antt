@@ -10,11 +10,11 @@ use Rattle.tq_base.specs.declared.value.Value.{Value}
 use Rattle.tq_base.specs.NormalizedKeys.{normalized_key}
 use Rattle.tq_base.specs.Sweep.{pairs_head, pairs_tail, upto}
 use Rattle.tq_agg.specs.declared.buckets.Bucket.{Bucket}
-use Rattle.tq_agg.specs.Buckets.{bucket_count, counted_at, value_of, AreRanked, IsFound, IsTold}
+use Rattle.tq_agg.specs.Buckets.{bucket_count, counted_at, value_of, AreRanked, IsFound, HasExactKey}
 use Rattle.tq_agg.specs.Endpoints.{count_upto}
 use Rattle.tq_agg.specs.Grouping.{same_row}
 use Rattle.tq_agg.specs.Totals.{added}
-use Rattle.tq_agg.proofs.Bucketing.{all_above, as_many, below, front_below, told_alone, Rising}
+use Rattle.tq_agg.proofs.Bucketing.{all_above, as_many, below, front_below, exact_alone, Rising}
 
 -- ---- elements of one prefix
 
@@ -76,10 +76,10 @@ pub both_upto : (front back : List ℕ) (t : ℕ) → upto (front ++ back) t ≡
 both_upto front back t = sum_by-append (λ b. cond (nat_le b t) 1 0) front back
 
 -- the rows of a bucket of the prefix are added to those found so far
-pub both_counted : (column : List Value) (prefix : ℕ) (t : ℕ) (key : List Value) (old found new : Bucket) → IsFound column prefix old → IsTold (value_of column found) → normalized_key (value_of column found) ≡ prefix → new.row ≡ found.row
+pub both_counted : (column : List Value) (prefix : ℕ) (t : ℕ) (key : List Value) (old found new : Bucket) → IsFound column prefix old → HasExactKey (value_of column found) → normalized_key (value_of column found) ≡ prefix → new.row ≡ found.row
     → new.endpoints.starts.items ≡ old.endpoints.starts.items ++ found.endpoints.starts.items → new.endpoints.ends.items ≡ old.endpoints.ends.items ++ found.endpoints.ends.items
     → bucket_count column t key new ≡ bucket_count column t key old +ℤ bucket_count column t key found
-both_counted column prefix t key old found new is told of row starts ends = by is
+both_counted column prefix t key old found new is exact of row starts ends = by is
   where
     more : count_upto new.endpoints.starts.items new.endpoints.ends.items t ≡ count_upto old.endpoints.starts.items old.endpoints.ends.items t +ℤ count_upto found.endpoints.starts.items found.endpoints.ends.items t
     more =
@@ -120,7 +120,7 @@ both_counted column prefix t key old found new is told of row starts ends = by i
         ∙ with_none (same_row (value_of column found ∷ []) key) (same_row (value_of column old ∷ []) key)
         (ap (λ l. count_upto l old.endpoints.ends.items t) empty.0 ∙ ap (λ l. count_upto [] l t) empty.1 ∙ omega (arith, ints))
     by (inr is) =
-        let alike : value_of column old ≡ value_of column found = told_alone (value_of column old) (value_of column found) is.0 told.0 (is.1 ∙ sym of) in
+        let alike : value_of column old ≡ value_of column found = exact_alone (value_of column old) (value_of column found) is.0 exact.0 (is.1 ∙ sym of) in
         as_found
         ∙ with_some (same_row (value_of column found ∷ []) key)
         ∙ ap (λ v. cond (same_row (v ∷ []) key) (count_upto old.endpoints.starts.items old.endpoints.ends.items t) (pos 0) +ℤ bucket_count column t key found) (sym alike)

@@ -22,15 +22,15 @@ abbrev pub value_of : List Value → Bucket → Value
 value_of column b = value_at column b.row
 
 -- its normalized key prefix determines the value
-abbrev pub IsTold : Value → Type 0
-IsTold value = HasBytes value × (is_exact (normalized_key value) ≡ true)
+abbrev pub HasExactKey : Value → Type 0
+HasExactKey value = HasBytes value × (is_exact (normalized_key value) ≡ true)
 
 -- the prefixes are those of the buckets' values, which they determine, and ascend
 abbrev pub AreRanked : List Value → List ℕ → List Bucket → Type 0
 AreRanked column ranks buckets =
     (ranks ≡ map (λ b. normalized_key (value_of column b)) buckets)
     × AllPairs (λ r q. r < q) ranks
-    × All (λ b. IsTold (value_of column b)) buckets
+    × All (λ b. HasExactKey (value_of column b)) buckets
 
 -- the bounds of the bucket are of the window
 abbrev pub IsInside : Period → Bucket → Type 0
@@ -61,7 +61,7 @@ pub record IsTally (rows : List Fragment) (window : Period) (column start end : 
 
 -- the bucket has no rows, or rows of the value that the prefix determines
 abbrev pub IsFound : List Value → ℕ → Bucket → Type 0
-IsFound column prefix b = ((b.endpoints.starts.items ≡ []) × (b.endpoints.ends.items ≡ [])) ⊎ (IsTold (value_of column b) × (normalized_key (value_of column b) ≡ prefix))
+IsFound column prefix b = ((b.endpoints.starts.items ≡ []) × (b.endpoints.ends.items ≡ [])) ⊎ (HasExactKey (value_of column b) × (normalized_key (value_of column b) ≡ prefix))
 
 -- the number of rows of the key, of those whose value has the prefix, that have begun by the instant and not ended
 abbrev pub counted_at : List Value → ℕ → ℕ → List Value → List Bucket → ℤ

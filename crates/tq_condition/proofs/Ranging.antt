@@ -51,13 +51,13 @@ not_twice true wanted is = ap not is
 not_twice false wanted is = ap not is
 
 -- a comparison is the last step
-pub ends : (whole part : Test) (whole_wanted wanted : Bool) (place : ℕ) (whole_within within also numbers common told : Option KeyRange) (left right : Operand) (op agreeing : Compare)
+pub ends : (whole part : Test) (whole_wanted wanted : Bool) (place : ℕ) (whole_within within also numbers common allowed : Option KeyRange) (left right : Operand) (op agreeing : Compare)
     → part ≡ Is left op right → ((o : Ordering) → accepts agreeing o ≡ agrees (accepts op o) wanted) → HasCompared left agreeing right place numbers
     → ((n : ℤ) → IsInSomeRange numbers n → IsInSomeRange within n → IsInSomeRange common n)
-    → ((n : ℤ) → IsInSomeRange also n → IsInSomeRange told n) → ((n : ℤ) → IsInSomeRange common n → IsInSomeRange told n)
-    → Leads whole whole_wanted place whole_within part wanted within also → BoundsWithin whole whole_wanted place whole_within told
-ends whole part whole_wanted wanted place whole_within within also numbers common told left right op agreeing is agree compared both from_also from_common leads row n at fits passed inside =
-    elim (leads row n at fits passed inside) as (λ found. IsInSomeRange told n) [
+    → ((n : ℤ) → IsInSomeRange also n → IsInSomeRange allowed n) → ((n : ℤ) → IsInSomeRange common n → IsInSomeRange allowed n)
+    → Leads whole whole_wanted place whole_within part wanted within also → BoundsWithin whole whole_wanted place whole_within allowed
+ends whole part whole_wanted wanted place whole_within within also numbers common allowed left right op agreeing is agree compared both from_also from_common leads row n at fits passed inside =
+    elim (leads row n at fits passed inside) as (λ found. IsInSomeRange allowed n) [
       | inl found ↦ from_common n (both n
           (compared row n at fits
           (agree (value_cmp (operand_value left row) (operand_value right row))

@@ -42,7 +42,7 @@ if_four (Some x) a b c d f = f x a b c d
 
 -- a value that is a number of a range
 pub number_there : (range : KeyRange) (value : Value) → is_number_in range value ≡ true → (n : ℤ) × (value ≡ Int n) × IsInRange range n
-number_there range (Int n) told =
-    let both = and_parts (int_le range.low n) (int_le n range.high) told in
+number_there range (Int n) allowed =
+    let both = and_parts (int_le range.low n) (int_le n range.high) allowed in
     (n, refl, (le_z_yes (subst (λ b. T b) (sym both.0) tt), le_z_yes (subst (λ b. T b) (sym both.1) tt)))
-number_there range (Text t) told = absurd (false≢true told)
+number_there range (Text t) allowed = absurd (false≢true allowed)

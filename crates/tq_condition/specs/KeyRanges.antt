@@ -15,21 +15,21 @@ use Rattle.tq_condition.specs.Conditions.{accepts, operand_value, passes}
 -- in each row that passes the condition, the number at the place lies in the range, if it has 64 signed bits; without a
 -- range no such row passes
 abbrev pub BoundsNumbers : Test → ℕ → Option KeyRange → Type 0
-BoundsNumbers test place told = (row : List Value) (n : ℤ) → value_at row place ≡ Int n → FitsSigned w64 n → IsTrue (passes test row) → IsInSomeRange told n
+BoundsNumbers test place allowed = (row : List Value) (n : ℤ) → value_at row place ≡ Int n → FitsSigned w64 n → IsTrue (passes test row) → IsInSomeRange allowed n
 
 -- the same for each row on which the condition has this truth, and whose number lies in the first range
 abbrev pub BoundsWithin : Test → Bool → ℕ → Option KeyRange → Option KeyRange → Type 0
-BoundsWithin test wanted place within told =
-    (row : List Value) (n : ℤ) → value_at row place ≡ Int n → FitsSigned w64 n → passes test row ≡ wanted → IsInSomeRange within n → IsInSomeRange told n
+BoundsWithin test wanted place within allowed =
+    (row : List Value) (n : ℤ) → value_at row place ≡ Int n → FitsSigned w64 n → passes test row ≡ wanted → IsInSomeRange within n → IsInSomeRange allowed n
 
 -- the numbers of 64 signed bits for which the comparison with the value holds lie in the range
 abbrev pub HasValueRange : Compare → Value → Option KeyRange → Type 0
-HasValueRange op value told = (n : ℤ) → FitsSigned w64 n → IsTrue (accepts op (value_cmp (Int n) value)) → IsInSomeRange told n
+HasValueRange op value allowed = (n : ℤ) → FitsSigned w64 n → IsTrue (accepts op (value_cmp (Int n) value)) → IsInSomeRange allowed n
 
 -- for each row for which the comparison holds, the number at the place lies in the range, if it has 64 signed bits
 abbrev pub HasCompared : Operand → Compare → Operand → ℕ → Option KeyRange → Type 0
-HasCompared left op right place told =
-    (row : List Value) (n : ℤ) → value_at row place ≡ Int n → FitsSigned w64 n → IsTrue (accepts op (value_cmp (operand_value left row) (operand_value right row))) → IsInSomeRange told n
+HasCompared left op right place allowed =
+    (row : List Value) (n : ℤ) → value_at row place ≡ Int n → FitsSigned w64 n → IsTrue (accepts op (value_cmp (operand_value left row) (operand_value right row))) → IsInSomeRange allowed n
 
 -- each row with a number of the range in the column passes the condition
 abbrev pub IsSufficient : Test → ℕ → KeyRange → Type 0

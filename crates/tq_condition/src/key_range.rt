@@ -166,22 +166,22 @@ impl Test {
         ensures { BoundsWithin self.now wanted place within result }
     {
         let mut wanted = wanted;
-        let mut told = AllowedNumbers { within, also: None };
+        let mut allowed = AllowedNumbers { within, also: None };
         let mut part = self;
         'parts: loop {
             match part {
                 Test::Is { left, op, right } => {
                     let numbers = compared_numbers(left, op.agreeing(wanted), right, place);
-                    return hull_of(told.also, common_of(numbers, told.within));
+                    return hull_of(allowed.also, common_of(numbers, allowed.within));
                 }
                 Test::And(first, last) => {
-                    let numbers = last.get().numbers_within(wanted, place, told.within);
-                    told = told.with_part(wanted, numbers);
+                    let numbers = last.get().numbers_within(wanted, place, allowed.within);
+                    allowed = allowed.with_part(wanted, numbers);
                     part = first.get();
                 }
                 Test::Or(first, last) => {
-                    let numbers = last.get().numbers_within(wanted, place, told.within);
-                    told = told.with_part(!wanted, numbers);
+                    let numbers = last.get().numbers_within(wanted, place, allowed.within);
+                    allowed = allowed.with_part(!wanted, numbers);
                     part = first.get();
                 }
                 Test::Not(inner) => {

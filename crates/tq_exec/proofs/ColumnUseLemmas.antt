@@ -12,34 +12,34 @@ use Rattle.tq_agg.specs.Grouping.{Row}
 use Rattle.tq_plan.specs.declared.plans.Output.{Output}
 use Rattle.tq_plan.specs.declared.plans.Output.TheVariants.{Column, Count, Sum}
 use Rattle.tq_exec.specs.Required.{AgreeAt, IsMadeOf}
-use Rattle.tq_exec.specs.ColumnUse.{AreMore, AreNamed, OperandLooksAt, TestLooksAt}
+use Rattle.tq_exec.specs.ColumnUse.{AreMore, AreNamed, OperandReads, TestReads}
 
 -- ---- places that are noted
 
--- what looks at some places looks at more
+-- what reads only some places reads only these and more
 more_agree : (places more : List Bool) → AreMore places more → (row other : Row) → AgreeAt (is_wanted more) row other → AgreeAt (is_wanted places) row other
 more_agree places more are row other agree place looked = agree place (are place looked)
 
-pub operand_more : (operand : Operand) (places more : List Bool) → AreMore places more → OperandLooksAt (is_wanted places) operand → OperandLooksAt (is_wanted more) operand
-operand_more operand places more are looks row other agree = looks row other (more_agree places more are row other agree)
+pub operand_more : (operand : Operand) (places more : List Bool) → AreMore places more → OperandReads (is_wanted places) operand → OperandReads (is_wanted more) operand
+operand_more operand places more are required row other agree = required row other (more_agree places more are row other agree)
 
-pub test_more : (test : Test) (places more : List Bool) → AreMore places more → TestLooksAt (is_wanted places) test → TestLooksAt (is_wanted more) test
-test_more test places more are looks row other agree = looks row other (more_agree places more are row other agree)
+pub test_more : (test : Test) (places more : List Bool) → AreMore places more → TestReads (is_wanted places) test → TestReads (is_wanted more) test
+test_more test places more are required row other agree = required row other (more_agree places more are row other agree)
 
 pub output_more : (output : Output) (places more : List Bool) → AreMore places more → IsMadeOf (is_wanted places) output → IsMadeOf (is_wanted more) output
-output_more (Column place) places more are looks = are place looks
-output_more Count places more are looks = tt
-output_more (Sum place) places more are looks = are place looks
+output_more (Column place) places more are required = are place required
+output_more Count places more are required = tt
+output_more (Sum place) places more are required = are place required
 
 -- ---- conditions
 
 module _ (places : ℕ → Bool) (test : Test) where
-  pub look_Is : (left right : Operand) (op : Compare) → test ≡ Is left op right → OperandLooksAt places left → OperandLooksAt places right → TestLooksAt places test
+  pub look_Is : (left right : Operand) (op : Compare) → test ≡ Is left op right → OperandReads places left → OperandReads places right → TestReads places test
   look_Is left right op is on_left on_right row other agree =
       let whole : (r : Row) → passes test r ≡ accepts op (value_cmp (operand_value left r) (operand_value right r)) = λ r. ap (λ t. passes t r) is ∙ passes-Is left op right r in
       whole row ∙ (λ i. accepts op (value_cmp (on_left row other agree i) (on_right row other agree i))) ∙ sym (whole other)
 
-  pub look_pair : (first last : Test) → (test ≡ And first last) ⊎ (test ≡ Or first last) → TestLooksAt places first → TestLooksAt places last → TestLooksAt places test
+  pub look_pair : (first last : Test) → (test ≡ And first last) ⊎ (test ≡ Or first last) → TestReads places first → TestReads places last → TestReads places test
   look_pair first last (inl is) on_first on_last row other agree =
       let whole : (r : Row) → passes test r ≡ (passes first r && passes last r) = λ r. ap (λ t. passes t r) is ∙ passes-And first last r in
       whole row ∙ (λ i. on_first row other agree i && on_last row other agree i) ∙ sym (whole other)
@@ -47,7 +47,7 @@ module _ (places : ℕ → Bool) (test : Test) where
       let whole : (r : Row) → passes test r ≡ (passes first r || passes last r) = λ r. ap (λ t. passes t r) is ∙ passes-Or first last r in
       whole row ∙ (λ i. on_first row other agree i || on_last row other agree i) ∙ sym (whole other)
 
-  pub look_Not : (part : Test) → test ≡ Not part → TestLooksAt places part → TestLooksAt places test
+  pub look_Not : (part : Test) → test ≡ Not part → TestReads places part → TestReads places test
   look_Not part is on_part row other agree =
       let whole : (r : Row) → passes test r ≡ not (passes part r) = λ r. ap (λ t. passes t r) is ∙ passes-Not part r in
       whole row ∙ ap not (on_part row other agree) ∙ sym (whole other)

@@ -1,4 +1,4 @@
--- Rows that have the same values at the places at which a query looks give it the same answer.
+-- Rows that have the same values at the places that a query reads give it the same answer.
 use Rattle.std.proofs.Common.{◌≡◌, ℕ, zero, suc, ◌+◌, ◌-◌, ◌<◌, Bool, true, false, cond, if◌then◌else◌, List, [], ◌∷◌, ◌++◌, map, length, Option, Some, None, refl, sym, ap, subst, arith}
 use Rattle.std.specs.Prelude.{◌+ℤ◌, All, filter, pos}
 use Rattle.std.specs.List.{AllZip, list_any}
@@ -21,7 +21,7 @@ use Rattle.tq_plan.specs.Plans.{tables_in, tables_of}
 use Rattle.tq_plan.specs.ValidPlans.{IsQueryOver, AreContiguousFrom, is_aggregate}
 use Rattle.tq_exec.specs.Answers.{lists_at, times_in, times_in_right, ValidRows}
 use Rattle.tq_exec.specs.Fitting.{AreFitting}
-use Rattle.tq_exec.specs.Required.{AgreeAt, IsMadeOf, LooksAt, RequiredColumnsSuffice, Serves, Wants, projected_in}
+use Rattle.tq_exec.specs.Required.{AgreeAt, IsMadeOf, QueryReads, RequiredColumnsSuffice, Serves, Wants, projected_in}
 use Rattle.tq_exec.specs.Ordinary.{alone_or_together, groups, ordinary, output_value}
 use Rattle.tq_exec.proofs.GroupBags.{of_key}
 use Rattle.tq_exec.proofs.NumberLemmas.{first_of, others_of}
@@ -236,18 +236,18 @@ module _ (places : ℕ → Bool) where
 
   -- ---- queries
 
-  ordinary_alike : (query : QueryPlan) → LooksAt places query → (lists others : List (List Row)) → AllZip Alike (product_of lists) (product_of others) → ordinary query lists ≡ ordinary query others
-  ordinary_alike query looks lists others are =
-      same_of_alike (AllZip Alike) (λ group. map (output_value group) query.outputs) (same_items query.outputs looks.items)
+  ordinary_alike : (query : QueryPlan) → QueryReads places query → (lists others : List (List Row)) → AllZip Alike (product_of lists) (product_of others) → ordinary query lists ≡ ordinary query others
+  ordinary_alike query required lists others are =
+      same_of_alike (AllZip Alike) (λ group. map (output_value group) query.outputs) (same_items query.outputs required.items)
       (groups query.group query.outputs (selection query.test (product_of lists))) (groups query.group query.outputs (selection query.test (product_of others)))
-      (groups_alike query.group query.outputs looks.group (selection query.test (product_of lists)) (selection query.test (product_of others))
-      (left_alike Alike (admits query.test) (λ row other alike. looks.test row other (agree row other alike)) (product_of lists) (product_of others) are))
+      (groups_alike query.group query.outputs required.group (selection query.test (product_of lists)) (selection query.test (product_of others))
+      (left_alike Alike (admits query.test) (λ row other alike. required.test row other (agree row other alike)) (product_of lists) (product_of others) are))
 
 module _ (wanted : List (List Bool)) (catalogue : Catalogue) (valid : ValidRows) (fit : AreFitting catalogue valid) where
   times_kept : (query : QueryPlan) → IsQueryOver catalogue query → Serves wanted query → (v : Row) (t : ℕ) → times_in (projected_in wanted valid) query v t ≡ times_in valid query v t
   times_kept query over serves v t =
       ap (λ rows. occurrences rows v)
-      (sym (ordinary_alike serves.places query serves.looks (lists_at valid t (tables_of query)) (lists_at (projected_in wanted valid) t (tables_of query))
+      (sym (ordinary_alike serves.places query serves.required (lists_at valid t (tables_of query)) (lists_at (projected_in wanted valid) t (tables_of query))
       (products_alike serves.places wanted valid t 0 query.sources over.sources (valid_wide catalogue valid query.sources fit over.columns t) serves.wants)))
 
   right_kept : (right : Option QueryPlan) → ((query : QueryPlan) → right ≡ Some query → IsQueryOver catalogue query) → ((query : QueryPlan) → right ≡ Some query → Serves wanted query)

@@ -9,7 +9,7 @@ use Rattle.tq_agg.specs.Grouping.{Row}
 use Rattle.tq_plan.specs.declared.plans.Plan.{Plan}
 use Rattle.tq_plan.specs.declared.plans.QueryPlan.{QueryPlan}
 use Rattle.tq_plan.specs.declared.plans.QuerySource.{QuerySource}
-use Rattle.tq_exec.specs.Required.{AgreeAt, LooksAt}
+use Rattle.tq_exec.specs.Required.{AgreeAt, QueryReads}
 
 -- ---- places
 
@@ -17,18 +17,18 @@ use Rattle.tq_exec.specs.Required.{AgreeAt, LooksAt}
 abbrev pub AreMore : List Bool → List Bool → Type 0
 AreMore places more = (place : ℕ) → is_wanted places place ≡ true → is_wanted more place ≡ true
 
--- the operand looks at these places alone
-abbrev pub OperandLooksAt : (ℕ → Bool) → Operand → Type 0
-OperandLooksAt places operand = (row other : Row) → AgreeAt places row other → operand_value operand row ≡ operand_value operand other
+-- the operand reads no other places
+abbrev pub OperandReads : (ℕ → Bool) → Operand → Type 0
+OperandReads places operand = (row other : Row) → AgreeAt places row other → operand_value operand row ≡ operand_value operand other
 
--- the condition looks at these places alone
-abbrev pub TestLooksAt : (ℕ → Bool) → Test → Type 0
-TestLooksAt places test = (row other : Row) → AgreeAt places row other → passes test row ≡ passes test other
+-- the condition reads no other places
+abbrev pub TestReads : (ℕ → Bool) → Test → Type 0
+TestReads places test = (row other : Row) → AgreeAt places row other → passes test row ≡ passes test other
 
--- each query of the plan looks at its places alone
-pub record LookAt (left right : List Bool) (plan : Plan) : Type 0 where
-  pub on_left : LooksAt (is_wanted left) plan.left
-  pub on_right : (query : QueryPlan) → plan.right ≡ Some query → LooksAt (is_wanted right) query
+-- each query of the plan reads no other places than its own
+pub record QueriesRead (left right : List Bool) (plan : Plan) : Type 0 where
+  pub on_left : QueryReads (is_wanted left) plan.left
+  pub on_right : (query : QueryPlan) → plan.right ≡ Some query → QueryReads (is_wanted right) query
 
 -- ---- columns
 

@@ -17,7 +17,7 @@ use Rattle.tq_table.specs.declared.table.Table.{Table}
 use Rattle.tq_exec.specs.Answers.{in_tables, times_at, IsTablesAnswer, ValidRows}
 use Rattle.tq_exec.specs.Fitting.{AreAllFitting, AreFitting}
 
--- ---- places at which a query looks
+-- ---- places that a query reads
 
 -- both rows have the same value at each of these places
 abbrev pub AgreeAt : (ℕ → Bool) → Row → Row → Type 0
@@ -29,8 +29,8 @@ IsMadeOf places (Column place) = places place ≡ true
 IsMadeOf places Count = Unit {0}
 IsMadeOf places (Sum place) = places place ≡ true
 
--- the query looks at these places alone: its condition, its groups and its items
-pub record LooksAt (places : ℕ → Bool) (query : QueryPlan) : Type 0 where
+-- the query reads no other places: its condition, its groups and its items
+pub record QueryReads (places : ℕ → Bool) (query : QueryPlan) : Type 0 where
   pub test : (row other : Row) → AgreeAt places row other → admits query.test row ≡ admits query.test other
   pub group : All (λ place. places place ≡ true) query.group
   pub items : All (IsMadeOf places) query.outputs
@@ -41,10 +41,10 @@ pub record LooksAt (places : ℕ → Bool) (query : QueryPlan) : Type 0 where
 abbrev pub Wants : List Bool → (ℕ → Bool) → QuerySource → Type 0
 Wants wanted places source = (column : ℕ) → column < source.width → places (source.first + column) ≡ true → is_wanted wanted column ≡ true
 
--- for each source, the columns at which the query looks are wanted
+-- for each source, the columns that the query reads are wanted
 pub record Serves (wanted : List (List Bool)) (query : QueryPlan) : Type 0 where
   pub places : ℕ → Bool
-  pub looks : LooksAt places query
+  pub required : QueryReads places query
   pub wants : All (λ (source : QuerySource). Wants (wanted_of wanted source.table) places source) query.sources
 
 -- the same for both queries of the plan

@@ -3,8 +3,8 @@
 ghost use Rattle.tq_event.specs.Projection.{is_wanted, wanted_lists};
 ghost use Rattle.std.specs.Prelude.{◌≡◌, ◌^◌, ◌<◌, ◌≤◌, All, IfOk, true};
 ghost use Rattle.std.specs.List.{list_any};
-ghost use Rattle.tq_exec.specs.Required.{IsMadeOf, LooksAt, Serve};
-ghost use Rattle.tq_exec.specs.ColumnUse.{AreMore, AreNamed, LookAt, OperandLooksAt, TestLooksAt, names, plan_names};
+ghost use Rattle.tq_exec.specs.Required.{IsMadeOf, QueryReads, Serve};
+ghost use Rattle.tq_exec.specs.ColumnUse.{AreMore, AreNamed, QueriesRead, OperandReads, TestReads, names, plan_names};
 
 use std::alloc::{AllocError, Global};
 use tq_base::Catalogue;
@@ -13,40 +13,40 @@ use tq_event::steps::MAX_COLUMNS;
 use tq_plan::{Output, Plan, QueryPlan, QuerySource};
 
 // Marks the place as used. Places after the end of the list count as used.
-fn look_at(places: &mut Vec<bool>, place: u32)
-    ensures looks { is_wanted places.new.items place ≡ true }
+fn require(places: &mut Vec<bool>, place: u32)
+    ensures required { is_wanted places.new.items place ≡ true }
     ensures more { AreMore places.old.items places.new.items }
 {
-    if let Some(looks) = places.get_mut(place as usize) {
-        *looks = true;
+    if let Some(required) = places.get_mut(place as usize) {
+        *required = true;
     }
 }
 
-fn look_at_operand(places: &mut Vec<bool>, operand: &Operand)
-    ensures looks { OperandLooksAt (is_wanted places.new.items) operand.now }
+fn require_operand(places: &mut Vec<bool>, operand: &Operand)
+    ensures required { OperandReads (is_wanted places.new.items) operand.now }
     ensures more { AreMore places.old.items places.new.items }
 {
     match operand {
-        Operand::Column(place) => look_at(places, *place),
+        Operand::Column(place) => require(places, *place),
         Operand::Literal(_) => {}
     }
 }
 
 // Marks the places that the condition names. A chain of ANDs is as deep as it is long, so a loop follows its left parts.
-fn look_at_test(places: &mut Vec<bool>, test: &Test)
-    ensures looks { TestLooksAt (is_wanted places.new.items) test.now }
+fn require_test(places: &mut Vec<bool>, test: &Test)
+    ensures required { TestReads (is_wanted places.new.items) test.now }
     ensures more { AreMore places.old.items places.new.items }
 {
     let mut part = test;
     'parts: loop {
         match part {
             Test::Is { left, op: _, right } => {
-                look_at_operand(places, left);
-                look_at_operand(places, right);
+                require_operand(places, left);
+                require_operand(places, right);
                 return;
             }
             Test::And(first, last) | Test::Or(first, last) => {
-                look_at_test(places, last.get());
+                require_test(places, last.get());
                 part = first.get();
             }
             Test::Not(inner) => part = inner.get(),
@@ -54,31 +54,31 @@ fn look_at_test(places: &mut Vec<bool>, test: &Test)
     }
 }
 
-fn look_at_group(places: &mut Vec<bool>, group: &[u32])
-    ensures looks { All (λ place. is_wanted places.new.items place ≡ true) group.now }
+fn require_group(places: &mut Vec<bool>, group: &[u32])
+    ensures required { All (λ place. is_wanted places.new.items place ≡ true) group.now }
     ensures more { AreMore places.old.items places.new.items }
 {
     'group: for place in group {
-        look_at(places, *place);
+        require(places, *place);
     }
 }
 
-fn look_at_output(places: &mut Vec<bool>, output: Output)
-    ensures looks { IsMadeOf (is_wanted places.new.items) output }
+fn require_output(places: &mut Vec<bool>, output: Output)
+    ensures required { IsMadeOf (is_wanted places.new.items) output }
     ensures more { AreMore places.old.items places.new.items }
 {
     match output {
-        Output::Column(place) | Output::Sum(place) => look_at(places, place),
+        Output::Column(place) | Output::Sum(place) => require(places, place),
         Output::Count => {}
     }
 }
 
-fn look_at_outputs(places: &mut Vec<bool>, outputs: &[Output])
-    ensures looks { All (IsMadeOf (is_wanted places.new.items)) outputs.now }
+fn require_outputs(places: &mut Vec<bool>, outputs: &[Output])
+    ensures required { All (IsMadeOf (is_wanted places.new.items)) outputs.now }
     ensures more { AreMore places.old.items places.new.items }
 {
     'outputs: for output in outputs {
-        look_at_output(places, *output);
+        require_output(places, *output);
     }
 }
 
@@ -101,14 +101,14 @@ fn no_places(alloc: Global, count: usize) -> Result<Vec<bool>, AllocError> {
 
 // The places that the query uses.
 fn places_of(alloc: Global, query: &QueryPlan) -> Result<Vec<bool>, AllocError>
-    ensures { IfOk result (λ places. LooksAt (is_wanted places.items) query.now) }
+    ensures { IfOk result (λ places. QueryReads (is_wanted places.items) query.now) }
 {
     let mut places = no_places(alloc, place_count(query.sources.get()))?;
     if let Some(test) = &query.test {
-        look_at_test(&mut places, test);
+        require_test(&mut places, test);
     }
-    look_at_group(&mut places, query.group.get());
-    look_at_outputs(&mut places, query.outputs.get());
+    require_group(&mut places, query.group.get());
+    require_outputs(&mut places, query.outputs.get());
     Ok(places)
 }
 
@@ -120,7 +120,7 @@ struct Places {
 }
 
 fn places_in(alloc: Global, plan: &Plan) -> Result<Places, AllocError>
-    ensures { IfOk result (λ places. LookAt places.left.items places.right.items plan.now) }
+    ensures { IfOk result (λ places. QueriesRead places.left.items places.right.items plan.now) }
 {
     Ok(Places {
         left: places_of(alloc, &plan.left)?,
@@ -132,7 +132,7 @@ fn places_in(alloc: Global, plan: &Plan) -> Result<Places, AllocError>
 }
 
 // Whether a query uses the place.
-fn looks_at(places: &[bool], place: usize) -> bool
+fn is_required(places: &[bool], place: usize) -> bool
     ensures { result ≡ is_wanted places.now place }
 {
     places.get(place).copied().unwrap_or(true)
@@ -143,7 +143,7 @@ fn names(places: &[bool], source: &QuerySource, table: usize, column: usize) -> 
     requires { column < 2 ^ 32 }
     ensures { result ≡ names places.now table column source.now }
 {
-    source.table as usize == table && looks_at(places, source.first as usize + column)
+    source.table as usize == table && is_required(places, source.first as usize + column)
 }
 
 // Whether the query uses the column in some source.

@@ -22,7 +22,7 @@ use Rattle.tq_store.specs.declared.index.RowEvents.{RowEvents}
 use Rattle.tq_base.specs.KeyRanges.{key_of}
 use Rattle.tq_store.specs.Keys.{shifted, tree_key}
 use Rattle.tq_store.specs.Index.{AreIndexes, Begins, Ends, HasRows, IsIndexOf, IsKeyOf, IsOpenAt, IsRowLife, dead_of, ended, events_of, stored_values, values_of, widths_of}
-use Rattle.tq_store.proofs.LifeLemmas.{IsTold, StandsAt, ended_at, eqb-other, eqb-same, lives_end, lives_other, lives_start, lives_told}
+use Rattle.tq_store.proofs.LifeLemmas.{MatchesEvents, IsEventAt, ended_at, eqb-other, eqb-same, lives_end, lives_other, lives_start, lives_match}
 
 -- ---- lists
 
@@ -331,18 +331,18 @@ widths_kept indexes t old new here same =
 
 -- ---- the events of a row
 
-pub row_told : (es : List Event) (t row : ℕ) (l : Life) → slice_get (row_lives es t) row ≡ Some l → IsTold t row 0 es l
-row_told es t row l stands = lives_told t 0 0 row row es l (omega arith) stands
+pub row_matches : (es : List Event) (t row : ℕ) (l : Life) → slice_get (row_lives es t) row ≡ Some l → MatchesEvents t row 0 es l
+row_matches es t row l stands = lives_match t 0 0 row row es l (omega arith) stands
 
 pub start_stands : (es : List Event) (t row : ℕ) (l : Life) → slice_get (row_lives es t) row ≡ Some l → slice_get es l.start ≡ Some (Start t l.values l.from)
 start_stands es t row l stands =
-    let told = (row_told es t row l stands).start in
-    ap (slice_get es) (let is = told.number_is in omega (arith, is)) ∙ told.event_is
+    let matches = (row_matches es t row l stands).start in
+    ap (slice_get es) (let is = matches.number_is in omega (arith, is)) ∙ matches.event_is
 
 pub end_stands : (es : List Event) (t row : ℕ) (l : Life) (e : Ending) → slice_get (row_lives es t) row ≡ Some l → l.ending ≡ Some e → slice_get es e.event ≡ Some (End t row e.at)
 end_stands es t row l e stands is =
-    let told = subst (λ o. IfSome o (λ (x : Ending). StandsAt es 0 x.event (End t row x.at))) is (row_told es t row l stands).ending in
-    ap (slice_get es) (let number = told.number_is in omega (arith, number)) ∙ told.event_is
+    let matches = subst (λ o. IfSome o (λ (x : Ending). IsEventAt es 0 x.event (End t row x.at))) is (row_matches es t row l stands).ending in
+    ap (slice_get es) (let number = matches.number_is in omega (arith, number)) ∙ matches.event_is
 
 -- ---- results
 

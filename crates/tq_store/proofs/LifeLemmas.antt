@@ -218,41 +218,41 @@ rows_known t next k (suc m) n number i (Start u v at ∷ es) is numbered =
 -- ---- the positions of the events of a life
 
 -- the event is at its number, counted from the given one
-pub record StandsAt (es : List Event) (k number : ℕ) (e : Event) : Type 0 where
+pub record IsEventAt (es : List Event) (k number : ℕ) (e : Event) : Type 0 where
   pub place : ℕ
   pub number_is : number ≡ k + place
   pub event_is : slice_get es place ≡ Some e
 
 -- the life agrees with the events that it names
-pub record IsTold (t row k : ℕ) (es : List Event) (l : Life) : Type 0 where
-  pub start : StandsAt es k l.start (Start t l.values l.from)
-  pub ending : IfSome l.ending (λ e. StandsAt es k e.event (End t row e.at))
+pub record MatchesEvents (t row k : ℕ) (es : List Event) (l : Life) : Type 0 where
+  pub start : IsEventAt es k l.start (Start t l.values l.from)
+  pub ending : IfSome l.ending (λ e. IsEventAt es k e.event (End t row e.at))
 
-later_at : (es : List Event) (k number : ℕ) (x e : Event) → StandsAt es (k + 1) number e → StandsAt (x ∷ es) k number e
+later_at : (es : List Event) (k number : ℕ) (x e : Event) → IsEventAt es (k + 1) number e → IsEventAt (x ∷ es) k number e
 later_at es k number x e s = record { place = suc s.place; number_is = let is = s.number_is in omega (arith, is); event_is = s.event_is }
 
-abbrev EndsTold : ℕ → ℕ → ℕ → List Event → Option Ending → Type 0
-EndsTold t row k es o = IfSome o (λ e. StandsAt es k e.event (End t row e.at))
+abbrev EndMatches : ℕ → ℕ → ℕ → List Event → Option Ending → Type 0
+EndMatches t row k es o = IfSome o (λ e. IsEventAt es k e.event (End t row e.at))
 
-later_end : (t row k : ℕ) (es : List Event) (x : Event) (o : Option Ending) → EndsTold t row (k + 1) es o → EndsTold t row k (x ∷ es) o
-later_end t row k es x None told = told
-later_end t row k es x (Some e) told = later_at es k e.event x (End t row e.at) told
+later_end : (t row k : ℕ) (es : List Event) (x : Event) (o : Option Ending) → EndMatches t row (k + 1) es o → EndMatches t row k (x ∷ es) o
+later_end t row k es x None matches = matches
+later_end t row k es x (Some e) matches = later_at es k e.event x (End t row e.at) matches
 
-later_told : (t row k : ℕ) (es : List Event) (x : Event) (l : Life) → IsTold t row (k + 1) es l → IsTold t row k (x ∷ es) l
-later_told t row k es x l told = record { start = later_at es k l.start x (Start t l.values l.from) told.start; ending = later_end t row k es x l.ending told.ending }
+later_matches : (t row k : ℕ) (es : List Event) (x : Event) (l : Life) → MatchesEvents t row (k + 1) es l → MatchesEvents t row k (x ∷ es) l
+later_matches t row k es x l matches = record { start = later_at es k l.start x (Start t l.values l.from) matches.start; ending = later_end t row k es x l.ending matches.ending }
 
 pub and-true : (a b : Bool) → (a && b) ≡ true → (a ≡ true) × (b ≡ true)
 and-true true true is = (refl, refl)
 and-true true false is = absurd (cc)
 and-true false b is = absurd (cc)
 
-ending_told : (t row k : ℕ) (es : List Event) → EndsTold t row k es (ending_of t row k es)
-ending_told t row k [] = tt
-ending_told t row k (Start u v at ∷ es) = later_end t row k es (Start u v at) (ending_of t row (k + 1) es) (ending_told t row (k + 1) es)
-ending_told t row k (End u s at ∷ es) = by (u == t && s == row) refl (later_end t row k es (End u s at) (ending_of t row (k + 1) es) (ending_told t row (k + 1) es))
+ending_matches : (t row k : ℕ) (es : List Event) → EndMatches t row k es (ending_of t row k es)
+ending_matches t row k [] = tt
+ending_matches t row k (Start u v at ∷ es) = later_end t row k es (Start u v at) (ending_of t row (k + 1) es) (ending_matches t row (k + 1) es)
+ending_matches t row k (End u s at ∷ es) = by (u == t && s == row) refl (later_end t row k es (End u s at) (ending_of t row (k + 1) es) (ending_matches t row (k + 1) es))
   where
-    by : (b : Bool) → (u == t && s == row) ≡ b → EndsTold t row k (End u s at ∷ es) (ending_of t row (k + 1) es)
-        → EndsTold t row k (End u s at ∷ es) (if b then Some (record { event = k; at = at }) else ending_of t row (k + 1) es)
+    by : (b : Bool) → (u == t && s == row) ≡ b → EndMatches t row k (End u s at ∷ es) (ending_of t row (k + 1) es)
+        → EndMatches t row k (End u s at ∷ es) (if b then Some (record { event = k; at = at }) else ending_of t row (k + 1) es)
     by true is later =
         let both = and-true (u == t) (s == row) is in
         let same_table : u ≡ t = eqb-true u t both.0 in
@@ -260,27 +260,27 @@ ending_told t row k (End u s at ∷ es) = by (u == t && s == row) refl (later_en
         record { place = 0; number_is = omega arith; event_is = ap (λ x. Some (End x s at)) same_table ∙ ap (λ x. Some (End t x at)) same_row }
     by false is later = later
 
-pub lives_told : (t next k row i : ℕ) (es : List Event) (l : Life) → row ≡ next + i → slice_get (row_lives_from t next k es) i ≡ Some l → IsTold t row k es l
-lives_told t next k row i [] l numbered stands = absurd (cc)
-lives_told t next k row i (End u s at ∷ es) l numbered stands = later_told t row k es (End u s at) l (lives_told t next (k + 1) row i es l numbered stands)
-lives_told t next k row i (Start u v at ∷ es) l numbered stands =
-    by (u == t) refl i numbered stands (λ here. lives_told t next (k + 1) row i es l numbered here) (λ j at_j here. lives_told t (next + 1) (k + 1) row j es l at_j here)
+pub lives_match : (t next k row i : ℕ) (es : List Event) (l : Life) → row ≡ next + i → slice_get (row_lives_from t next k es) i ≡ Some l → MatchesEvents t row k es l
+lives_match t next k row i [] l numbered stands = absurd (cc)
+lives_match t next k row i (End u s at ∷ es) l numbered stands = later_matches t row k es (End u s at) l (lives_match t next (k + 1) row i es l numbered stands)
+lives_match t next k row i (Start u v at ∷ es) l numbered stands =
+    by (u == t) refl i numbered stands (λ here. lives_match t next (k + 1) row i es l numbered here) (λ j at_j here. lives_match t (next + 1) (k + 1) row j es l at_j here)
   where
-    told : u ≡ t → row ≡ next → IsTold t row k (Start u v at ∷ es) (life_at t next k v at es)
-    told same_table same_row = record {
+    matches : u ≡ t → row ≡ next → MatchesEvents t row k (Start u v at ∷ es) (life_at t next k v at es)
+    matches same_table same_row = record {
       start = record { place = 0; number_is = omega arith; event_is = ap (λ x. Some (Start x v at)) same_table };
-      ending = later_end t row k es (Start u v at) (ending_of t next (k + 1) es) (subst (λ r. EndsTold t row (k + 1) es (ending_of t r (k + 1) es)) same_row (ending_told t row (k + 1) es));
+      ending = later_end t row k es (Start u v at) (ending_of t next (k + 1) es) (subst (λ r. EndMatches t row (k + 1) es (ending_of t r (k + 1) es)) same_row (ending_matches t row (k + 1) es));
     }
 
     by : (b : Bool) → (u == t) ≡ b → (i : ℕ) → row ≡ next + i → slice_get (if b then life_at t next k v at es ∷ row_lives_from t (next + 1) (k + 1) es else row_lives_from t next (k + 1) es) i ≡ Some l
-        → (slice_get (row_lives_from t next (k + 1) es) i ≡ Some l → IsTold t row (k + 1) es l)
-        → ((j : ℕ) → row ≡ next + 1 + j → slice_get (row_lives_from t (next + 1) (k + 1) es) j ≡ Some l → IsTold t row (k + 1) es l)
-        → IsTold t row k (Start u v at ∷ es) l
+        → (slice_get (row_lives_from t next (k + 1) es) i ≡ Some l → MatchesEvents t row (k + 1) es l)
+        → ((j : ℕ) → row ≡ next + 1 + j → slice_get (row_lives_from t (next + 1) (k + 1) es) j ≡ Some l → MatchesEvents t row (k + 1) es l)
+        → MatchesEvents t row k (Start u v at ∷ es) l
     by true is zero numbered here same later =
         let life_is : life_at t next k v at es ≡ l = cc in
-        subst (IsTold t row k (Start u v at ∷ es)) life_is (told (eqb-true u t is) (omega (arith, numbered)))
-    by true is (suc j) numbered here same later = later_told t row k es (Start u v at) l (later j (omega (arith, numbered)) here)
-    by false is i numbered here same later = later_told t row k es (Start u v at) l (same here)
+        subst (MatchesEvents t row k (Start u v at ∷ es)) life_is (matches (eqb-true u t is) (omega (arith, numbered)))
+    by true is (suc j) numbered here same later = later_matches t row k es (Start u v at) l (later j (omega (arith, numbered)) here)
+    by false is i numbered here same later = later_matches t row k es (Start u v at) l (same here)
 
 -- ---- a later row starts later
 
@@ -300,8 +300,8 @@ starts_rise t next k i j (Start u v at ∷ es) l m less here there =
     by true zero (suc j) less here there same later =
         let life_is : life_at t next k v at es ≡ l = cc in
         let begin : k ≡ l.start = ap (λ (y : Life). y.start) life_is in
-        let told = (lives_told t (next + 1) (k + 1) (next + 1 + j) j es m refl there).start in
-        let number = told.number_is in
+        let matches = (lives_match t (next + 1) (k + 1) (next + 1 + j) j es m refl there).start in
+        let number = matches.number_is in
         omega (arith, begin, number)
     by true (suc i) (suc j) less here there same later = later i j (omega (arith, less)) here there
     by false i j less here there same later = same here there

@@ -152,8 +152,8 @@ module _ (es : List Event) (t : ℕ) (index : Index) (is : IsIndexOf es t index)
         ∙ ap (option_map (row_validity_at period.start)) (slice_get-get_or row_periods k d less))
       where
         by : (o : Option ℕ) → slice_get keys k ≡ o → option_map (λ key. times_at period.start (times_of_key index.rows.items n key)) o ≡ Some (row_validity_at period.start (get_or row_periods k d)) → (get_or row_periods k d).row < length index.kept.items
-        by None stands told = absurd (cc)
-        by (Some key) stands told = found (slice_get index.rows.items (key % 4294967296)) refl
+        by None stands matches = absurd (cc)
+        by (Some key) stands matches = found (slice_get index.rows.items (key % 4294967296)) refl
             (subst (IsReadable es index.rows.items) (get_or_from_slice_get keys k key key stands) (there k key (slice_get_within keys k key stands)))
           where
             number : key % 4294967296 ≡ (get_or row_periods k d).row

@@ -5,7 +5,7 @@ use Rattle.tq_base.specs.RowValues.{value_at}
 use Rattle.tq_base.specs.Keys.{is_exact}
 use Rattle.tq_base.specs.NormalizedKeys.{normalized_key, HasBytes}
 use Rattle.tq_agg.specs.declared.buckets.Bucket.{Bucket}
-use Rattle.tq_agg.specs.Buckets.{counted, AreCut, AreRanked, IsTold}
+use Rattle.tq_agg.specs.Buckets.{counted, AreCut, AreRanked, HasExactKey}
 use Rattle.tq_agg.specs.Changes.{weighed, AreChangesCut}
 use Rattle.tq_agg.proofs.Bucketing.{below, empty_adds, empty_is_cut, one_more, value_there}
 use Rattle.tq_agg.proofs.WeighedBuckets.{unchanged_adds, unchanged_is_cut}
@@ -33,7 +33,7 @@ returns-clause-ranked c =
     let prefix = c.normalized_key-prefix.result in
     let b : Bucket = record { row = c.args.row; endpoints = c.none.result; changes = c.none-2.result } in
     let of : prefix ≡ normalized_key (value_at column c.args.row) = c.normalized_key-prefix.ensures.prefix ∙ ap normalized_key c.value.ensures in
-    let told : IsTold (value_at column c.args.row) =
+    let exact : HasExactKey (value_at column c.args.row) =
     (subst HasBytes c.value.ensures c.normalized_key-prefix.ensures.bytes, ap is_exact (sym of) ∙ sym c.is_exact.ensures ∙ c.if-not-is_exact.false) in
     let there : place ≡ below prefix ranks = c.place_of-place.ensures ∙ ap (below prefix) c.deref.ensures.value in
     let differs : place < length ranks → get_or ranks place 0 ≢ prefix = λ lt same.
@@ -41,7 +41,7 @@ returns-clause-ranked c =
       | else-place-len-via-then-place-len+else-index-prefix w ↦ w.if-index-prefix.false (w.index.ensures ∙ get_or_default ranks place w.index.result.now 0 lt ∙ same)
       | else-place-len-via-else-place-len w ↦ absurd (omega (arith, lt, w.if-place-len.false, c.len.ensures, c.args.buckets.now.ranks.ok.0))
     ] in
-    let are = one_more column ranks buckets c.requires place prefix b there of told differs in
+    let are = one_more column ranks buckets c.requires place prefix b there of exact differs in
     subst (λ l. AreRanked column l c.insert-2.new.self.items) (sym c.in_ok-insert.ensures.items)
     (subst (λ l. AreRanked column (insert ranks place prefix) l) (sym c.in_ok-insert-2.ensures.items) are)
 

@@ -5,7 +5,7 @@ use Rattle.std.proofs.lemmas.List.Elements.{All-append}
 use Rattle.tq_base.specs.declared.value.Value.{Value}
 use Rattle.tq_base.specs.NormalizedKeys.{normalized_key}
 use Rattle.tq_agg.specs.declared.buckets.Bucket.{Bucket}
-use Rattle.tq_agg.specs.Buckets.{bucket_count, value_of, AreRanked, IsInside, IsTold}
+use Rattle.tq_agg.specs.Buckets.{bucket_count, value_of, AreRanked, IsInside, HasExactKey}
 use Rattle.tq_agg.specs.Endpoints.{AreInside}
 use Rattle.tq_agg.proofs.Bucketing.{below}
 use Rattle.tq_agg.proofs.OneRank.{both_counted, none_counted_at, one_counted, rank_there}
@@ -38,8 +38,8 @@ module _ (c : goal.In_ok-add_all) where
   pub is : get_or ranks place 0 ≡ c.args.prefix
   is = get_or_default ranks place 0 c.index.result.now in_ranks ∙ sym c.index.ensures ∙ c.if-index-prefix.true
 
-  pub told : (column : List Value) → AreRanked column ranks buckets → IsTold (value_of column found)
-  told column are = subst (λ b. IsTold (value_of column b)) (sym there) (are.2 place found in_list)
+  pub exact : (column : List Value) → AreRanked column ranks buckets → HasExactKey (value_of column found)
+  exact column are = subst (λ b. HasExactKey (value_of column b)) (sym there) (are.2 place found in_list)
 
   pub of : (column : List Value) → AreRanked column ranks buckets → normalized_key (value_of column found) ≡ c.args.prefix
   of column are = ap (λ b. normalized_key (value_of column b)) there ∙ rank_there column ranks buckets are c.args.prefix place 0 [] in_ranks is found
@@ -55,12 +55,12 @@ returns-in_ok-add_all-clause-inside c window cut inside =
     )
 
 pub returns-in_ok-add_all-clause-found : goal.returns-in_ok-add_all-clause-found
-returns-in_ok-add_all-clause-found c column are _ = inr (told c column are, of c column are)
+returns-in_ok-add_all-clause-found c column are _ = inr (exact c column are, of c column are)
 
 pub returns-in_ok-add_all-clause-counts : goal.returns-in_ok-add_all-clause-counts
 returns-in_ok-add_all-clause-counts c column are is_found t key =
     let new : Bucket = record { row = (found c).row; endpoints = c.add_all.new.self; changes = c.args.bucket.now.changes } in
-    both_counted column c.args.prefix t key c.args.bucket.now (found c) new is_found (told c column are) (of c column are) refl c.in_ok-add_all.ensures.starts c.in_ok-add_all.ensures.ends
+    both_counted column c.args.prefix t key c.args.bucket.now (found c) new is_found (exact c column are) (of c column are) refl c.in_ok-add_all.ensures.starts c.in_ok-add_all.ensures.ends
     ∙ ap (λ n. bucket_count column t key c.args.bucket.now +ℤ n)
     (ap (bucket_count column t key) (there c) ∙ sym (one_counted column (ranks c) (buckets c) are c.args.prefix (place c) t key (in_ranks c) (is c) (found c)))
 

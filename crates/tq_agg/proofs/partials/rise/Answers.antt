@@ -7,7 +7,7 @@ use Rattle.tq_agg.proofs.partials.rise.Goals as goal
 
 -- numbers of which each is below the next
 from_neighbours : (ranks : List ℕ) (r : Bool) → IsAllAdjacentAnswer (λ prefix next b. b ≡ nat_lt prefix next) ranks r → r ≡ true → AllPairs (λ prefix next. prefix < next) ranks
-from_neighbours ranks true each is = AllPairs-from_increasing ranks (λ k below. let told = each k 0 below in grind (arith, nat_tests, told))
+from_neighbours ranks true each is = AllPairs-from_increasing ranks (λ k below. let exact = each k 0 below in grind (arith, nat_tests, exact))
 from_neighbours ranks false each is = cc
 
 pub returns : goal.returns

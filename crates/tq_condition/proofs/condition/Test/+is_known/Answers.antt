@@ -16,8 +16,8 @@ told_pair test one last first count (inl is) on_one on_last = told_And test one 
 told_pair test one last first count (inr is) on_one on_last = told_Or test one last first count is on_one on_last
 
 pub returns-then-is_known : goal.returns-then-is_known
-returns-then-is_known t c told =
-    c.parts.invariant.leads (told_Is c.parts.part.now c.in-Is.left c.in-Is.op c.in-Is.right c.args.first c.args.count c.in-Is.is (c.is_known.ensures c.if-is_known.true) (c.is_known-then-is_known.ensures told))
+returns-then-is_known t c allowed =
+    c.parts.invariant.leads (told_Is c.parts.part.now c.in-Is.left c.in-Is.op c.in-Is.right c.args.first c.args.count c.in-Is.is (c.is_known.ensures c.if-is_known.true) (c.is_known-then-is_known.ensures allowed))
 
 pub parts-smaller-in-Not-1 : goal.parts-smaller-in-Not-1
 parts-smaller-in-Not-1 t c = omega (arith, ap weight c.in-Not.is, weight-Not c.in-Not.inner, ap weight c.get-part.ensures)
@@ -25,7 +25,7 @@ parts-smaller-in-Not-1 t c = omega (arith, ap weight c.in-Not.is, weight-Not c.i
 pub parts-preserved-in-Not-1 : goal.parts-preserved-in-Not-1
 parts-preserved-in-Not-1 t c = record {
   no_deeper = omega (arith, c.parts.invariant.no_deeper, ap weight c.in-Not.is, weight-Not c.in-Not.inner, ap weight c.get-part.ensures);
-  leads = λ told. c.parts.invariant.leads (told_Not c.parts.part.now c.in-Not.inner c.args.first c.args.count c.in-Not.is (subst (λ p. IsKnownTest p c.args.first c.args.count) c.get-part.ensures told));
+  leads = λ allowed. c.parts.invariant.leads (told_Not c.parts.part.now c.in-Not.inner c.args.first c.args.count c.in-Not.is (subst (λ p. IsKnownTest p c.args.first c.args.count) c.get-part.ensures allowed));
 }
 
 pub is_known-requires-in-And : goal.is_known-requires-in-And
@@ -38,9 +38,9 @@ parts-smaller t c = omega (arith, weight_of_pair c.parts.part.now c.in-And.one c
 pub parts-preserved : goal.parts-preserved
 parts-preserved t c = record {
   no_deeper = omega (arith, c.parts.invariant.no_deeper, weight_of_pair c.parts.part.now c.in-And.one c.in-And.last c.in-And.is, ap weight c.get-part-in-And.ensures);
-  leads = λ told.
+  leads = λ allowed.
       c.parts.invariant.leads
       (told_pair c.parts.part.now c.in-And.one c.in-And.last c.args.first c.args.count c.in-And.is
-      (subst (λ p. IsKnownTest p c.args.first c.args.count) c.get-part-in-And.ensures told)
+      (subst (λ p. IsKnownTest p c.args.first c.args.count) c.get-part-in-And.ensures allowed)
       (subst (λ p. IsKnownTest p c.args.first c.args.count) c.get.ensures (c.is_known-in-And.ensures c.if-not-is_known.false)));
 }

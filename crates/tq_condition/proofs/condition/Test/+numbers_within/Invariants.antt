@@ -13,5 +13,5 @@ decreases-parts l = weight l.part
 abbrev pub invariant-parts : goal.invariant-parts
 invariant-parts l = record {
   no_heavier : weight l.part ≤ weight l.fn.self;
-  leads : Leads l.fn.self l.fn.wanted l.place l.fn.within l.part l.wanted l.told.within l.told.also;
+  leads : Leads l.fn.self l.fn.wanted l.place l.fn.within l.part l.wanted l.allowed.within l.allowed.also;
 }

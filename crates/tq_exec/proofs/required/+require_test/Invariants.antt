@@ -1,9 +1,9 @@
--- The part weighs no more, and what looks where it does, at more places than so far, looks where the whole does.
+-- The part weighs no more. If these places and more have all that the part reads, they have all that the whole reads.
 use Rattle.tq_event.specs.Projection.{is_wanted}
 use Rattle.std.proofs.Common.{◌≤◌, Bool, List}
 use Rattle.tq_condition.proofs.Conditions.{weight}
-use Rattle.tq_exec.specs.ColumnUse.{AreMore, TestLooksAt}
-use Rattle.tq_exec.proofs.required.+look_at_test.Given as goal
+use Rattle.tq_exec.specs.ColumnUse.{AreMore, TestReads}
+use Rattle.tq_exec.proofs.required.+require_test.Given as goal
 
 abbrev pub decreases-look_at_test : goal.decreases-look_at_test
 decreases-look_at_test l = weight l.test.now
@@ -15,5 +15,5 @@ abbrev pub invariant-parts : goal.invariant-parts
 invariant-parts l = record {
   no_heavier : weight l.part ≤ weight l.fn.test;
   more : AreMore l.initial.places.items l.places.items;
-  leads : (new : List Bool) → AreMore l.places.items new → TestLooksAt (is_wanted new) l.part → TestLooksAt (is_wanted new) l.fn.test;
+  leads : (new : List Bool) → AreMore l.places.items new → TestReads (is_wanted new) l.part → TestReads (is_wanted new) l.fn.test;
 }

@@ -7,22 +7,22 @@ use Rattle.tq_plan.specs.declared.plans.Output.{Output}
 use Rattle.tq_plan.specs.declared.plans.Output.TheVariants.{Column}
 use Rattle.tq_exec.specs.Required.{IsMadeOf}
 use Rattle.tq_exec.proofs.ColumnUseLemmas.{output_more}
-use Rattle.tq_exec.proofs.required.look_at_outputs.Goals as goal
+use Rattle.tq_exec.proofs.required.require_outputs.Goals as goal
 
 pub outputs-preserved : goal.outputs-preserved
 outputs-preserved c =
     let outputs = c.args.outputs.now in
     let place = c.outputs.output-index in
     let before = c.outputs.places.items in
-    let after = c.look_at_output.new.places.items in
+    let after = c.require_output.new.places.items in
     record {
-      looks =
+      required =
           All-more (IsMadeOf (is_wanted after)) outputs place (Column 0) (omega (arith, c.outputs-test.true))
-          (All-weaker (IsMadeOf (is_wanted before)) (IsMadeOf (is_wanted after)) (λ (output : Output). output_more output before after c.look_at_output.ensures.more) (take place outputs) c.outputs.invariant.looks)
-          c.look_at_output.ensures.looks;
-      more = λ k is. c.look_at_output.ensures.more k (c.outputs.invariant.more k is);
+          (All-weaker (IsMadeOf (is_wanted before)) (IsMadeOf (is_wanted after)) (λ (output : Output). output_more output before after c.require_output.ensures.more) (take place outputs) c.outputs.invariant.required)
+          c.require_output.ensures.required;
+      more = λ k is. c.require_output.ensures.more k (c.outputs.invariant.more k is);
     }
 
 pub returns-clause-looks : goal.returns-clause-looks
 returns-clause-looks c =
-    subst (All (IsMadeOf (is_wanted c.outputs.places.items))) (take_all c.outputs.output-index c.args.outputs.now (omega (arith, c.outputs-test.false))) c.outputs.invariant.looks
+    subst (All (IsMadeOf (is_wanted c.outputs.places.items))) (take_all c.outputs.output-index c.args.outputs.now (omega (arith, c.outputs-test.false))) c.outputs.invariant.required
