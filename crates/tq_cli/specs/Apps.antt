@@ -120,8 +120,8 @@ session_app = with_rule (with_rule (with_rule (new_app (codes "session")) table_
 
 abbrev pub with_period : App → App
 with_period app =
-    with_rule (with_rule (with_rule (with_rule (with_rule app (required_rule (codes "from"))) (required_rule (codes "to")))
-    (text_rule (codes "date-format"))) (flag_rule (codes "inclusive"))) (list_rule (codes "open"))
+    with_rule (with_rule (with_rule (with_rule (with_rule (with_rule app (required_rule (codes "from"))) (required_rule (codes "to")))
+    (text_rule (codes "date-format"))) (text_rule (codes "unit"))) (flag_rule (codes "inclusive"))) (list_rule (codes "open"))
 
 abbrev pub with_columns : App → App
 with_columns app =

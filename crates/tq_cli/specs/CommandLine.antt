@@ -249,6 +249,7 @@ pub record IsPeriodOf (rows : List Row) (period : PeriodWords) : Type 0 where
   pub from : period.from.items ≡ word_of (codes "from") rows
   pub to : period.to.items ≡ word_of (codes "to") rows
   pub format : period.format.items ≡ word_of (codes "date-format") rows
+  pub unit : period.unit.items ≡ word_of (codes "unit") rows
   pub inclusive : period.inclusive ≡ is_set (codes "inclusive") rows
   pub spellings : map (λ w. w.items) period.open.items ≡ list_of (codes "open") rows
 

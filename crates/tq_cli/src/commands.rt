@@ -198,6 +198,12 @@ pub(crate) fn period_arguments<'a>(
             "FORMAT",
             "How dates are written, as dd.mm.yyyy; without it, times are numbers",
         ))?
+        .arg(text_argument(
+            alloc,
+            "unit",
+            "UNIT",
+            "What the instants of dates count: day, or second since 1970",
+        ))?
         .arg(flag_argument(
             alloc,
             "inclusive",

@@ -18,11 +18,13 @@ pub(crate) fn read_period(alloc: Global, import: &ArgMatches<'_>) -> Result<Peri
     let from = bytes_of(alloc, read_text(import, "from"))?;
     let to = bytes_of(alloc, read_text(import, "to"))?;
     let format = bytes_of(alloc, read_text(import, "date-format"))?;
+    let unit = bytes_of(alloc, read_text(import, "unit"))?;
     let open = read_list(alloc, import, "open")?;
     Ok(PeriodWords {
         from,
         to,
         format,
+        unit,
         inclusive: read_flag(import, "inclusive"),
         open,
     })

@@ -79,8 +79,8 @@ fn answer_fault_text(
     text.extend_from_slice(Buffer::new().format(number).as_bytes())?;
     text.extend_from_slice(match kind {
         AnswerFaultKind::Read => b": it cannot be read".as_slice(),
-        AnswerFaultKind::Header => b": it has no header of this answer".as_slice(),
-        AnswerFaultKind::Record(_) => b": it is no row of this answer: ".as_slice(),
+        AnswerFaultKind::Header => b": the header is not that of the answer".as_slice(),
+        AnswerFaultKind::Record(_) => b": invalid row: ".as_slice(),
         AnswerFaultKind::Order => b": it is not in order".as_slice(),
     })?;
     if let AnswerFaultKind::Record(kind) = kind {

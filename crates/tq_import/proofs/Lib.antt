@@ -1,6 +1,7 @@
 pub mod AmountLemmas
 pub mod DigitLemmas
 pub mod DateLemmas
+pub mod ClockLemmas
 pub mod EncodingLemmas
 pub mod Latin1Lemmas
 pub mod LineLemmas

@@ -54,7 +54,10 @@ use Rattle.tq_import.specs.Imports.{at_number, column_field, kind_word, number_h
 use Rattle.tq_import.specs.Loads.{ImportedFilesLoad, ImportsLoad, imported_records}
 use Rattle.tq_import.specs.Records.{at_place, convert, field_of, import_record, known, number_field, ordered, period_in, period_texts, row_number, values_after}
 use Rattle.tq_import.specs.Tables.{AreTableColumns, columns_with, entries_in, entry_in, number_in, table_column, table_columns, table_kind, value_in, values_in}
-use Rattle.tq_import.specs.Times.{after_last, bound_in, end_of, form_of, instant_in, is_open, last_instant}
+use Rattle.tq_import.specs.declared.plan.TimeUnit.{TimeUnit}
+use Rattle.tq_import.specs.declared.plan.TimeUnit.TheVariants.{Day, Second}
+use Rattle.tq_import.specs.Times.{after_last, bound_in, end_of, form_in, form_of, instant_in, is_open, last_instant, written_in}
+use Rattle.tq_import.proofs.ClockLemmas.{day_within, second_within}
 use Rattle.tq_import.proofs.AmountLemmas.{units_fit}
 use Rattle.tq_import.proofs.ReadBackLemmas.{Plain, plain_text, read_back_of}
 
@@ -113,63 +116,60 @@ not_forever Dates (b ∷ bs) n e = by (is_date_text (b ∷ bs)) refl e
     by false i f = cc f
 
 -- an instant that can be written is read back
-written_back : (dates : Option (List ℕ)) (n : ℕ) → n ≤ last_instant dates → instant_of (form_of dates) (instant_text (form_of dates) n) ≡ Some n
-written_back None n within = natural_back (FOREVER - 1) n (omega (arith, within)) within
-written_back (Some format) n within = dates_told.0 n within
+written_back : (form : Form) (n : ℕ) → n ≤ last_instant form → instant_of form (instant_text form n) ≡ Some n
+written_back Numbers n within = natural_back (FOREVER - 1) n (omega (arith, within)) within
+written_back Dates n within = dates_told.0 n within
 
-day_within : (format field : List ℕ) (n : ℕ) → day_in format field ≡ Some n → n ≤ LAST_DAY
-day_within format field n e = by (digits_in format no_digits field) e
+instant_within : (times : TimeFormat) (field : List ℕ) (n : ℕ) → instant_in times field ≡ Some n → n ≤ last_instant (form_of times)
+instant_within times field n e = by times.dates times.unit e
   where
-    by : (o : Option DateDigits) → option_and_then (λ digits. instant_of Dates (iso_text digits)) o ≡ Some n → n ≤ LAST_DAY
-    by None f = cc f
-    by (Some digits) f = (dates_told.1 (iso_text digits) n f).0
+    by : (dates : Option (List ℕ)) (unit : TimeUnit) → written_in dates unit field ≡ Some n → n ≤ last_instant (form_in dates unit)
+    by None unit f = (natural_some (FOREVER - 1) n field (sym f)).2
+    by (Some format) Day f = day_within format (without_midnight field) n f
+    by (Some format) Second f = second_within format field n f
 
-instant_within : (dates : Option (List ℕ)) (field : List ℕ) (n : ℕ) → instant_in dates field ≡ Some n → n ≤ last_instant dates
-instant_within None field n e = (natural_some (FOREVER - 1) n field (sym e)).2
-instant_within (Some format) field n e = day_within format (without_midnight field) n e
-
-next_within : (dates : Option (List ℕ)) (last b : ℕ) → after_last dates last ≡ Some b → b ≤ last_instant dates
-next_within dates last b e = by (nat_lt last (last_instant dates)) refl e
+next_within : (form : Form) (last b : ℕ) → after_last form last ≡ Some b → b ≤ last_instant form
+next_within form last b e = by (nat_lt last (last_instant form)) refl e
   where
-    by : (t : Bool) → nat_lt last (last_instant dates) ≡ t → (if t then Some (last + 1) else None) ≡ Some b → b ≤ last_instant dates
+    by : (t : Bool) → nat_lt last (last_instant form) ≡ t → (if t then Some (last + 1) else None) ≡ Some b → b ≤ last_instant form
     by true i f =
         let same : last + 1 ≡ b = cc f in
-        omega (arith, same, ltb-true last (last_instant dates) i)
+        omega (arith, same, ltb-true last (last_instant form) i)
     by false i f = cc f
 
-end_within : (times : TimeFormat) (end b : ℕ) → end ≤ last_instant times.dates → end_of times end ≡ Some b → b ≤ last_instant times.dates
+end_within : (times : TimeFormat) (end b : ℕ) → end ≤ last_instant (form_of times) → end_of times end ≡ Some b → b ≤ last_instant (form_of times)
 end_within times end b within e = by times.inclusive e
   where
-    by : (t : Bool) → (if t then after_last times.dates end else Some end) ≡ Some b → b ≤ last_instant times.dates
-    by true f = next_within times.dates end b f
+    by : (t : Bool) → (if t then after_last (form_of times) end else Some end) ≡ Some b → b ≤ last_instant (form_of times)
+    by true f = next_within (form_of times) end b f
     by false f = let same : end ≡ b = cc f in omega (arith, same, within)
 
-bound_within : (times : TimeFormat) (field : List ℕ) (b : ℕ) → bound_in times field ≡ Some b → (b ≡ FOREVER) ⊎ (b ≤ last_instant times.dates)
-bound_within times field b e = by (is_open times.open field) (instant_in times.dates field) refl e
+bound_within : (times : TimeFormat) (field : List ℕ) (b : ℕ) → bound_in times field ≡ Some b → (b ≡ FOREVER) ⊎ (b ≤ last_instant (form_of times))
+bound_within times field b e = by (is_open times.open field) (instant_in times field) refl e
   where
-    by : (t : Bool) (o : Option ℕ) → instant_in times.dates field ≡ o → (if t then Some FOREVER else option_and_then (end_of times) o) ≡ Some b → (b ≡ FOREVER) ⊎ (b ≤ last_instant times.dates)
+    by : (t : Bool) (o : Option ℕ) → instant_in times field ≡ o → (if t then Some FOREVER else option_and_then (end_of times) o) ≡ Some b → (b ≡ FOREVER) ⊎ (b ≤ last_instant (form_of times))
     by true o i f = inl (sym (cc f))
     by false None i f = cc f
-    by false (Some end) i f = inr (end_within times end b (instant_within times.dates field end i) f)
+    by false (Some end) i f = inr (end_within times end b (instant_within times field end i) f)
 
-last_before : (dates : Option (List ℕ)) → last_instant dates < FOREVER
-last_before None = omega arith
-last_before (Some format) = omega arith
+last_before : (form : Form) → last_instant form < FOREVER
+last_before Numbers = omega arith
+last_before Dates = omega arith
 
-bound_back : (dates : Option (List ℕ)) (b : ℕ) → (b ≡ FOREVER) ⊎ (b ≤ last_instant dates) → bound_of (form_of dates) (bound_field (form_of dates) b) ≡ Some b
-bound_back dates b (inl last) =
+bound_back : (form : Form) (b : ℕ) → (b ≡ FOREVER) ⊎ (b ≤ last_instant form) → bound_of form (bound_field form b) ≡ Some b
+bound_back form b (inl last) =
     let yes : (b == FOREVER) ≡ true = eq-eqb b FOREVER last in
     rw yes (ap Some (sym last))
-bound_back dates b (inr within) =
-    let no : (b == FOREVER) ≡ false = grind (arith, nat_tests, last_before dates) in
-    let read = written_back dates b within in
-    let other = not_forever (form_of dates) (instant_text (form_of dates) b) b read in
+bound_back form b (inr within) =
+    let no : (b == FOREVER) ≡ false = grind (arith, nat_tests, last_before form) in
+    let read = written_back form b within in
+    let other = not_forever form (instant_text form b) b read in
     rw no (rw other read)
 
 -- the period that is written is that of the record
 record PeriodBack (plan : Plan) (fields : List (List ℕ)) (period : ℕ × ℕ) : Type 0 where
-  pub read : period_of (form_of plan.times.now.dates) (period_texts (form_of plan.times.now.dates) period) ≡ Ok period
-  pub from : unwrap_or (instant_in plan.times.now.dates (field_of fields plan.from)) 0 ≡ period.0
+  pub read : period_of (form_of plan.times.now) (period_texts (form_of plan.times.now) period) ≡ Ok period
+  pub from : unwrap_or (instant_in plan.times.now (field_of fields plan.from)) 0 ≡ period.0
   pub to : unwrap_or (bound_in plan.times.now (field_of fields plan.to)) 0 ≡ period.1
 
 known_at : (place : ℕ) (kind : RecordFaultKind) (o : Option ℕ) (n : ℕ) → at_place place (known kind o) ≡ Ok n → o ≡ Some n
@@ -190,14 +190,14 @@ ordered_at place from to period e = by (nat_lt from to) refl e
 period_back : (plan : Plan) (fields : List (List ℕ)) (period : ℕ × ℕ) → period_in plan fields ≡ Ok period → PeriodBack plan fields period
 period_back plan fields period e =
     let times = plan.times.now in
-    let form = form_of times.dates in
-    let a = passed (at_place plan.from (known BadFrom (instant_in times.dates (field_of fields plan.from)))) _ period e in
+    let form = form_of times in
+    let a = passed (at_place plan.from (known BadFrom (instant_in times (field_of fields plan.from)))) _ period e in
     let b = passed (at_place plan.to (known BadTo (bound_in times (field_of fields plan.to)))) _ period a.then_is in
-    let from_is = known_at plan.from BadFrom (instant_in times.dates (field_of fields plan.from)) a.value a.was in
+    let from_is = known_at plan.from BadFrom (instant_in times (field_of fields plan.from)) a.value a.was in
     let to_is = known_at plan.to BadTo (bound_in times (field_of fields plan.to)) b.value b.was in
     let o = ordered_at plan.to a.value b.value period b.then_is in
-    let from_back = written_back times.dates a.value (instant_within times.dates (field_of fields plan.from) a.value from_is) in
-    let to_back = bound_back times.dates b.value (bound_within times (field_of fields plan.to) b.value to_is) in
+    let from_back = written_back form a.value (instant_within times (field_of fields plan.from) a.value from_is) in
+    let to_back = bound_back form b.value (bound_within times (field_of fields plan.to) b.value to_is) in
     let read : period_of form (period_texts form (a.value, b.value)) ≡ Ok (a.value, b.value) = rw (from_back, to_back) (rw o.less refl) in
     record {
       read = subst (λ (p : ℕ × ℕ). period_of form (period_texts form p) ≡ Ok p) o.is read;
@@ -295,12 +295,12 @@ entry_made form table columns texts a b values period many read of_period =
 
 -- a record without a fault is written as the row that it means
 entry_back : (plan : Plan) (table number : ℕ) (fields line : List (List ℕ)) → number ≤ 2 ^ 63 → import_record plan number fields ≡ Ok line
-    → entry_of (form_of plan.times.now.dates) table (table_columns plan) line ≡ Ok (entry_in plan table number fields)
+    → entry_of (form_of plan.times.now) table (table_columns plan) line ≡ Ok (entry_in plan table number fields)
 entry_back plan table number fields line small e =
     by (length fields == plan.width) (values_after (row_number plan.numbered number) plan.numbers plan.columns fields) refl (period_in plan fields) refl e
   where
     form : Form
-    form = form_of plan.times.now.dates
+    form = form_of plan.times.now
 
     by : (b : Bool) (v : Result (List (List ℕ)) RecordFault) → values_after (row_number plan.numbered number) plan.numbers plan.columns fields ≡ v
         → (p : Result (ℕ × ℕ) RecordFault) → period_in plan fields ≡ p
@@ -322,12 +322,12 @@ number_passed number (Err fault) a e = cc e
 
 entries_back : (plan : Plan) (limit table number : ℕ) (before : List Entry) (records lines : List (List (List ℕ))) → number + length records ≤ 2 ^ 63 + 1 → imported_records plan number records ≡ Ok lines
     → sum_by event_count (before ++ entries_in plan table number records) ≤ limit
-    → entries_after (form_of plan.times.now.dates) limit table (table_columns plan) number before lines ≡ Ok (before ++ entries_in plan table number records)
+    → entries_after (form_of plan.times.now) limit table (table_columns plan) number before lines ≡ Ok (before ++ entries_in plan table number records)
 entries_back plan limit table number before [] lines small e within =
     let none : [] ≡ lines = cc e in
-    subst (λ (l : List (List (List ℕ))). entries_after (form_of plan.times.now.dates) limit table (table_columns plan) number before l ≡ Ok (before ++ [])) none (ap Ok (sym (append-nil before)))
+    subst (λ (l : List (List (List ℕ))). entries_after (form_of plan.times.now) limit table (table_columns plan) number before l ≡ Ok (before ++ [])) none (ap Ok (sym (append-nil before)))
 entries_back plan limit table number before (fields ∷ records) lines small e within =
-    let form = form_of plan.times.now.dates in
+    let form = form_of plan.times.now in
     let columns = table_columns plan in
     let a = passed (at_number number (import_record plan number fields)) _ lines e in
     let b = passed (imported_records plan (number + 1) records) _ lines a.then_is in
@@ -496,7 +496,7 @@ no_marks text p =
 
 pub loads_of : ImportsLoad
 loads_of plan records text limit table before loadable e few within =
-    let form = form_of plan.times.now.dates in
+    let form = form_of plan.times.now in
     let (lines, are, is) = read_back_of plan records text loadable e in
     let columns = columns_first text (table_header plan) lines (no_marks text (plain_text plan records text loadable e)) is ∙ columns_read plan.numbered plan.columns loadable in
     let rows = entries_back plan limit table 2 before records lines (omega (arith, few)) are within in

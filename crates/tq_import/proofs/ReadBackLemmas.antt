@@ -129,13 +129,13 @@ line_back : (plan : Plan) (number : ℕ) (fields line : List (List ℕ)) → imp
 line_back plan number fields line e = by (length fields == plan.width) (values_after (row_number plan.numbered number) plan.numbers plan.columns fields) (period_in plan fields) e
   where
     by : (b : Bool) (v : Result (List (List ℕ)) RecordFault) (p : Result (ℕ × ℕ) RecordFault)
-        → (let r : Result (List (List ℕ)) RecordFault = if not b then Err (record { kind = FieldCount; place = 0 }) else and_then v (λ values. and_then p (λ period. Ok (values ++ period_texts (form_of plan.times.now.dates) period))) in r ≡ Ok line)
+        → (let r : Result (List (List ℕ)) RecordFault = if not b then Err (record { kind = FieldCount; place = 0 }) else and_then v (λ values. and_then p (λ period. Ok (values ++ period_texts (form_of plan.times.now) period))) in r ≡ Ok line)
         → read_back line ≡ line
     by false v p f = cc f
     by true (Err x) p f = cc f
     by true (Ok values) (Err x) f = cc f
     by true (Ok values) (Ok period) f =
-        let same : values ++ period_texts (form_of plan.times.now.dates) period ≡ line = cc f in
+        let same : values ++ period_texts (form_of plan.times.now) period ≡ line = cc f in
         sym (ap read_back same) ∙ two_more values _ _ ∙ same
 
 -- the lines of the records are these, and each is read as it was written

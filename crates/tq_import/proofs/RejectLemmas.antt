@@ -120,7 +120,7 @@ same_valid plan a b fields =
     (values_ok plan.numbers plan.columns fields (row_number plan.numbered a) (row_number plan.numbered b))
   where
     whole : Bool → Result (List (List ℕ)) RecordFault → Result (ℕ × ℕ) RecordFault → Result (List (List ℕ)) RecordFault
-    whole w v p = if not w then Err (record { kind = FieldCount; place = 0 }) else and_then v (λ values. and_then p (λ period. Ok (values ++ period_texts (form_of plan.times.now.dates) period)))
+    whole w v p = if not w then Err (record { kind = FieldCount; place = 0 }) else and_then v (λ values. and_then p (λ period. Ok (values ++ period_texts (form_of plan.times.now) period)))
 
     by : (w : Bool) (v u : Result (List (List ℕ)) RecordFault) (p : Result (ℕ × ℕ) RecordFault) → is_ok v ≡ is_ok u → is_ok (whole w v p) ≡ is_ok (whole w u p)
     by false v u p e = refl

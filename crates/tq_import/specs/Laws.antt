@@ -1,5 +1,5 @@
 -- Laws of the conversions. This project's own.
-use Rattle.std.specs.Prelude.{◌≡◌, ◌<◌, ◌≤◌, ◌*◌, ◌^◌, ◌+◌, ◌==◌, ℕ, ℤ, pos, neg_ℤ, All, chars, false, true, if◌then◌else◌, List, [], ◌∷◌, ◌++◌, drop, length, map, slice_index, Some}
+use Rattle.std.specs.Prelude.{◌≡◌, ◌<◌, ◌≤◌, ◌*◌, ◌^◌, ◌+◌, ◌==◌, ℕ, ℤ, pos, neg_ℤ, All, chars, false, true, if◌then◌else◌, List, [], ◌∷◌, ◌++◌, drop, length, map, slice_index, take, Some}
 use Rattle.std.specs.Str.{is_utf8}
 use Rattle.std.specs.Str.Parse.{digits_value}
 use Rattle.csv.specs.Reading.{records}
@@ -9,6 +9,7 @@ use Rattle.tq_import.specs.declared.plan.NumberFormat.{NumberFormat}
 use Rattle.tq_import.specs.declared.plan.TimeFormat.{TimeFormat}
 use Rattle.tq_import.specs.Amounts.{fraction_part, is_negative, units_in, unsigned, whole_digits, whole_part}
 use Rattle.tq_import.specs.Encodings.{utf8_of}
+use Rattle.tq_import.specs.Clock.{second_in, time_in}
 use Rattle.tq_import.specs.Dates.{DateDigits, day_in, iso_text}
 use Rattle.tq_import.specs.Reading.{separated_by}
 use Rattle.tq_import.specs.Times.{bound_in, instant_in, is_open}
@@ -44,9 +45,15 @@ abbrev pub DatesAreWrittenBack : Type 0
 DatesAreWrittenBack = (format bytes : List ℕ) (day : ℕ) → day_in format bytes ≡ Some day
     → (digits : DateDigits) × (iso_text digits ≡ date_text (date_of day)) × (written format digits ≡ bytes)
 
+-- a second is counted from a day in the format and the seconds since its midnight, of which a day has 86,400
+abbrev pub SecondsAreCounted : Type 0
+SecondsAreCounted = (format bytes : List ℕ) (second : ℕ) → second_in format bytes ≡ Some second
+    → (day time : ℕ) × (day_in format (take (length format) bytes) ≡ Some day) × (time_in (drop (length format) bytes) ≡ Some time)
+    × (time < 86400) × (second + 719162 * 86400 ≡ day * 86400 + time)
+
 -- an end that is included ends the period at the next instant; any other end at itself
 abbrev pub EndsAreKept : Type 0
-EndsAreKept = (times : TimeFormat) (field : List ℕ) (end bound : ℕ) → is_open times.open field ≡ false → instant_in times.dates field ≡ Some end → bound_in times field ≡ Some bound
+EndsAreKept = (times : TimeFormat) (field : List ℕ) (end bound : ℕ) → is_open times.open field ≡ false → instant_in times field ≡ Some end → bound_in times field ≡ Some bound
     → bound ≡ (if times.inclusive then end + 1 else end)
 
 -- a file in Latin-1 becomes UTF-8 whose characters have the bytes of the file as their code points

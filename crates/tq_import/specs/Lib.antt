@@ -2,6 +2,7 @@ pub mod Digits
 pub mod Amounts
 pub mod Encodings
 pub mod Dates
+pub mod Clock
 pub mod Times
 pub mod Reading
 pub mod Records

@@ -31,12 +31,12 @@ abbrev pub ImportsLoad : Type 0
 ImportsLoad = (plan : Plan) (records : List (List (List ℕ))) (text : List ℕ) (limit table : ℕ) (before : List Entry)
     → IsLoadable plan → import_of plan records ≡ Ok text → length records < 2 ^ 63
     → sum_by event_count (before ++ entries_in plan table 2 records) ≤ limit
-    → table_contents (form_of plan.times.now.dates) limit table before text ≡ Ok (table_columns plan, before ++ entries_in plan table 2 records)
+    → table_contents (form_of plan.times.now) limit table before text ≡ Ok (table_columns plan, before ++ entries_in plan table 2 records)
 
 -- a file with the text of an import holds one table with these columns and rows
 abbrev pub ImportedFilesLoad : Type 0
 ImportedFilesLoad = (plan : Plan) (records : List (List (List ℕ))) (file : TableFile) (name : List ℕ) (limit : ℕ)
     → IsLoadable plan → import_of plan records ≡ Ok file.bytes → folded_name file.name ≡ Some name → length records < 2 ^ 63
     → sum_by event_count (entries_in plan 0 2 records) ≤ limit
-    → contents_of (form_of plan.times.now.dates) (file ∷ []) limit
+    → contents_of (form_of plan.times.now) (file ∷ []) limit
     ≡ Ok (record { tables = record { name = name; columns = table_columns plan } ∷ []; entries = entries_in plan 0 2 records })

@@ -8,6 +8,9 @@ use Rattle.tq_import.specs.declared.plan.Conversion.{Conversion}
 use Rattle.tq_import.specs.declared.plan.Conversion.TheVariants.{Number, Text}
 use Rattle.tq_import.specs.declared.plan.PlannedColumn.{PlannedColumn}
 use Rattle.tq_import.specs.declared.plan.Plan.{Plan}
+use Rattle.tq_import.specs.declared.plan.TimeFormat.{TimeFormat}
+use Rattle.tq_import.specs.declared.plan.TimeUnit.{TimeUnit}
+use Rattle.tq_import.specs.declared.plan.TimeUnit.TheVariants.{Day, Second}
 use Rattle.tq_import.specs.declared.fault.ImportFault.{ImportFault}
 use Rattle.tq_import.specs.declared.fault.ImportFault.TheVariants as import
 use Rattle.tq_import.specs.declared.whole.FileFault.{FileFault}
@@ -42,10 +45,18 @@ places_rule places = codes " is not a number of 64 bits with at most " ++ decima
 abbrev pub number_rule : ℕ → List ℕ
 number_rule places = if places == 0 then codes " is not a whole number of 64 bits: use --decimal NAME=PLACES or --text NAME" else places_rule places
 
+-- what a value is not besides a date in the format
+abbrev pub unit_rule : TimeUnit → List ℕ
+unit_rule Day = []
+unit_rule Second = codes ", from 1970 on, with or without a time HH:MM:SS"
+
+abbrev pub written_rule : Option (List ℕ) → TimeUnit → List ℕ
+written_rule None unit = codes " is not a number from 0 to 999999999999: use --date-format for dates"
+written_rule (Some format) unit = codes " is not a date in the format " ++ format ++ unit_rule unit
+
 -- what a value is not that is not an instant
-abbrev pub instant_rule : Option (List ℕ) → List ℕ
-instant_rule None = codes " is not a number from 0 to 999999999999: use --date-format for dates"
-instant_rule (Some format) = codes " is not a date in the format " ++ format
+abbrev pub instant_rule : TimeFormat → List ℕ
+instant_rule times = written_rule times.dates times.unit
 
 -- what is wrong with a value
 abbrev pub reason : Plan → RecordFaultKind → ℕ → List ℕ
@@ -53,8 +64,8 @@ reason plan FieldCount place = []
 reason plan BadNumber place = number_rule (places_at plan.columns place)
 reason plan NotUtf8 place = codes " is not valid UTF-8: use --encoding latin1 if the file is in Latin-1"
 reason plan TextTooLong place = codes " has more than 1,000 bytes"
-reason plan BadFrom place = instant_rule plan.times.now.dates
-reason plan BadTo place = instant_rule plan.times.now.dates ++ codes ", nor an open end: use --open TEXT for those"
+reason plan BadFrom place = instant_rule plan.times.now
+reason plan BadTo place = instant_rule plan.times.now ++ codes ", nor an open end: use --open TEXT for those"
 reason plan EmptyPeriod place = codes " is not after the start"
 reason plan OutOfMemory place = []
 

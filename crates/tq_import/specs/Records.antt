@@ -67,7 +67,7 @@ ordered from to = if nat_lt from to then Ok (from, to) else Err EmptyPeriod
 
 abbrev pub period_in : Plan → List (List ℕ) → Result (ℕ × ℕ) RecordFault
 period_in plan fields =
-    and_then (at_place plan.from (known BadFrom (instant_in plan.times.now.dates (field_of fields plan.from)))) (λ from.
+    and_then (at_place plan.from (known BadFrom (instant_in plan.times.now (field_of fields plan.from)))) (λ from.
     and_then (at_place plan.to (known BadTo (bound_in plan.times.now (field_of fields plan.to)))) (λ to.
     at_place plan.to (ordered from to)))
 
@@ -83,7 +83,7 @@ import_record plan number fields =
     if not (length fields == plan.width) then Err (record { kind = FieldCount; place = 0 })
     else and_then (values_after (row_number plan.numbered number) plan.numbers plan.columns fields) (λ values.
     and_then (period_in plan fields) (λ period.
-    Ok (values ++ period_texts (form_of plan.times.now.dates) period)))
+    Ok (values ++ period_texts (form_of plan.times.now) period)))
 
 -- whether the record has no fault, which its number does not change
 abbrev pub is_valid : Plan → List (List ℕ) → Bool

@@ -63,7 +63,7 @@ abbrev pub entry_in : Plan → ℕ → ℕ → List (List ℕ) → Entry
 entry_in plan table number fields = record {
   table = table;
   values = number_in plan.numbered number ++ values_in plan.numbers plan.columns fields;
-  from = unwrap_or (instant_in plan.times.now.dates (field_of fields plan.from)) 0;
+  from = unwrap_or (instant_in plan.times.now (field_of fields plan.from)) 0;
   to = unwrap_or (bound_in plan.times.now (field_of fields plan.to)) 0;
 }
 

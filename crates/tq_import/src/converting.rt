@@ -220,7 +220,7 @@ pub fn import_record(
         Ok(period) => period,
         Err(fault) => return Err(fault),
     };
-    let form = form_of(&plan.times.dates);
+    let form = form_of(plan.times);
     push_instant(fields, period.start, form)?;
     push_bound(fields, period.end, form)?;
     Ok(())

@@ -1,6 +1,6 @@
 //! Laws of the conversions: functions with an empty body whose contract is the law.
 
-ghost use Rattle.tq_import.specs.Laws.{DatesAreWrittenBack, EndsAreKept, Latin1FieldsAreConverted, Latin1IsKept, UnitsAreExact};
+ghost use Rattle.tq_import.specs.Laws.{DatesAreWrittenBack, EndsAreKept, Latin1FieldsAreConverted, Latin1IsKept, SecondsAreCounted, UnitsAreExact};
 ghost use Rattle.tq_import.specs.Loads.{ImportedFilesLoad, ImportsAreReadBack, ImportsLoad};
 ghost use Rattle.tq_import.specs.Rejects.{FirstFaultsAgree, RecordsAreSplit, RejectsAreReadBack, ValidFilesAgree, ValidRecordsAgree};
 
@@ -62,6 +62,11 @@ pub fn valid_records_agree()
 /// With commas, the file of invalid records is read as the header and these records.
 pub fn rejects_are_read_back()
     ensures { RejectsAreReadBack }
+{}
+
+/// A second is counted from its day and the seconds since midnight: they are found again by dividing by 86,400.
+pub fn seconds_are_counted()
+    ensures { SecondsAreCounted }
 {}
 
 /// A file in Latin-1 becomes UTF-8 whose characters have the bytes of the file as their code points.

@@ -2,13 +2,14 @@
 //!
 //! A `Plan` says which fields of a record are columns, and how their values and the period are written. `import` reads
 //! the records of a file one at a time and writes a table file. Its contract cites `import_of` in `specs/Imports.antt`:
-//! the text of the table file, or the first fault. `specs/Amounts.antt`, `specs/Dates.antt` and `specs/Times.antt` define
-//! how numbers, dates and periods are converted.
+//! the text of the table file, or the first fault. `specs/Amounts.antt`, `specs/Dates.antt`, `specs/Clock.antt`
+//! and `specs/Times.antt` define how numbers, dates, times of days and periods are converted.
 //!
 //! Open `src/plan.rt` first, then `src/converting.rt`.
 #![tactic(auto)]
 
 mod amounts;
+mod clock;
 mod converting;
 mod dates;
 mod decoding;
@@ -42,7 +43,7 @@ pub use messages::{fault_text, import_text};
 pub use names::suggested_name;
 pub use options::{GivenKind, ImportOptions, Rename, Selection};
 pub use part::{Imported, Rejects, Separated};
-pub use plan::{Conversion, NumberFormat, Plan, PlannedColumn, TimeFormat};
+pub use plan::{Conversion, NumberFormat, Plan, PlannedColumn, TimeFormat, TimeUnit};
 pub use planning::{PlanFault, PlanFaultKind, plan_import};
 pub use reading::{next_record, record_reader};
 pub use whole::{FileFault, ReadRecords, ValidImport, find_file_kinds, import, import_valid};

@@ -2,12 +2,12 @@
 
 ghost use Rattle.std.specs.Prelude.{◌≡◌, ◌++◌, ◌==◌, ◌&&◌, IfOk, OnOk, codes, decimal, if◌then◌else◌};
 ghost use Rattle.csv.specs.Records.{fields_of};
-ghost use Rattle.tq_import.specs.Messages.{IsFaultText, fault_detail, front, instant_rule, is_number, message_line, number_rule, places_at, places_or, places_rule, quoted, reason, record_message};
+ghost use Rattle.tq_import.specs.Messages.{IsFaultText, fault_detail, front, instant_rule, is_number, message_line, number_rule, places_at, places_or, places_rule, quoted, reason, record_message, unit_rule};
 ghost use Rattle.tq_import.specs.Records.{field_of};
 ghost use Rattle.tq_shown.specs.Printable.{printable_text};
 
 use crate::fault::{ImportFault, RecordFault, RecordFaultKind};
-use crate::plan::{Conversion, Plan, PlannedColumn, TimeFormat};
+use crate::plan::{Conversion, Plan, PlannedColumn, TimeFormat, TimeUnit};
 use crate::planning::{PlanFault, PlanFaultKind};
 use crate::reading::field_at;
 use crate::whole::{FileFault, ReadRecords};
@@ -115,20 +115,31 @@ fn push_number_rule(text: &mut Vec<u8>, places: usize) -> Result<(), AllocError>
     push_places_rule(text, places)
 }
 
+// What a value is not besides a date in the format.
+fn unit_rule(unit: TimeUnit) -> &'static [u8]
+    ensures { result.now ≡ unit_rule unit }
+{
+    match unit {
+        TimeUnit::Day => b"",
+        TimeUnit::Second => b", from 1970 on, with or without a time HH:MM:SS",
+    }
+}
+
 // Appends that a field is not a date in the format.
-fn push_format(text: &mut Vec<u8>, format: &[u8]) -> Result<(), AllocError>
-    ensures { OnOk result (text.new.items ≡ text.old.items ++ (codes " is not a date in the format " ++ format.now)) }
+fn push_format(text: &mut Vec<u8>, format: &[u8], unit: TimeUnit) -> Result<(), AllocError>
+    ensures { OnOk result (text.new.items ≡ text.old.items ++ (codes " is not a date in the format " ++ format.now ++ unit_rule unit)) }
 {
     text.extend_from_slice(b" is not a date in the format ")?;
     text.extend_from_slice(format)?;
+    text.extend_from_slice(unit_rule(unit))?;
     Ok(())
 }
 
 fn push_instant_rule(text: &mut Vec<u8>, times: &TimeFormat) -> Result<(), AllocError>
-    ensures { OnOk result (text.new.items ≡ text.old.items ++ instant_rule times.now.dates) }
+    ensures { OnOk result (text.new.items ≡ text.old.items ++ instant_rule times.now) }
 {
     match &times.dates {
-        Some(format) => push_format(text, format.get()),
+        Some(format) => push_format(text, format.get(), times.unit),
         None => text.extend_from_slice(
             b" is not a number from 0 to 999999999999: use --date-format for dates",
         ),
@@ -137,7 +148,7 @@ fn push_instant_rule(text: &mut Vec<u8>, times: &TimeFormat) -> Result<(), Alloc
 
 // Appends what is wrong with an end.
 fn push_end_rule(text: &mut Vec<u8>, times: &TimeFormat) -> Result<(), AllocError>
-    ensures { OnOk result (text.new.items ≡ text.old.items ++ (instant_rule times.now.dates ++ codes ", nor an open end: use --open TEXT for those")) }
+    ensures { OnOk result (text.new.items ≡ text.old.items ++ (instant_rule times.now ++ codes ", nor an open end: use --open TEXT for those")) }
 {
     push_instant_rule(text, times)?;
     text.extend_from_slice(b", nor an open end: use --open TEXT for those")
@@ -359,6 +370,9 @@ pub fn import_text(
     }
     'columns: for column in plan.columns.get() {
         push_column(&mut text, column, field_at(&seen.header, column.place))?;
+    }
+    if plan.times.dates.is_some() && plan.times.unit == TimeUnit::Second {
+        text.extend_from_slice(b"  times are seconds since 1970-01-01 00:00:00\n")?;
     }
     text.extend_from_slice(b"  ")?;
     text.extend_from_slice(Buffer::new().format(rows).as_bytes())?;

@@ -18,12 +18,22 @@ pub enum Conversion {
     Text,
 }
 
+/// What the instants of dates count.
+#[derive(Clone, Copy, Debug, PartialEq, Eq)]
+pub enum TimeUnit {
+    /// Days, which the table file has as dates.
+    Day,
+    /// Seconds since 1970-01-01 00:00:00, which the table file has as numbers. A date may have a time.
+    Second,
+}
+
 /// How periods are written: `dates` is the format of dates, as `dd.mm.yyyy`, or `None` for instants that are written as
-/// numbers; `open` has the spellings of an open end; `inclusive` says that the last instant of the period is given, and
-/// not the next one.
+/// numbers; `unit` is what the instants of dates count; `open` has the spellings of an open end; `inclusive` says that the
+/// last instant of the period is given, and not the next one.
 #[derive(Drop, Debug)]
 pub struct TimeFormat {
     pub dates: Option<List<u8>>,
+    pub unit: TimeUnit,
     pub open: List<List<u8>>,
     pub inclusive: bool,
 }

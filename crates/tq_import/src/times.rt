@@ -1,31 +1,57 @@
 // The periods of exported files.
 
 ghost use Rattle.std.specs.Prelude.{◌≡◌, IfOk};
-ghost use Rattle.tq_import.specs.Times.{after_last, bound_in, end_of, form_of, instant_in, is_open, last_instant};
+ghost use Rattle.tq_import.specs.Times.{after_last, bound_in, dated_in, end_of, form_of, instant_in, is_open, last_instant, unit_form};
 
+use crate::clock::read_second;
 use crate::dates::{read_day, without_midnight};
-use crate::plan::TimeFormat;
+use crate::plan::{TimeFormat, TimeUnit};
 use crate::scratch::Scratch;
 use std::alloc::AllocError;
 use tq_base::{Bound, FOREVER, Form, Instant, LAST_DAY, List, read_instant};
 
-/// How the instants of the table file are written.
-pub fn form_of(dates: &Option<List<u8>>) -> Form
-    ensures { result ≡ form_of dates.now }
+// How instants in the unit are written.
+fn unit_form(unit: TimeUnit) -> Form
+    ensures { result ≡ unit_form unit }
 {
-    match dates {
+    match unit {
+        TimeUnit::Day => Form::Dates,
+        TimeUnit::Second => Form::Numbers,
+    }
+}
+
+/// How the instants of the table file are written.
+pub fn form_of(times: &TimeFormat) -> Form
+    ensures { result ≡ form_of times.now }
+{
+    match &times.dates {
         None => Form::Numbers,
-        Some(_) => Form::Dates,
+        Some(_) => unit_form(times.unit),
     }
 }
 
 // The last instant that can be written.
-fn last_instant(dates: &Option<List<u8>>) -> u64
-    ensures { result ≡ last_instant dates.now }
+fn last_instant(form: Form) -> u64
+    ensures { result ≡ last_instant form }
 {
-    match dates {
-        None => FOREVER - 1,
-        Some(_) => LAST_DAY,
+    match form {
+        Form::Numbers => FOREVER - 1,
+        Form::Dates => LAST_DAY,
+    }
+}
+
+// The instant of a date in the format.
+fn read_dated(
+    unit: TimeUnit,
+    format: &[u8],
+    field: &[u8],
+    scratch: &mut Scratch,
+) -> Result<Option<Instant>, AllocError>
+    ensures { IfOk result (λ instant. instant ≡ dated_in unit format.now field.now) }
+{
+    match unit {
+        TimeUnit::Day => read_day(format, without_midnight(field), scratch),
+        TimeUnit::Second => read_second(format, field, scratch),
     }
 }
 
@@ -35,11 +61,11 @@ pub fn read_start(
     field: &[u8],
     scratch: &mut Scratch,
 ) -> Result<Option<Instant>, AllocError>
-    ensures { IfOk result (λ instant. instant ≡ instant_in times.now.dates field.now) }
+    ensures { IfOk result (λ instant. instant ≡ instant_in times.now field.now) }
 {
     match &times.dates {
         None => Ok(read_instant(field, Form::Numbers)),
-        Some(format) => read_day(format.get(), without_midnight(field), scratch),
+        Some(format) => read_dated(times.unit, format.get(), field, scratch),
     }
 }
 
@@ -51,10 +77,10 @@ fn is_open(spellings: &[List<u8>], field: &[u8]) -> bool
 }
 
 // The bound after the last instant of a period; `None` if it cannot be written.
-fn after_last(dates: &Option<List<u8>>, last: Instant) -> Option<Bound>
-    ensures { result ≡ after_last dates.now last }
+fn after_last(form: Form, last: Instant) -> Option<Bound>
+    ensures { result ≡ after_last form last }
 {
-    if last.number() < last_instant(dates) {
+    if last.number() < last_instant(form) {
         Bound::new(last.number() + 1)
     } else {
         None
@@ -66,7 +92,7 @@ fn end_of(times: &TimeFormat, end: Instant) -> Option<Bound>
     ensures { result ≡ end_of times.now end }
 {
     if times.inclusive {
-        after_last(&times.dates, end)
+        after_last(form_of(times), end)
     } else {
         Some(Bound::at(end))
     }

@@ -3,7 +3,7 @@
 use crate::dates::is_date_format;
 use crate::encoding::Encoding;
 use crate::options::{GivenKind, ImportOptions, Rename, Selection};
-use crate::plan::{Conversion, NumberFormat, TimeFormat};
+use crate::plan::{Conversion, NumberFormat, TimeFormat, TimeUnit};
 use std::alloc::{AllocError, Global};
 use tq_base::{List, read_natural};
 
@@ -27,6 +27,7 @@ pub struct PeriodWords {
     pub from: Vec<u8>,
     pub to: Vec<u8>,
     pub format: Vec<u8>,
+    pub unit: Vec<u8>,
     pub inclusive: bool,
     pub open: Vec<Vec<u8>>,
 }
@@ -141,6 +142,17 @@ fn names_in(alloc: Global, word: &[u8]) -> Result<List<List<u8>>, AllocError> {
     Ok(List::of(names))
 }
 
+fn read_unit(word: &[u8], has_format: bool) -> Result<TimeUnit, WordFault> {
+    if !word.is_empty() && !has_format {
+        return Err(WordFault::Invalid("--unit needs --date-format"));
+    }
+    match word {
+        b"" | b"day" => Ok(TimeUnit::Day),
+        b"second" => Ok(TimeUnit::Second),
+        _ => Err(WordFault::Invalid("--unit takes day or second")),
+    }
+}
+
 fn read_times(
     alloc: Global,
     words: PeriodWords,
@@ -149,9 +161,11 @@ fn read_times(
         from,
         to,
         format,
+        unit,
         inclusive,
         open,
     } = words;
+    let unit = read_unit(&unit, !format.is_empty())?;
     let dates = if format.is_empty() {
         None
     } else if is_date_format(&format) {
@@ -163,6 +177,7 @@ fn read_times(
     };
     let times = TimeFormat {
         dates,
+        unit,
         open: lists_of(alloc, open)?,
         inclusive,
     };

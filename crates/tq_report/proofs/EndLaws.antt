@@ -49,7 +49,7 @@ day_read days day within =
     let early : nat_le day LAST_DAY ≡ true = le-leb day LAST_DAY within in
     ap (day_in (codes "yyyy-mm-dd")) (no_midnight (date_of day)) ∙ rw early at (days day within)
 
-pub read_back : DaysAreRead → (form : Form) (end : ℕ) → 0 < end → (end ≤ last_instant (answer_times form).dates) ⊎ (end ≡ FOREVER)
+pub read_back : DaysAreRead → (form : Form) (end : ℕ) → 0 < end → (end ≤ last_instant form) ⊎ (end ≡ FOREVER)
     → bound_in (answer_times form) (end_in Csv form true end) ≡ Some end
 read_back days Numbers end some (inr is) = rw is refl
 read_back days Dates end some (inr is) = rw is refl

@@ -6,6 +6,7 @@ use Rattle.tq_base.specs.declared.form.Form.TheVariants.{Dates, Numbers}
 use Rattle.tq_base.specs.declared.period.TheConstants.{FOREVER}
 use Rattle.tq_import.specs.declared.plan.NumberFormat.{NumberFormat}
 use Rattle.tq_import.specs.declared.plan.TimeFormat.{TimeFormat}
+use Rattle.tq_import.specs.declared.plan.TimeUnit.TheVariants.{Day}
 use Rattle.tq_import.specs.Amounts.{units_in}
 use Rattle.tq_import.specs.Times.{bound_in, last_instant}
 use Rattle.tq_report.specs.declared.format.Format.TheVariants.{Csv}
@@ -22,10 +23,10 @@ AmountsAreReadBack = (places : ℕ) (number : ℤ) → has_exact_prefix (Int num
 
 -- periods with included ends, in the spelling of answers
 abbrev pub answer_times : Form → TimeFormat
-answer_times Numbers = record { dates = None; «open» = codes "forever" ∷ []; inclusive = true }
-answer_times Dates = record { dates = Some (codes "yyyy-mm-dd"); «open» = codes "forever" ∷ []; inclusive = true }
+answer_times Numbers = record { dates = None; unit = Day; «open» = codes "forever" ∷ []; inclusive = true }
+answer_times Dates = record { dates = Some (codes "yyyy-mm-dd"); unit = Day; «open» = codes "forever" ∷ []; inclusive = true }
 
 -- an end that a period may have is what an import reads of its last instant
 abbrev pub EndsAreReadBack : Type 0
-EndsAreReadBack = (form : Form) (end : ℕ) → 0 < end → (end ≤ last_instant (answer_times form).dates) ⊎ (end ≡ FOREVER)
+EndsAreReadBack = (form : Form) (end : ℕ) → 0 < end → (end ≤ last_instant form) ⊎ (end ≡ FOREVER)
     → bound_in (answer_times form) (end_in Csv form true end) ≡ Some end

@@ -30,6 +30,6 @@ returns-clause-ok c =
     let period = c.in-Ok.ensures.ok in
     let begun = c.in_ok-push_instant.ensures values held in
     let ended = c.in_ok-push_bound.ensures _ begun in
-    let texts : fields_of c.push_bound.new.fields ≡ values ++ period_texts (form_of plan.times.now.dates) (c.in-Ok.period.start, c.in-Ok.period.end) =
+    let texts : fields_of c.push_bound.new.fields ≡ values ++ period_texts (form_of plan.times.now) (c.in-Ok.period.start, c.in-Ok.period.end) =
     ended.0 ∙ append_assoc values _ _ ∙ ap (λ (f : Form). values ++ period_texts f (c.in-Ok.period.start, c.in-Ok.period.end)) c.form_of-form.ensures in
     rw (width, made, period) (ap (λ (l : List (List ℕ)). let r : Result (List (List ℕ)) RecordFault = Ok l in r) (sym texts))
