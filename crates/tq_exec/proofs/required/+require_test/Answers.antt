@@ -15,7 +15,7 @@ weight_of_pair test one last (inr is) = ap weight is ∙ weight-Or one last
 pub returns-in-Is : goal.returns-in-Is
 returns-in-Is t c =
     let first = c.require_operand in
-    let last = c.look_at_operand-in-Is in
+    let last = c.require_operand-in-Is in
     let now = last.new.places.items in
     record {
       required =
@@ -35,8 +35,8 @@ parts-preserved-in-Not-1 t c = record {
       c.parts.invariant.leads new more (look_Not (is_wanted new) c.parts.part.now c.in-Not.inner c.in-Not.is (subst (TestReads (is_wanted new)) c.get-part.ensures required));
 }
 
-pub look_at_test-requires : goal.look_at_test-requires
-look_at_test-requires t c =
+pub require_test-requires : goal.require_test-requires
+require_test-requires t c =
     (omega (arith, c.parts.invariant.no_heavier, weight_of_pair c.parts.part.now c.in-And.first c.in-And.last c.in-And.is, ap weight c.get.ensures), tt)
 
 pub parts-smaller : goal.parts-smaller

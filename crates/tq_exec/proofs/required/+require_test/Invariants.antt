@@ -5,8 +5,8 @@ use Rattle.tq_condition.proofs.Conditions.{weight}
 use Rattle.tq_exec.specs.ColumnUse.{AreMore, TestReads}
 use Rattle.tq_exec.proofs.required.+require_test.Given as goal
 
-abbrev pub decreases-look_at_test : goal.decreases-look_at_test
-decreases-look_at_test l = weight l.test.now
+abbrev pub decreases-require_test : goal.decreases-require_test
+decreases-require_test l = weight l.test.now
 
 abbrev pub decreases-parts : goal.decreases-parts
 decreases-parts l = weight l.part

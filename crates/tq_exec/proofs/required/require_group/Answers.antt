@@ -16,6 +16,6 @@ group-preserved c =
       more = λ k is. c.require.ensures.more k (c.group.invariant.more k is);
     }
 
-pub returns-clause-looks : goal.returns-clause-looks
-returns-clause-looks c =
+pub returns-clause-required : goal.returns-clause-required
+returns-clause-required c =
     subst (All (λ k. is_wanted c.group.places.items k ≡ true)) (take_all c.group.place-index c.args.group.now (omega (arith, c.group-test.false))) c.group.invariant.required

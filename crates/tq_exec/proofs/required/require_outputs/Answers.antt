@@ -23,6 +23,6 @@ outputs-preserved c =
       more = λ k is. c.require_output.ensures.more k (c.outputs.invariant.more k is);
     }
 
-pub returns-clause-looks : goal.returns-clause-looks
-returns-clause-looks c =
+pub returns-clause-required : goal.returns-clause-required
+returns-clause-required c =
     subst (All (IsMadeOf (is_wanted c.outputs.places.items))) (take_all c.outputs.output-index c.args.outputs.now (omega (arith, c.outputs-test.false))) c.outputs.invariant.required
