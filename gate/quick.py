@@ -6,13 +6,14 @@
 `rt try` builds each crate with all libraries below it and runs it. It proves nothing. Its build stops at an overflow,
 an index out of bounds, a failed unwrap and a bad access. The crates are found by their files:
 
-- a program with the files `stdin` and `stdout`: a test script, which must print the content of `stdout`;
+- a program with the files `stdin` and `stdout`: a test script, which must print the content of `stdout`. Its blocks of random
+  cases take long in such a build, so they run with --all only;
 - a crate with #[test] functions: `rt try --test` runs them;
 - tq: the cases of gate/cases/ and gate/generated.py, and the commands of the pages. Only those run that need no terminal, no
   shell and no special standard output (see `is_possible`). `rt try` takes more than a second for each, so only every third
   one runs. With --all, all of them run.
 
-N builds run concurrently, by default one for each processor. With names, the script checks only these crates. It prints each
+N builds run concurrently, by default one for each processor, the largest first. With names, the script checks only these crates. It prints each
 failed case. The last line is 'quick: N passed, M failed; nothing was proved'. The exit status is 1 if a case failed.
 """
 
@@ -50,6 +51,8 @@ RUNNING = set()
 STRIDE = 3
 PAGES = ["README.md", "examples/payroll.md", "examples/dates.md", "examples/session.md"]
 
+# The first line of a block of random cases, which takes long in a build that is not optimised.
+RANDOM = re.compile(rb"^(?:compare-)?random\b", re.MULTILINE)
 SCRIPT_END = re.compile(rb"(\d+) passed, (\d+) failed\n\Z")
 TESTS_END = re.compile(rb"^test result: \w+\. (\d+) passed; (\d+) failed", re.MULTILINE)
 # The line of `rt try` after each case: its name, and how the run ended.
@@ -107,16 +110,27 @@ def options_of(folder):
     return [*words, "--", *args.read_text().splitlines()] if args.is_file() else words
 
 
-def check_script(crate):
+def without_random(script):
+    """The script without its blocks of random cases, and the number of these blocks."""
+    blocks = script.split(b"\n\n")
+    chosen = [block for block in blocks if not RANDOM.search(block)]
+    return b"\n\n".join(chosen), len(blocks) - len(chosen)
+
+
+def check_script(crate, is_whole):
     """Runs a test script, and compares its output with the file `stdout`."""
     folder = ROOT / "crates" / crate
     wanted = (folder / "stdout").read_bytes()
     number = (folder / "status").read_text().strip() if (folder / "status").is_file() else "0"
-    status, out, err = try_crate(crate, options_of(folder), (folder / "stdin").read_bytes())
+    text = (folder / "stdin").read_bytes()
+    script, left_out = (text, 0) if is_whole else without_random(text)
+    if left_out:
+        wanted = SCRIPT_END.sub(lambda end: b"%d passed, %b failed\n" % (int(end[1]) - left_out, end[2]), wanted)
+    status, out, err = try_crate(crate, options_of(folder), script)
     end = SCRIPT_END.search(out)
     passed, failed = (int(end[1]), int(end[2])) if end else (0, 0)
     if (status, out) == (int(number), wanted):
-        return Outcome(max(passed, 1), failed)
+        return Outcome(max(passed, 1), failed, [f"only --all runs {left_out} blocks of random cases"] if left_out else [])
     if failed or not end:
         return Outcome(passed, max(failed, 1), [*lines_in(out)[:SHOWN], *lines_in(err)[-SHOWN:]])
     return Outcome(passed, 1, [f"status {status}, and the last line is {lines_in(out)[-1]!r}: the output differs from the file stdout"])
@@ -240,7 +254,7 @@ def checks(stride):
         if crate == PROGRAM:
             yield crate, crate, partial(check_program, crate, stride)
         elif (folder / "stdin").is_file() and (folder / "stdout").is_file():
-            yield crate, crate, partial(check_script, crate)
+            yield crate, crate, partial(check_script, crate, stride == 1)
         if any(b"#[test]" in path.read_bytes() for path in folder.glob("src/**/*.rt")):
             yield crate, f"{crate} (tests)", partial(check_tests, crate)
 
