@@ -6,11 +6,11 @@
 `rt try` builds each crate with all libraries below it and runs it. It proves nothing. Its build stops at an overflow,
 an index out of bounds, a failed unwrap and a bad access. The crates are found by their files:
 
-- a program with the files `stdin` and `stdout`: a test script, which must print the content of `stdout`. Its blocks of random
-  cases take long in such a build, so they run with --all only;
+- a program with the files `stdin` and `stdout`: a test script, which must print the content of `stdout`. Blocks of random cases
+  and those over large tables take long in such a build, so they run with --all only;
 - a crate with #[test] functions: `rt try --test` runs them;
 - tq: the cases of gate/cases/ and gate/generated.py, and the commands of the pages. Only those run that need no terminal, no
-  shell and no special standard output (see `is_possible`). `rt try` takes more than a second for each, so only every third
+  shell and no special standard output (see `is_possible`). `rt try` takes more than a second for each, so only every fifth
   one runs. With --all, all of them run.
 
 N builds run concurrently, by default one for each processor, the largest first. With names, the script checks only these crates. It prints each
@@ -48,11 +48,14 @@ SHOWN = 60
 # The running `rt try` processes. Each has a session of its own, so an interrupt at a terminal does not reach it.
 RUNNING = set()
 # Without --all, one case of tq in this many runs.
-STRIDE = 3
+STRIDE = 5
 PAGES = ["README.md", "examples/payroll.md", "examples/dates.md", "examples/session.md"]
 
-# The first line of a block of random cases, which takes long in a build that is not optimised.
+# The first line of a block that takes long in a build that is not optimised: of random cases, or of 10,000 and more rows for
+# a table. The blocks after large tables take long too, up to the next block that begins without tables.
 RANDOM = re.compile(rb"^(?:compare-)?random\b", re.MULTILINE)
+LARGE = re.compile(rb"^repeat \d{5,} .*,", re.MULTILINE)
+CLEAR = re.compile(rb"^clear\b", re.MULTILINE)
 SCRIPT_END = re.compile(rb"(\d+) passed, (\d+) failed\n\Z")
 TESTS_END = re.compile(rb"^test result: \w+\. (\d+) passed; (\d+) failed", re.MULTILINE)
 # The line of `rt try` after each case: its name, and how the run ended.
@@ -110,10 +113,13 @@ def options_of(folder):
     return [*words, "--", *args.read_text().splitlines()] if args.is_file() else words
 
 
-def without_random(script):
-    """The script without its blocks of random cases, and the number of these blocks."""
-    blocks = script.split(b"\n\n")
-    chosen = [block for block in blocks if not RANDOM.search(block)]
+def without_slow(script):
+    """The script without its blocks of random cases and of large tables, and the number of these blocks."""
+    blocks, chosen, is_large = script.split(b"\n\n"), [], False
+    for block in blocks:
+        is_large = bool(LARGE.search(block) or (is_large and not CLEAR.search(block)))
+        if not is_large and not RANDOM.search(block):
+            chosen.append(block)
     return b"\n\n".join(chosen), len(blocks) - len(chosen)
 
 
@@ -123,14 +129,14 @@ def check_script(crate, is_whole):
     wanted = (folder / "stdout").read_bytes()
     number = (folder / "status").read_text().strip() if (folder / "status").is_file() else "0"
     text = (folder / "stdin").read_bytes()
-    script, left_out = (text, 0) if is_whole else without_random(text)
+    script, left_out = (text, 0) if is_whole else without_slow(text)
     if left_out:
         wanted = SCRIPT_END.sub(lambda end: b"%d passed, %b failed\n" % (int(end[1]) - left_out, end[2]), wanted)
     status, out, err = try_crate(crate, options_of(folder), script)
     end = SCRIPT_END.search(out)
     passed, failed = (int(end[1]), int(end[2])) if end else (0, 0)
     if (status, out) == (int(number), wanted):
-        return Outcome(max(passed, 1), failed, [f"only --all runs {left_out} blocks of random cases"] if left_out else [])
+        return Outcome(max(passed, 1), failed, [f"only --all runs {left_out} blocks of random cases or large tables"] if left_out else [])
     if failed or not end:
         return Outcome(passed, max(failed, 1), [*lines_in(out)[:SHOWN], *lines_in(err)[-SHOWN:]])
     return Outcome(passed, 1, [f"status {status}, and the last line is {lines_in(out)[-1]!r}: the output differs from the file stdout"])

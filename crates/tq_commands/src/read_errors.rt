@@ -52,7 +52,7 @@ pub fn reason<R: Files>(rt: &R, path: &[u8]) -> &'static [u8] {
         return b"";
     }
     if metadata.len() > FILE_LIMIT as u64 {
-        return b"it is larger than 1,073,741,824 bytes: `tq split` divides a table that is";
+        return b"it is larger than 1,073,741,824 bytes: `tq split` divides larger tables";
     }
     match fs::open(rt, path) {
         Ok(_) => b"",

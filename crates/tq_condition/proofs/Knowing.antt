@@ -134,40 +134,40 @@ or_fails false true false a b on_a on_b is = ap (λ c. not (a || c)) (not_false 
     or-true false = refl
 or_fails false true true a b on_a on_b is = cc
 
-abbrev Tells : Lookup → List Value → Type 0
-Tells value row = (operand : Operand) (v : Value) → value operand ≡ Some v → operand_value operand row ≡ v
+abbrev IsLookupOf : Lookup → List Value → Type 0
+IsLookupOf value row = (operand : Operand) (v : Value) → value operand ≡ Some v → operand_value operand row ≡ v
 
 abbrev IsSound : Lookup → List Value → Test → Type 0
 IsSound value row t = (wanted : Bool) → may_be value t wanted ≡ false → agrees (passes t row) wanted ≡ false
 
-compared : (value : Lookup) (row : List Value) → Tells value row → (left : Operand) (op : Compare) (right : Operand) (w : Bool) (o p : Option Value) → value left ≡ o → value right ≡ p
+compared : (value : Lookup) (row : List Value) → IsLookupOf value row → (left : Operand) (op : Compare) (right : Operand) (w : Bool) (o p : Option Value) → value left ≡ o → value right ≡ p
     → may_compare op o p w ≡ false → agrees (accepts op (value_cmp (operand_value left row) (operand_value right row))) w ≡ false
-compared value row tells left op right w (Some v) (Some u) on_left on_right fails =
-    ap (λ z. agrees (accepts op (value_cmp z (operand_value right row))) w) (tells left v on_left) ∙ ap (λ z. agrees (accepts op (value_cmp v z)) w) (tells right u on_right) ∙ fails
-compared value row tells left op right w (Some v) None on_left on_right fails = cc
-compared value row tells left op right w None p on_left on_right fails = cc
+compared value row finds left op right w (Some v) (Some u) on_left on_right fails =
+    ap (λ z. agrees (accepts op (value_cmp z (operand_value right row))) w) (finds left v on_left) ∙ ap (λ z. agrees (accepts op (value_cmp v z)) w) (finds right u on_right) ∙ fails
+compared value row finds left op right w (Some v) None on_left on_right fails = cc
+compared value row finds left op right w None p on_left on_right fails = cc
 
-sound_step : (value : Lookup) (row : List Value) → Tells value row → (x : Test-F Test) (y : Test-F ((t : Test) × IsSound value row t)) → map-Test ((t : Test) × IsSound value row t) Test (λ e. e.0) y ≡ x → IsSound value row (roll-Test x)
-sound_step value row tells x (Test-F.Is left op right) is =
+sound_step : (value : Lookup) (row : List Value) → IsLookupOf value row → (x : Test-F Test) (y : Test-F ((t : Test) × IsSound value row t)) → map-Test ((t : Test) × IsSound value row t) Test (λ e. e.0) y ≡ x → IsSound value row (roll-Test x)
+sound_step value row finds x (Test-F.Is left op right) is =
     subst (λ z. IsSound value row (roll-Test z)) is (subst (IsSound value row) (sym (rolls-Is left op right))
-    (λ w fails. ap (λ b. agrees b w) (passes-Is left op right row) ∙ compared value row tells left op right w (value left) (value right) refl refl (sym (may_be-Is value left op right w) ∙ fails)))
-sound_step value row tells x (Test-F.And a b) is =
+    (λ w fails. ap (λ b. agrees b w) (passes-Is left op right row) ∙ compared value row finds left op right w (value left) (value right) refl refl (sym (may_be-Is value left op right w) ∙ fails)))
+sound_step value row finds x (Test-F.And a b) is =
     subst (λ z. IsSound value row (roll-Test z)) is (subst (IsSound value row) (sym (rolls-And a.0 b.0))
     (λ w fails. ap (λ c. agrees c w) (passes-And a.0 b.0 row)
     ∙ and_fails w (may_be value a.0 w) (may_be value b.0 w) (passes a.0 row) (passes b.0 row) (a.1 w) (b.1 w) (sym (may_be-And value a.0 b.0 w) ∙ fails)))
-sound_step value row tells x (Test-F.Or a b) is =
+sound_step value row finds x (Test-F.Or a b) is =
     subst (λ z. IsSound value row (roll-Test z)) is (subst (IsSound value row) (sym (rolls-Or a.0 b.0))
     (λ w fails. ap (λ c. agrees c w) (passes-Or a.0 b.0 row)
     ∙ or_fails w (may_be value a.0 w) (may_be value b.0 w) (passes a.0 row) (passes b.0 row) (a.1 w) (b.1 w) (sym (may_be-Or value a.0 b.0 w) ∙ fails)))
-sound_step value row tells x (Test-F.Not a) is =
+sound_step value row finds x (Test-F.Not a) is =
     subst (λ z. IsSound value row (roll-Test z)) is (subst (IsSound value row) (sym (rolls-Not a.0))
     (λ w fails. ap (λ c. agrees c w) (passes-Not a.0 row) ∙ sym (not_agrees (passes a.0 row) w) ∙ a.1 (not w) (sym (may_be-Not value a.0 w) ∙ fails)))
 
-sound : (value : Lookup) (row : List Value) → Tells value row → (t : Test) → IsSound value row t
-sound value row tells = ind-Test (IsSound value row) (sound_step value row tells)
+sound : (value : Lookup) (row : List Value) → IsLookupOf value row → (t : Test) → IsSound value row t
+sound value row finds = ind-Test (IsSound value row) (sound_step value row finds)
 
-part_tells : (before part after : List Value) → Tells (part_value (length before) part) (before ++ (part ++ after))
-part_tells before part after (Column place) v is = by_place (nat_le (length before) place) refl
+part_is_lookup : (before part after : List Value) → IsLookupOf (part_value (length before) part) (before ++ (part ++ after))
+part_is_lookup before part after (Column place) v is = by_place (nat_le (length before) place) refl
   where
     by_place : (b : Bool) → nat_le (length before) place ≡ b → value_at (before ++ (part ++ after)) place ≡ v
     by_place true known =
@@ -177,34 +177,34 @@ part_tells before part after (Column place) v is = by_place (nat_le (length befo
         ∙ get_or-append part after (Int (pos 0)) (place - length before) (slice_get_within part (place - length before) v here)
         ∙ get_or_from_slice_get part (place - length before) v (Int (pos 0)) here
     by_place false known = absurd (none-some v (sym (ap (λ c. if c then slice_get part (place - length before) else None) known) ∙ is))
-part_tells before part after (Literal value) v is = ap (λ o. unwrap_or o v) is
+part_is_lookup before part after (Literal value) v is = ap (λ o. unwrap_or o v) is
 
 -- if a part alone makes the condition fail, the row fails
 pub part_loses_none : (test : Test) (before part after : List Value) → may_pass (length before) part test ≡ false → passes test (before ++ (part ++ after)) ≡ false
-part_loses_none test before part after fails = sound (part_value (length before) part) (before ++ (part ++ after)) (part_tells before part after) test true fails
+part_loses_none test before part after fails = sound (part_value (length before) part) (before ++ (part ++ after)) (part_is_lookup before part after) test true fails
 
 -- ---- if a part determines all operands of a condition
 
-pub told_Is : (test : Test) (left : Operand) (op : Compare) (right : Operand) (first count : ℕ) → test ≡ Is left op right → IsKnownOperand left first count → IsKnownOperand right first count → IsKnownTest test first count
-told_Is test left op right first count is on_left on_right before part after long wide wanted =
+pub known_Is : (test : Test) (left : Operand) (op : Compare) (right : Operand) (first count : ℕ) → test ≡ Is left op right → IsKnownOperand left first count → IsKnownOperand right first count → IsKnownTest test first count
+known_Is test left op right first count is on_left on_right before part after long wide wanted =
     ap (λ t. may_be (part_value first part) t wanted) is ∙ may_be-Is (part_value first part) left op right wanted
     ∙ (λ i. may_compare op (on_left before part after long wide i) (on_right before part after long wide i) wanted)
     ∙ sym (ap (λ t. may_be (row_value (before ++ (part ++ after))) t wanted) is ∙ may_be-Is (row_value (before ++ (part ++ after))) left op right wanted)
 
-pub told_And : (test one other : Test) (first count : ℕ) → test ≡ And one other → IsKnownTest one first count → IsKnownTest other first count → IsKnownTest test first count
-told_And test one other first count is on_one on_other before part after long wide wanted =
+pub known_And : (test one other : Test) (first count : ℕ) → test ≡ And one other → IsKnownTest one first count → IsKnownTest other first count → IsKnownTest test first count
+known_And test one other first count is on_one on_other before part after long wide wanted =
     ap (λ t. may_be (part_value first part) t wanted) is ∙ may_be-And (part_value first part) one other wanted
     ∙ (λ i. both_may wanted (on_one before part after long wide wanted i) (on_other before part after long wide wanted i))
     ∙ sym (ap (λ t. may_be (row_value (before ++ (part ++ after))) t wanted) is ∙ may_be-And (row_value (before ++ (part ++ after))) one other wanted)
 
-pub told_Or : (test one other : Test) (first count : ℕ) → test ≡ Or one other → IsKnownTest one first count → IsKnownTest other first count → IsKnownTest test first count
-told_Or test one other first count is on_one on_other before part after long wide wanted =
+pub known_Or : (test one other : Test) (first count : ℕ) → test ≡ Or one other → IsKnownTest one first count → IsKnownTest other first count → IsKnownTest test first count
+known_Or test one other first count is on_one on_other before part after long wide wanted =
     ap (λ t. may_be (part_value first part) t wanted) is ∙ may_be-Or (part_value first part) one other wanted
     ∙ (λ i. either_may wanted (on_one before part after long wide wanted i) (on_other before part after long wide wanted i))
     ∙ sym (ap (λ t. may_be (row_value (before ++ (part ++ after))) t wanted) is ∙ may_be-Or (row_value (before ++ (part ++ after))) one other wanted)
 
-pub told_Not : (test inner : Test) (first count : ℕ) → test ≡ Not inner → IsKnownTest inner first count → IsKnownTest test first count
-told_Not test inner first count is on_inner before part after long wide wanted =
+pub known_Not : (test inner : Test) (first count : ℕ) → test ≡ Not inner → IsKnownTest inner first count → IsKnownTest test first count
+known_Not test inner first count is on_inner before part after long wide wanted =
     ap (λ t. may_be (part_value first part) t wanted) is ∙ may_be-Not (part_value first part) inner wanted
     ∙ on_inner before part after long wide (not wanted)
     ∙ sym (ap (λ t. may_be (row_value (before ++ (part ++ after))) t wanted) is ∙ may_be-Not (row_value (before ++ (part ++ after))) inner wanted)

@@ -3,7 +3,7 @@ use Rattle.std.proofs.Common.{◌≡◌, ℕ, zero, suc, ◌+◌, ◌<◌, ◌�
 use Rattle.std.specs.List.{fold}
 use Rattle.std.specs.Prelude.{All}
 use Rattle.std.proofs.lemmas.Bool.Decides.{nat_tests}
-use Rattle.tq_diagnostics.specs.Nearest.{Best, IsNearest, IsNearestIf, better, distance, nearest, reach}
+use Rattle.tq_diagnostics.specs.Nearest.{Best, IsNearestIf, better, distance, nearest, reach}
 
 -- of one element more
 all_more : {X : Type 0} (P : X → Type 0) (x : X) (xs : List X) → P x → All P xs → All P (x ∷ xs)

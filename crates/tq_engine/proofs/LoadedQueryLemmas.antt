@@ -19,7 +19,6 @@ use Rattle.tq_exec.specs.Answers.{tables_read, IsTablesAnswer}
 use Rattle.tq_exec.specs.Fitting.{AreAllFitting, HeldRowsFit}
 use Rattle.tq_exec.specs.Required.{ProjectedTablesAnswer, Serve}
 use Rattle.tq_exec.specs.TableAnswers.{TablesAnswer}
-use Rattle.tq_table.specs.declared.table.Table.{Table}
 use Rattle.tq_engine.specs.Answers.{QueryIsAnswered, QueryIsRefused, IsLoadedQuery, IsStatementFault, ServesQuery}
 use Rattle.tq_engine.proofs.FaultLemmas.{statement_fault}
 use Rattle.tq_engine.proofs.UniqueLemmas.{same_catalogue, same_statement}

@@ -14,7 +14,6 @@ use Rattle.tq_exec.specs.Answers.{lists_at, times_by, times_in, times_in_right, 
 use Rattle.tq_exec.specs.OutputPlaces.{output_place}
 use Rattle.tq_exec.specs.Partitioning.{PartitionsHaveRows, in_partition}
 use Rattle.tq_exec.specs.Parts.{LinkedPartitionsAreParts}
-use Rattle.tq_exec.specs.Ordinary.{ordinary}
 use Rattle.tq_exec.proofs.BagLemmas.{is_it, same_mapped}
 use Rattle.tq_exec.proofs.PlaceLemmas.{no_places, ordinary_alone}
 use Rattle.tq_exec.proofs.RangeLemmas.{counted_once}

@@ -18,7 +18,6 @@ use Rattle.std.proofs.lemmas.Slice.Eq.{bytes_eq-Decides}
 use Rattle.std.proofs.lemmas.Str.Parse.{digit_from_value}
 use Rattle.tq_base.specs.declared.catalogue.Column.{Column}
 use Rattle.tq_base.specs.declared.catalogue.Kind.TheVariants as kind
-use Rattle.tq_base.specs.declared.dates.TheConstants.{LAST_DAY}
 use Rattle.tq_base.specs.declared.form.Form.{Form}
 use Rattle.tq_base.specs.declared.form.Form.TheVariants.{Dates, Numbers}
 use Rattle.tq_base.specs.declared.period.TheConstants.{FOREVER}
@@ -49,7 +48,7 @@ use Rattle.tq_import.specs.declared.plan.PlannedColumn.{PlannedColumn}
 use Rattle.tq_import.specs.declared.plan.Plan.{Plan}
 use Rattle.tq_import.specs.declared.plan.TimeFormat.{TimeFormat}
 use Rattle.tq_import.specs.Amounts.{units_in}
-use Rattle.tq_import.specs.Dates.{DateDigits, day_in, digits_in, iso_text, no_digits, without_midnight}
+use Rattle.tq_import.specs.Dates.{without_midnight}
 use Rattle.tq_import.specs.Imports.{at_number, column_field, kind_word, number_header, table_header}
 use Rattle.tq_import.specs.Loads.{ImportedFilesLoad, ImportsLoad, imported_records}
 use Rattle.tq_import.specs.Records.{at_place, convert, field_of, import_record, known, number_field, ordered, period_in, period_texts, row_number, values_after}

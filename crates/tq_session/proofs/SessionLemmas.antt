@@ -12,7 +12,7 @@ use Rattle.tq_table.specs.Sink.{AppendsPrefix}
 use Rattle.tq_snapshot.specs.Calls.{WriterState}
 use Rattle.tq_session.specs.declared.reply.Reply.{Reply}
 use Rattle.tq_session.specs.Input.{InputState, Takes, max_remaining, max_read, reads_after}
-use Rattle.tq_session.specs.Lines.{HasNoFeed, Line, SplitsLines, ended_line, ended_lines, line_bytes, lines_of}
+use Rattle.tq_session.specs.Lines.{HasNoFeed, Line, SplitsLines, ended_lines, line_bytes, lines_of}
 use Rattle.tq_session.specs.Replies.{reply_text}
 use Rattle.tq_session.specs.Sessions.{RepliesToAll, RepliesToEnded, RepliesToSome, Streams}
 use Rattle.tq_session.specs.LineSteps.{IsBroken, IsEnd, IsReply}

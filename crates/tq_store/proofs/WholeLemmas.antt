@@ -16,7 +16,7 @@ use Rattle.tq_scan.specs.declared.window.Part.{Part}
 use Rattle.tq_scan.specs.Windows.{lies_in}
 use Rattle.tq_store.specs.Laws.{PartsAreValid, TileWindow}
 use Rattle.tq_store.specs.Rows.{HasReference, IsPartRow, row_key, whole_window}
-use Rattle.tq_store.specs.Valid.{ArePart, AreParts, AreWholeWindow, fragment_at, row_at}
+use Rattle.tq_store.specs.Valid.{AreParts, AreWholeWindow, fragment_at, row_at}
 use Rattle.tq_store.proofs.CountLemmas.{AreApart, IsThere, apart_pairs}
 use Rattle.tq_store.proofs.PartLemmas.{each_once}
 use Rattle.tq_store.proofs.ValidLemmas.{contains_of, keys_in, small, there_of, valid_in}

@@ -1,5 +1,4 @@
 use Rattle.std.proofs.Common.{arith, rules}
-use Rattle.tq_cli.specs.Comments.{place_at}
 use Rattle.tq_cli.proofs.CommentLemmas.{all_shown, byte_shown}
 use Rattle.tq_cli.proofs.comments.blank_comments.Goals as goal
 
