@@ -178,15 +178,15 @@ def placed(case, folder):
     """The words and the expected standard error of a case whose files are in this folder. `rt try` runs all cases in one other
     folder, so the paths of files become absolute, except those in examples/."""
     words, err = [], case.err
-    is_import = case.words[:1] == ["import"]
+    ends_with_path = case.words[:1] in (["import"], ["merge"])
     for place, (before, word) in enumerate(zip([None, *case.words], case.words), 1):
         front = "--table=" if word.startswith("--table=") else ""
-        is_path = before in ("-o", "--output", "--out", "--skip-invalid", "--statement-file") or (is_import and place == len(case.words))
+        is_path = before in ("-o", "--output", "--out", "--skip-invalid", "--statement-file") or (ends_with_path and place == len(case.words))
         is_file = is_path and not word.startswith("-")
         name, _, path = ("", "", word) if is_file else word.removeprefix(front).partition("=")
         if (front or before == "--table" or is_file) and path not in ("", "-") and not path.startswith(("/", "examples/")):
             word = f"{folder}/{path}" if is_file else f"{front}{name}={folder}/{path}"
-            line = rb"^(tq: cannot read |tq: cannot write |tq: import |  (?:\d+ invalid records? in )?)(?=" + re.escape(path.encode()) + rb"[,:\n])"
+            line = rb"^(tq: cannot read |tq: cannot write |tq: import |  (?:\d+ invalid records? in )?)(?=" + re.escape(path.encode()) + rb"[,:/\n])"
             err = re.sub(line, lambda found: found[1] + f"{folder}/".encode(), err, flags=re.MULTILINE)
         words.append(word)
     return words, err
