@@ -22,7 +22,7 @@ first: tools
 build: tools
 	@python3 gate/build.py
 
-# Runs the tests without proofs, in more than ten minutes.
+# Runs the tests without proofs, in eight minutes on four cores.
 quick: tools
 	@gate/quick.py
 
