@@ -3,10 +3,11 @@
 ghost use Rattle.std.specs.Prelude.{◌≡◌, IfOk};
 ghost use Rattle.tq_commands.specs.Drawings.{drawn_text};
 
-use std::alloc::{AllocError, Global};
+use std::alloc::AllocError;
+use std::thread::Threads;
 use tq_base::{Form, Period};
 use tq_cli::PictureFormat;
-use tq_draw::{draw, draw_html, draw_svg};
+use tq_draw::{Workers, draw, draw_html, draw_svg};
 use tq_table::Table;
 
 /// How an answer is drawn: its instants, in which format, how wide, and in which window.
@@ -19,8 +20,8 @@ pub struct Drawing {
 }
 
 /// The picture of a table, which is the answer of the statement. `AllocError` if an allocation failed.
-pub fn drawn_text(
-    alloc: Global,
+pub fn drawn_text<R: Threads + Sync>(
+    workers: &Workers<'_, R>,
     table: &Table<'_>,
     drawing: &Drawing,
     statement: &[u8],
@@ -34,8 +35,8 @@ pub fn drawn_text(
         window,
     } = *drawing;
     match format {
-        PictureFormat::Text => draw(alloc, table, form, width, window),
-        PictureFormat::Svg => draw_svg(alloc, table, form, width, window),
-        PictureFormat::Html => draw_html(alloc, table, form, width, window, statement),
+        PictureFormat::Text => draw(workers, table, form, width, window),
+        PictureFormat::Svg => draw_svg(workers, table, form, width, window),
+        PictureFormat::Html => draw_html(workers, table, form, width, window, statement),
     }
 }

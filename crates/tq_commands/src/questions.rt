@@ -27,6 +27,7 @@ use tq_base::{Column, Form};
 use tq_cli::{
     AskRequest, DecimalOption, DrawRequest, LayoutRequest, QuestionRequest, TotalRequest,
 };
+use tq_draw::Workers;
 use tq_engine::{AnswerOptions, query_files};
 use tq_report::{Format, ReportOptions, by_time, report, typed_text};
 use tq_table::{Sink, Table};
@@ -280,6 +281,11 @@ pub fn print_picture<
     } = request;
     let question = with_statement(rt, question, interactive, progress)?;
     let statement = question.statement.to_vec(rt.alloc())?;
+    let workers = Workers {
+        rt,
+        alloc: rt.alloc(),
+        count: question.workers,
+    };
     let answered = answer_table(rt, question, interactive, progress)?;
     let drawing = Drawing {
         form: answered.form,
@@ -287,7 +293,7 @@ pub fn print_picture<
         width: width as usize,
         window,
     };
-    let text = drawn_text(rt.alloc(), &answered.table, &drawing, &statement)?;
+    let text = drawn_text(&workers, &answered.table, &drawing, &statement)?;
     progress.end(rt);
     Ok(print_to(rt, &answered.output, &text)?)
 }

@@ -8,7 +8,7 @@ use Rattle.tq_draw.specs.Scales.{edge, IsScale}
 use Rattle.tq_draw.specs.declared.scale.Scale.{Scale}
 
 -- a later part does not begin earlier
-share_rises : (i j span cells : ℕ) → 0 < cells → i ≤ j → i * span / cells ≤ j * span / cells
+pub share_rises : (i j span cells : ℕ) → 0 < cells → i ≤ j → i * span / cells ≤ j * span / cells
 share_rises i j span cells some order =
     le-div (i * span / cells) (j * span) cells some (le_trans (div-mul-le_self (i * span) cells) (mul-le-mul_right span order))
 

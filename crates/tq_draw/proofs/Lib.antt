@@ -6,6 +6,7 @@ pub mod EdgeLemmas
 pub mod MarkLemmas
 pub mod MonthLemmas
 pub mod NumberLemmas
+pub mod PieceLemmas
 pub mod ScaleLemmas
 pub mod Steps
 pub mod ShownLemmas

@@ -5,6 +5,7 @@ pub mod Labels
 pub mod Laws
 pub mod Marks
 pub mod Pictures
+pub mod Pieces
 pub mod Scales
 pub mod Svg
 pub mod Xml

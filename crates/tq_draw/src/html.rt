@@ -6,11 +6,13 @@ ghost use Rattle.tq_draw.specs.Html.{html_of, line_at, name_cell, names_line, pa
 ghost use Rattle.tq_table.specs.Text.{value_field};
 
 use crate::labels::{escaped_lines, escaped_text, push_bound, push_instant};
+use crate::pieces::{Lines, Workers, push_lines};
 use crate::shown_rows::ShownRows;
 use crate::svg::push_svg;
 use crate::xml::push_xml;
 use itoa::Buffer;
 use std::alloc::{AllocError, Global};
+use std::thread::Threads;
 use tq_base::{Form, Name, Period, Row, Value, ValueRef};
 use tq_table::Table;
 
@@ -141,28 +143,34 @@ fn push_row_line(
     text.extend_from_slice(b"</tr>\n")
 }
 
-// Appends the lines of all rows.
-fn push_row_lines(
-    alloc: Global,
-    text: &mut Vec<u8>,
+// The lines of the rows.
+#[derive(Drop)]
+struct RowLines<'p, 'r, 'a> {
+    rows: &'p ShownRows<'r, 'a>,
     form: Form,
     columns: usize,
-    rows: &ShownRows<'_, '_>,
-) -> Result<(), AllocError>
-    ensures { OnOk result (text.new.items ≡ text.old.items ++ flat_map (line_at form columns rows.now) (range_with_len 0 (length rows.now))) }
-{
-    'rows: for row in 0..rows.len() {
-        let values = rows.row(row);
-        let period = rows.period(row);
-        push_row_line(alloc, text, form, columns, &values, &period)?;
+}
+
+impl Lines for RowLines<'_, '_, '_> {
+    ghost rows = { λ l. length l.rows.now };
+
+    ghost line = { λ l row. line_at l.form l.columns l.rows.now row };
+
+    fn len(&self) -> usize {
+        self.rows.len()
     }
-    Ok(())
+
+    fn push(&self, alloc: Global, text: &mut Vec<u8>, row: usize) -> Result<(), AllocError> {
+        let values = self.rows.row(row);
+        let period = self.rows.period(row);
+        push_row_line(alloc, text, self.form, self.columns, &values, &period)
+    }
 }
 
 // Appends the rows as a table.
 #[tactic(auto, unfolding(crate::specs::Html::table_element))]
-fn push_table(
-    alloc: Global,
+fn push_table<R: Threads + Sync>(
+    workers: &Workers<'_, R>,
     text: &mut Vec<u8>,
     form: Form,
     columns: &[Name],
@@ -171,14 +179,19 @@ fn push_table(
     ensures { OnOk result (text.new.items ≡ text.old.items ++ table_element form columns.now rows.now) }
 {
     text.extend_from_slice(b"<table>\n")?;
-    push_names_line(alloc, text, columns)?;
-    push_row_lines(alloc, text, form, columns.len(), rows)?;
+    push_names_line(workers.alloc, text, columns)?;
+    let lines = RowLines {
+        rows,
+        form,
+        columns: columns.len(),
+    };
+    push_lines(workers, text, &lines)?;
     text.extend_from_slice(b"</table>\n")
 }
 
 // Appends the page of the rows.
-fn push_page(
-    alloc: Global,
+fn push_page<R: Threads + Sync>(
+    workers: &Workers<'_, R>,
     text: &mut Vec<u8>,
     form: Form,
     width: usize,
@@ -190,9 +203,9 @@ fn push_page(
     ensures { OnOk result (text.new.items ≡ text.old.items ++ page_over form width window.now statement.now columns.now rows.now) }
 {
     push_page_head(text)?;
-    push_statement(alloc, text, statement)?;
-    push_svg(alloc, text, form, width, window, columns, rows)?;
-    push_table(alloc, text, form, columns, rows)?;
+    push_statement(workers.alloc, text, statement)?;
+    push_svg(workers, text, form, width, window, columns, rows)?;
+    push_table(workers, text, form, columns, rows)?;
     text.extend_from_slice(b"</body>\n</html>\n")?;
     Ok(())
 }
@@ -200,8 +213,8 @@ fn push_page(
 /// Draws the table as a standalone HTML page: the statement, the image that `draw_svg` draws, and the rows as a table. The
 /// page shows hidden characters as `escaped_text` does, except line feeds of the statement. `AllocError` if an allocation
 /// failed.
-pub fn draw_html(
-    alloc: Global,
+pub fn draw_html<R: Threads + Sync>(
+    workers: &Workers<'_, R>,
     table: &Table<'_>,
     form: Form,
     width: usize,
@@ -210,10 +223,10 @@ pub fn draw_html(
 ) -> Result<Vec<u8>, AllocError>
     ensures { IfOk result (λ text. text.items ≡ html_of form width window statement.now table.now) }
 {
-    let rows = ShownRows::of(alloc, &table.rows, &window)?;
-    let mut text = Vec::new(alloc);
+    let rows = ShownRows::of(workers.alloc, &table.rows, &window)?;
+    let mut text = Vec::new(workers.alloc);
     push_page(
-        alloc,
+        workers,
         &mut text,
         form,
         width,

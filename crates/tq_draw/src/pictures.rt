@@ -5,11 +5,13 @@ ghost use Rattle.tq_draw.specs.Pictures.{head_text, picture_of};
 ghost use Rattle.tq_draw.specs.Scales.{IsScale};
 
 use crate::marks::{marks_of, push_marks, push_ruler};
+use crate::pieces::Workers;
 use crate::rows::{push_blanks, push_names, push_rows};
 use crate::scale::{Scale, room_of, scale_of};
 use crate::shown_rows::ShownRows;
 use crate::widths::widths_of;
 use std::alloc::{AllocError, Global};
+use std::thread::Threads;
 use tq_base::{Form, Name, Period};
 use tq_table::Table;
 
@@ -40,8 +42,8 @@ fn push_head(
 /// Draws the table in a width of this many columns of a terminal: a line for each row, with its values and a bar, below a scale of
 /// time. `form` says how instants are written. With a window, the scale is the window, and the rows are those that are
 /// valid in it. The picture is wider if the values leave fewer than 17 columns. `AllocError` if an allocation failed.
-pub fn draw(
-    alloc: Global,
+pub fn draw<R: Threads + Sync>(
+    workers: &Workers<'_, R>,
     table: &Table<'_>,
     form: Form,
     width: usize,
@@ -49,9 +51,10 @@ pub fn draw(
 ) -> Result<Vec<u8>, AllocError>
     ensures { IfOk result (λ text. text.items ≡ picture_of form width window table.now) }
 {
+    let alloc = workers.alloc;
     let rows = ShownRows::of(alloc, &table.rows, &window)?;
     let columns = table.columns.get();
-    let widths = widths_of(alloc, columns, &rows)?;
+    let widths = widths_of(workers, columns, &rows)?;
     let mut text = Vec::new(alloc);
     if rows.len() == 0 {
         push_names(alloc, &mut text, columns, &widths)?;
@@ -60,6 +63,6 @@ pub fn draw(
     }
     let scale = scale_of(form, room_of(width, &widths), &window, &rows);
     push_head(alloc, &mut text, columns, &widths, &scale, form)?;
-    push_rows(alloc, &mut text, &rows, &widths, &scale)?;
+    push_rows(workers, &mut text, &rows, &widths, &scale)?;
     Ok(text)
 }

@@ -2,15 +2,18 @@
 
 ghost use Rattle.std.specs.Prelude.{◌≡◌, [], ◌++◌, ◌-◌, IfOk, OnOk, length, slice_set};
 ghost use Rattle.std.specs.List.{flat_map};
+ghost use Rattle.tq_base.specs.Relations.{row_at};
 ghost use Rattle.tq_draw.specs.Labels.{column_text, columns_text};
 ghost use Rattle.tq_draw.specs.Pictures.{drawn_row, front_text, name_label, value_label};
 ghost use Rattle.tq_draw.specs.Scales.{IsScale};
 
 use crate::bars::{begins_before, push_arrow, push_bar};
 use crate::labels::{label, push_filled, value_label};
+use crate::pieces::{Lines, Workers, push_lines};
 use crate::scale::Scale;
 use crate::shown_rows::ShownRows;
 use std::alloc::{AllocError, Global};
+use std::thread::Threads;
 use tq_base::{Name, Period, Row};
 
 /// Appends a label, filled up to the width of its column, and two spaces.
@@ -112,9 +115,39 @@ fn push_row(
     Ok(())
 }
 
+// The lines of the rows.
+#[derive(Drop)]
+struct DrawnRows<'p, 'r, 'a> {
+    rows: &'p ShownRows<'r, 'a>,
+    widths: &'p [usize],
+    scale: &'p Scale,
+    ghost scaled: { IsScale scale.now },
+}
+
+impl Lines for DrawnRows<'_, '_, '_> {
+    ghost rows = { λ l. length l.rows.now };
+
+    ghost line = { λ l row. drawn_row l.widths.now l.scale.now (row_at l.rows.now row) };
+
+    fn len(&self) -> usize {
+        self.rows.len()
+    }
+
+    fn push(&self, alloc: Global, text: &mut Vec<u8>, row: usize) -> Result<(), AllocError> {
+        push_row(
+            alloc,
+            text,
+            &self.rows.row(row),
+            &self.rows.period(row),
+            self.widths,
+            self.scale,
+        )
+    }
+}
+
 /// Appends a line for each row.
-pub(crate) fn push_rows(
-    alloc: Global,
+pub(crate) fn push_rows<R: Threads + Sync>(
+    workers: &Workers<'_, R>,
     text: &mut Vec<u8>,
     rows: &ShownRows<'_, '_>,
     widths: &[usize],
@@ -123,15 +156,11 @@ pub(crate) fn push_rows(
     requires { IsScale scale.now }
     ensures { OnOk result (text.new.items ≡ text.old.items ++ flat_map (drawn_row widths.now scale.now) rows.now) }
 {
-    'rows: for row in 0..rows.len() {
-        push_row(
-            alloc,
-            text,
-            &rows.row(row),
-            &rows.period(row),
-            widths,
-            scale,
-        )?;
-    }
+    let lines = DrawnRows {
+        rows,
+        widths,
+        scale,
+    };
+    push_lines(workers, text, &lines)?;
     Ok(())
 }

@@ -5,17 +5,19 @@ ghost use Rattle.std.specs.List.{flat_map, range_with_len};
 ghost use Rattle.tq_draw.specs.Marks.{AreWithin, labels_from, ruler_from};
 ghost use Rattle.tq_draw.specs.Pictures.{name_label, value_label};
 ghost use Rattle.tq_draw.specs.Scales.{IsScale};
-ghost use Rattle.tq_draw.specs.Svg.{bar_element, bar_elements, empty_image, image_over, label_elements, left_of, lefts_of, opening, spaced_label, stroke, strokes, svg_of, svg_over, text_element, title_text, values_elements, x_of};
+ghost use Rattle.tq_draw.specs.Svg.{bar_element, empty_image, image_over, label_elements, left_of, lefts_of, opening, row_bar, spaced_label, stroke, strokes, svg_of, svg_over, text_element, title_text, values_element, x_of};
 
 use crate::bars::{push_arrow, push_bar, push_lead};
 use crate::labels::{label, push_bound, push_instant, value_label};
 use crate::marks::{Tick, marks_of, push_marks, push_ruler};
+use crate::pieces::{Lines, Workers, push_lines};
 use crate::rows::{push_blanks, push_column};
 use crate::scale::{Scale, room_of, scale_of};
 use crate::shown_rows::ShownRows;
 use crate::widths::widths_of;
 use crate::xml::{push_number, push_xml};
 use std::alloc::{AllocError, Global};
+use std::thread::Threads;
 use tq_base::{Form, Name, Period, Row};
 use tq_table::Table;
 
@@ -96,20 +98,26 @@ fn push_values(
     Ok(())
 }
 
-// Appends the values of all rows.
-fn push_all_values(
-    alloc: Global,
-    text: &mut Vec<u8>,
-    rows: &ShownRows<'_, '_>,
-    lefts: &[usize],
-) -> Result<(), AllocError>
-    ensures { OnOk result (text.new.items ≡ text.old.items ++ values_elements lefts.now rows.now) }
-{
-    'rows: for row in 0..rows.len() {
-        let y = 20 * (row as u128 + 3);
-        push_values(alloc, text, &rows.row(row), lefts, y)?;
+// The values of the rows.
+#[derive(Drop)]
+struct RowValues<'p, 'r, 'a> {
+    rows: &'p ShownRows<'r, 'a>,
+    lefts: &'p [usize],
+}
+
+impl Lines for RowValues<'_, '_, '_> {
+    ghost rows = { λ v. length v.rows.now };
+
+    ghost line = { λ v row. values_element v.lefts.now v.rows.now row };
+
+    fn len(&self) -> usize {
+        self.rows.len()
     }
-    Ok(())
+
+    fn push(&self, alloc: Global, text: &mut Vec<u8>, row: usize) -> Result<(), AllocError> {
+        let y = 20 * (row as u128 + 3);
+        push_values(alloc, text, &self.rows.row(row), self.lefts, y)
+    }
 }
 
 // The stroke or step for a byte of a bar.
@@ -210,26 +218,33 @@ fn push_bar_element(
     text.extend_from_slice(b"</title></path>\n")
 }
 
-// Appends the bars of all rows, which begin after `left` columns of a terminal.
-fn push_bars(
-    alloc: Global,
-    text: &mut Vec<u8>,
+// The bars of the rows, which begin after `left` columns of a terminal.
+#[derive(Drop)]
+struct RowBars<'p, 'r, 'a> {
+    rows: &'p ShownRows<'r, 'a>,
     form: Form,
-    scale: &Scale,
+    scale: &'p Scale,
     columns: usize,
     left: usize,
-    rows: &ShownRows<'_, '_>,
-) -> Result<(), AllocError>
-    requires { IsScale scale.now }
-    ensures { OnOk result (text.new.items ≡ text.old.items ++ bar_elements form scale.now columns left rows.now) }
-{
-    'rows: for row in 0..rows.len() {
-        let period = rows.period(row);
-        let title = title_text(alloc, form, columns, &rows.row(row), &period)?;
-        let y = 20 * row as u128 + 55;
-        push_bar_element(alloc, text, scale, x_of(left), y, &period, &title)?;
+    ghost scaled: { IsScale scale.now },
+}
+
+impl Lines for RowBars<'_, '_, '_> {
+    ghost rows = { λ b. length b.rows.now };
+
+    ghost line = { λ b row. row_bar b.form b.scale.now b.columns b.left b.rows.now row };
+
+    fn len(&self) -> usize {
+        self.rows.len()
     }
-    Ok(())
+
+    fn push(&self, alloc: Global, text: &mut Vec<u8>, row: usize) -> Result<(), AllocError> {
+        let period = self.rows.period(row);
+        let values = self.rows.row(row);
+        let title = title_text(alloc, self.form, self.columns, &values, &period)?;
+        let (x, y) = (x_of(self.left), 20 * row as u128 + 55);
+        push_bar_element(alloc, text, self.scale, x, y, &period, &title)
+    }
 }
 
 // Appends the image of this size in pixels, up to its texts.
@@ -297,8 +312,8 @@ fn push_ruler_text(
     push_text(text, x_of(left), 40, &line)
 }
 
-fn push_image(
-    alloc: Global,
+fn push_image<R: Threads + Sync>(
+    workers: &Workers<'_, R>,
     text: &mut Vec<u8>,
     columns: &[Name],
     rows: &ShownRows<'_, '_>,
@@ -311,6 +326,7 @@ fn push_image(
     requires scale { IsScale scale.now }
     ensures { OnOk result (text.new.items ≡ text.old.items ++ image_over form columns.now rows.now lefts.now left scale.now) }
 {
+    let alloc = workers.alloc;
     let marks = marks_of(alloc, form, scale)?;
     let cells = scale.cells.max(24) as u128;
     let lines = rows.len() as u128 + 2;
@@ -318,16 +334,23 @@ fn push_image(
     push_marks_text(alloc, text, left, scale, &marks, form)?;
     push_names(alloc, text, columns, lefts, 40)?;
     push_ruler_text(alloc, text, left, scale.cells, &marks)?;
-    push_all_values(alloc, text, rows, lefts)?;
+    push_lines(workers, text, &RowValues { rows, lefts })?;
     text.extend_from_slice(b"<g fill=\"none\" stroke=\"#36c\" stroke-width=\"12\">\n")?;
-    push_bars(alloc, text, form, scale, columns.len(), left, rows)?;
+    let bars = RowBars {
+        rows,
+        form,
+        scale,
+        columns: columns.len(),
+        left,
+    };
+    push_lines(workers, text, &bars)?;
     text.extend_from_slice(b"</g>\n</svg>\n")?;
     Ok(())
 }
 
 /// Appends the image of the rows.
-pub(crate) fn push_svg(
-    alloc: Global,
+pub(crate) fn push_svg<R: Threads + Sync>(
+    workers: &Workers<'_, R>,
     text: &mut Vec<u8>,
     form: Form,
     width: usize,
@@ -337,20 +360,21 @@ pub(crate) fn push_svg(
 ) -> Result<(), AllocError>
     ensures { OnOk result (text.new.items ≡ text.old.items ++ svg_over form width window.now columns.now rows.now) }
 {
-    let widths = widths_of(alloc, columns, rows)?;
+    let alloc = workers.alloc;
+    let widths = widths_of(workers, columns, rows)?;
     let lefts = lefts_of(alloc, &widths)?;
     let left = left_of_bars(alloc, &widths)?;
     if rows.len() == 0 {
         return push_empty_image(alloc, text, columns, &lefts, left);
     }
     let scale = scale_of(form, room_of(width, &widths), window, rows);
-    push_image(alloc, text, columns, rows, &lefts, left, &scale, form)
+    push_image(workers, text, columns, rows, &lefts, left, &scale, form)
 }
 
 /// Draws the table as a standalone SVG image, with the names, values, marks and cells that `draw` shows in this width and
 /// window. The bar of each row has a title with the row's values, start and end. `AllocError` if an allocation failed.
-pub fn draw_svg(
-    alloc: Global,
+pub fn draw_svg<R: Threads + Sync>(
+    workers: &Workers<'_, R>,
     table: &Table<'_>,
     form: Form,
     width: usize,
@@ -358,10 +382,11 @@ pub fn draw_svg(
 ) -> Result<Vec<u8>, AllocError>
     ensures { IfOk result (λ text. text.items ≡ svg_of form width window table.now) }
 {
+    let alloc = workers.alloc;
     let rows = ShownRows::of(alloc, &table.rows, &window)?;
     let mut text = Vec::new(alloc);
     push_svg(
-        alloc,
+        workers,
         &mut text,
         form,
         width,

@@ -1,12 +1,15 @@
 //! Pictures of tables, and tables in the formats of reports.
 
+ghost use Rattle.std.specs.Thread.{IsSync};
+
 use crate::output::{lines, table_of};
 use std::alloc::{AllocError, Global};
 use std::str;
+use std::thread::Threads;
 use tq_base::{Column, Form, Kind, Name, Period, Rows, read_bound, read_instant};
-use tq_draw::{draw, draw_html};
+use tq_draw::{Workers, draw, draw_html};
 use tq_report::{Format, ReportOptions, by_time, report, typed_text};
-use tq_table::table_text;
+use tq_table::{Table, table_text};
 
 /// The period from one number to another; `None` if there is none.
 pub(crate) fn window_of(start: &str, end: &str) -> Option<Period> {
@@ -16,30 +19,68 @@ pub(crate) fn window_of(start: &str, end: &str) -> Option<Period> {
 }
 
 /// Prints the picture of a table of the rows in a window, line by line.
-pub(crate) fn print_picture(
-    alloc: Global,
+pub(crate) fn print_picture<R: Threads + Sync>(
+    workers: &Workers<'_, R>,
     rows: &Rows,
     names: &[&str],
     width: &str,
     form: Form,
     window: Option<Period>,
     out: &mut String,
-) -> Result<(), AllocError> {
-    let table = table_of(alloc, lines(alloc, rows)?, names)?;
-    let picture = draw(alloc, &table, form, width.parse().unwrap_or(0), window)?;
+) -> Result<(), AllocError>
+    requires { IsSync R.row }
+{
+    let table = table_of(workers.alloc, lines(workers.alloc, rows)?, names)?;
+    let width = width.parse().unwrap_or(0);
+    let picture = draw(workers, &table, form, width, window)?;
     print_lines(&picture, out)
 }
 
-/// Prints an HTML page with the picture of a table of the rows, line by line. The statement is one that has to be escaped.
-pub(crate) fn print_page(
-    alloc: Global,
+// The page of a table, with a statement that has to be escaped.
+fn page_of<R: Threads + Sync>(
+    workers: &Workers<'_, R>,
+    table: &Table<'_>,
+) -> Result<Vec<u8>, AllocError>
+    requires { IsSync R.row }
+{
+    draw_html(workers, table, Form::Numbers, 40, None, b"a < 'b' & c\nd")
+}
+
+/// Prints an HTML page with the picture of a table of the rows, line by line.
+pub(crate) fn print_page<R: Threads + Sync>(
+    workers: &Workers<'_, R>,
     rows: &Rows,
     names: &[&str],
     out: &mut String,
-) -> Result<(), AllocError> {
+) -> Result<(), AllocError>
+    requires { IsSync R.row }
+{
+    let table = table_of(workers.alloc, lines(workers.alloc, rows)?, names)?;
+    print_lines(&page_of(workers, &table)?, out)
+}
+
+/// Prints how many bytes the picture of a table of the rows has and how many its page, and whether several workers draw
+/// the same.
+pub(crate) fn compare_pictures<R: Threads + Sync>(
+    workers: &Workers<'_, R>,
+    rows: &Rows,
+    names: &[&str],
+    out: &mut String,
+) -> Result<(), AllocError>
+    requires { IsSync R.row }
+{
+    let Workers { rt, alloc, .. } = *workers;
     let table = table_of(alloc, lines(alloc, rows)?, names)?;
-    let page = draw_html(alloc, &table, Form::Numbers, 40, None, b"a < 'b' & c\nd")?;
-    print_lines(&page, out)
+    let picture = draw(workers, &table, Form::Numbers, 40, None)?;
+    let page = page_of(workers, &table)?;
+    let mut is_same = true;
+    for count in [2, 7, 16] {
+        let several = Workers { rt, alloc, count };
+        is_same &= draw(&several, &table, Form::Numbers, 40, None)? == picture;
+        is_same &= page_of(&several, &table)? == page;
+    }
+    let lens = [picture.len(), page.len()];
+    writeln!(out, "{} {} {}", lens[0], lens[1], is_same)
 }
 
 // The format with this name.

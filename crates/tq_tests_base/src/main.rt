@@ -51,6 +51,8 @@
 //!     write FROM COLUMN..                  the text of the rows in their order
 //!     draw FROM WIDTH COLUMN..             the rows in their order, as a picture of a width
 //!     draw-dates FROM WIDTH COLUMN..       the same, with instants as dates
+//!     pictures FROM COLUMN..               how many bytes a picture and a page of the rows have, and whether several
+//!                                          workers draw the same
 //!     report FROM FORMAT COLUMN..          the rows in their order, in a format of reports
 //!     report-dates FROM FORMAT COLUMN..    the same, with instants as dates
 //!     report-amounts FROM FORMAT PLACES,.. COLUMN..

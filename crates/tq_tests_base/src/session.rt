@@ -3,7 +3,8 @@
 ghost use Rattle.std.specs.Thread.{IsSync};
 
 use crate::drawing::{
-    print_amounts, print_by_time, print_page, print_picture, print_report, print_typed, window_of,
+    compare_pictures, print_amounts, print_by_time, print_page, print_picture, print_report,
+    print_typed, window_of,
 };
 use crate::grouping::{count, group};
 use crate::lists::{show, show_counts};
@@ -18,6 +19,7 @@ use std::alloc::{AllocError, Global};
 use std::sync::Wait;
 use std::thread::Threads;
 use tq_base::{Form, Rows};
+use tq_draw::Workers;
 use tq_tests_script::{Block, Suite, print_nothing};
 
 #[derive(Drop)]
@@ -147,6 +149,37 @@ impl Session {
         }
     }
 
+    // Runs a call that draws a list.
+    fn draw<R: Threads + Sync>(
+        &self,
+        workers: &Workers<'_, R>,
+        word: &str,
+        from: &str,
+        words: &[&str],
+        out: &mut String,
+    ) -> Result<(), AllocError>
+        requires { IsSync R.row }
+    {
+        let Some(rows) = self.find(from) else {
+            return print_nothing(out);
+        };
+        match (word, words) {
+            ("draw", [width, names @ ..]) => {
+                print_picture(workers, rows, names, width, Form::Numbers, None, out)
+            }
+            ("draw-window", [start, end, width, names @ ..]) => {
+                let window = window_of(start, end);
+                print_picture(workers, rows, names, width, Form::Numbers, window, out)
+            }
+            ("draw-dates", [width, names @ ..]) => {
+                print_picture(workers, rows, names, width, Form::Dates, None, out)
+            }
+            ("page", names) => print_page(workers, rows, names, out),
+            ("pictures", names) => compare_pictures(workers, rows, names, out),
+            _ => print_nothing(out),
+        }
+    }
+
     // Runs a call that prints a list.
     fn print(
         &self,
@@ -164,17 +197,6 @@ impl Session {
             ("counts", [count]) => show_counts(rows, count.parse().unwrap_or(0), out),
             ("coalesce", _) => print_text(alloc, rows, words, true, out),
             ("write", _) => print_text(alloc, rows, words, false, out),
-            ("draw", [width, names @ ..]) => {
-                print_picture(alloc, rows, names, width, Form::Numbers, None, out)
-            }
-            ("draw-window", [start, end, width, names @ ..]) => {
-                let window = window_of(start, end);
-                print_picture(alloc, rows, names, width, Form::Numbers, window, out)
-            }
-            ("page", names) => print_page(alloc, rows, names, out),
-            ("draw-dates", [width, names @ ..]) => {
-                print_picture(alloc, rows, names, width, Form::Dates, None, out)
-            }
             ("report", [format, names @ ..]) => {
                 print_report(alloc, rows, names, format, Form::Numbers, out)
             }
@@ -228,10 +250,6 @@ impl Session {
                 | "counts"
                 | "coalesce"
                 | "write"
-                | "draw"
-                | "draw-dates"
-                | "draw-window"
-                | "page"
                 | "report"
                 | "report-dates"
                 | "report-amounts"
@@ -248,7 +266,15 @@ impl Session {
     }
 
     // Runs the call of the line, and writes its output.
-    fn call(&mut self, alloc: Global, line: &str, out: &mut String) -> Result<(), AllocError> {
+    fn call<R: Threads + Sync>(
+        &mut self,
+        rt: &R,
+        alloc: Global,
+        line: &str,
+        out: &mut String,
+    ) -> Result<(), AllocError>
+        requires { IsSync R.row }
+    {
         let words: Vec<&str> = line.split_whitespace().collect(alloc)?;
         match words.as_slice() {
             [] | ["#", ..] => Ok(()),
@@ -269,6 +295,18 @@ impl Session {
                     None => print_nothing(out),
                 }
             }
+            [
+                word @ ("draw" | "draw-dates" | "draw-window" | "page" | "pictures"),
+                from,
+                words @ ..,
+            ] => {
+                let workers = Workers {
+                    rt,
+                    alloc,
+                    count: 1,
+                };
+                self.draw(&workers, word, from, words, out)
+            }
             [word, words @ ..] => self.answer(alloc, word, words, out),
         }
     }
@@ -277,13 +315,13 @@ impl Session {
 impl Suite for Session {
     fn run<R: Threads + Wait + Sync>(
         &mut self,
-        _rt: &R,
+        rt: &R,
         alloc: Global,
         block: &Block,
         out: &mut String,
     ) -> Result<(), AllocError>
         requires { IsSync R.row }
     {
-        self.call(alloc, block.call.as_str(), out)
+        self.call(rt, alloc, block.call.as_str(), out)
     }
 }

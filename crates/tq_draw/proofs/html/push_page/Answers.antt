@@ -7,7 +7,7 @@ use Rattle.tq_draw.proofs.html.push_page.Goals as goal
 
 pub returns : goal.returns
 unfolding page_over
-returns c =
+returns g c =
     let text = c.args.text.now.items in
     let rows = c.args.rows.now in
     let columns = c.args.columns.now in

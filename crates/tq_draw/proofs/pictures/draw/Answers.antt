@@ -8,11 +8,11 @@ widths_len : (columns : List (List ℕ)) (rows : List Fragment) → length (widt
 widths_len columns rows = length-map-range_with_len (width_of columns rows) 0 (length columns)
 
 pub push_names-requires : goal.push_names-requires
-push_names-requires c =
+push_names-requires g c =
     ap (λ (l : List ℕ). length l) (c.deref.ensures.value ∙ c.in_ok-widths.ensures)
     ∙ widths_len c.get-columns.result.now c.in_ok-rows.rows
 
 pub push_head-requires-clause-widths : goal.push_head-requires-clause-widths
-push_head-requires-clause-widths c =
+push_head-requires-clause-widths g c =
     ap (λ (l : List ℕ). length l) (c.deref-3.ensures.value ∙ c.in_ok-widths.ensures)
     ∙ widths_len c.get-columns.result.now c.in_ok-rows.rows

@@ -9,7 +9,7 @@ use Rattle.tq_draw.proofs.svg.push_image.Goals as goal
 
 pub returns : goal.returns
 unfolding image_over marks_text ruler_text
-returns c =
+returns g c =
     let form = c.args.form in
     let rows = c.args.rows.now in
     let columns = c.args.columns.now in
@@ -38,8 +38,8 @@ returns c =
     let four = c.in_ok-push_ruler_text.ensures
     ∙ ap (λ (l : List ℕ). l ++ text_element (x_of left) 40 (ruler_from scale.cells 0 c.deref-2.result.now)) three
     ∙ ap (λ (l : List Tick). text ++ opening wide tall ++ marks ++ names ++ text_element (x_of left) 40 (ruler_from scale.cells 0 l)) is_too in
-    let five = c.in_ok-push_all_values.ensures ∙ ap (λ (l : List ℕ). l ++ values) four in
+    let five = c.in_ok-push_lines.ensures ∙ ap (λ (l : List ℕ). l ++ values) four in
     let six = c.in_ok-extend_from_slice.ensures.items ∙ ap (λ (l : List ℕ). l ++ group) five in
-    let seven = c.in_ok-push_bars.ensures ∙ ap (λ (l : List ℕ). l ++ bars) six in
+    let seven = c.in_ok-push_lines-2.ensures ∙ ap (λ (l : List ℕ). l ++ bars) six in
     c.in_ok-extend_from_slice-2.ensures.items ∙ ap (λ (l : List ℕ). l ++ end) seven
     ∙ eight_as_one text (opening wide tall) marks names ruler values group bars end

@@ -11,11 +11,11 @@ lefts_len columns rows =
     length-map-range_with_len (left_of widths) 0 (length widths) ∙ length-map-range_with_len (width_of columns rows) 0 (length columns)
 
 pub push_empty_image-requires : goal.push_empty_image-requires
-push_empty_image-requires c =
+push_empty_image-requires g c =
     ap (λ (l : List ℕ). length l) (c.deref-then-len-eq0.ensures.value ∙ c.in_ok-lefts.ensures ∙ ap lefts_of (c.deref.ensures.value ∙ c.in_ok-widths.ensures))
     ∙ lefts_len c.args.columns.now c.args.rows.now
 
 pub push_image-requires-clause-lefts : goal.push_image-requires-clause-lefts
-push_image-requires-clause-lefts c =
+push_image-requires-clause-lefts g c _ _ =
     ap (λ (l : List ℕ). length l) (c.deref-4.ensures.value ∙ c.in_ok-lefts.ensures ∙ ap lefts_of (c.deref.ensures.value ∙ c.in_ok-widths.ensures))
     ∙ lefts_len c.args.columns.now c.args.rows.now

@@ -1,6 +1,6 @@
-use Rattle.std.proofs.Common.{◌≡◌, take}
-use Rattle.tq_draw.specs.Pictures.{width_of}
+use Rattle.std.proofs.Common.{◌≡◌, length, take}
+use Rattle.tq_draw.specs.Pieces.{piece_start, widest_of}
 use Rattle.tq_draw.proofs.widths.width_of.Given as goal
 
-abbrev pub invariant-rows : goal.invariant-rows
-invariant-rows l = l.widest ≡ width_of l.columns (take l.row l.rows) l.column
+abbrev pub invariant-pieces : goal.invariant-pieces
+invariant-pieces l = l.width ≡ widest_of l.column (take (piece_start (length l.rows) l.piece) l.rows) l.name_width

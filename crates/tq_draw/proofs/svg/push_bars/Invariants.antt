@@ -1,8 +1,0 @@
-use Rattle.std.proofs.Common.{◌≡◌, ◌++◌}
-use Rattle.std.specs.List.{flat_map, range_with_len}
-use Rattle.tq_draw.specs.Svg.{row_bar}
-use Rattle.tq_draw.proofs.svg.push_bars.Given as goal
-
-abbrev pub invariant-rows : goal.invariant-rows
-invariant-rows l =
-    l.text.items ≡ l.initial.text.items ++ flat_map (row_bar l.form l.scale l.columns l.left l.rows) (range_with_len 0 l.row)
