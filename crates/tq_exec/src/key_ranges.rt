@@ -1,18 +1,18 @@
 // The keys of each table that a plan needs, and a sample of the keys that rows have there.
 
-ghost use Rattle.std.specs.Prelude.{◌≡◌, ◌≤◌, ◌+◌, ℤ, IfOk, IfSome, None};
+ghost use Rattle.std.specs.Prelude.{◌≡◌, ◌≤◌, ◌+◌, ℤ, IfOk, IfSome, None, length};
 ghost use Rattle.tq_exec.specs.Reads.{AreApart, HasPlanKeys, HasQueryKeys, HasSourceKeys, is_key_in, ranges_with};
 
 use std::alloc::{AllocError, Global};
-use tq_base::{KeyRange, ValueRef, Values};
-use tq_event::Event;
+use tq_base::KeyRange;
 use tq_plan::{Plan, QueryPlan, QuerySource};
+use tq_store::Events;
 
 // Events are sampled at about this many places of the history.
 const SAMPLES: usize = 1_024;
 
 // The number of events that are sampled at each place.
-const AT_EACH: usize = 4;
+const AT_EACH: u32 = 4;
 
 /// Keys of a table whose rows are to be read.
 #[derive(Clone, Copy, Debug)]
@@ -128,37 +128,41 @@ pub(crate) fn plan_keys(alloc: Global, plan: &Plan, table: u32) -> Result<Vec<Ke
     }
 }
 
-// The key of a row with these values.
-fn key(values: &Values) -> i64 {
-    match values.get().first().map(|value| value.as_ref()) {
-        Some(ValueRef::Int(number)) => i64::try_from(number).unwrap_or(0),
-        _ => 0,
-    }
-}
-
-// Appends the keys of the rows of the table that the events start, if they lie in the range.
-fn add_keys(events: &[Event], of: TableKeys, keys: &mut Vec<i64>) -> Result<(), AllocError> {
-    'events: for event in events {
-        if let Event::Start { table, values, .. } = event
-            && *table == of.table
-            && of.keys.low <= key(values)
-            && key(values) <= of.keys.high
-        {
-            keys.push(key(values))?;
+// Appends the keys of the rows of the table that the events from `first` up to `end` start, if they lie in the range.
+fn add_keys(
+    events: &Events<'_>,
+    first: u32,
+    end: u32,
+    of: TableKeys,
+    keys: &mut Vec<i64>,
+) -> Result<(), AllocError>
+    requires { end ≤ length events.now }
+{
+    'events: for number in first..end {
+        if let Some(key) = events.start_key(number, of.table) {
+            let key = i64::try_from(key).unwrap_or(0);
+            if of.keys.low <= key && key <= of.keys.high {
+                keys.push(key)?;
+            }
         }
     }
     Ok(())
 }
 
-/// A sample of the keys in the range, in order.
+/// A sample of the keys in the range, in order, from the rows that the first n events start.
 pub(crate) fn some_keys(
     alloc: Global,
-    events: &[Event],
+    events: &Events<'_>,
+    n: u32,
     of: TableKeys,
-) -> Result<Vec<i64>, AllocError> {
+) -> Result<Vec<i64>, AllocError>
+    requires { n ≤ length events.now }
+{
     let mut keys = Vec::new(alloc);
-    'places: for place in events.chunks(events.len() / SAMPLES + 1) {
-        add_keys(&place[..place.len().min(AT_EACH)], of, &mut keys)?;
+    let step = n as usize / SAMPLES + 1;
+    'places: for first in (0..n).step_by(step) {
+        let end = first.saturating_add(AT_EACH).min(n);
+        add_keys(events, first, end, of, &mut keys)?;
     }
     keys.sort_unstable();
     Ok(keys)

@@ -83,7 +83,7 @@ pub(crate) fn parts_of(
     ensures several { IfOk result (λ parts. 2 ≤ length parts.items) }
 {
     let window = db.window(n, of.table, &of.keys, period);
-    let keys = some_keys(alloc, &db.events()[..n as usize], of)?;
+    let keys = some_keys(alloc, &db.events(), n, of)?;
     let versions = version_cuts(alloc, &window)?;
     let cuts = key_cuts(alloc, &window, &keys, wanted / (versions.len() + 1))?;
     cut(alloc, &window, &cuts, &versions)

@@ -1,7 +1,7 @@
 //! The open rows of every table, found by their values. Their events are in two lists, published and pending, which
 //! each call borrows.
 
-ghost use Rattle.std.specs.Prelude.{All, ◌≡◌, ◌↔◌, ℕ, ◌+◌, ◌<◌, ◌≤◌, ◌||◌, ◌∷◌, ◌++◌, [], true, false, length, slice_get, Some, IsTrue, IfOk, IfSome, MatchOption, OnOk, OnErr};
+ghost use Rattle.std.specs.Prelude.{All, ◌≡◌, ◌↔◌, ℕ, ◌+◌, ◌<◌, ◌≤◌, ◌||◌, ◌∷◌, ◌++◌, [], true, false, length, slice_get, None, Some, IsTrue, IfOk, IfSome, IsSomeAnd, MatchOption, OnOk, OnErr};
 ghost use Rattle.std.specs.List.Sorted.{IsNonDecreasingBy};
 ghost use Rattle.std.specs.Ordering.{eq_by_cmp, nat_cmp};
 ghost use Rattle.tq_base.specs.ValueOrder.{values_cmp};
@@ -13,7 +13,7 @@ ghost use Rattle.tq_event.specs.Versions.{Life, row_lives};
 ghost use Rattle.tq_store.specs.Index.{CanTake, IsOpenAt};
 ghost use Rattle.tq_snapshot.specs.OpenIndex.{AreTableRows, IsOpenIndex, MayFollow, is_open_at, next_row, table_count};
 ghost use Rattle.tq_snapshot.specs.OpenRows.{HasSame, IsNear, has, index_key};
-ghost use Rattle.tq_store.specs.Stored.{IsStart, values_in};
+ghost use Rattle.tq_store.specs.Stored.{IsStart, values_at, values_in};
 
 use crate::key::open_key;
 use crate::open_rows::OpenRows;
@@ -21,7 +21,7 @@ use std::alloc::{AllocError, Global};
 use std::collections::BTreeSet;
 use tq_base::{Catalogue, Instant, Values};
 use tq_event::Event;
-use tq_store::ROWS;
+use tq_store::{Events, ROWS};
 
 /// The rows of a table: the numbers of the events that start them, and the keys of the open ones.
 #[derive(Drop)]
@@ -30,19 +30,7 @@ pub struct TableRows {
     pub opened: OpenRows,
 }
 
-// The event with this number in both lists together.
-fn event_of<'a>(published: &'a [Event], pending: &'a [Event], number: u32) -> &'a Event
-    requires { number < length (published.now ++ pending.now) }
-    ensures { slice_get (published.now ++ pending.now) number ≡ Some result.now }
-{
-    let number = number as usize;
-    if number < published.len() {
-        &published[number]
-    } else {
-        &pending[number - published.len()]
-    }
-}
-
+// The values of the row that a pending event starts.
 fn values_of(event: &Event) -> &Values
     requires { IsStart event.now }
     ensures { result.now ≡ values_in event.now }
@@ -50,6 +38,60 @@ fn values_of(event: &Event) -> &Values
     match event {
         Event::Start { values, .. } => values,
         Event::End { .. } => unreachable!(),
+    }
+}
+
+// The pending event with this number in both lists together, unless the event is published.
+fn pending_event<'a>(published: &Events<'_>, pending: &'a [Event], number: u32) -> Option<&'a Event>
+    requires { number < length (published.now ++ pending.now) }
+    ensures pending { IfSome result (λ event. slice_get (published.now ++ pending.now) number ≡ Some event.now) }
+    ensures published { result ≡ None → number < length published.now }
+    ensures same { result ≡ None → slice_get (published.now ++ pending.now) number ≡ slice_get published.now number }
+{
+    let published = published.len();
+    let number = number as usize;
+    if number < published {
+        None
+    } else {
+        Some(&pending[number - published])
+    }
+}
+
+// The time of the event with this number.
+fn time(published: &Events<'_>, pending: &[Event], number: u32) -> Instant
+    requires { number < length (published.now ++ pending.now) }
+    ensures { IsSomeAnd (slice_get (published.now ++ pending.now) number) (λ event. result ≡ time_of event) }
+{
+    match pending_event(published, pending, number) {
+        Some(event) => event.at(),
+        None => published.at(number),
+    }
+}
+
+// Whether the row that the event with this number starts has these values.
+fn has_values(published: &Events<'_>, pending: &[Event], number: u32, values: &Values) -> bool
+    requires { IsSomeAnd (slice_get (published.now ++ pending.now) number) IsStart }
+    ensures { result ≡ eq_by_cmp values_cmp (values_at (published.now ++ pending.now) number) values.now }
+{
+    match pending_event(published, pending, number) {
+        Some(event) => values_of(event) == values,
+        None => published.has_values(number, values),
+    }
+}
+
+// A copy of the values of the row that the event with this number starts.
+fn copied_values(
+    alloc: Global,
+    published: &Events<'_>,
+    pending: &[Event],
+    number: u32,
+) -> Result<Values, AllocError>
+    requires { IsSomeAnd (slice_get (published.now ++ pending.now) number) IsStart }
+    ensures { IfOk result (λ values. values ≡ values_at (published.now ++ pending.now) number) }
+{
+    match pending_event(published, pending, number) {
+        Some(event) => values_of(event).try_copy(),
+        None => published.values(alloc, number),
     }
 }
 
@@ -78,26 +120,21 @@ impl TableRows {
         Ok(())
     }
 
-    // The event that starts the row, which must be one of the table.
-    fn start_of<'a>(
-        &self,
-        published: &'a [Event],
-        pending: &'a [Event],
-        table: u32,
-        row: u32,
-    ) -> &'a Event
+    // The number of the event that starts the row, which must be one of the table.
+    fn start_of(&self, published: &Events<'_>, pending: &[Event], table: u32, row: u32) -> u32
         requires rows { AreTableRows (published.now ++ pending.now) table self.now }
         requires row { row < length self.now.starts.items }
-        ensures start { IsStart result.now }
-        ensures life { (life : Life) → slice_get (row_lives (published.now ++ pending.now) table) row ≡ Some life → result.now ≡ Happening.Start table life.values life.from }
+        ensures number { result < length (published.now ++ pending.now) }
+        ensures start { IsSomeAnd (slice_get (published.now ++ pending.now) result) IsStart }
+        ensures life { (life : Life) → slice_get (row_lives (published.now ++ pending.now) table) row ≡ Some life → slice_get (published.now ++ pending.now) result ≡ Some (Happening.Start table life.values life.from) }
     {
-        event_of(published, pending, self.starts[row as usize])
+        self.starts[row as usize]
     }
 
     // Takes an event that starts or ends a row of the table. Unchanged after an error.
     fn take(
         &mut self,
-        published: &[Event],
+        published: &Events<'_>,
         pending: &[Event],
         event: &Event,
     ) -> Result<(), AllocError>
@@ -114,7 +151,9 @@ impl TableRows {
             }
             Event::End { table, row, .. } => {
                 let start = self.start_of(published, pending, *table, *row);
-                self.opened.remove(open_key(values_of(start), *row));
+                let alloc = *self.starts.allocator();
+                let values = copied_values(alloc, published, pending, start)?;
+                self.opened.remove(open_key(&values, *row));
                 Ok(())
             }
         }
@@ -123,7 +162,7 @@ impl TableRows {
     // Whether the row, which must be one of the table, has these values.
     fn is_like(
         &self,
-        published: &[Event],
+        published: &Events<'_>,
         pending: &[Event],
         table: u32,
         row: u32,
@@ -133,13 +172,14 @@ impl TableRows {
         requires row { row < length self.now.starts.items }
         ensures { (life : Life) → slice_get (row_lives (published.now ++ pending.now) table) row ≡ Some life → result ≡ eq_by_cmp values_cmp life.values wanted.now }
     {
-        values_of(self.start_of(published, pending, table, row)) == wanted
+        let start = self.start_of(published, pending, table, row);
+        has_values(published, pending, start, wanted)
     }
 
     // The number of the first open row with these values, if its key is among `keys`.
     fn find_first_in(
         &self,
-        published: &[Event],
+        published: &Events<'_>,
         pending: &[Event],
         table: u32,
         wanted: &Values,
@@ -164,7 +204,7 @@ impl TableRows {
     // The number of the first open row with these values.
     fn first_like(
         &self,
-        published: &[Event],
+        published: &Events<'_>,
         pending: &[Event],
         table: u32,
         wanted: &Values,
@@ -183,7 +223,7 @@ impl TableRows {
     // Whether the open row started before the instant.
     fn is_before(
         &self,
-        published: &[Event],
+        published: &Events<'_>,
         pending: &[Event],
         table: u32,
         values: &Values,
@@ -194,13 +234,14 @@ impl TableRows {
         requires opened { is_open_at (row_lives (published.now ++ pending.now) table) values.now row ≡ true }
         ensures { IsTrue result ↔ IsOpenAt (published.now ++ pending.now) table row at }
     {
-        self.start_of(published, pending, table, row).at() < at
+        let start = self.start_of(published, pending, table, row);
+        time(published, pending, start) < at
     }
 
     // The number of the first open row with these values, if it started before the instant.
     fn first_open(
         &self,
-        published: &[Event],
+        published: &Events<'_>,
         pending: &[Event],
         table: u32,
         values: &Values,
@@ -266,7 +307,7 @@ impl OpenIndex {
     {
         let mut index = OpenIndex::new(alloc, catalogue.tables.get().len())?;
         'events: for place in 0..events.len() {
-            index.take(&events[..place], &[], &events[place])?;
+            index.take(&Events::none(), &events[..place], &events[place])?;
         }
         Ok(index)
     }
@@ -274,7 +315,7 @@ impl OpenIndex {
     /// Takes an event that may follow the other events. Unchanged after an `AllocError`.
     pub fn take(
         &mut self,
-        published: &[Event],
+        published: &Events<'_>,
         pending: &[Event],
         event: &Event,
     ) -> Result<(), AllocError>
@@ -291,7 +332,7 @@ impl OpenIndex {
     }
 
     /// The number of the table's next row: the number of its rows that the events start.
-    pub fn next_row(&self, published: &[Event], pending: &[Event], table: u32) -> u32
+    pub fn next_row(&self, published: &Events<'_>, pending: &[Event], table: u32) -> u32
         requires index { IsOpenIndex (published.now ++ pending.now) self.now }
         requires table { table < table_count self.now }
         ensures { result ≡ next_row (published.now ++ pending.now) table }
@@ -304,7 +345,7 @@ impl OpenIndex {
     /// and one comparison for each earlier open row with the same key and digest.
     pub fn open_row(
         &self,
-        published: &[Event],
+        published: &Events<'_>,
         pending: &[Event],
         table: u32,
         values: &Values,

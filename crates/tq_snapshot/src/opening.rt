@@ -14,6 +14,7 @@ use crate::writer::Writer;
 use std::alloc::{AllocError, Global};
 use tq_base::Catalogue;
 use tq_event::Event;
+use tq_store::Events;
 
 impl<J: StoreId> Writer<J> {
     // The writer of a store with these events.
@@ -35,7 +36,7 @@ impl<J: StoreId> Writer<J> {
             book,
             prefix: mut written,
         } = opened;
-        if !commit(&book, &mut written, &[], &events) {
+        if !commit(&book, &mut written, &Events::none(), &events) {
             return Err(AllocError);
         }
         let rows = OpenIndex::of(alloc, &catalogue, &events)?;

@@ -19,7 +19,7 @@ use tq_event::{Event, MAX_EVENTS};
 use tq_exec::{RenderedAnswer, Workers, answer, answer_with, text_with};
 use tq_plan::Plan;
 use tq_run::Gate;
-use tq_store::Db;
+use tq_store::{Db, Events};
 use tq_table::Table;
 
 /// An event, with the prefix of the history that ends with it.
@@ -91,8 +91,8 @@ impl SharedStore {
         self.db.catalogue()
     }
 
-    pub fn events(&self) -> &[Event]
-        ensures { result.now ≡ self.now.events }
+    pub fn events(&self) -> Events<'_>
+        ensures { result ≡ self.now.events }
     {
         self.db.events()
     }
@@ -180,7 +180,7 @@ impl SharedStore {
         ensures ok { OnOk result (self.new ≡ absorbed self.old entry.now) }
         ensures err { OnErr result (self.new ≡ self.old) }
     {
-        if self.db.events().len() >= MAX_EVENTS as usize {
+        if self.db.count() >= MAX_EVENTS {
             return Err(AllocError);
         }
         if !self.db.apply(&entry.event)? {

@@ -12,6 +12,7 @@ use left_right::writer::Writer;
 use std::alloc::AllocError;
 use std::sync::Wait;
 use tq_event::Event;
+use tq_store::Events;
 
 pub(crate) type SharedWriter<J> = Writer<SharedStore, Entry, LastFind, Published<J>>;
 
@@ -20,7 +21,7 @@ pub(crate) type SharedWriter<J> = Writer<SharedStore, Entry, LastFind, Published
 pub(crate) fn commit(
     book: &Book,
     prefix: &mut Prefix,
-    published: &[Event],
+    published: &Events<'_>,
     pending: &[Event],
 ) -> bool
     requires book { prefix.old.book ≡ book.now.count.book }

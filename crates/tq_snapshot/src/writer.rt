@@ -19,6 +19,7 @@ use std::marker::{Model, PhantomData};
 use std::sync::Wait;
 use tq_base::{Catalogue, Instant, Values};
 use tq_event::Event;
+use tq_store::Events;
 
 /// The writer of the store. It appends events, which are pending until it publishes them. Contracts see it as its
 /// published events, its pending events and its limit.
@@ -79,12 +80,12 @@ fn fits(catalogue: &Catalogue, table: u32, values: &Values) -> Result<(), Append
 
 // The time of the last event of both lists if it is later than the instant, as the error reports it. `is_not_before` of
 // `tq_event` only compares, and takes one list.
-fn later(published: &[Event], pending: &[Event], at: Instant) -> Option<Instant>
+fn later(published: &Events<'_>, pending: &[Event], at: Instant) -> Option<Instant>
     ensures { MatchOption result (IsNotBefore (published.now ++ pending.now) at) (λ last. IsLater (published.now ++ pending.now) at last) }
 {
     let last = match pending.last() {
         Some(last) => last.at(),
-        None => published.last()?.at(),
+        None => published.last_at()?,
     };
     if at < last { Some(last) } else { None }
 }
@@ -148,7 +149,7 @@ impl<J: StoreId> Writer<J> {
         ensures { MatchResult result (λ _. HasTable J.catalogue table values.now × IsNotBefore (all_of self.now) at) (IsPrecluded J.catalogue (all_of self.now) table values.now at) }
     {
         fits(self.inner.published().catalogue(), table, values)?;
-        match later(self.inner.published().events(), &self.pending, at) {
+        match later(&self.inner.published().events(), &self.pending, at) {
             Some(last) => Err(AppendFault::TooEarly { last }),
             None => Ok(()),
         }
@@ -166,7 +167,7 @@ impl<J: StoreId> Writer<J> {
         ensures { result ≡ next_row (all_of self.now) table }
     {
         let published = self.inner.published().events();
-        self.rows.next_row(published, &self.pending, table)
+        self.rows.next_row(&published, &self.pending, table)
     }
 
     // The number of the table's first open row with these values, if it started before the instant.
@@ -177,7 +178,7 @@ impl<J: StoreId> Writer<J> {
     {
         let published = self.inner.published().events();
         self.rows
-            .open_row(published, &self.pending, table, values, at)
+            .open_row(&published, &self.pending, table, values, at)
     }
 
     // Appends an event that may follow the others. Unchanged after an error.
@@ -189,7 +190,7 @@ impl<J: StoreId> Writer<J> {
     {
         self.pending.reserve(1)?;
         let published = self.inner.published().events();
-        self.rows.take(published, &self.pending, &event)?;
+        self.rows.take(&published, &self.pending, &event)?;
         self.pending.push_reserved(event);
         Ok(())
     }
@@ -201,7 +202,7 @@ impl<J: StoreId> Writer<J> {
         ensures { MatchResult result (λ n. (self.new ≡ record self.old { published = all_of self.old; pending = [] }) × (n ≡ length self.new.published)) (λ _. self.new ≡ self.old) }
     {
         let published = self.inner.published().events();
-        if !commit(&self.book, &mut self.written, published, &self.pending) {
+        if !commit(&self.book, &mut self.written, &published, &self.pending) {
             return Err(AllocError);
         }
         let (sent, handed) = stage(&mut self.inner, &self.written, &self.pending, self.sent);

@@ -10,4 +10,5 @@ pub mod CountLemmas
 pub mod ValidLemmas
 pub mod LeafLemmas
 pub mod ReadLemmas
+pub mod LogLemmas
 pub mod WholeLemmas

@@ -49,7 +49,7 @@ one_more made f xs new x keys i d less pushed before same =
     ∙ sym (map-append f (take i keys) (get_or keys i d ∷ [])) ∙ sym (ap (map f) (take_more keys i d less))
 
 -- maps that agree on each item are equal
-map_where : {X Y : Type 0} → (f g : X → Y) (xs : List X) → ((k : ℕ) (d : X) → k < length xs → f (get_or xs k d) ≡ g (get_or xs k d)) → map f xs ≡ map g xs
+pub map_where : {X Y : Type 0} → (f g : X → Y) (xs : List X) → ((k : ℕ) (d : X) → k < length xs → f (get_or xs k d) ≡ g (get_or xs k d)) → map f xs ≡ map g xs
 map_where f g [] same = refl
 map_where f g (x ∷ xs) same =
     ap (λ y. y ∷ map f xs) (same 0 x (omega arith)) ∙ ap (λ l. g x ∷ l) (map_where f g xs (λ k d less. same (suc k) d (omega (arith, less))))

@@ -120,6 +120,20 @@ abbrev pub CanTake : List Event → Event → Type 0
 CanTake events (Start t v at) = FitsSigned w64 (key_of v) × (at < FOREVER)
 CanTake events (End t r at) = IsOpenAt events t r at × (at < FOREVER)
 
+-- an event that an index of its table may take, as the event with this number
+pub record IsNext (number : ℕ) (event : Event) (index : Index) : Type 0 where
+  pub events : List Event
+  pub counted : length events ≡ number
+  pub is : IsIndexOf events (table_of event) index
+  pub can : CanTake events event
+
+-- the same of the indexes of all tables
+pub record IsNextOf (number : ℕ) (event : Event) (indexes : List Index) : Type 0 where
+  pub events : List Event
+  pub counted : length events ≡ number
+  pub are : AreIndexes events indexes
+  pub can : CanTake events event
+
 -- a row that the event starts has n values
 abbrev pub HasWidth : ℕ → Event → Type 0
 HasWidth width (Start t v at) = length v ≡ width

@@ -4,3 +4,4 @@ pub mod Rows
 pub mod Stored
 pub mod Valid
 pub mod Laws
+pub mod Log

@@ -1,6 +1,7 @@
 //! A history that is queried as of any number of its events.
 
 ghost use Rattle.std.specs.Prelude.{All, ◌≡◌, ◌↔◌, ◌+◌, ◌*◌, ◌/◌, ◌<◌, ◌≤◌, ◌∷◌, ◌++◌, [], IsTrue, IfOk, OnErr, if◌then◌else◌, length, map, min};
+ghost use Rattle.std.specs.List.Sorted.{IsNonDecreasingBy};
 ghost use Rattle.tq_base.specs.declared.period.TheConstants.{FOREVER};
 ghost use Rattle.tq_event.specs.History.{IsAdmissible, IsHistory, time_of};
 ghost use Rattle.tq_event.specs.Versions.{version_at};
@@ -10,14 +11,15 @@ ghost use Rattle.tq_store.specs.Rows.{ArePartRows, HasPartRows, IsWithin, whole_
 ghost use Rattle.tq_store.specs.Stored.{IsReadable, row_of_key, row_view};
 ghost use Rattle.tq_store.specs.Valid.{ArePart, width_of};
 
-use crate::index::{Index, no_indexes, take};
-use crate::read::{find_version, make_window, read_rows, row_periods_of_keys};
+use crate::index::{Index, logged_event, no_indexes, take};
+use crate::log::{Events, LoggedEvent};
+use crate::read::{make_window, read_rows, row_periods_of_keys};
 use crate::row::Row;
 use std::alloc::{AllocError, Global};
 use std::marker::Model;
 use tq_arena::Meter;
 use tq_base::{Catalogue, Instant, KeyRange, Period, Relation, Rows};
-use tq_event::{Event, can_start, is_not_before};
+use tq_event::{Event, can_start};
 use tq_mvbt::trees_tile;
 use tq_scan::{Found, Part, Window, scan, scan_unsorted};
 
@@ -26,24 +28,24 @@ use tq_scan::{Found, Part, Window, scan, scan_unsorted};
 pub struct Db {
     alloc: Global,
     catalogue: Catalogue,
-    events: Vec<Event>,
+    log: Vec<LoggedEvent>,
     indexes: Vec<Index>,
 }
 
 impl Model for Db {
     ghost use Rattle.tq_event.specs.Recorded.{Recorded};
-    ghost use Rattle.tq_store.specs.Index.{IsDb};
+    ghost use Rattle.tq_store.specs.Log.{IsLoggedDb, logged};
 
     ghost Value = { Recorded };
 
-    ghost view = { λ d. record { catalogue = d.catalogue; events = d.events.items } };
+    ghost view = { λ d. record { catalogue = d.catalogue; events = logged d.indexes.items d.log.items } };
 
-    ghost invariant = { λ d. IsDb d.catalogue d.events.items d.indexes.items };
+    ghost invariant = { λ d. IsLoggedDb d.catalogue d.log.items d.indexes.items };
 }
 
 // Whether the row is open and started before the instant. A `History` of `tq_event` keeps a list of its open rows for
 // this. A `Db` has no such list: its indexes know the open rows.
-fn can_end(indexes: &[Index], events: &[Event], table: u32, row: u32, at: Instant) -> bool
+fn can_end(indexes: &[Index], events: &Events<'_>, table: u32, row: u32, at: Instant) -> bool
     requires { AreIndexes events.now indexes.now }
     ensures { IsTrue result ↔ CanEnd (length indexes.now) events.now table row at }
 {
@@ -54,14 +56,19 @@ fn can_end(indexes: &[Index], events: &[Event], table: u32, row: u32, at: Instan
 }
 
 // Whether the event is admissible after the events.
-fn is_admissible(catalogue: &Catalogue, events: &[Event], indexes: &[Index], event: &Event) -> bool
+fn is_admissible(
+    catalogue: &Catalogue,
+    events: &Events<'_>,
+    indexes: &[Index],
+    event: &Event,
+) -> bool
     requires tables { length indexes.now ≡ length catalogue.now.tables }
     requires indexes { AreIndexes events.now indexes.now }
     ensures admissible { IsTrue result ↔ IsAdmissible catalogue.now events.now event.now }
     ensures finite { time_of event.now < FOREVER }
 {
     let at = event.at();
-    if !is_not_before(events, at) {
+    if !events.is_not_before(at) {
         return false;
     }
     match event {
@@ -79,7 +86,7 @@ impl Db {
         Ok(Db {
             alloc,
             catalogue,
-            events: Vec::new(alloc),
+            log: Vec::new(alloc),
             indexes,
         })
     }
@@ -90,7 +97,7 @@ impl Db {
         ensures few { result ≤ 16777216 }
         ensures history { IsHistory self.now.catalogue self.now.events }
     {
-        self.events.len() as u32
+        self.log.len() as u32
     }
 
     pub fn catalogue(&self) -> &Catalogue
@@ -99,17 +106,20 @@ impl Db {
         &self.catalogue
     }
 
-    pub fn events(&self) -> &[Event]
-        ensures { result.now ≡ self.now.events }
+    /// The events, in order.
+    pub fn events(&self) -> Events<'_>
+        ensures value { result ≡ self.now.events }
+        ensures ordered { IsNonDecreasingBy time_of self.now.events }
     {
-        self.events.as_slice()
+        Events::of(self.log.as_slice(), self.indexes.as_slice())
     }
 
     /// Whether the event is admissible after the events of the history.
     pub fn admits(&self, event: &Event) -> bool
-        ensures { IsTrue result ↔ IsAdmissible self.now.catalogue self.now.events event.now }
+        ensures admissible { IsTrue result ↔ IsAdmissible self.now.catalogue self.now.events event.now }
+        ensures finite { time_of event.now < FOREVER }
     {
-        is_admissible(&self.catalogue, &self.events, &self.indexes, event)
+        is_admissible(&self.catalogue, &self.events(), &self.indexes, event)
     }
 
     /// Appends a copy of the event if it is admissible, and returns whether it is. After `AllocError` the history is
@@ -120,13 +130,13 @@ impl Db {
         ensures events { IfOk result (λ taken. self.new ≡ record self.old { events = self.old.events ++ (if taken then event.now ∷ [] else []) }) }
         ensures err { OnErr result (self.new ≡ self.old) }
     {
-        if !is_admissible(&self.catalogue, &self.events, &self.indexes, event) {
+        if !self.admits(event) {
             return Ok(false);
         }
-        let copy = event.try_copy()?;
-        self.events.reserve(1)?;
-        take(&mut self.indexes, &self.events, event)?;
-        self.events.push_reserved(copy);
+        self.log.reserve(1)?;
+        let next = logged_event(&self.indexes, event);
+        take(&mut self.indexes, self.log.len() as u32, event)?;
+        self.log.push_reserved(next);
         Ok(true)
     }
 
@@ -135,7 +145,7 @@ impl Db {
         requires { n ≤ length self.now.events }
         ensures { result ≡ version_at self.now.events n at }
     {
-        find_version(&self.events, n, at.number())
+        self.events().version_at(n, at.number())
     }
 
     /// The tree keys of the range, and the versions of the period as of the first n events. They are the same for each
@@ -144,7 +154,7 @@ impl Db {
         requires { n ≤ length self.now.events }
         ensures { whole_of result ≡ whole_window self.now.events n range.now period.now }
     {
-        make_window(&self.events, n, range, period)
+        make_window(&self.events(), n, range, period)
     }
 
     // The tree keys of the rows of the part of the window, in order. The meter counts reads of nodes, at least one.
@@ -165,7 +175,7 @@ impl Db {
         ensures counted { IfOk result (λ found. min (meter.old + 1) u64.MAX ≤ meter.new) }
         ensures reads { IfOk result (λ found. period.now.end ≡ period.now.start + 1 → meter.new ≤ meter.old + 10 * (length found.keys / 5 + 2)) }
     {
-        let window = make_window(&self.events, n, range, period);
+        let window = make_window(&self.events(), n, range, period);
         let index = &self.indexes[table as usize];
         let _levels = index.tree.levels(part.last);
         let _version = index.tree.version();
@@ -194,7 +204,7 @@ impl Db {
     {
         let found = self.find(n, table, range, period, part, meter)?;
         let index = &self.indexes[table as usize];
-        read_rows(self.alloc, &self.events, &index.rows, found.keys.get(), n)
+        read_rows(self.alloc, &self.events(), &index.rows, found.keys.get(), n)
     }
 
     // The tree keys of the rows of the part of the window, in any order: `find` without the work of ordering them, for
@@ -214,7 +224,7 @@ impl Db {
         ensures readable { IfOk result (λ found. All (IsReadable self.now.events (stored_rows self.now.events table)) found.keys) }
         ensures rows { IfOk result (λ found. HasPartRows self.now.events n table range.now period.now part.now (map (row_of_key self.now.events (stored_rows self.now.events table) n) found.keys)) }
     {
-        let window = make_window(&self.events, n, range, period);
+        let window = make_window(&self.events(), n, range, period);
         let index = &self.indexes[table as usize];
         scan_unsorted(alloc, &index.tree, &window, part, &mut Meter::new())
     }

@@ -1,15 +1,18 @@
 //! A table's rows as of any number of events: a tree of their keys, the events that start and end each row, and their
 //! values in one list.
 
-ghost use Rattle.std.specs.Prelude.{◌≡◌, ℕ, ◌+◌, ◌^◌, ◌<◌, ◌≤◌, ◌++◌, ◌∷◌, [], true, false, length, slice_set, ◌↔◌, IsTrue, IfOk, OnOk, OnErr, None};
+ghost use Rattle.std.specs.Prelude.{All, ◌≡◌, ℕ, List, ◌+◌, ◌^◌, ◌<◌, ◌≤◌, ◌++◌, ◌∷◌, [], true, false, length, slice_set, ◌↔◌, IsTrue, IfOk, OnOk, OnErr, None};
 ghost use Rattle.tq_base.specs.declared.period.TheConstants.{FOREVER};
 ghost use Rattle.tq_base.specs.KeyRanges.{key_of};
 ghost use Rattle.tq_mvbt.specs.TreeState.{lives_of};
+ghost use Rattle.tq_event.specs.declared.event.Event.{Event as AnEvent};
 ghost use Rattle.tq_event.specs.Recorded.{table_of};
 ghost use Rattle.tq_store.specs.Keys.{shifted, tree_key};
-ghost use Rattle.tq_store.specs.Index.{AreIndexes, Begins, CanTake, Ends, FitsIndexes, HasWidth, IsIndexOf, IsOpenAt, columns_of, ended, tree_key_of, values_of, widths_of};
+ghost use Rattle.tq_store.specs.Log.{IsLoggedAs};
+ghost use Rattle.tq_store.specs.Index.{AreIndexes, Begins, CanTake, Ends, FitsIndexes, HasWidth, IsIndexOf, IsNext, IsNextOf, IsOpenAt, columns_of, ended, tree_key_of, values_of, widths_of};
 
 use crate::key::{first_key, row_key};
+use crate::log::{Events, LoggedEvent};
 use crate::stored::from_now_on;
 use std::alloc::{AllocError, Global};
 use tq_base::{Bound, FOREVER, Instant, Rows, Schema, Values};
@@ -38,11 +41,16 @@ pub struct Index {
 }
 
 impl Index {
-    /// The index of a table without rows. Its rows have `width` values.
+    /// The index of a table without rows. Its rows have `width` values: `AllocError` if these are more than 4,294,967,295,
+    /// since no memory holds such rows.
     pub fn new(alloc: Global, width: usize) -> Result<Index, AllocError>
+        ensures narrow { IfOk result (λ index. index.kept.width ≤ 4294967295) }
         ensures index { IfOk result (λ index. (table : ℕ) → IsIndexOf [] table index) }
         ensures width { IfOk result (λ index. index.kept.width ≡ width) }
     {
+        if width > u32::MAX as usize {
+            return Err(AllocError);
+        }
         Ok(Index {
             tree: Tree::new(alloc)?,
             rows: Vec::new(alloc),
@@ -149,17 +157,15 @@ impl Index {
 }
 
 impl Index {
-    // Applies an event of the table. After `AllocError` nothing has changed.
-    fn take(&mut self, events: &[Event], event: &Event) -> Result<(), AllocError>
-        requires index { IsIndexOf events.now (table_of event.now) self.old }
-        requires few { length events.now < 16777216 }
-        requires can { CanTake events.now event.now }
+    // Applies an event of the table, which has this number. After `AllocError` nothing has changed.
+    fn take(&mut self, number: u32, event: &Event) -> Result<(), AllocError>
+        requires next { IsNext number event.now self.old }
+        requires few { number < 16777216 }
         requires width { HasWidth self.old.kept.width event.now }
         ensures width { self.new.kept.width ≡ self.old.kept.width }
-        ensures ok { OnOk result (IsIndexOf (events.now ++ event.now ∷ []) (table_of event.now) self.new) }
-        ensures err { OnErr result (IsIndexOf events.now (table_of event.now) self.new) }
+        ensures ok { (events : List AnEvent) → length events ≡ number → IsIndexOf events (table_of event.now) self.old → CanTake events event.now → OnOk result (IsIndexOf (events ++ event.now ∷ []) (table_of event.now) self.new) }
+        ensures err { (events : List AnEvent) → IsIndexOf events (table_of event.now) self.old → OnErr result (IsIndexOf events (table_of event.now) self.new) }
     {
-        let number = events.len() as u32;
         match event {
             Event::Start { values, at, .. } => self.start(number, values, *at),
             Event::End { row, at, .. } => {
@@ -170,7 +176,7 @@ impl Index {
     }
 
     /// Whether the row is open and started before the instant.
-    pub fn is_open_before(&self, events: &[Event], table: u32, row: u32, at: Instant) -> bool
+    pub fn is_open_before(&self, events: &Events<'_>, table: u32, row: u32, at: Instant) -> bool
         requires { IsIndexOf events.now table self.now }
         ensures { IsTrue result ↔ IsOpenAt events.now table row at }
     {
@@ -186,6 +192,7 @@ pub(crate) fn no_indexes(alloc: Global, tables: &[Schema]) -> Result<Vec<Index>,
     ensures indexes { IfOk result (λ indexes. AreIndexes [] indexes.items) }
     ensures len { IfOk result (λ indexes. length indexes.items ≡ length tables.now) }
     ensures widths { IfOk result (λ indexes. widths_of indexes.items ≡ columns_of tables.now) }
+    ensures narrow { IfOk result (λ indexes. All (λ width. width ≤ 4294967295) (widths_of indexes.items)) }
 {
     let mut indexes = Vec::with_capacity(alloc, tables.len())?;
     'tables: for table in tables {
@@ -194,22 +201,41 @@ pub(crate) fn no_indexes(alloc: Global, tables: &[Schema]) -> Result<Vec<Index>,
     Ok(indexes)
 }
 
-// Applies the event to the index of its table. After `AllocError` nothing has changed.
-pub(crate) fn take(
-    indexes: &mut Vec<Index>,
-    events: &[Event],
-    event: &Event,
-) -> Result<(), AllocError>
-    requires indexes { AreIndexes events.now indexes.old.items }
-    requires few { length events.now < 16777216 }
+// Applies the event, which has this number, to the index of its table. After `AllocError` nothing has changed.
+pub(crate) fn take(indexes: &mut Vec<Index>, number: u32, event: &Event) -> Result<(), AllocError>
+    requires next { IsNextOf number event.now indexes.old.items }
+    requires few { number < 16777216 }
     requires table { table_of event.now < length indexes.old.items }
-    requires can { CanTake events.now event.now }
     requires width { FitsIndexes indexes.old.items event.now }
     ensures widths { widths_of indexes.new.items ≡ widths_of indexes.old.items }
     ensures len { length indexes.new.items ≡ length indexes.old.items }
-    ensures ok { OnOk result (AreIndexes (events.now ++ event.now ∷ []) indexes.new.items) }
-    ensures err { OnErr result (AreIndexes events.now indexes.new.items) }
+    ensures ok { (events : List AnEvent) → length events ≡ number → AreIndexes events indexes.old.items → CanTake events event.now → OnOk result (AreIndexes (events ++ event.now ∷ []) indexes.new.items) }
+    ensures err { (events : List AnEvent) → AreIndexes events indexes.old.items → OnErr result (AreIndexes events indexes.new.items) }
 {
     let index = &mut indexes[event.table() as usize];
-    index.take(events, event)
+    index.take(number, event)
+}
+
+// The event as the history with these indexes stores it. The number of a row that it starts is the number of rows
+// before it.
+pub(crate) fn logged_event(indexes: &[Index], event: &Event) -> LoggedEvent
+    requires table { table_of event.now < length indexes.now }
+    requires few { length indexes.now ≤ 16 }
+    ensures { IsLoggedAs indexes.now event.now result }
+{
+    let table = event.table();
+    match event {
+        Event::Start { at, .. } => LoggedEvent {
+            at: *at,
+            row: indexes[table as usize].kept.len() as u32,
+            table: table as u8,
+            is_end: false,
+        },
+        Event::End { row, at, .. } => LoggedEvent {
+            at: *at,
+            row: *row,
+            table: table as u8,
+            is_end: true,
+        },
+    }
 }

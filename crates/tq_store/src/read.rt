@@ -13,22 +13,12 @@ ghost use Rattle.tq_store.specs.Stored.{IsLasting, IsMet, IsReadable, HaveSameVa
 
 use crate::index::RowEvents;
 use crate::key::{ROWS, shift_key};
+use crate::log::Events;
 use crate::row::Row;
 use crate::stored::{period, read_row};
 use std::alloc::{AllocError, Global};
 use tq_base::{KeyRange, Period, RowPeriod};
-use tq_event::Event;
 use tq_scan::Window;
-
-// The number of the first n events that are no later than the instant with this number.
-pub(crate) fn find_version(events: &[Event], n: u32, at: u64) -> u32
-    requires known { n ≤ length events.now }
-    requires ordered { IsNonDecreasingBy time_of events.now }
-    ensures value { result ≡ version_at events.now n at }
-    ensures within { result ≤ n }
-{
-    events[..n as usize].partition_point(|event| event.at().number() <= at) as u32
-}
 
 // Whether the period has only one instant.
 fn is_instant(period: &Period) -> bool
@@ -39,7 +29,7 @@ fn is_instant(period: &Period) -> bool
 
 // The number of the first n events that are no later than the period's last instant; `first` is that number for its
 // first one.
-fn find_last(events: &[Event], n: u32, period: &Period, first: u32) -> u32
+fn find_last(events: &Events<'_>, n: u32, period: &Period, first: u32) -> u32
     requires known { n ≤ length events.now }
     requires ordered { IsNonDecreasingBy time_of events.now }
     requires first { first ≡ version_at events.now n period.now.start }
@@ -50,23 +40,23 @@ fn find_last(events: &[Event], n: u32, period: &Period, first: u32) -> u32
     if is_instant(period) {
         first
     } else {
-        find_version(events, n, period.end.number() - 1)
+        events.version_at(n, period.end.number() - 1)
     }
 }
 
 // The tree keys of the range at the versions of the period.
-pub(crate) fn make_window(events: &[Event], n: u32, range: &KeyRange, period: &Period) -> Window
+pub(crate) fn make_window(events: &Events<'_>, n: u32, range: &KeyRange, period: &Period) -> Window
     requires known { n ≤ length events.now }
-    requires few { length events.now ≤ 16777216 }
     requires ordered { IsNonDecreasingBy time_of events.now }
     ensures window { whole_of result ≡ whole_window events.now n range.now period.now }
     ensures finite { period.now.start < FOREVER }
     ensures low { FitsSigned w64 range.now.low }
     ensures high { FitsSigned w64 range.now.high }
 {
+    let _count = events.len();
     let low = shift_key(range.low) * ROWS;
     let high = (shift_key(range.high) + 1) * ROWS;
-    let first = find_version(events, n, period.start.number());
+    let first = events.version_at(n, period.start.number());
     let last = find_last(events, n, period, first);
     Window::new(low, high, first, last).unwrap()
 }
@@ -74,7 +64,7 @@ pub(crate) fn make_window(events: &[Event], n: u32, range: &KeyRange, period: &P
 // The rows of tree keys as of the first n events.
 pub(crate) fn read_rows(
     alloc: Global,
-    events: &[Event],
+    events: &Events<'_>,
     rows: &[RowEvents],
     keys: &[u128],
     n: u32,
@@ -85,7 +75,7 @@ pub(crate) fn read_rows(
     let mut found = Vec::with_capacity(alloc, keys.len())?;
     'keys: for key in keys {
         let number = (*key % ROWS) as u32;
-        found.push(read_row(events, &rows[number as usize], number, n)?)?;
+        found.push(read_row(alloc, events, &rows[number as usize], number, n)?)?;
     }
     Ok(found)
 }

@@ -1,25 +1,14 @@
 //! What is known of a row from the events that start and end it.
 
-ghost use Rattle.std.specs.Prelude.{◌≡◌, ◌<◌, slice_get, IsSomeAnd, IfOk};
+ghost use Rattle.std.specs.Prelude.{◌≡◌, ◌<◌, IfOk};
 ghost use Rattle.tq_base.specs.declared.period.TheConstants.{FOREVER};
-ghost use Rattle.tq_store.specs.Stored.{IsStart, IsStored, end_as_of, row_view, stored_row, values_at};
+ghost use Rattle.tq_store.specs.Stored.{IsStored, end_as_of, row_view, stored_row};
 
 use crate::index::RowEvents;
+use crate::log::Events;
 use crate::row::Row;
-use std::alloc::AllocError;
-use tq_base::{Bound, FOREVER, Instant, Period, Values};
-use tq_event::Event;
-
-// The values of the row that the event with this number starts.
-pub(crate) fn values(events: &[Event], start: u32) -> &Values
-    requires { IsSomeAnd (slice_get events.now start) IsStart }
-    ensures { result.now ≡ values_at events.now start }
-{
-    match &events[start as usize] {
-        Event::Start { values, .. } => values,
-        Event::End { .. } => unreachable!(),
-    }
-}
+use std::alloc::{AllocError, Global};
+use tq_base::{Bound, FOREVER, Instant, Period};
 
 // All instants from this one on.
 pub(crate) fn from_now_on(start: Instant) -> Period
@@ -52,7 +41,8 @@ pub(crate) fn period(row: &RowEvents, n: u32) -> Period
 
 // The row with this number as of the first n events.
 pub(crate) fn read_row(
-    events: &[Event],
+    alloc: Global,
+    events: &Events<'_>,
     row: &RowEvents,
     number: u32,
     n: u32,
@@ -62,7 +52,7 @@ pub(crate) fn read_row(
 {
     Ok(Row {
         row: number,
-        values: values(events, row.start).try_copy()?,
+        values: events.values(alloc, row.start)?,
         period: period(row, n),
     })
 }

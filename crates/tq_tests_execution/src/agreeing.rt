@@ -56,7 +56,7 @@ impl Seen {
         instant: u64,
     ) -> Result<(), Fault> {
         let lines = valid_lines(alloc, table, instant)?;
-        let defined = lines_at(alloc, db.events(), n, plan, instant)?;
+        let defined = lines_at(alloc, &db.events().to_vec(alloc)?, n, plan, instant)?;
         self.add(lines.len(), lines == defined);
         Ok(())
     }

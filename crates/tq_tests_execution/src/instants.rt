@@ -72,7 +72,8 @@ pub(crate) fn print_at(
     instant: u64,
     out: &mut String,
 ) -> Result<(), Fault> {
-    let lines = lines_at(alloc, question.db.events(), n, &question.plan, instant)?;
+    let events = question.db.events().to_vec(alloc)?;
+    let lines = lines_at(alloc, &events, n, &question.plan, instant)?;
     Ok(print_rows(instant, &lines, out)?)
 }
 
@@ -84,8 +85,8 @@ fn print_change(
     before: &mut Vec<String>,
     out: &mut String,
 ) -> Result<(), Fault> {
-    let events = question.db.events();
-    let lines = lines_at(alloc, events, MAX_EVENTS, &question.plan, instant)?;
+    let events = question.db.events().to_vec(alloc)?;
+    let lines = lines_at(alloc, &events, MAX_EVENTS, &question.plan, instant)?;
     if instant == 0 || lines != *before {
         print_rows(instant, &lines, out)?;
     }

@@ -19,7 +19,8 @@ fn open(
     let mut values = Vec::new(alloc);
     values.push(Value::int(key))?;
     let _few = db.count();
-    Ok(open_row(db.events(), table, &Values::of(values), at))
+    let events = db.events().to_vec(alloc)?;
+    Ok(open_row(&events, table, &Values::of(values), at))
 }
 
 /// Prints the number of the first open row of the table and the key that started before the instant.

@@ -6,13 +6,19 @@ use Rattle.tq_store.specs.Index.{AreIndexes, HasWidth, IsIndexOf, widths_of}
 use Rattle.tq_store.proofs.IndexLemmas.{indexes_after, indexes_kept, on_err, on_ok, width_at, widths_kept}
 use Rattle.tq_store.proofs.index.take.Goals as goal
 
-pub take-requires-clause-index : goal.take-requires-clause-index
-take-requires-clause-index c =
+pub take-requires-clause-next : goal.take-requires-clause-next
+take-requires-clause-next c =
+    let next = c.requires.next in
     let indexes = c.args.indexes.now.items in
     let index = c.index_mut-index.result.now in
     let less : c.table.result < length indexes = subst (λ n. n < length indexes) (sym c.table.ensures) c.requires.table in
-    subst (λ n. IsIndexOf c.args.events.now n index) c.table.ensures
-    (c.requires.indexes.each c.table.result index (slice_get_read indexes (length indexes) c.table.result index refl less c.index_mut-index.ensures.value))
+    record {
+      events = next.events;
+      counted = next.counted;
+      is = subst (λ n. IsIndexOf next.events n index) c.table.ensures
+          (next.are.each c.table.result index (slice_get_read indexes (length indexes) c.table.result index refl less c.index_mut-index.ensures.value));
+      can = next.can;
+    }
 
 pub take-requires-clause-width : goal.take-requires-clause-width
 take-requires-clause-width c =
@@ -31,11 +37,21 @@ returns-clause-widths c =
     widths_kept indexes c.table.result index c.take.new.self (slice_get_read indexes (length indexes) c.table.result index refl less c.index_mut-index.ensures.value) c.take.ensures.width
 
 pub returns-clause-ok : goal.returns-clause-ok
-returns-clause-ok c = on_ok c.take.result c.take.ensures.ok (λ is.
-    subst (λ n. AreIndexes (c.args.events.now ++ c.args.event.now ∷ []) (slice_set c.args.indexes.now.items n c.take.new.self)) (sym c.table.ensures)
-    (indexes_after c.args.events.now c.args.event.now c.args.indexes.now.items c.take.new.self c.requires.indexes c.requires.table is))
+returns-clause-ok c es counted are can =
+    let indexes = c.args.indexes.now.items in
+    let index = c.index_mut-index.result.now in
+    let less : c.table.result < length indexes = subst (λ n. n < length indexes) (sym c.table.ensures) c.requires.table in
+    let here = subst (λ n. IsIndexOf es n index) c.table.ensures (are.each c.table.result index (slice_get_read indexes (length indexes) c.table.result index refl less c.index_mut-index.ensures.value)) in
+    on_ok c.take.result (c.take.ensures.ok es counted here can) (λ is.
+    subst (λ n. AreIndexes (es ++ c.args.event.now ∷ []) (slice_set c.args.indexes.now.items n c.take.new.self)) (sym c.table.ensures)
+    (indexes_after es c.args.event.now c.args.indexes.now.items c.take.new.self are c.requires.table is))
 
 pub returns-clause-err : goal.returns-clause-err
-returns-clause-err c = on_err c.take.result c.take.ensures.err (λ is.
-    subst (λ n. AreIndexes c.args.events.now (slice_set c.args.indexes.now.items n c.take.new.self)) (sym c.table.ensures)
-    (indexes_kept c.args.events.now (table_of c.args.event.now) c.args.indexes.now.items c.take.new.self c.requires.indexes c.requires.table is))
+returns-clause-err c es are =
+    let indexes = c.args.indexes.now.items in
+    let index = c.index_mut-index.result.now in
+    let less : c.table.result < length indexes = subst (λ n. n < length indexes) (sym c.table.ensures) c.requires.table in
+    let here = subst (λ n. IsIndexOf es n index) c.table.ensures (are.each c.table.result index (slice_get_read indexes (length indexes) c.table.result index refl less c.index_mut-index.ensures.value)) in
+    on_err c.take.result (c.take.ensures.err es here) (λ is.
+    subst (λ n. AreIndexes es (slice_set c.args.indexes.now.items n c.take.new.self)) (sym c.table.ensures)
+    (indexes_kept es (table_of c.args.event.now) c.args.indexes.now.items c.take.new.self are c.requires.table is))

@@ -18,11 +18,11 @@ unwrap-requires c =
     let keys = shifted-le c.args.range.now.low c.args.range.now.high c.args.range.now.ordered in
     let ordered = c.args.period.now.ordered in
     let start = c.number.ensures.value in
-    let first_at = c.find_version-first.ensures.value ∙ ap (version_at c.args.events.now c.args.n) start in
+    let first_at = c.version_at-first.ensures.value ∙ ap (version_at c.args.events.now c.args.n) start in
     let last_at = c.find_last-last.ensures.value in
     let within = c.find_last-last.ensures.within in
     let known = c.requires.known in
-    let few = c.requires.few in
+    let few = c.len-count.ensures.few in
     let rises = version_rises c.args.events.now c.args.n c.args.period.now.start (c.args.period.now.end - 1) (omega (arith, ordered)) in
     c.new.ensures.valid.1 (record {
       wide = omega (arith, low, high, keys);

@@ -8,6 +8,6 @@ use Rattle.tq_snapshot.proofs.writer.Writer.open_row.Goals as goal
 
 pub returns-clause-opened : goal.returns-clause-opened
 returns-clause-opened g c =
-    let published : c.events-published.result.now ≡ c.self.inside.inner.desk.shown.value.events = c.events-published.ensures ∙ ap (λ (v : StoreValue). v.events) c.published.ensures in
-    let all : c.events-published.result.now ++ c.deref.result.now ≡ all_of c.args.self.now = (λ i. published i ++ c.deref.ensures.value i) ∙ ap all_of c.self.view_is in
+    let published : c.events-published.result ≡ c.self.inside.inner.desk.shown.value.events = c.events-published.ensures ∙ ap (λ (v : StoreValue). v.events) c.published.ensures in
+    let all : c.events-published.result ++ c.deref.result.now ≡ all_of c.args.self.now = (λ i. published i ++ c.deref.ensures.value i) ∙ ap all_of c.self.view_is in
     subst (λ (l : List Event). IfSome c.open_row.result (λ row. IsOpenBefore l c.args.table row c.args.at)) all c.open_row.ensures.opened

@@ -13,7 +13,7 @@ invariant_of-self-2 g c =
     let pending = c.self.inside.pending.items in
     let all : List Event = before ++ pending in
     let s = c.self.invariant.1 in
-    let published : c.events-published.result.now ≡ before = c.events-published.ensures ∙ ap (λ (v : StoreValue). v.events) c.published.ensures in
+    let published : c.events-published.result ≡ before = c.events-published.ensures ∙ ap (λ (v : StoreValue). v.events) c.published.ensures in
     let written : c.commit.new.prefix.list ≡ all = c.if-not-commit.ensures.done refl ∙ (λ i. published i ++ c.deref.ensures.value i) in
     let shown : c.show.new.inner.desk.shown.value ≡ store_value catalogue book all
     = c.in_ok-show.ensures.0 ∙ ap (store_value catalogue book) (λ i. (c.stage-sent.ensures.shown i).events ++ c.deref-3.ensures.value i) in

@@ -20,6 +20,7 @@ use Rattle.tq_scan.specs.Windows.{whole_of}
 use Rattle.tq_store.specs.declared.index.Index.{Index}
 use Rattle.tq_base.specs.declared.key_range.KeyRange.{KeyRange}
 use Rattle.tq_store.specs.Index.{IsDb, IsIndexOf, stored_rows}
+use Rattle.tq_store.specs.Log.{logged}
 use Rattle.tq_store.specs.Rows.{ArePartRows, whole_window}
 use Rattle.tq_store.specs.Stored.{IsReadable, row_of_key}
 use Rattle.tq_mvbt.specs.TreeState.{height_of}
@@ -57,29 +58,29 @@ module _ (catalogue : Catalogue) (es : List Event) (indexes : List Index) (n tab
 
 pub returns-clause-readable : goal.returns-clause-readable
 returns-clause-readable c = if_ok c.scan.result c.scan.ensures.keys (λ found just.
-    let es = c.self.inside.events.items in
+    let es = logged c.self.inside.indexes.items c.self.inside.log.items in
     let index = c.index-index.result.now in
     let view : c.args.self.now ≡ record { catalogue = c.self.inside.catalogue; events = es } = sym c.self.view_is in
     let le : c.args.n ≤ length es = subst (λ (r : Recorded). c.args.n ≤ length r.events) view c.requires.known in
     let in_catalogue : c.args.table < length c.self.inside.catalogue.tables = subst (λ (r : Recorded). c.args.table < length r.catalogue.tables) view c.requires.table in
-    let of_table = index_of c.self.inside.catalogue es c.self.inside.indexes.items c.args.table index c.self.invariant in_catalogue c.index-index.ensures in
-    let window_is = c.make_window-window.ensures.window ∙ ap (λ l. whole_window l c.args.n c.args.range.now c.args.period.now) c.deref.ensures.value in
+    let of_table = index_of c.self.inside.catalogue es c.self.inside.indexes.items c.args.table index c.self.invariant.db in_catalogue c.index-index.ensures in
+    let window_is = c.make_window-window.ensures.window ∙ ap (λ l. whole_window l c.args.n c.args.range.now c.args.period.now) (c.events.ensures.value ∙ ap (λ (r : Recorded). r.events) view) in
     subst (λ (r : Recorded). All (IsReadable r.events (stored_rows r.events c.args.table)) found.keys) (sym view) (λ k d less.
     all_readable c.self.inside.catalogue es c.self.inside.indexes.items c.args.n c.args.table index c.args.range.now c.args.period.now c.make_window-window.result c.args.part.now found.keys
-    c.self.invariant le of_table window_is c.make_window-window.ensures.low c.make_window-window.ensures.high c.make_window-window.ensures.finite just k d less))
+    c.self.invariant.db le of_table window_is c.make_window-window.ensures.low c.make_window-window.ensures.high c.make_window-window.ensures.finite just k d less))
 
 pub returns-clause-rows : goal.returns-clause-rows
 returns-clause-rows c = if_ok c.scan.result c.scan.ensures.keys (λ found just.
-    let es = c.self.inside.events.items in
+    let es = logged c.self.inside.indexes.items c.self.inside.log.items in
     let index = c.index-index.result.now in
     let view : c.args.self.now ≡ record { catalogue = c.self.inside.catalogue; events = es } = sym c.self.view_is in
     let le : c.args.n ≤ length es = subst (λ (r : Recorded). c.args.n ≤ length r.events) view c.requires.known in
     let in_catalogue : c.args.table < length c.self.inside.catalogue.tables = subst (λ (r : Recorded). c.args.table < length r.catalogue.tables) view c.requires.table in
-    let of_table = index_of c.self.inside.catalogue es c.self.inside.indexes.items c.args.table index c.self.invariant in_catalogue c.index-index.ensures in
-    let window_is = c.make_window-window.ensures.window ∙ ap (λ l. whole_window l c.args.n c.args.range.now c.args.period.now) c.deref.ensures.value in
+    let of_table = index_of c.self.inside.catalogue es c.self.inside.indexes.items c.args.table index c.self.invariant.db in_catalogue c.index-index.ensures in
+    let window_is = c.make_window-window.ensures.window ∙ ap (λ l. whole_window l c.args.n c.args.range.now c.args.period.now) (c.events.ensures.value ∙ ap (λ (r : Recorded). r.events) view) in
     subst (λ (r : Recorded). ArePartRows r.events c.args.n c.args.table c.args.range.now c.args.period.now c.args.part.now (map (row_of_key r.events (stored_rows r.events c.args.table) c.args.n) found.keys)) (sym view)
     (all_rows c.self.inside.catalogue es c.self.inside.indexes.items c.args.n c.args.table index c.args.range.now c.args.period.now c.make_window-window.result c.args.part.now found.keys
-    c.self.invariant le of_table window_is c.make_window-window.ensures.low c.make_window-window.ensures.high c.make_window-window.ensures.finite just))
+    c.self.invariant.db le of_table window_is c.make_window-window.ensures.low c.make_window-window.ensures.high c.make_window-window.ensures.finite just))
 
 -- at most ten nodes for each leaf
 few_reads : (before after levels leaves alive keys : ℕ) → after ≤ before + leaves + (levels - 1) * alive → levels ≤ 10 → alive ≤ leaves → leaves ≤ keys / 5 + 2 → after ≤ before + 10 * (keys / 5 + 2)
@@ -93,14 +94,14 @@ returns-clause-reads c = if_both c.scan.result c.scan.ensures.at_most c.scan.ens
     let window = c.make_window-window.ensures.window in
     let end_is : c.args.period.now.end - 1 ≡ c.args.period.now.start = omega (arith, one) in
     let one_version : c.make_window-window.result.first ≡ c.make_window-window.result.last =
-    ap (λ (q : Part). q.first) window ∙ sym (ap (version_at c.deref.result.now c.args.n) end_is) ∙ sym (ap (λ (q : Part). q.last) window) in
+    ap (λ (q : Part). q.first) window ∙ sym (ap (version_at c.events.result c.args.n) end_is) ∙ sym (ap (λ (q : Part). q.last) window) in
     let few = c.levels-levels.ensures.few in
     let levels = c.levels-levels.ensures.levels in
     let last = c.requires.inside.last in
     let within = version_within c.args.self.now.events c.args.n (c.args.period.now.end - 1) in
     let view = ap (λ (r : Recorded). length r.events) c.self.view_is in
     let known = c.requires.known in
-    let small = c.self.invariant.few in
+    let small = c.self.invariant.db.few in
     let low : c.levels-levels.result ≤ 10 = few (omega (arith, last, within, view, known, small)) in
     let tree = index.tree in
     few_reads c.args.meter.now c.scan.new.meter (height_of tree.roots c.args.part.now.last) (length found.leaves) (count_by (alive_at tree.nodes c.args.part.now.last) found.leaves) (length found.keys)
@@ -121,7 +122,7 @@ returns-clause-counted c = if_both c.scan.result c.scan.ensures.leaves c.scan.en
     let within = version_within c.args.self.now.events c.args.n (c.args.period.now.end - 1) in
     let view = ap (λ (r : Recorded). length r.events) c.self.view_is in
     let known = c.requires.known in
-    let few = c.self.invariant.few in
+    let few = c.self.invariant.db.few in
     let small_version : p.last < 4294967295 = omega (arith, last, within, view, known, few) in
     let tiling = c.trees_tile.ensures tree.version tree.nodes tree.roots c.version-version.ensures.tree in
     let leaf = leaf_at 0 p.low p.last tree.nodes small_version (tiling.one_region p.low p.last small_key small_version) in

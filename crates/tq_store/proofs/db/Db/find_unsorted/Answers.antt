@@ -15,6 +15,7 @@ use Rattle.tq_scan.specs.Scans.{FoundIn}
 use Rattle.tq_scan.specs.Windows.{whole_of}
 use Rattle.tq_store.specs.declared.index.Index.{Index}
 use Rattle.tq_store.specs.Index.{IsDb, IsIndexOf, stored_rows}
+use Rattle.tq_store.specs.Log.{logged}
 use Rattle.tq_store.specs.Rows.{HasPartRows, whole_window}
 use Rattle.tq_store.specs.Stored.{IsReadable, row_of_key}
 use Rattle.tq_store.proofs.RowLemmas.{part_rows_once, readable}
@@ -44,26 +45,26 @@ module _ (catalogue : Catalogue) (es : List Event) (indexes : List Index) (n tab
 
 pub returns-clause-readable : goal.returns-clause-readable
 returns-clause-readable c = if_ok c.scan_unsorted.result c.scan_unsorted.ensures.keys (λ found lists.
-    let es = c.self.inside.events.items in
+    let es = logged c.self.inside.indexes.items c.self.inside.log.items in
     let index = c.index-index.result.now in
     let view : c.args.self.now ≡ record { catalogue = c.self.inside.catalogue; events = es } = sym c.self.view_is in
     let le : c.args.n ≤ length es = subst (λ (r : Recorded). c.args.n ≤ length r.events) view c.requires.known in
     let in_catalogue : c.args.table < length c.self.inside.catalogue.tables = subst (λ (r : Recorded). c.args.table < length r.catalogue.tables) view c.requires.table in
-    let of_table = index_of c.self.inside.catalogue es c.self.inside.indexes.items c.args.table index c.self.invariant in_catalogue c.index-index.ensures in
-    let window_is = c.make_window-window.ensures.window ∙ ap (λ l. whole_window l c.args.n c.args.range.now c.args.period.now) c.deref.ensures.value in
+    let of_table = index_of c.self.inside.catalogue es c.self.inside.indexes.items c.args.table index c.self.invariant.db in_catalogue c.index-index.ensures in
+    let window_is = c.make_window-window.ensures.window ∙ ap (λ l. whole_window l c.args.n c.args.range.now c.args.period.now) (c.events.ensures.value ∙ ap (λ (r : Recorded). r.events) view) in
     subst (λ (r : Recorded). All (IsReadable r.events (stored_rows r.events c.args.table)) found.keys) (sym view)
     (all_readable c.self.inside.catalogue es c.self.inside.indexes.items c.args.n c.args.table index c.args.range.now c.args.period.now c.make_window-window.result c.args.part.now found.keys
-    c.self.invariant le of_table window_is c.make_window-window.ensures.low c.make_window-window.ensures.high c.make_window-window.ensures.finite lists))
+    c.self.invariant.db le of_table window_is c.make_window-window.ensures.low c.make_window-window.ensures.high c.make_window-window.ensures.finite lists))
 
 pub returns-clause-rows : goal.returns-clause-rows
 returns-clause-rows c = if_ok c.scan_unsorted.result c.scan_unsorted.ensures.keys (λ found lists.
-    let es = c.self.inside.events.items in
+    let es = logged c.self.inside.indexes.items c.self.inside.log.items in
     let index = c.index-index.result.now in
     let view : c.args.self.now ≡ record { catalogue = c.self.inside.catalogue; events = es } = sym c.self.view_is in
     let le : c.args.n ≤ length es = subst (λ (r : Recorded). c.args.n ≤ length r.events) view c.requires.known in
     let in_catalogue : c.args.table < length c.self.inside.catalogue.tables = subst (λ (r : Recorded). c.args.table < length r.catalogue.tables) view c.requires.table in
-    let of_table = index_of c.self.inside.catalogue es c.self.inside.indexes.items c.args.table index c.self.invariant in_catalogue c.index-index.ensures in
-    let window_is = c.make_window-window.ensures.window ∙ ap (λ l. whole_window l c.args.n c.args.range.now c.args.period.now) c.deref.ensures.value in
+    let of_table = index_of c.self.inside.catalogue es c.self.inside.indexes.items c.args.table index c.self.invariant.db in_catalogue c.index-index.ensures in
+    let window_is = c.make_window-window.ensures.window ∙ ap (λ l. whole_window l c.args.n c.args.range.now c.args.period.now) (c.events.ensures.value ∙ ap (λ (r : Recorded). r.events) view) in
     subst (λ (r : Recorded). HasPartRows r.events c.args.n c.args.table c.args.range.now c.args.period.now c.args.part.now (map (row_of_key r.events (stored_rows r.events c.args.table) c.args.n) found.keys)) (sym view)
     (all_rows c.self.inside.catalogue es c.self.inside.indexes.items c.args.n c.args.table index c.args.range.now c.args.period.now c.make_window-window.result c.args.part.now found.keys
-    c.self.invariant le of_table window_is c.make_window-window.ensures.low c.make_window-window.ensures.high c.make_window-window.ensures.finite lists))
+    c.self.invariant.db le of_table window_is c.make_window-window.ensures.low c.make_window-window.ensures.high c.make_window-window.ensures.finite lists))

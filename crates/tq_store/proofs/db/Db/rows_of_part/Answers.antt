@@ -14,6 +14,7 @@ use Rattle.tq_event.specs.Recorded.{Recorded}
 use Rattle.tq_store.specs.declared.index.Index.{Index}
 use Rattle.tq_store.specs.declared.index.RowEvents.{RowEvents}
 use Rattle.tq_store.specs.Index.{IsDb, IsIndexOf, stored_rows}
+use Rattle.tq_store.specs.Log.{logged}
 use Rattle.tq_store.specs.Stored.{IsLasting, IsMet, HaveSameValidity}
 use Rattle.tq_store.specs.Valid.{ArePart, width_of}
 use Rattle.tq_store.proofs.ReadLemmas.{lines_within, readable_lasts, rows_met, part_of_lines}
@@ -43,16 +44,16 @@ kept_width r catalogue es indexes table index view db less is =
 
 pub returns-then-table-len-clause-rows : goal.returns-then-table-len-clause-rows
 returns-then-table-len-clause-rows c =
-    let past : length c.self.inside.catalogue.tables ≤ c.args.table = let on = c.if-table-len.true in omega (arith, on, c.len.ensures, c.self.invariant.tables) in
+    let past : length c.self.inside.catalogue.tables ≤ c.args.table = let on = c.if-table-len.true in omega (arith, on, c.len.ensures, c.self.invariant.db.tables) in
     IfOk-weaker c.owned.result _ _
     (λ relation same. subst (λ (r : Recorded). ArePart r.events c.args.n c.args.table c.args.range.now c.args.period.now c.args.part.now relation.items) c.self.view_is
-    (none_there c.self.inside.catalogue c.self.inside.events.items c.args.n c.args.table c.args.range.now c.args.period.now c.args.part.now relation.items c.self.invariant.history past
+    (none_there c.self.inside.catalogue (logged c.self.inside.indexes.items c.self.inside.log.items) c.args.n c.args.table c.args.range.now c.args.period.now c.args.part.now relation.items c.self.invariant.db.history past
     (ap (λ (r : RowList). r.items) same ∙ c.new.ensures.rows)))
     c.owned.ensures
 
 pub returns-then-table-len-clause-width : goal.returns-then-table-len-clause-width
 returns-then-table-len-clause-width c =
-    let past : length c.self.inside.catalogue.tables ≤ c.args.table = let on = c.if-table-len.true in omega (arith, on, c.len.ensures, c.self.invariant.tables) in
+    let past : length c.self.inside.catalogue.tables ≤ c.args.table = let on = c.if-table-len.true in omega (arith, on, c.len.ensures, c.self.invariant.db.tables) in
     IfOk-weaker c.owned.result _ _
     (λ relation same. ap (λ (r : RowList). r.width) same ∙ c.new.ensures.width ∙ no_width c.self.inside.catalogue c.args.table past ∙ ap (λ (r : Recorded). width_of r.catalogue c.args.table) c.self.view_is)
     c.owned.ensures
@@ -61,13 +62,13 @@ pub find_unsorted-requires-clause-table : goal.find_unsorted-requires-clause-tab
 find_unsorted-requires-clause-table c =
     let viewed = ap (λ (r : Recorded). length r.catalogue.tables) c.self.view_is in
     let off = c.if-table-len.false in
-    omega (arith, off, c.len.ensures, c.self.invariant.tables, viewed)
+    omega (arith, off, c.len.ensures, c.self.invariant.db.tables, viewed)
 
 pub row_periods_of_keys-requires-clause-lasting : goal.row_periods_of_keys-requires-clause-lasting
 row_periods_of_keys-requires-clause-lasting c =
     let there : c.args.table < length c.self.inside.indexes.items = let off = c.if-table-len.false in omega (arith, off, c.len.ensures) in
     let index = c.index-index.result.now in
-    let of_table = index_of c.args.self.now c.self.inside.catalogue c.self.inside.events.items c.self.inside.indexes.items c.args.table index c.self.view_is c.self.invariant there c.index-index.ensures in
+    let of_table = index_of c.args.self.now c.self.inside.catalogue (logged c.self.inside.indexes.items c.self.inside.log.items) c.self.inside.indexes.items c.args.table index c.self.view_is c.self.invariant.db there c.index-index.ensures in
     let events = c.args.self.now.events in
     subst (λ keys. All (IsLasting c.deref.result.now) keys) (sym c.get.ensures)
     (subst (λ rows. All (IsLasting rows) c.in_ok-found.found.keys) (sym (c.deref.ensures.value ∙ of_table.rows))
@@ -77,7 +78,7 @@ pub row_periods_of_keys-requires-clause-met : goal.row_periods_of_keys-requires-
 row_periods_of_keys-requires-clause-met c =
     let there : c.args.table < length c.self.inside.indexes.items = let off = c.if-table-len.false in omega (arith, off, c.len.ensures) in
     let index = c.index-index.result.now in
-    let of_table = index_of c.args.self.now c.self.inside.catalogue c.self.inside.events.items c.self.inside.indexes.items c.args.table index c.self.view_is c.self.invariant there c.index-index.ensures in
+    let of_table = index_of c.args.self.now c.self.inside.catalogue (logged c.self.inside.indexes.items c.self.inside.log.items) c.self.inside.indexes.items c.args.table index c.self.view_is c.self.invariant.db there c.index-index.ensures in
     let events = c.args.self.now.events in
     subst (λ keys. All (IsMet c.deref.result.now c.args.n c.args.period.now) keys) (sym c.get.ensures)
     (subst (λ rows. All (IsMet rows c.args.n c.args.period.now) c.in_ok-found.found.keys) (sym (c.deref.ensures.value ∙ of_table.rows))
@@ -92,7 +93,7 @@ pub take_row_periods-requires : goal.take_row_periods-requires
 take_row_periods-requires c =
     let there : c.args.table < length c.self.inside.indexes.items = let off = c.if-table-len.false in omega (arith, off, c.len.ensures) in
     let index = c.index-index.result.now in
-    let of_table = index_of c.args.self.now c.self.inside.catalogue c.self.inside.events.items c.self.inside.indexes.items c.args.table index c.self.view_is c.self.invariant there c.index-index.ensures in
+    let of_table = index_of c.args.self.now c.self.inside.catalogue (logged c.self.inside.indexes.items c.self.inside.log.items) c.self.inside.indexes.items c.args.table index c.self.view_is c.self.invariant.db there c.index-index.ensures in
     let keys : List ℕ = c.in_ok-found.found.keys in
     let stand = named index.rows.items c.deref.result.now c.args.n c.args.period.now keys c.get.result.now c.in_ok-row_periods.row_periods.items c.deref.ensures.value c.get.ensures c.in_ok-row_periods.ensures in
     subst (λ row_periods. All (λ (line : RowPeriod). line.row < length c.in_ok-of.field-0.items) row_periods) (sym c.deref-2.ensures.value)
@@ -103,7 +104,7 @@ pub returns-clause-rows : goal.returns-clause-rows
 returns-clause-rows c =
     let there : c.args.table < length c.self.inside.indexes.items = let off = c.if-table-len.false in omega (arith, off, c.len.ensures) in
     let index = c.index-index.result.now in
-    let of_table = index_of c.args.self.now c.self.inside.catalogue c.self.inside.events.items c.self.inside.indexes.items c.args.table index c.self.view_is c.self.invariant there c.index-index.ensures in
+    let of_table = index_of c.args.self.now c.self.inside.catalogue (logged c.self.inside.indexes.items c.self.inside.log.items) c.self.inside.indexes.items c.args.table index c.self.view_is c.self.invariant.db there c.index-index.ensures in
     let keys : List ℕ = c.in_ok-found.found.keys in
     let stand = named index.rows.items c.deref.result.now c.args.n c.args.period.now keys c.get.result.now c.in_ok-row_periods.row_periods.items c.deref.ensures.value c.get.ensures c.in_ok-row_periods.ensures in
     IfOk-weaker c.take_row_periods.result _ _
@@ -116,5 +117,5 @@ pub returns-clause-width : goal.returns-clause-width
 returns-clause-width c =
     let there : c.args.table < length c.self.inside.indexes.items = let off = c.if-table-len.false in omega (arith, off, c.len.ensures) in
     IfOk-weaker c.take_row_periods.result _ _
-    (λ rows is. is ∙ ap (λ (r : RowList). r.width) c.in_ok-of.ensures ∙ kept_width c.args.self.now c.self.inside.catalogue c.self.inside.events.items c.self.inside.indexes.items c.args.table c.index-index.result.now c.self.view_is c.self.invariant there c.index-index.ensures)
+    (λ rows is. is ∙ ap (λ (r : RowList). r.width) c.in_ok-of.ensures ∙ kept_width c.args.self.now c.self.inside.catalogue (logged c.self.inside.indexes.items c.self.inside.log.items) c.self.inside.indexes.items c.args.table c.index-index.result.now c.self.view_is c.self.invariant.db there c.index-index.ensures)
     c.take_row_periods.ensures.width
